@@ -1,0 +1,114 @@
+// A system: the nodes' names and quorum sets, with its slices and quorums.
+#![tactic(auto)]
+
+ghost use Rattle.std.specs.Prelude.{◌≡◌, ◌<◌, ◌≤◌, ◌↔◌, length, map, IsTrue, IfSome, MatchOption, Contains, slice_get, option_map, Some};
+ghost use Rattle.fbas_model.specs.Nodes.{members};
+ghost use Rattle.fbas_model.specs.Names.{place_of};
+ghost use Rattle.fbas_model.specs.Systems.{System as Whole, IsSystem};
+ghost use Rattle.fbas_model.specs.Fbas.{HasSliceWithin, Quorum, BlocksNode};
+
+use name_set::{Names, NodeSet};
+use quorum_set::QuorumSet;
+use std::marker::Model;
+
+/// The nodes' names, and for each node its quorum set or none.
+///
+/// A node is known by its number: the place of its name in byte order, from 0. Each name is a key, each node in a quorum
+/// set has a name, and there are at most 4,096 nodes and 1,000,000 entries of quorum sets, which nest at most 16 deep.
+#[derive(Drop)]
+pub struct System {
+    names: Names,
+    sets: Vec<Option<QuorumSet>>,
+}
+
+impl Model for System {
+    ghost use Rattle.fbas_model.specs.Systems.{System as Whole, coded_system, IsSystem};
+
+    ghost Value = { Whole };
+
+    ghost coded = { coded_system };
+
+    ghost view = { λ s. record { names = s.names; sets = s.sets.items } };
+
+    ghost invariant = { λ s. IsSystem s.names s.sets.items };
+}
+
+impl System {
+    /// The system of the names, where the quorum set of each stands at its place.
+    pub fn of(names: Names, sets: Vec<Option<QuorumSet>>) -> System
+        requires { IsSystem names sets.items }
+        ensures names { result.names ≡ names }
+        ensures sets { result.sets ≡ sets.items }
+    {
+        System { names, sets }
+    }
+
+    /// How many nodes there are.
+    pub fn len(&self) -> u32
+        ensures names { result ≡ length self.now.names }
+        ensures sets { result ≡ length self.now.sets }
+        ensures few { result ≤ 4096 }
+    {
+        self.names.len()
+    }
+
+    /// The names of the nodes.
+    pub fn names(&self) -> &Names
+        ensures { result.now ≡ self.now.names }
+    {
+        &self.names
+    }
+
+    /// The node of a name, or none where it has no node: O(log n) comparisons.
+    pub fn find(&self, name: &[u8]) -> Option<u32>
+        ensures found { MatchOption result (Contains self.now.names name.now → ⊥) (λ v. slice_get self.now.names v ≡ Some name.now) }
+        ensures place { result ≡ place_of self.now.names name.now }
+        ensures below { IfSome result (λ v. v < length self.now.sets) }
+    {
+        self.names.find(name)
+    }
+
+    /// Whether the node has a quorum slice (Mazières 2015) that lies in `u` once the faulty nodes are deleted.
+    /// Linear in the entries of its quorum set.
+    pub fn slice_in(&self, v: u32, u: &NodeSet, faulty: &NodeSet) -> bool
+        requires node { v < length self.now.sets }
+        requires same_n { length u.now ≡ length self.now.sets }
+        requires same_faulty { length faulty.now ≡ length self.now.sets }
+        ensures { IsTrue result ↔ HasSliceWithin self.now.sets (members faulty.now) v (members u.now) }
+    {
+        match &self.sets[v as usize] {
+            Some(quorum_set) => (u.has(v) || faulty.has(v)) && quorum_set.satisfied_in(u, faulty),
+            None => false,
+        }
+    }
+
+    /// Whether `u` is a quorum (Mazières 2015) once the faulty nodes are deleted. Linear in the entries of its members.
+    pub fn is_quorum(&self, u: &NodeSet, faulty: &NodeSet) -> bool
+        requires same_n { length u.now ≡ length self.now.sets }
+        requires same_faulty { length faulty.now ≡ length self.now.sets }
+        ensures { IsTrue result ↔ Quorum self.now.sets (members faulty.now) (members u.now) }
+    {
+        if u.is_empty() || u.meets(faulty) {
+            return false;
+        }
+        for v in 0..self.names.len() {
+            if u.has(v) && !self.slice_in(v, u, faulty) {
+                return false;
+            }
+        }
+        true
+    }
+
+    /// Whether `s` meets every quorum slice of the node: whether it is v-blocking (Mazières 2015).
+    /// Linear in the entries of the node's quorum set.
+    pub fn v_blocks(&self, v: u32, s: &NodeSet) -> bool
+        requires node { v < length self.now.sets }
+        requires same_n { length s.now ≡ length self.now.sets }
+        ensures { IsTrue result ↔ BlocksNode self.now.sets v (members s.now) }
+    {
+        match &self.sets[v as usize] {
+            Some(quorum_set) => s.has(v) || !quorum_set.avoids(s),
+            None => true,
+        }
+    }
+}

@@ -1,0 +1,2 @@
+mod NameLists
+mod Places

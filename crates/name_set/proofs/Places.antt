@@ -1,0 +1,51 @@
+-- The place of a name among strictly sorted names.
+use Rattle.std.proofs.Common.{◌≡◌, ℕ, ◌+◌, ◌<◌, ◌≤◌, ◌⊎◌, inl, inr, Bool, true, false, not, List, length, refl, sym, ◌∙◌, ap, subst, arith, Some, None, slice_index_or, Contains, ltb, Less, Equal, []}
+use Rattle.std.specs.List.{prefix_len}
+use Rattle.std.specs.List.Sorted.{IsStrictlySortedBy}
+use Rattle.std.specs.Str.{bytes_eq}
+use Rattle.std.proofs.lemmas.Bool.{cases_lt, lt-ltb, both_ways, false_from_ne_true, not-true, ltb-true}
+use Rattle.std.proofs.lemmas.List.{get_or_default}
+use Rattle.std.proofs.lemmas.List.Sums.{prefix_len-le-length, prefix_len_passes, prefix_len_stops}
+use Rattle.std.proofs.lemmas.Map.Keys.{Less-from_sorted}
+use Rattle.std.proofs.lemmas.Slice.Eq.{bytes_eq-Decides}
+use Rattle.std.proofs.lemmas.Cmp.{tied_itself, nat_list_cmp_total}
+use Rattle.fbas_model.specs.Names.{Name, name_cmp, place_of}
+
+true_of_not : (b : Bool) → not b ≡ false → b ≡ true
+true_of_not true h = refl
+true_of_not false h = absurd cc
+
+-- how many names stand before the first that is the name
+abbrev before : List Name → Name → ℕ
+before names name = prefix_len (λ n. not (bytes_eq n name)) names
+
+-- the first place that has the name
+at_first : (names : List Name) (name : Name) → before names name < length names → slice_index_or names (before names name) [] ≡ name
+at_first names name h = (bytes_eq-Decides (slice_index_or names (before names name) []) name).0 (true_of_not (bytes_eq (slice_index_or names (before names name) []) name) (prefix_len_stops (λ n. not (bytes_eq n name)) names [] h))
+
+pub place-missing : (names : List Name) (name : Name) → (Contains names name → ⊥) → place_of names name ≡ None
+place-missing names name missing = elim (cases_lt (before names name) (length names)) [
+  | inl h ↦ absurd (missing (before names name, h, get_or_default names (before names name) name [] h ∙ at_first names name h))
+  | inr h ↦ let past : ltb (before names name) (length names) ≡ false = false_from_ne_true (ltb (before names name) (length names)) (λ e. absurd (let g = ltb-true (before names name) (length names) e in omega arith)) in rw past refl
+]
+
+pub place-found : (names : List Name) (name : Name) (m : ℕ) → IsStrictlySortedBy name_cmp names → m < length names → slice_index_or names m [] ≡ name → place_of names name ≡ Some m
+place-found names name m sorted within here = 
+    let p = λ (n : Name). not (bytes_eq n name) in
+    let n = before names name in
+    let same : bytes_eq (slice_index_or names m []) name ≡ true = (bytes_eq-Decides (slice_index_or names m []) name).1 here in
+    let not_later : n ≤ m = elim (cases_lt m n) [
+      | inl g ↦ absurd (both_ways (bytes_eq (slice_index_or names m []) name) (not-true (bytes_eq (slice_index_or names m []) name) (prefix_len_passes p names m [] g)) same)
+      | inr g ↦ g
+    ] in
+    let not_before : m ≤ n = elim (cases_lt n m) [
+      | inl g ↦ 
+          let first = at_first names name (omega arith) in
+          let apart : name_cmp (slice_index_or names n []) (slice_index_or names m []) ≡ Less = Less-from_sorted name_cmp names n m [] sorted g within in
+          let less : name_cmp name name ≡ Less = subst (λ (x : Name). name_cmp x name ≡ Less) first (subst (λ (y : Name). name_cmp (slice_index_or names n []) y ≡ Less) here apart) in
+          let tie = tied_itself nat_list_cmp_total name in cc
+      | inr g ↦ g
+    ] in
+    let e : n ≡ m = omega arith in
+    let low : ltb n (length names) ≡ true = lt-ltb n (length names) (omega arith) in
+    rw low (ap Some e)

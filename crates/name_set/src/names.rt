@@ -1,0 +1,72 @@
+// The names of the nodes.
+
+ghost use Rattle.std.specs.Prelude.{◌≡◌, ◌<◌, ◌^◌, length, map, vec_len, IfOk, IfSome, slice_get, MatchOption, Contains};
+ghost use Rattle.fbas_model.specs.Names.{AreNamesOf, place_of};
+
+use std::alloc::AllocError;
+use std::cmp::Ordering;
+use std::marker::Model;
+
+/// The names of the nodes, sorted, each once.
+#[derive(Drop)]
+pub struct Names {
+    list: Vec<Vec<u8>>,
+}
+
+impl Model for Names {
+    ghost use Rattle.std.specs.Prelude.{◌<◌, ◌^◌, ℕ, List, length, map};
+    ghost use Rattle.std.specs.List.Sorted.{IsStrictlySortedBy};
+    ghost use Rattle.fbas_model.specs.Names.{Name, name_cmp};
+
+    ghost Value = { List Name };
+
+    ghost view = { λ n. map (λ name. name.items) n.list.items };
+
+    ghost invariant = { λ n. IsStrictlySortedBy name_cmp (map (λ name. name.items) n.list.items) × (length n.list.items < 2 ^ 32) };
+}
+
+impl Names {
+    /// The distinct names of a list, in byte order. Costs a sort of the list, and takes no memory beside it.
+    pub fn of(mut list: Vec<Vec<u8>>) -> Result<Names, AllocError>
+        requires { vec_len list < 2 ^ 32 }
+        ensures { IfOk result (λ names. AreNamesOf (map (λ name. name.items) list.items) names) }
+    {
+        list.sort_unstable();
+        list.dedup();
+        Ok(Names { list })
+    }
+
+    /// How many names there are.
+    pub fn len(&self) -> u32
+        ensures { result ≡ length self.now }
+    {
+        self.list.len() as u32
+    }
+
+    /// The name at a place.
+    pub fn name(&self, at: u32) -> &[u8]
+        requires { at < length self.now }
+        ensures { slice_get self.now at ≡ Some result.now }
+    {
+        &self.list[at as usize]
+    }
+
+    /// The place of a name, or none where it is not among them: O(log n) comparisons.
+    pub fn find(&self, name: &[u8]) -> Option<u32>
+        ensures found { MatchOption result (Contains self.now name.now → ⊥) (λ at. slice_get self.now at ≡ Some name.now) }
+        ensures place { result ≡ place_of self.now name.now }
+        ensures below { IfSome result (λ at. at < length self.now) }
+    {
+        let mut low = 0;
+        let mut high = self.list.len();
+        while low < high {
+            let middle = low + (high - low) / 2;
+            match self.list[middle].as_slice().cmp(name) {
+                Ordering::Less => low = middle + 1,
+                Ordering::Equal => return Some(middle as u32),
+                Ordering::Greater => high = middle,
+            }
+        }
+        None
+    }
+}
