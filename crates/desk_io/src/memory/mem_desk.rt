@@ -1,7 +1,7 @@
 // The desk in memory.
-ghost use Rattle.std.specs.Prelude.{◌≡◌, ◌<◌, ◌≤◌, ◌+◌, length, IfOk, IfSome, All, MatchOption, None, Some, ℕ, map, ◌==◌, option_copied};
+ghost use Rattle.std.specs.Prelude.{◌≡◌, ◌<◌, ◌≤◌, ◌+◌, length, IfSome, All, MatchOption, None, Some, ℕ};
 ghost use Rattle.std.specs.Option.{ForSome};
-ghost use Rattle.desk_io.specs.Entries.{IsOpen, files_of, name_at};
+ghost use Rattle.desk_io.specs.Entries.{IsOpen, files_of};
 
 use crate::desk::{Desk, ReadFailed, To, Which, WriteFailed};
 use crate::memory::buffer::Buffer;
@@ -39,10 +39,16 @@ fn file_of<'a>(files: &'a [MemFile], name: &str) -> Option<&'a [u8]>
 }
 
 impl MemDesk {
+    ghost use Rattle.std.specs.Prelude.{◌==◌, IfOk, option_copied};
     ghost use Rattle.desk_io.specs.Entries.{new_state};
+    ghost use Rattle.desk_io.specs.MemDesk.{state_of, faults_of, plan_of};
 
-    /// A desk with these files, which may create these names besides, moves at most `piece` bytes a call, takes
-    /// `capacity` bytes in all, and fails the listed calls.
+    /// A desk that holds these files and may create files of these names besides.
+    ///
+    /// A call of `next` or `put` moves at most `piece` bytes, and all puts together at most `capacity`. Each listed
+    /// call fails: it's named by its kind and its number among the calls of that kind, from 1. Of files of one name
+    /// the first counts. All memory is taken here: for each file, each name and each file that is read as much as the
+    /// longest file or the capacity, whichever is more. O(that many bytes).
     pub fn new(
         alloc: Global,
         files: Vec<(String, Vec<u8>)>,
@@ -52,9 +58,9 @@ impl MemDesk {
         failing: Vec<(Call, u64)>,
     ) -> Result<MemDesk, AllocError>
         requires { 0 < piece }
-        ensures state { IfOk result (λ d. ⟦<MemDesk as Desk>⟧.state d
-            ≡ new_state files.items may_create.items capacity (length failing.items == 0)) }
-        ensures faults { IfOk result (λ d. ⟦<MemDesk as Desk>⟧.faults d ≡ record { reads = 0; writes = 0 }) }
+        ensures state { IfOk result (λ d. state_of d ≡ new_state files.items may_create.items capacity (length failing.items == 0)) }
+        ensures plan { IfOk result (λ d. plan_of d ≡ record { piece = piece; failing = failing.items }) }
+        ensures faults { IfOk result (λ d. faults_of d ≡ record { reads = 0; writes = 0 }) }
     {
         let size = longest(&files, capacity);
         let files = all_files(alloc, files, may_create, size)?;
@@ -73,38 +79,43 @@ impl MemDesk {
         })
     }
 
+    /// What is written to `Out`. O(1).
     pub fn out(&self) -> &[u8]
-        ensures { result.now ≡ (⟦<MemDesk as Desk>⟧.state self.now).out }
+        ensures { result.now ≡ (state_of self.now).out }
     {
         self.out.bytes()
     }
 
+    /// What the named file holds, if there is such a file. O(number of files).
     pub fn file(&self, name: &str) -> Option<&[u8]>
-        ensures { option_copied result ≡ (⟦<MemDesk as Desk>⟧.state self.now).files name.now }
+        ensures { option_copied result ≡ (state_of self.now).files name.now }
     {
         file_of(&self.files, name)
     }
 }
 
 impl Desk for MemDesk {
-    ghost use Rattle.std.specs.Prelude.{◌==◌, length, true, map};
-    ghost use Rattle.desk_io.specs.Entries.{files_of, name_at};
+    ghost use Rattle.std.specs.Prelude.{◌⊎◌, ◌↔◌, [], true, min, take, Contains, IfOk, IsErr, IsSome, OnOk, OnErr};
+    ghost use Rattle.desk_io.specs.Failing.{IsDue};
+    ghost use Rattle.desk_io.specs.Faults.{ReadCause, WriteCause};
+    ghost use Rattle.desk_io.specs.MemDesk.{state_of, faults_of, plan_of, plan_after};
+    ghost use Rattle.desk_io.specs.State.{left_of, with_left, Begins, Takes, with_certificate, written, CanCreate, CannotPut};
 
     ghost tells = { true };
 
-    ghost state = { λ d. record {
-      files = files_of d.files.items;
-      may_create = map (λ f. f.name) d.files.items;
-      left = d.readers.left;
-      out = d.out.bytes;
-      created = name_at d.created d.files.items;
-      room = d.room;
-      plain = length d.failing == 0;
-    } };
+    ghost state = { state_of };
 
-    ghost faults = { λ d. record { reads = d.read_faults; writes = d.write_faults } };
+    ghost faults = { faults_of };
 
-    fn begin(&mut self, which: Which, name: &str) -> Result<(), ReadFailed> {
+    fn begin(&mut self, which: Which, name: &str) -> Result<(), ReadFailed>
+        ensures begun { OnOk result (Begins which name.now (state_of self.old) (state_of self.new)) }
+        ensures failed { OnErr result (state_of self.new ≡ with_left which [] (state_of self.old)) }
+        ensures due { IsDue (Call.Begin which) (plan_of self.old).failing → IsErr result }
+        ensures fails { OnErr result (IsDue (Call.Begin which) (plan_of self.old).failing
+            ⊎ ((state_of self.old).files name.now ≡ None)) }
+        ensures plan { plan_of self.new ≡ plan_after (Call.Begin which) (plan_of self.old) }
+        ensures cause { ReadCause (faults_of self.old) (faults_of self.new) result }
+    {
         let fails = self.failing.count(Call::Begin(which));
         match file_of(&self.files, name) {
             Some(bytes) if !fails => {
@@ -119,7 +130,14 @@ impl Desk for MemDesk {
         }
     }
 
-    fn next(&mut self, which: Which, buf: &mut [u8]) -> Result<usize, ReadFailed> {
+    fn next(&mut self, which: Which, buf: &mut [u8]) -> Result<usize, ReadFailed>
+        ensures count { IfOk result (λ count. count ≡ min (min (length (left_of which (state_of self.old))) (length buf.new)) (plan_of self.old).piece) }
+        ensures taken { IfOk result (λ count. Takes which (take count buf.new) (state_of self.old) (state_of self.new)) }
+        ensures failed { OnErr result (state_of self.new ≡ state_of self.old) }
+        ensures due { IsErr result ↔ IsDue (Call.Next which) (plan_of self.old).failing }
+        ensures plan { plan_of self.new ≡ plan_after (Call.Next which) (plan_of self.old) }
+        ensures cause { ReadCause (faults_of self.old) (faults_of self.new) result }
+    {
         if self.failing.count(Call::Next(which)) {
             self.read_faults = self.read_faults.saturating_add(1);
             return Err(ReadFailed);
@@ -127,7 +145,16 @@ impl Desk for MemDesk {
         Ok(self.readers.take(which, buf, self.piece))
     }
 
-    fn create(&mut self, name: &str) -> Result<(), WriteFailed> {
+    fn create(&mut self, name: &str) -> Result<(), WriteFailed>
+        ensures created { OnOk result (state_of self.new ≡ with_certificate name.now (state_of self.old)) }
+        ensures allowed { OnOk result (CanCreate name.now (state_of self.old)) }
+        ensures failed { OnErr result (state_of self.new ≡ state_of self.old) }
+        ensures due { IsDue Call.Create (plan_of self.old).failing → IsErr result }
+        ensures fails { OnErr result (IsDue Call.Create (plan_of self.old).failing
+            ⊎ (((state_of self.old).files name.now ≡ None) × (Contains (state_of self.old).may_create name.now → ⊥))) }
+        ensures plan { plan_of self.new ≡ plan_after Call.Create (plan_of self.old) }
+        ensures cause { WriteCause (faults_of self.old) (faults_of self.new) result }
+    {
         let fails = self.failing.count(Call::Create);
         match find(&self.files, name) {
             Some(i) if !fails => {
@@ -143,7 +170,18 @@ impl Desk for MemDesk {
         }
     }
 
-    fn put(&mut self, to: To, bytes: &[u8]) -> Result<usize, WriteFailed> {
+    fn put(&mut self, to: To, bytes: &[u8]) -> Result<usize, WriteFailed>
+        ensures count { IfOk result (λ count. count ≡ min (length bytes.now) (plan_of self.old).piece) }
+        ensures written { IfOk result (λ count. state_of self.new ≡ written to (take count bytes.now) (state_of self.old)) }
+        ensures fits { IfOk result (λ count. count ≤ (state_of self.old).room) }
+        ensures created { OnOk result (to ≡ To.Cert → IsSome (state_of self.old).created) }
+        ensures failed { OnErr result (state_of self.new ≡ state_of self.old) }
+        ensures due { IsDue (Call.Put to) (plan_of self.old).failing → IsErr result }
+        ensures fails { OnErr result (IsDue (Call.Put to) (plan_of self.old).failing
+            ⊎ CannotPut to (min (length bytes.now) (plan_of self.old).piece) (state_of self.old)) }
+        ensures plan { plan_of self.new ≡ plan_after (Call.Put to) (plan_of self.old) }
+        ensures cause { WriteCause (faults_of self.old) (faults_of self.new) result }
+    {
         let fails = self.failing.count(Call::Put(to));
         let count = bytes.len().min(self.piece);
         let front = &bytes[..count];

@@ -1,5 +1,5 @@
 // A copy of a file, of which some is left to read.
-ghost use Rattle.std.specs.Prelude.{◌≡◌, ◌<◌, ◌≤◌, ◌+◌, ◌++◌, [], length, take, IfOk};
+ghost use Rattle.std.specs.Prelude.{◌≡◌, ◌<◌, ◌≤◌, ◌+◌, ◌++◌, [], length, min, take, IfOk};
 
 use crate::memory::buffer::Buffer;
 use std::alloc::{AllocError, Global};
@@ -58,7 +58,7 @@ impl Reader {
     /// Takes bytes off the front, at most `most` of them.
     pub fn take(&mut self, buf: &mut [u8], most: usize) -> usize
         requires { 0 < most }
-        ensures bound { result ≤ length buf.new }
+        ensures count { result ≡ min (min (length self.old.left) (length buf.new)) most }
         ensures front { self.old.left ≡ take result buf.new ++ self.new.left }
         ensures end { 0 < length buf.new → result ≡ 0 → self.old.left ≡ [] }
         ensures size { self.new.size ≡ self.old.size }

@@ -1,5 +1,5 @@
 // What is left to read of each begun file.
-ghost use Rattle.std.specs.Prelude.{◌≡◌, ◌<◌, ◌≤◌, ◌++◌, [], length, take, IfOk};
+ghost use Rattle.std.specs.Prelude.{◌≡◌, ◌<◌, ◌≤◌, ◌++◌, [], length, min, take, IfOk};
 ghost use Rattle.desk_io.specs.State.{left_at, set_left};
 
 use crate::desk::Which;
@@ -59,7 +59,7 @@ impl Readers {
 
     pub fn take(&mut self, which: Which, buf: &mut [u8], most: usize) -> usize
         requires { 0 < most }
-        ensures bound { result ≤ length buf.new }
+        ensures count { result ≡ min (min (length (left_at which self.old.left)) (length buf.new)) most }
         ensures front { left_at which self.old.left ≡ take result buf.new ++ left_at which self.new.left }
         ensures rest { self.new ≡ record self.old { left = set_left which (left_at which self.new.left) self.old.left } }
         ensures end { 0 < length buf.new → result ≡ 0 → left_at which self.old.left ≡ [] }

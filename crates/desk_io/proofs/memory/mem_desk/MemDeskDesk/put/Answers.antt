@@ -48,7 +48,7 @@ returns-in-Cert-Some-clause-written c =
     let put = put_at d.files.items d.room i front c.append-in-Cert-Some.new.self c.index_mut-file.result.now opened c.index_mut-file.ensures.value c.append-in-Cert-Some.ensures in
     let size : length front ≡ count = length-take-le count c.args.bytes.now (omega arith) in
     let room : d.room - count ≡ d.room - length front = omega (arith, size) in
-    rw (c.in-Cert-Some.is-0, c.in-Cert-Some.is-1) (λ _ k. record {
+    rw (c.in-Cert-Some.is-0, c.in-Cert-Some.is-1) (λ k. record {
       files = put.files k;
       may_create = put.names k;
       left = d.readers.left;
@@ -59,6 +59,6 @@ returns-in-Cert-Some-clause-written c =
     })
 
 pub returns-in-Cert-Some-clause-created : goal.returns-in-Cert-Some-clause-created
-returns-in-Cert-Some-clause-created c = λ _ _.
+returns-in-Cert-Some-clause-created c = λ _.
     let opened = c.args.self.now.created_open c.in-Cert-Some.i c.in-Cert-Some.is-1 in
     rw c.in-Cert-Some.is-1 (open_named c.args.self.now.files.items c.args.self.now.room c.in-Cert-Some.i opened)
