@@ -21,7 +21,7 @@ state_of d = record {
 
 -- how often the desk has failed
 abbrev pub faults_of : MemDesk → Faults
-faults_of d = record { reads = d.read_faults; writes = d.write_faults }
+faults_of d = d.faults
 
 -- how many bytes a call moves at most, and the calls that are to fail
 pub record Plan : Type 0 where

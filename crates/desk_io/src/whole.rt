@@ -66,6 +66,7 @@ pub fn read_all<D: Desk>(
 /// After an `Err` a proper prefix of them is out, which is less than all. Takes no memory.
 pub fn put_all<D: Desk>(desk: &mut D, to: To, bytes: &[u8]) -> Result<(), WriteFailed>
     ensures written { OnOk result (IsTrue D.tells → D.state desk.new ≡ written to bytes.now (D.state desk.old)) }
+    ensures fits { OnOk result (IsTrue D.tells → length bytes.now ≤ (D.state desk.old).room) }
     ensures prefix { OnErr result (IsTrue D.tells → (n : ℕ) × (n < length bytes.now)
         × (D.state desk.new ≡ written to (take n bytes.now) (D.state desk.old))) }
     ensures plain { OnErr result (IsTrue D.tells → IsTrue (D.state desk.old).plain → CannotPut to (length bytes.now) (D.state desk.old)) }

@@ -3,6 +3,7 @@ ghost use Rattle.std.specs.Prelude.{◌≡◌, ◌<◌, ◌≤◌, ◌+◌, leng
 ghost use Rattle.std.specs.Option.{ForSome};
 ghost use Rattle.desk_io.specs.Entries.{IsOpen, files_of};
 
+use crate::counts::FaultCounts;
 use crate::desk::{Desk, ReadFailed, To, Which, WriteFailed};
 use crate::memory::buffer::Buffer;
 use crate::memory::failing::{Call, Failing};
@@ -19,8 +20,7 @@ pub struct MemDesk {
     piece: usize,
     room: usize,
     failing: Failing,
-    read_faults: u64,
-    write_faults: u64,
+    faults: FaultCounts,
     // each file and each reader has the memory of the longest file that there can be
     ghost sized: { All (λ f. f.size ≡ readers.size) files.items },
     ghost room_fits: { room ≤ readers.size },
@@ -74,8 +74,7 @@ impl MemDesk {
             piece,
             room: capacity,
             failing: Failing::new(failing),
-            read_faults: 0,
-            write_faults: 0,
+            faults: FaultCounts::new(),
         })
     }
 
@@ -124,8 +123,7 @@ impl Desk for MemDesk {
             }
             _ => {
                 self.readers.stop(which);
-                self.read_faults = self.read_faults.saturating_add(1);
-                Err(ReadFailed)
+                Err(self.faults.read_failed())
             }
         }
     }
@@ -139,8 +137,7 @@ impl Desk for MemDesk {
         ensures cause { ReadCause (faults_of self.old) (faults_of self.new) result }
     {
         if self.failing.count(Call::Next(which)) {
-            self.read_faults = self.read_faults.saturating_add(1);
-            return Err(ReadFailed);
+            return Err(self.faults.read_failed());
         }
         Ok(self.readers.take(which, buf, self.piece))
     }
@@ -164,8 +161,7 @@ impl Desk for MemDesk {
                 Ok(())
             }
             _ => {
-                self.write_faults = self.write_faults.saturating_add(1);
-                Err(WriteFailed)
+                Err(self.faults.write_failed())
             }
         }
     }
@@ -198,8 +194,7 @@ impl Desk for MemDesk {
                 Ok(count)
             }
             _ => {
-                self.write_faults = self.write_faults.saturating_add(1);
-                Err(WriteFailed)
+                Err(self.faults.write_failed())
             }
         }
     }
