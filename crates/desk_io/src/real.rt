@@ -1,5 +1,5 @@
 // The machine's files and standard output.
-ghost use Rattle.std.specs.Prelude.{◌≡◌, ◌<◌, ◌≤◌, IfSome, length};
+ghost use Rattle.std.specs.Prelude.{◌≡◌, ◌<◌, ◌≤◌, IfSome, None, Some, length};
 
 use crate::counts::FaultCounts;
 use crate::desk::{Desk, ReadFailed, To, Which, WriteFailed};
@@ -50,7 +50,8 @@ fn read_some(file: &mut impl Read, buf: &mut [u8]) -> Option<usize>
 
 /// Where no file is begun nothing is left.
 fn read_begun<F: Read>(begun: &mut Option<F>, buf: &mut [u8]) -> Option<usize>
-    ensures { IfSome result (λ count. count ≤ length buf.new) }
+    ensures bound { IfSome result (λ count. count ≤ length buf.new) }
+    ensures nothing { begun.old ≡ None → result ≡ Some 0 }
 {
     match begun {
         Some(file) => read_some(file, buf),
@@ -73,7 +74,23 @@ fn write_some(file: &mut impl Write, bytes: &[u8]) -> Option<usize>
     None
 }
 
+/// Where no file is created it fails.
+fn write_created<F: Write>(created: &mut Option<F>, bytes: &[u8]) -> Option<usize>
+    ensures bound { IfSome result (λ count. count ≤ length bytes.now) }
+    ensures some { IfSome result (λ count. 0 < length bytes.now → 0 < count) }
+    ensures uncreated { created.old ≡ None → result ≡ None }
+{
+    match created {
+        Some(file) => write_some(file, bytes),
+        None => None,
+    }
+}
+
 impl<'a, R: Files + Print> RealDesk<'a, R> {
+    ghost use Rattle.std.specs.Prelude.{◌≢◌, ◌↔◌, IsTrue, IsSome};
+    ghost use Rattle.desk_io.specs.declared.desk.Which.{Which};
+    ghost use Rattle.desk_io.specs.RealDesk.{begun_of};
+
     /// A desk over this runtime, with nothing begun and nothing created.
     pub fn new(rt: &'a R) -> Self
         ensures { ⟦<RealDesk<'a, R> as Desk>⟧.faults result ≡ record { reads = 0; writes = 0 } }
@@ -86,6 +103,23 @@ impl<'a, R: Files + Print> RealDesk<'a, R> {
             created: None,
             faults: FaultCounts::new(),
         }
+    }
+
+    /// Opens the file that is to be read there. Where it can't be opened, none is.
+    fn reopen(&mut self, which: Which, name: &str) -> bool
+        ensures begun { IsTrue result ↔ IsSome (begun_of which self.new) }
+        ensures others { (other : Which) → other ≢ which → begun_of other self.new ≡ begun_of other self.old }
+        ensures created { self.new.created ≡ self.old.created }
+        ensures faults { self.new.faults ≡ self.old.faults }
+    {
+        let opened = open_with(self.rt, OpenOptions::new().read(true), name);
+        let begun = opened.is_some();
+        match which {
+            Which::Config => self.config = opened,
+            Which::Orgs => self.orgs = opened,
+            Which::Cert => self.cert = opened,
+        }
+        begun
     }
 }
 
@@ -100,17 +134,11 @@ impl<R: Files + Print> Desk for RealDesk<'_, R> {
     ghost faults = { λ d. d.faults };
 
     fn begin(&mut self, which: Which, name: &str) -> Result<(), ReadFailed> {
-        let opened = open_with(self.rt, OpenOptions::new().read(true), name);
-        let failed = opened.is_none();
-        match which {
-            Which::Config => self.config = opened,
-            Which::Orgs => self.orgs = opened,
-            Which::Cert => self.cert = opened,
+        if self.reopen(which, name) {
+            Ok(())
+        } else {
+            Err(self.faults.read_failed())
         }
-        if failed {
-            return Err(self.faults.read_failed());
-        }
-        Ok(())
     }
 
     fn next(&mut self, which: Which, buf: &mut [u8]) -> Result<usize, ReadFailed> {
@@ -138,10 +166,9 @@ impl<R: Files + Print> Desk for RealDesk<'_, R> {
     }
 
     fn put(&mut self, to: To, bytes: &[u8]) -> Result<usize, WriteFailed> {
-        let written = match (to, &mut self.created) {
-            (To::Out, _) => write_some(&mut std::io::writer(self.rt), bytes),
-            (To::Cert, Some(file)) => write_some(file, bytes),
-            (To::Cert, None) => None,
+        let written = match to {
+            To::Out => write_some(&mut std::io::writer(self.rt), bytes),
+            To::Cert => write_created(&mut self.created, bytes),
         };
         match written {
             Some(count) => Ok(count),

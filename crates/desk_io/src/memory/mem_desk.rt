@@ -160,9 +160,7 @@ impl Desk for MemDesk {
                 self.created = Some(i);
                 Ok(())
             }
-            _ => {
-                Err(self.faults.write_failed())
-            }
+            _ => { Err(self.faults.write_failed()) }
         }
     }
 
@@ -193,9 +191,7 @@ impl Desk for MemDesk {
                 self.room -= count;
                 Ok(count)
             }
-            _ => {
-                Err(self.faults.write_failed())
-            }
+            _ => { Err(self.faults.write_failed()) }
         }
     }
 }
