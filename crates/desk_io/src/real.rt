@@ -1,5 +1,5 @@
 // The machine's files and standard output.
-ghost use Rattle.std.specs.Prelude.{◌≡◌, ◌<◌, ◌≤◌, IfSome, None, Some, length};
+ghost use Rattle.std.specs.Prelude.{◌≡◌, ◌<◌, ◌≤◌, IfOk, IfSome, None, Some, length};
 
 use crate::counts::FaultCounts;
 use crate::desk::{Desk, ReadFailed, To, Which, WriteFailed};
@@ -173,6 +173,52 @@ impl<R: Files + Print> Desk for RealDesk<'_, R> {
         match written {
             Some(count) => Ok(count),
             None => Err(self.faults.write_failed()),
+        }
+    }
+}
+
+#[cfg(test)]
+mod tests {
+    use super::*;
+    use std::io;
+
+    /// Says that it's interrupted as often as this, and then moves a byte.
+    #[derive(Drop)]
+    struct Interrupted(u32);
+
+    impl Interrupted {
+        fn turn(&mut self) -> io::Result<usize>
+            ensures { IfOk result (λ count. count ≡ 1) }
+        {
+            if self.0 == 0 {
+                return Ok(1);
+            }
+            self.0 -= 1;
+            Err(io::Error::from(ErrorKind::Interrupted))
+        }
+    }
+
+    impl Read for Interrupted {
+        fn read(&mut self, buf: &mut [u8]) -> io::Result<usize> {
+            Ok(self.turn()?.min(buf.len()))
+        }
+    }
+
+    impl Write for Interrupted {
+        fn write(&mut self, bytes: &[u8]) -> io::Result<usize> {
+            Ok(self.turn()?.min(bytes.len()))
+        }
+
+        fn flush(&mut self) -> io::Result<()> {
+            Ok(())
+        }
+    }
+
+    #[test]
+    fn the_thousandth_interruption_fails(rt: HostRuntime) {
+        for (times, moved) in [(0, Some(1)), (999, Some(1)), (1_000, None)] {
+            assert_eq!(rt; read_some(&mut Interrupted(times), &mut [0; 4]), moved);
+            assert_eq!(rt; write_some(&mut Interrupted(times), b"text"), moved);
         }
     }
 }
