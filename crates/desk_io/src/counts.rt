@@ -20,6 +20,7 @@ impl Model for FaultCounts {
 }
 
 impl FaultCounts {
+    /// No failures.
     pub fn new() -> FaultCounts
         ensures { result ≡ record { reads = 0; writes = 0 } }
     {

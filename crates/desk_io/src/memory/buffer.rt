@@ -4,6 +4,7 @@ ghost use Rattle.std.specs.Prelude.{◌≡◌, ◌≤◌, ◌+◌, ◌++◌, [],
 use std::alloc::{AllocError, Global};
 use std::marker::Model;
 
+/// At most `size` bytes, which are put without taking memory.
 #[derive(Drop)]
 pub struct Buffer {
     bytes: Vec<u8>,
@@ -22,6 +23,7 @@ impl Model for Buffer {
 }
 
 impl Buffer {
+    /// An empty one with room for that many bytes.
     pub fn new(alloc: Global, size: usize) -> Result<Buffer, AllocError>
         ensures { IfOk result (λ b. b ≡ record { size = size; bytes = [] }) }
     {
@@ -29,12 +31,14 @@ impl Buffer {
         Ok(Buffer { bytes, size })
     }
 
+    /// Makes it empty.
     pub fn clear(&mut self)
         ensures { self.new ≡ record self.old { bytes = [] } }
     {
         self.bytes.clear();
     }
 
+    /// Puts more bytes at its end.
     pub fn append(&mut self, more: &[u8])
         requires { length self.old.bytes + length more.now ≤ self.old.size }
         ensures { self.new ≡ record self.old { bytes = self.old.bytes ++ more.now } }
@@ -44,6 +48,7 @@ impl Buffer {
         let _ = appended;
     }
 
+    /// Its bytes.
     pub fn bytes(&self) -> &[u8]
         ensures value { result.now ≡ self.now.bytes }
         ensures fits { length self.now.bytes ≤ self.now.size }

@@ -43,6 +43,7 @@ fn count_at(listed: &mut (Call, u64), call: Call)
     }
 }
 
+/// Counts the call at each of the listed.
 fn count_all(calls: &mut [(Call, u64)], call: Call)
     ensures { calls.new ≡ counted call calls.old }
 {
@@ -51,6 +52,7 @@ fn count_all(calls: &mut [(Call, u64)], call: Call)
     }
 }
 
+/// Whether the call is listed as the next of its kind.
 fn is_due(calls: &[(Call, u64)], call: Call) -> bool
     ensures { IsTrue result ↔ IsDue call calls.now }
 {
@@ -58,6 +60,7 @@ fn is_due(calls: &[(Call, u64)], call: Call) -> bool
 }
 
 impl Failing {
+    /// These calls, of which none has come.
     pub fn new(calls: Vec<(Call, u64)>) -> Failing
         ensures { result ≡ calls.items }
     {

@@ -8,6 +8,7 @@ use crate::memory::buffer::Buffer;
 use std::alloc::{AllocError, Global};
 use std::marker::Model;
 
+/// Seen as its name, how long a file there is room for, and its bytes where there is a file.
 #[derive(Drop)]
 pub struct MemFile {
     name: String,
@@ -21,7 +22,11 @@ impl Model for MemFile {
 
     ghost Value = { Entry };
 
-    ghost view = { λ f. record { name = string_bytes f.name; size = f.bytes.size; held = if f.exists then Some f.bytes.bytes else None } };
+    ghost view = { λ f. record {
+      name = string_bytes f.name;
+      size = f.bytes.size;
+      held = if f.exists then Some f.bytes.bytes else None;
+    } };
 }
 
 impl MemFile {
@@ -37,6 +42,7 @@ impl MemFile {
         })
     }
 
+    /// A file of these bytes, with room for one of that many.
     pub fn holding(
         alloc: Global,
         name: String,
@@ -55,6 +61,7 @@ impl MemFile {
         })
     }
 
+    /// Whether it has this name.
     pub fn is_named(&self, name: &str) -> bool
         ensures { result ≡ bytes_eq name.now self.now.name }
     {
@@ -81,6 +88,7 @@ impl MemFile {
         self.exists = true;
     }
 
+    /// Puts more bytes at the file's end.
     pub fn append(&mut self, more: &[u8])
         requires { IsSomeAnd self.old.held (λ bytes. length bytes + length more.now ≤ self.old.size) }
         ensures { self.new ≡ record self.old { held = option_map (λ bytes. bytes ++ more.now) self.old.held } }
@@ -115,6 +123,7 @@ pub fn longest(files: &[(String, Vec<u8>)], least: usize) -> usize
     longest
 }
 
+/// The files, each with room for that many bytes.
 fn held_files(
     alloc: Global,
     mut files: Vec<(String, Vec<u8>)>,
@@ -139,7 +148,8 @@ pub fn all_files(
     size: usize,
 ) -> Result<Vec<MemFile>, AllocError>
     requires { All (λ file. length file.1.items ≤ size) files.items }
-    ensures { IfOk result (λ made. made.items ≡ map (entry_of size) files.items ++ map (missing_of size) may_create.items) }
+    ensures { IfOk result (λ made. made.items
+        ≡ map (entry_of size) files.items ++ map (missing_of size) may_create.items) }
 {
     let mut made = held_files(alloc, files, size)?;
     'names: while !may_create.is_empty() {

@@ -11,6 +11,11 @@ use crate::memory::file::{MemFile, all_files, find, longest};
 use crate::memory::readers::Readers;
 use std::alloc::{AllocError, Global};
 
+/// A desk in memory, for tests: it tells what it holds, moves its bytes in pieces, and fails the calls that it's told to.
+///
+/// A call fails exactly where it's listed, or is a `begin` of a missing file, a `create` of a name that the desk neither
+/// holds nor may create, a `put` to `Cert` with none created, or a `put` whose bytes, cut to the piece size, pass the
+/// room left. A call that fails takes and writes nothing. No call takes memory.
 #[derive(Drop)]
 pub struct MemDesk {
     files: Vec<MemFile>,
@@ -31,8 +36,10 @@ pub struct MemDesk {
 
 /// The bytes of the named file.
 fn file_of<'a>(files: &'a [MemFile], name: &str) -> Option<&'a [u8]>
-    ensures held { MatchOption result (files_of files.now name.now ≡ None) (λ bytes. files_of files.now name.now ≡ Some bytes.now) }
-    ensures fits { IfSome result (λ bytes. (size : ℕ) → All (λ f. f.size ≡ size) files.now → length bytes.now ≤ size) }
+    ensures held { MatchOption result (files_of files.now name.now ≡ None)
+        (λ bytes. files_of files.now name.now ≡ Some bytes.now) }
+    ensures fits { IfSome result (λ bytes. (size : ℕ) →
+        All (λ f. f.size ≡ size) files.now → length bytes.now ≤ size) }
 {
     let i = find(files, name)?;
     files[i].bytes()
@@ -58,7 +65,8 @@ impl MemDesk {
         failing: Vec<(Call, u64)>,
     ) -> Result<MemDesk, AllocError>
         requires { 0 < piece }
-        ensures state { IfOk result (λ d. state_of d ≡ new_state files.items may_create.items capacity (length failing.items == 0)) }
+        ensures state { IfOk result (λ d. state_of d
+            ≡ new_state files.items may_create.items capacity (length failing.items == 0)) }
         ensures plan { IfOk result (λ d. plan_of d ≡ record { piece = piece; failing = failing.items }) }
         ensures faults { IfOk result (λ d. faults_of d ≡ record { reads = 0; writes = 0 }) }
     {
@@ -129,8 +137,10 @@ impl Desk for MemDesk {
     }
 
     fn next(&mut self, which: Which, buf: &mut [u8]) -> Result<usize, ReadFailed>
-        ensures count { IfOk result (λ count. count ≡ min (min (length (left_of which (state_of self.old))) (length buf.new)) (plan_of self.old).piece) }
-        ensures taken { IfOk result (λ count. Takes which (take count buf.new) (state_of self.old) (state_of self.new)) }
+        ensures count { IfOk result (λ count. count
+            ≡ min (min (length (left_of which (state_of self.old))) (length buf.new)) (plan_of self.old).piece) }
+        ensures taken { IfOk result (λ count.
+            Takes which (take count buf.new) (state_of self.old) (state_of self.new)) }
         ensures failed { OnErr result (state_of self.new ≡ state_of self.old) }
         ensures due { IsErr result ↔ IsDue (Call.Next which) (plan_of self.old).failing }
         ensures plan { plan_of self.new ≡ plan_after (Call.Next which) (plan_of self.old) }
@@ -148,7 +158,8 @@ impl Desk for MemDesk {
         ensures failed { OnErr result (state_of self.new ≡ state_of self.old) }
         ensures due { IsDue Call.Create (plan_of self.old).failing → IsErr result }
         ensures fails { OnErr result (IsDue Call.Create (plan_of self.old).failing
-            ⊎ (((state_of self.old).files name.now ≡ None) × (Contains (state_of self.old).may_create name.now → ⊥))) }
+            ⊎ (((state_of self.old).files name.now ≡ None)
+            × (Contains (state_of self.old).may_create name.now → ⊥))) }
         ensures plan { plan_of self.new ≡ plan_after Call.Create (plan_of self.old) }
         ensures cause { WriteCause (faults_of self.old) (faults_of self.new) result }
     {
@@ -160,13 +171,14 @@ impl Desk for MemDesk {
                 self.created = Some(i);
                 Ok(())
             }
-            _ => { Err(self.faults.write_failed()) }
+            _ => Err(self.faults.write_failed()),
         }
     }
 
     fn put(&mut self, to: To, bytes: &[u8]) -> Result<usize, WriteFailed>
         ensures count { IfOk result (λ count. count ≡ min (length bytes.now) (plan_of self.old).piece) }
-        ensures written { IfOk result (λ count. state_of self.new ≡ written to (take count bytes.now) (state_of self.old)) }
+        ensures written { IfOk result (λ count.
+            state_of self.new ≡ written to (take count bytes.now) (state_of self.old)) }
         ensures fits { IfOk result (λ count. count ≤ (state_of self.old).room) }
         ensures created { OnOk result (to ≡ To.Cert → IsSome (state_of self.old).created) }
         ensures failed { OnErr result (state_of self.new ≡ state_of self.old) }
@@ -191,7 +203,7 @@ impl Desk for MemDesk {
                 self.room -= count;
                 Ok(count)
             }
-            _ => { Err(self.faults.write_failed()) }
+            _ => Err(self.faults.write_failed()),
         }
     }
 }

@@ -5,6 +5,7 @@ use crate::memory::buffer::Buffer;
 use std::alloc::{AllocError, Global};
 use std::marker::Model;
 
+/// The copy has memory of its own, so that a file that is made empty leaves what is left of it to read.
 #[derive(Drop)]
 pub struct Reader {
     bytes: Buffer,
@@ -32,6 +33,7 @@ fn copy_front(buf: &mut [u8], from: &[u8])
 }
 
 impl Reader {
+    /// With nothing left, and room for a file of that many bytes.
     pub fn new(alloc: Global, size: usize) -> Result<Reader, AllocError>
         ensures { IfOk result (λ r. r ≡ record { size = size; left = [] }) }
     {
@@ -39,6 +41,7 @@ impl Reader {
         Ok(Reader { bytes, at: 0 })
     }
 
+    /// Makes the whole file what is left.
     pub fn begin(&mut self, file: &[u8])
         requires { length file.now ≤ self.old.size }
         ensures { self.new ≡ record self.old { left = file.now } }
@@ -48,6 +51,7 @@ impl Reader {
         self.bytes.append(file);
     }
 
+    /// Leaves nothing.
     pub fn stop(&mut self)
         ensures { self.new ≡ record self.old { left = [] } }
     {

@@ -7,6 +7,7 @@ use crate::memory::reader::Reader;
 use std::alloc::{AllocError, Global};
 use std::marker::Model;
 
+/// The three readers, each with room for a file of the same length.
 #[derive(Drop)]
 pub struct Readers {
     config: Reader,
@@ -20,14 +21,19 @@ impl Model for Readers {
 
     ghost Value = { Readings };
 
-    ghost view = { λ r. record { size = r.config.size; left = record { config = r.config.left; orgs = r.orgs.left; cert = r.cert.left } } };
+    ghost view = { λ r. record {
+      size = r.config.size;
+      left = record { config = r.config.left; orgs = r.orgs.left; cert = r.cert.left };
+    } };
 
     ghost invariant = { λ r. (r.orgs.size ≡ r.config.size) × (r.cert.size ≡ r.config.size) };
 }
 
 impl Readers {
+    /// With nothing left anywhere, and room for files of that many bytes.
     pub fn new(alloc: Global, size: usize) -> Result<Readers, AllocError>
-        ensures { IfOk result (λ r. r ≡ record { size = size; left = record { config = []; orgs = []; cert = [] } }) }
+        ensures { IfOk result (λ r. r
+            ≡ record { size = size; left = record { config = []; orgs = []; cert = [] } }) }
     {
         Ok(Readers {
             config: Reader::new(alloc, size)?,
@@ -36,6 +42,7 @@ impl Readers {
         })
     }
 
+    /// Makes the whole file what is left there.
     pub fn begin(&mut self, which: Which, file: &[u8])
         requires { length file.now ≤ self.old.size }
         ensures { self.new ≡ record self.old { left = set_left which file.now self.old.left } }
@@ -47,6 +54,7 @@ impl Readers {
         }
     }
 
+    /// Leaves nothing there.
     pub fn stop(&mut self, which: Which)
         ensures { self.new ≡ record self.old { left = set_left which [] self.old.left } }
     {
@@ -57,6 +65,7 @@ impl Readers {
         }
     }
 
+    /// Takes bytes off the front of what is left there, at most `most` of them.
     pub fn take(&mut self, which: Which, buf: &mut [u8], most: usize) -> usize
         requires { 0 < most }
         ensures count { result ≡ min (min (length (left_at which self.old.left)) (length buf.new)) most }
