@@ -1,0 +1,28 @@
+-- The order that a command line gives.
+use Rattle.std.specs.Prelude.{List, ℕ, [], Bool, true, ◌&&◌, string_bytes}
+use Rattle.std.specs.Str.{bytes_eq}
+use Rattle.cli_words.specs.declared.orders.Command.{Command}
+use Rattle.cli_words.specs.declared.orders.Command.TheVariants.{Check}
+use Rattle.cli_words.specs.declared.orders.Order.{Order}
+
+-- a command with its texts as bytes: a path that the command does not have is empty, an option that was not given is `None`
+pub record Ordered : Type 0 where
+  pub command : Command
+  pub config : List ℕ
+  pub cert : List ℕ
+
+-- the order that a Rust value is
+abbrev pub order_view : Order → Ordered
+order_view o = record { command = o.command; config = string_bytes o.config; cert = string_bytes o.cert }
+
+-- the command without any text
+abbrev pub nothing_for : Command → Ordered
+nothing_for command = record { command = command; config = []; cert = [] }
+
+-- the commands with both a configuration and a certificate
+abbrev pub has_both_paths : Command → Bool
+has_both_paths Check = true
+
+-- one path stands for both the configuration and the certificate
+abbrev pub has_same_path : Ordered → Bool
+has_same_path o = has_both_paths o.command && bytes_eq o.config o.cert
