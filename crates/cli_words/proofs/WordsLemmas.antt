@@ -7,7 +7,7 @@ use Rattle.clap.specs.declared.error.kind.ErrorKind.TheVariants.{OutOfMemory}
 use Rattle.cli_words.specs.Order.{Ordered, has_same_path}
 use Rattle.cli_words.specs.Words.{app_for, is_none, is_taken, order_by, order_in, path_checked}
 use Rattle.cli_words.specs.declared.orders.Command.{Command}
-use Rattle.cli_words.specs.declared.orders.Command.TheVariants.{Check}
+use Rattle.cli_words.specs.declared.orders.Command.TheVariants.{Show, Greatest, Available, Blocks, Vblocks, Check}
 use Rattle.cli_words.specs.declared.orders.OrderFault.TheVariants.{Words, SamePath}
 
 -- an error that is not of memory comes only where a kind does
@@ -19,6 +19,11 @@ is_none-refused (k ∷ ks) e h other = refl
 -- clap states the matches of each command
 pub is_stated : (k : Command) (app : App) → app ≡ app_for k → is_simple_and_free app ≡ true
 unfolding app_for
+is_stated Show app e = rw e refl
+is_stated Greatest app e = rw e refl
+is_stated Available app e = rw e refl
+is_stated Blocks app e = rw e refl
+is_stated Vblocks app e = rw e refl
 is_stated Check app e = rw e refl
 
 pub order_by-taken : (k : Command) (words : List Text) (app : App) (rows : List Row) (o : Ordered) → app ≡ app_for k → is_taken app words ≡ true → rows ≡ matches_of app words → o ≡ order_in k rows

@@ -6,7 +6,7 @@ use Rattle.clap.specs.Kinds.{Kinds}
 use Rattle.clap.specs.Simple.{new_shape}
 use Rattle.cli_words.specs.Order.{Ordered, nothing_for, has_same_path}
 use Rattle.cli_words.specs.declared.orders.Command.{Command}
-use Rattle.cli_words.specs.declared.orders.Command.TheVariants.{Check}
+use Rattle.cli_words.specs.declared.orders.Command.TheVariants.{Show, Greatest, Available, Blocks, Vblocks, Check}
 use Rattle.cli_words.specs.declared.orders.OrderFault.{OrderFault}
 use Rattle.cli_words.specs.declared.orders.OrderFault.TheVariants.{Words, SamePath}
 
@@ -16,12 +16,25 @@ use Rattle.cli_words.specs.declared.orders.OrderFault.TheVariants.{Words, SamePa
 abbrev pub positional : Text → Rule
 positional id = record (new_rule id) { required = true }
 
+-- an option that must be there
+abbrev pub needed : Text → Rule
+needed id = record (new_rule id) { long = Some id; required = true }
+
+-- an option that may be left out
+abbrev pub optional : Text → Rule
+optional id = record (new_rule id) { long = Some id }
+
 -- an app of this name and these arguments
 abbrev pub app_with : Text → List Rule → App
 app_with name rules = record { top = record (new_shape name) { rules = rules }; subs = [] }
 
 -- the arguments of a command, as clap reads them
 unfoldable pub app_for : Command → App
+app_for Show = app_with (codes "show") (positional (codes "config") ∷ [])
+app_for Greatest = app_with (codes "greatest") (positional (codes "config") ∷ optional (codes "faulty") ∷ [])
+app_for Available = app_with (codes "available") (positional (codes "config") ∷ needed (codes "set") ∷ [])
+app_for Blocks = app_with (codes "blocks") (positional (codes "config") ∷ needed (codes "set") ∷ optional (codes "faulty") ∷ [])
+app_for Vblocks = app_with (codes "vblocks") (positional (codes "config") ∷ needed (codes "node") ∷ needed (codes "set") ∷ [])
 app_for Check = app_with (codes "check") (positional (codes "config") ∷ positional (codes "cert") ∷ [])
 
 -- no refusal is among them
@@ -41,6 +54,19 @@ text_of id rows = unwrap_or (first_of id rows) []
 
 -- the texts that a command reads
 abbrev pub order_in : Command → List Row → Ordered
+order_in Show rows = record (nothing_for Show) { config = text_of (codes "config") rows }
+order_in Greatest rows = record (nothing_for Greatest) { config = text_of (codes "config") rows; faulty = first_of (codes "faulty") rows }
+order_in Available rows = record (nothing_for Available) { config = text_of (codes "config") rows; set = first_of (codes "set") rows }
+order_in Blocks rows = record (nothing_for Blocks) {
+  config = text_of (codes "config") rows;
+  faulty = first_of (codes "faulty") rows;
+  set = first_of (codes "set") rows;
+}
+order_in Vblocks rows = record (nothing_for Vblocks) {
+  config = text_of (codes "config") rows;
+  node = first_of (codes "node") rows;
+  set = first_of (codes "set") rows;
+}
 order_in Check rows = record (nothing_for Check) { config = text_of (codes "config") rows; cert = text_of (codes "cert") rows }
 
 -- one path for both files is refused
@@ -55,7 +81,12 @@ order_by command words = if is_taken (app_for command) words then path_checked (
 
 -- the command of a name
 abbrev pub command_named : Text → Option Command
-command_named name = if bytes_eq name (codes "check") then Some Check else None
+command_named name = if bytes_eq name (codes "show") then Some Show
+    else (if bytes_eq name (codes "greatest") then Some Greatest
+    else (if bytes_eq name (codes "available") then Some Available
+    else (if bytes_eq name (codes "blocks") then Some Blocks
+    else (if bytes_eq name (codes "vblocks") then Some Vblocks
+    else (if bytes_eq name (codes "check") then Some Check else None)))))
 
 -- the order of a command, if there is one
 abbrev pub order_if_any : Option Command → List Text → Result Ordered OrderFault

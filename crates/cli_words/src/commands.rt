@@ -1,7 +1,7 @@
 // What clap reads for each command, and the order that its matches give.
 ghost use Rattle.std.specs.Prelude.{◌≡◌, ◌≢◌, ◌⊎◌, true, false, map, IfOk, IfErr, codes, string_bytes, option_map};
 ghost use Rattle.clap.specs.Words.{kind_of, app_of, rule_of, found_of, rows_of, matches_of, is_simple_and_free, first_of};
-ghost use Rattle.cli_words.specs.Words.{positional as positional_rule, app_for, is_taken, text_of, order_in};
+ghost use Rattle.cli_words.specs.Words.{positional as positional_rule, needed as needed_rule, optional as optional_rule, app_for, is_taken, text_of, order_in};
 ghost use Rattle.cli_words.specs.Order.{order_view, nothing_for};
 
 use crate::orders::{Command, Order, OrderFault};
@@ -16,13 +16,77 @@ fn positional<'a>(alloc: Global, id: &'a str) -> Arg<'a>
     Arg::new(alloc, id).required(true)
 }
 
+fn needed<'a>(alloc: Global, id: &'a str) -> Arg<'a>
+    ensures rule { rule_of result ≡ needed_rule id.now }
+    ensures local { result.global ≡ false }
+{
+    Arg::new(alloc, id).long(id).required(true)
+}
+
+fn optional<'a>(alloc: Global, id: &'a str) -> Arg<'a>
+    ensures rule { rule_of result ≡ optional_rule id.now }
+    ensures local { result.global ≡ false }
+{
+    Arg::new(alloc, id).long(id)
+}
+
 // The arguments that the command takes.
 pub fn arguments_of<'a>(alloc: Global, command: Command) -> Result<clap::Command<'a>, AllocError>
     ensures { IfOk result (λ c. app_of c ≡ app_for command) }
 {
     match command {
+        Command::Show => show_arguments(alloc),
+        Command::Greatest => greatest_arguments(alloc),
+        Command::Available => available_arguments(alloc),
+        Command::Blocks => blocks_arguments(alloc),
+        Command::Vblocks => vblocks_arguments(alloc),
         Command::Check => check_arguments(alloc),
     }
+}
+
+#[tactic(auto, unfolding(crate::specs::Words::app_for))]
+fn show_arguments<'a>(alloc: Global) -> Result<clap::Command<'a>, AllocError>
+    ensures { IfOk result (λ c. app_of c ≡ app_for Command.Show) }
+{
+    clap::Command::new(alloc, "show").arg(positional(alloc, "config"))
+}
+
+#[tactic(auto, unfolding(crate::specs::Words::app_for))]
+fn greatest_arguments<'a>(alloc: Global) -> Result<clap::Command<'a>, AllocError>
+    ensures { IfOk result (λ c. app_of c ≡ app_for Command.Greatest) }
+{
+    clap::Command::new(alloc, "greatest")
+        .arg(positional(alloc, "config"))?
+        .arg(optional(alloc, "faulty"))
+}
+
+#[tactic(auto, unfolding(crate::specs::Words::app_for))]
+fn available_arguments<'a>(alloc: Global) -> Result<clap::Command<'a>, AllocError>
+    ensures { IfOk result (λ c. app_of c ≡ app_for Command.Available) }
+{
+    clap::Command::new(alloc, "available")
+        .arg(positional(alloc, "config"))?
+        .arg(needed(alloc, "set"))
+}
+
+#[tactic(auto, unfolding(crate::specs::Words::app_for))]
+fn blocks_arguments<'a>(alloc: Global) -> Result<clap::Command<'a>, AllocError>
+    ensures { IfOk result (λ c. app_of c ≡ app_for Command.Blocks) }
+{
+    clap::Command::new(alloc, "blocks")
+        .arg(positional(alloc, "config"))?
+        .arg(needed(alloc, "set"))?
+        .arg(optional(alloc, "faulty"))
+}
+
+#[tactic(auto, unfolding(crate::specs::Words::app_for))]
+fn vblocks_arguments<'a>(alloc: Global) -> Result<clap::Command<'a>, AllocError>
+    ensures { IfOk result (λ c. app_of c ≡ app_for Command.Vblocks) }
+{
+    clap::Command::new(alloc, "vblocks")
+        .arg(positional(alloc, "config"))?
+        .arg(needed(alloc, "node"))?
+        .arg(needed(alloc, "set"))
 }
 
 #[tactic(auto, unfolding(crate::specs::Words::app_for))]
@@ -81,6 +145,19 @@ fn text(alloc: Global, matches: &ArgMatches<'_>, id: &str) -> Result<String, All
     }
 }
 
+fn text_if_any(
+    alloc: Global,
+    matches: &ArgMatches<'_>,
+    id: &str,
+) -> Result<Option<String>, AllocError>
+    ensures { IfOk result (λ o. option_map string_bytes o ≡ first_of id.now (rows_of (found_of matches.now))) }
+{
+    match text_at(matches, id) {
+        Some(text) => Ok(Some(String::from_str(alloc, text)?)),
+        None => Ok(None),
+    }
+}
+
 fn nothing(alloc: Global, command: Command) -> Order
     ensures { order_view result ≡ nothing_for command }
 {
@@ -88,6 +165,9 @@ fn nothing(alloc: Global, command: Command) -> Order
         command,
         config: String::new(alloc),
         cert: String::new(alloc),
+        node: None,
+        faulty: None,
+        set: None,
     }
 }
 
@@ -100,8 +180,69 @@ pub fn order_from(
     ensures { IfOk result (λ o. order_view o ≡ order_in command (rows_of (found_of matches.now))) }
 {
     match command {
+        Command::Show => show_order(alloc, matches),
+        Command::Greatest => greatest_order(alloc, matches),
+        Command::Available => available_order(alloc, matches),
+        Command::Blocks => blocks_order(alloc, matches),
+        Command::Vblocks => vblocks_order(alloc, matches),
         Command::Check => check_order(alloc, matches),
     }
+}
+
+fn show_order(alloc: Global, matches: &ArgMatches<'_>) -> Result<Order, AllocError>
+    ensures { IfOk result (λ o. order_view o
+        ≡ order_in Command.Show (rows_of (found_of matches.now))) }
+{
+    Ok(Order {
+        config: text(alloc, matches, "config")?,
+        ..nothing(alloc, Command::Show)
+    })
+}
+
+fn greatest_order(alloc: Global, matches: &ArgMatches<'_>) -> Result<Order, AllocError>
+    ensures { IfOk result (λ o. order_view o
+        ≡ order_in Command.Greatest (rows_of (found_of matches.now))) }
+{
+    Ok(Order {
+        config: text(alloc, matches, "config")?,
+        faulty: text_if_any(alloc, matches, "faulty")?,
+        ..nothing(alloc, Command::Greatest)
+    })
+}
+
+fn available_order(alloc: Global, matches: &ArgMatches<'_>) -> Result<Order, AllocError>
+    ensures { IfOk result (λ o. order_view o
+        ≡ order_in Command.Available (rows_of (found_of matches.now))) }
+{
+    Ok(Order {
+        config: text(alloc, matches, "config")?,
+        set: text_if_any(alloc, matches, "set")?,
+        ..nothing(alloc, Command::Available)
+    })
+}
+
+fn blocks_order(alloc: Global, matches: &ArgMatches<'_>) -> Result<Order, AllocError>
+    ensures { IfOk result (λ o. order_view o
+        ≡ order_in Command.Blocks (rows_of (found_of matches.now))) }
+{
+    Ok(Order {
+        config: text(alloc, matches, "config")?,
+        faulty: text_if_any(alloc, matches, "faulty")?,
+        set: text_if_any(alloc, matches, "set")?,
+        ..nothing(alloc, Command::Blocks)
+    })
+}
+
+fn vblocks_order(alloc: Global, matches: &ArgMatches<'_>) -> Result<Order, AllocError>
+    ensures { IfOk result (λ o. order_view o
+        ≡ order_in Command.Vblocks (rows_of (found_of matches.now))) }
+{
+    Ok(Order {
+        config: text(alloc, matches, "config")?,
+        node: text_if_any(alloc, matches, "node")?,
+        set: text_if_any(alloc, matches, "set")?,
+        ..nothing(alloc, Command::Vblocks)
+    })
 }
 
 fn check_order(alloc: Global, matches: &ArgMatches<'_>) -> Result<Order, AllocError>

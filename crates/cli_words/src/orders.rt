@@ -1,25 +1,24 @@
 ghost use Rattle.std.specs.Prelude.{◌≡◌};
 ghost use Rattle.cli_words.specs.declared.orders.OrderFault.TheVariants.{Memory};
-ghost use Rattle.cli_words.specs.Order.{has_both_paths as spec_has_both_paths};
 
 use std::alloc::AllocError;
 use thiserror::Error;
 
-/// What the program is to do.
+/// What the program is to do, by the command's name and arguments.
 #[derive(Clone, Copy, Debug, PartialEq, Eq)]
 pub enum Command {
+    /// `show CONFIG`
+    Show,
+    /// `greatest CONFIG [--faulty NAMES]`
+    Greatest,
+    /// `available CONFIG --set NAMES`
+    Available,
+    /// `blocks CONFIG --set NAMES [--faulty NAMES]`
+    Blocks,
+    /// `vblocks CONFIG --node NAME --set NAMES`
+    Vblocks,
+    /// `check CONFIG CERT`
     Check,
-}
-
-impl Command {
-    // Whether the command has both a configuration and a certificate.
-    pub fn has_both_paths(self) -> bool
-        ensures { result ≡ spec_has_both_paths self }
-    {
-        match self {
-            Command::Check => true,
-        }
-    }
 }
 
 /// Why the words give no order.
@@ -28,14 +27,15 @@ pub enum OrderFault {
     /// The words are not those of a command.
     #[error("the words are not those of a command")]
     Words,
-    /// The certificate has the path of the configuration.
+    /// The words are taken, and the path of the certificate equals that of the configuration as text.
     #[error("the certificate has the path of the configuration")]
     SamePath,
+    /// Memory is wanting.
     #[error("out of memory")]
     Memory,
 }
 
-/// A command with its texts.
+/// A command with its texts. An option is `None` where it was not given or the command has none.
 #[derive(Drop)]
 pub struct Order {
     pub command: Command,
@@ -43,6 +43,12 @@ pub struct Order {
     pub config: String,
     /// The path of the certificate, empty where the command has none.
     pub cert: String,
+    /// The name that `--node` gives.
+    pub node: Option<String>,
+    /// The list of names that `--faulty` gives.
+    pub faulty: Option<String>,
+    /// The list of names that `--set` gives.
+    pub set: Option<String>,
 }
 
 impl From<AllocError> for OrderFault {
