@@ -1,20 +1,21 @@
 -- Each stage of the reading of a command's words.
-use Rattle.std.proofs.Common.{◌≡◌, List, [], ◌∷◌, true, false, Ok, Err, inl, inr, refl}
+use Rattle.std.proofs.Common.{◌≡◌, List, [], ◌∷◌, true, false, Ok, Err, inl, inr, refl, rules}
 use Rattle.clap.specs.Words.{App, Row, Text, kind_of, matches_of, is_simple_and_free}
+use Rattle.clap.specs.Walk.{is_empty}
 use Rattle.clap.specs.Kinds.{Kinds, HasKind}
 use Rattle.clap.specs.declared.error.Error.{Error}
 use Rattle.clap.specs.declared.error.kind.ErrorKind.TheVariants.{OutOfMemory}
 use Rattle.cli_words.specs.Order.{Ordered, has_same_path}
-use Rattle.cli_words.specs.Words.{app_for, is_none, is_taken, order_by, order_in, path_checked}
+use Rattle.cli_words.specs.Words.{app_for, is_taken, order_by, order_in, path_checked}
 use Rattle.cli_words.specs.declared.orders.Command.{Command}
 use Rattle.cli_words.specs.declared.orders.Command.TheVariants.{Show, Greatest, Available, Blocks, Vblocks, Check}
 use Rattle.cli_words.specs.declared.orders.OrderFault.TheVariants.{Words, SamePath}
 
 -- an error that is not of memory comes only where a kind does
-pub is_none-refused : (kinds : Kinds) (e : Error) → HasKind kinds e → (kind_of e ≡ OutOfMemory → ⊥) → is_none kinds ≡ false
-is_none-refused [] e (inl memory) other = absurd (other memory)
-is_none-refused [] e (inr never) other = absurd never
-is_none-refused (k ∷ ks) e h other = refl
+pub is_empty-refused : (kinds : Kinds) (e : Error) → HasKind kinds e → (kind_of e ≡ OutOfMemory → ⊥) → is_empty kinds ≡ false
+is_empty-refused [] e (inl memory) other = absurd (other memory)
+is_empty-refused [] e (inr never) other = absurd never
+is_empty-refused (k ∷ ks) e h other = search rules
 
 -- clap states the matches of each command
 pub is_stated : (k : Command) (app : App) → app ≡ app_for k → is_simple_and_free app ≡ true

@@ -1,8 +1,8 @@
 -- Which words are taken, and the order that they give. Options, positionals and their refusals are those that clap states.
-use Rattle.std.specs.Prelude.{List, [], ◌∷◌, Bool, true, false, Option, Some, None, unwrap_or, Result, Ok, Err, codes, if◌then◌else◌}
+use Rattle.std.specs.Prelude.{List, [], ◌∷◌, Bool, true, Option, Some, None, unwrap_or, Result, Ok, Err, codes, if◌then◌else◌}
 use Rattle.std.specs.Str.{bytes_eq}
 use Rattle.clap.specs.Words.{App, Row, Rule, Text, fault_of, first_of, matches_of, new_rule}
-use Rattle.clap.specs.Kinds.{Kinds}
+use Rattle.clap.specs.Walk.{is_empty}
 use Rattle.clap.specs.Simple.{new_shape}
 use Rattle.cli_words.specs.Order.{Ordered, nothing_for, has_same_path}
 use Rattle.cli_words.specs.declared.orders.Command.{Command}
@@ -37,14 +37,9 @@ app_for Blocks = app_with (codes "blocks") (positional (codes "config") ∷ need
 app_for Vblocks = app_with (codes "vblocks") (positional (codes "config") ∷ needed (codes "node") ∷ needed (codes "set") ∷ [])
 app_for Check = app_with (codes "check") (positional (codes "config") ∷ positional (codes "cert") ∷ [])
 
--- no refusal is among them
-abbrev pub is_none : Kinds → Bool
-is_none [] = true
-is_none (k ∷ ks) = false
-
--- clap takes the words
+-- clap takes the words: it has no kind of refusal for them
 unfoldable pub is_taken : App → List Text → Bool
-is_taken app words = is_none (fault_of app words)
+is_taken app words = is_empty (fault_of app words)
 
 -- ---- what is read of words that are taken
 
