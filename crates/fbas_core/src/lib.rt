@@ -1,10 +1,10 @@
 // A system: the nodes' names and quorum sets, with its slices and quorums.
 #![tactic(auto)]
 
-ghost use Rattle.std.specs.Prelude.{◌≡◌, ◌<◌, ◌≤◌, ◌↔◌, length, map, IsTrue, IfSome, MatchOption, Contains, slice_get, option_map, Some};
+ghost use Rattle.std.specs.Prelude.{◌≡◌, ◌<◌, ◌≤◌, ◌↔◌, length, map, IsTrue, IfSome, MatchOption, Contains, slice_get, option_copied, Some, count_by, is_none};
 ghost use Rattle.fbas_model.specs.Nodes.{members};
 ghost use Rattle.fbas_model.specs.Names.{place_of};
-ghost use Rattle.fbas_model.specs.Systems.{System as Whole, IsSystem};
+ghost use Rattle.fbas_model.specs.Systems.{System as Whole, IsSystem, entries_in, unset_in};
 ghost use Rattle.fbas_model.specs.Fbas.{HasSliceWithin, Quorum, BlocksNode};
 
 use name_set::{Names, NodeSet};
@@ -31,6 +31,13 @@ impl Model for System {
     ghost view = { λ s. record { names = s.names; sets = s.sets.items } };
 
     ghost invariant = { λ s. IsSystem s.names s.sets.items };
+}
+
+/// How many of the nodes have no quorum set.
+fn count_unset(sets: &[Option<QuorumSet>]) -> usize
+    ensures { result ≡ count_by is_none sets.now }
+{
+    sets.iter().filter(|set| set.is_none()).count()
 }
 
 impl System {
@@ -66,6 +73,34 @@ impl System {
         ensures below { IfSome result (λ v. v < length self.now.sets) }
     {
         self.names.find(name)
+    }
+
+    /// The quorum set of the node, or none where it has none: O(1).
+    pub fn quorum_set(&self, v: u32) -> Option<&QuorumSet>
+        requires { v < length self.now.sets }
+        ensures { slice_get self.now.sets v ≡ Some (option_copied result) }
+    {
+        self.sets[v as usize].as_ref()
+    }
+
+    /// How many entries the quorum sets have, at all depths: linear in them.
+    pub fn entries(&self) -> u64
+        ensures { result ≡ entries_in self.now.sets }
+    {
+        let mut entries = 0;
+        for set in &self.sets {
+            if let Some(quorum_set) = set {
+                entries += quorum_set.entries();
+            }
+        }
+        entries
+    }
+
+    /// How many nodes have no quorum set: O(n).
+    pub fn unset(&self) -> u64
+        ensures { result ≡ unset_in self.now.sets }
+    {
+        count_unset(&self.sets) as u64
     }
 
     /// Whether the node has a quorum slice (Mazières 2015) that lies in `u` once the faulty nodes are deleted.

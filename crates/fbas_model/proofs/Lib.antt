@@ -1,3 +1,5 @@
 pub mod Counting
 pub mod Slices
 pub mod QuorumLaw
+pub mod Sizes
+pub mod Unions

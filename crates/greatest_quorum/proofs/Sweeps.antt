@@ -6,15 +6,12 @@ use Rattle.fbas_model.specs.Nodes.{Nodes, Table, members, ◌∈◌, ◌⊆◌, 
 use Rattle.fbas_model.specs.Fbas.{Fbas, HasSliceWithin, Quorum, all_nodes, IsGreatestQuorum, MeetsQuorums}
 use borrow.Author.Count.{below_more}
 use Rattle.fbas_model.proofs.Slices.{meets_or_outside}
-use Rattle.greatest_quorum.proofs.Sizes.{size_le, size_lt, member_lt, empty_or_not}
-
--- a slice inside a set is inside a larger one
-pub wider : (f : Fbas) (b w u : Nodes) (v : ℕ) → w ⊆ u → HasSliceWithin f b v w → HasSliceWithin f b v u
-wider f b w u v h s = (s.0, s.1, λ x at. h x (s.2 x at))
+use Rattle.fbas_model.proofs.Unions.{slice_wider}
+use Rattle.fbas_model.proofs.Sizes.{size_le, size_lt, member_lt, empty_or_not}
 
 pub quorum_stays : (f : Fbas) (b w u : Nodes) (v : ℕ) → (HasSliceWithin f b v u → ⊥) → Quorum f b w → w ⊆ u → w ⊆ (u ∖ only v)
 quorum_stays f b w u v stuck q h x at = and_from (u x) (not (x == v)) (h x at) (not_from_false (x == v) (elim (cases_Bool (x == v)) [
-  | inl e ↦ absurd (stuck (wider f b w u v h (q.slices v (subst (λ (y : ℕ). y ∈ w) (eqb-true x v e) at))))
+  | inl e ↦ absurd (stuck (slice_wider f b w u v h (q.slices v (subst (λ (y : ℕ). y ∈ w) (eqb-true x v e) at))))
   | inr e ↦ e
 ]))
 

@@ -1,4 +1,4 @@
-use Rattle.std.proofs.Common.{ℕ, List, Vec, Global, ◌≡◌, ◌<◌, ◌≤◌, ◌+◌, ◌-◌, ◌/◌, arith, length, map, ◌∙◌, sym, []}
+use Rattle.std.proofs.Common.{ℕ, Vec, Global, ◌<◌, ◌+◌, ◌-◌, ◌/◌, arith, length, map, ◌∙◌, sym, []}
 use Rattle.std.proofs.lemmas.List.{length-map}
 use Rattle.name_set.proofs.NameLists.{raised, lowered, found, nowhere, probed}
 use Rattle.std.proofs.lemmas.Option.{get_or_from_slice_get}
