@@ -1,7 +1,7 @@
 // A system: the nodes' names and quorum sets, with its slices and quorums.
 #![tactic(auto)]
 
-ghost use Rattle.std.specs.Prelude.{◌≡◌, ◌<◌, ◌≤◌, ◌↔◌, length, map, IsTrue, IfSome, MatchOption, Contains, slice_get, option_map, Some};
+ghost use Rattle.std.specs.Prelude.{◌≡◌, ℕ, ◌<◌, ◌≤◌, ◌↔◌, length, map, IsTrue, IfSome, MatchOption, Contains, slice_get, option_map, Some};
 ghost use Rattle.fbas_model.specs.Nodes.{members};
 ghost use Rattle.fbas_model.specs.Names.{place_of};
 ghost use Rattle.fbas_model.specs.Systems.{System as Whole, IsSystem};
@@ -59,11 +59,12 @@ impl System {
         &self.names
     }
 
-    /// The node of a name, or none where it has no node: O(log n) comparisons.
+    /// The node of a name, the only one that has it, or none: O(log n) comparisons.
     pub fn find(&self, name: &[u8]) -> Option<u32>
         ensures found { MatchOption result (Contains self.now.names name.now → ⊥) (λ v. slice_get self.now.names v ≡ Some name.now) }
         ensures place { result ≡ place_of self.now.names name.now }
         ensures below { IfSome result (λ v. v < length self.now.sets) }
+        ensures only { IfSome result (λ v. (other : ℕ) → slice_get self.now.names other ≡ Some name.now → other ≡ v) }
     {
         self.names.find(name)
     }
