@@ -1,6 +1,6 @@
 -- Least nodes, shared nodes and the order of a pair.
-use Rattle.std.proofs.Common.{◌≡◌, ℕ, zero, suc, ◌+◌, ◌<◌, ◌≤◌, ◌⊎◌, List, [], ◌∷◌, length, Bool, true, false, ◌&&◌, ◌||◌, Option, Some, None, MatchOption, unwrap_or, cond, ltb, inl, inr, refl, sym, ◌∙◌, ap, subst, arith}
-use Rattle.std.proofs.lemmas.Bool.{cases_Bool, and_parts, and_from, or_cases, or_left, or_right, both_ways, false≢true, ltb-true, lt-ltb, cases_lt}
+use Rattle.std.proofs.Common.{◌≡◌, ℕ, zero, suc, ◌+◌, ◌≤◌, ◌↔◌, IsTrue, [], ◌∷◌, length, Bool, true, false, ◌&&◌, Option, Some, None, MatchOption, unwrap_or, cond, ltb, inl, inr, refl, sym, ◌∙◌, ap, subst, arith}
+use Rattle.std.proofs.lemmas.Bool.{cases_Bool, and_from, or_cases, or_left, both_ways, false≢true, ltb-true, lt-ltb, cases_lt}
 use Rattle.fbas_model.specs.Nodes.{Nodes, Table, members, ◌∈◌, ◌∪◌, ∅, IsLeast, Meets}
 use Rattle.fbas_model.specs.Fbas.{Fbas, Quorum}
 use Rattle.fbas_model.specs.Counting.{is_quorum}
@@ -110,3 +110,10 @@ pair_of_quorums f b u w p e q r none = either_way f b u w (ltb (unwrap_or (least
 -- a test by counting that fails
 pub no_quorum : (f : Fbas) (b u : Table) → length b ≡ length f → length u ≡ length f → is_quorum f b u ≡ false → Quorum f (members b) (members u) → ⊥
 no_quorum f b u p q e quorum = both_ways (is_quorum f b u) e (quorum-from f b u (p ∙ sym q) (sym q) quorum)
+
+-- a test that says whether u is a quorum is the one by counting
+pub by_counting : (f : Fbas) (b u : Table) (r : Bool) → length b ≡ length f → length u ≡ length f → (IsTrue r ↔ Quorum f (members b) (members u)) → r ≡ is_quorum f b u
+by_counting f b u r p q h = elim (cases_Bool r) [
+  | inl e ↦ e ∙ sym (quorum-from f b u (p ∙ sym q) (sym q) (h.0 e))
+  | inr e ↦ elim (cases_Bool (is_quorum f b u)) [ inl k ↦ h.1 (quorum-to f b u k) ∙ sym k | inr k ↦ e ∙ sym k ]
+]

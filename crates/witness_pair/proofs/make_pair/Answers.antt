@@ -1,6 +1,5 @@
-use Rattle.std.proofs.Common.{◌≡◌, true, false, sym, ◌∙◌, None, Some, rules}
+use Rattle.std.proofs.Common.{sym, ◌∙◌}
 use Rattle.fbas_model.proofs.QuorumLaw.{quorum-to}
-use Rattle.witness_pair.specs.Making.{least, shared}
 use Rattle.witness_pair.proofs.PairLaws.{no_quorum, least_of_both, pair_of_quorums}
 use Rattle.witness_pair.proofs.make_pair.Goals as goal
 
