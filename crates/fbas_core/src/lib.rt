@@ -1,7 +1,11 @@
 // A system: the nodes' names and quorum sets, with its slices and quorums.
 #![tactic(auto)]
 
+<<<<<<< HEAD
 ghost use Rattle.std.specs.Prelude.{◌≡◌, ◌<◌, ◌≤◌, ◌↔◌, length, map, IsTrue, IfSome, MatchOption, Contains, slice_get, option_copied, Some, count_by, is_none};
+=======
+ghost use Rattle.std.specs.Prelude.{◌≡◌, ℕ, ◌<◌, ◌≤◌, ◌↔◌, length, map, IsTrue, IfSome, MatchOption, Contains, slice_get, option_map, Some};
+>>>>>>> 358fb72a5b8aba6fe82d51acc7da3b0955289d7f
 ghost use Rattle.fbas_model.specs.Nodes.{members};
 ghost use Rattle.fbas_model.specs.Names.{place_of};
 ghost use Rattle.fbas_model.specs.Systems.{System as Whole, IsSystem, entries_in, unset_in};
@@ -66,11 +70,12 @@ impl System {
         &self.names
     }
 
-    /// The node of a name, or none where it has no node: O(log n) comparisons.
+    /// The node of a name, the only one that has it, or none: O(log n) comparisons.
     pub fn find(&self, name: &[u8]) -> Option<u32>
         ensures found { MatchOption result (Contains self.now.names name.now → ⊥) (λ v. slice_get self.now.names v ≡ Some name.now) }
         ensures place { result ≡ place_of self.now.names name.now }
         ensures below { IfSome result (λ v. v < length self.now.sets) }
+        ensures only { IfSome result (λ v. (other : ℕ) → slice_get self.now.names other ≡ Some name.now → other ≡ v) }
     {
         self.names.find(name)
     }
