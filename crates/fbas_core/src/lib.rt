@@ -59,9 +59,10 @@ impl System {
         self.names.len()
     }
 
-    /// The names of the nodes.
+    /// The names of the nodes, of which each has a place for its quorum set.
     pub fn names(&self) -> &Names
-        ensures { result.now ≡ self.now.names }
+        ensures names { result.now ≡ self.now.names }
+        ensures places { length self.now.names ≡ length self.now.sets }
     {
         &self.names
     }
