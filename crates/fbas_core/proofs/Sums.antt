@@ -1,5 +1,5 @@
 -- The entries and the unset nodes of a system, summed node by node.
-use Rattle.std.proofs.Common.{◌≡◌, ℕ, ◌+◌, ◌≤◌, ◌<◌, refl, sym, ◌∙◌, ap, arith, length, take, List, [], ◌∷◌, Option, Some, None}
+use Rattle.std.proofs.Common.{◌≡◌, ℕ, ◌+◌, ◌≤◌, ◌<◌, refl, sym, ◌∙◌, ap, arith, length, take, [], ◌∷◌, Option, Some, None}
 use Rattle.std.specs.Prelude.{sum_by, count_by, slice_index_or, is_none, if◌then◌else◌}
 use Rattle.std.proofs.lemmas.List.Sums.{sum_by-cons, sum_by_more, sum_by-take-le}
 use Rattle.fbas_model.specs.Trees.{QuorumSet}

@@ -2,10 +2,10 @@
 #![tactic(auto)]
 
 ghost use Rattle.std.specs.Prelude.{◌≡◌, ℕ, ◌<◌, ◌≤◌, ◌↔◌, length, map, IsTrue, IfSome, MatchOption, Contains, slice_get, option_copied, Some, count_by, is_none};
-ghost use Rattle.fbas_model.specs.Nodes.{members};
+ghost use Rattle.fbas_model.specs.Nodes.{members, ∅, ◌∖◌};
 ghost use Rattle.fbas_model.specs.Names.{place_of};
 ghost use Rattle.fbas_model.specs.Systems.{System as Whole, IsSystem, entries_in, unset_in};
-ghost use Rattle.fbas_model.specs.Fbas.{HasSliceWithin, Quorum, BlocksNode};
+ghost use Rattle.fbas_model.specs.Fbas.{HasSliceWithin, Quorum, BlocksNode, all_nodes};
 
 use name_set::{Names, NodeSet};
 use quorum_set::QuorumSet;
@@ -117,6 +117,18 @@ impl System {
             Some(quorum_set) => (u.has(v) || faulty.has(v)) && quorum_set.satisfied_in(u, faulty),
             None => false,
         }
+    }
+
+    /// Whether the node has a quorum slice (Mazières 2015) with no node of `s`. Linear in the entries of its quorum set.
+    pub fn slice_outside(&self, v: u32, s: &NodeSet) -> bool
+        requires node { v < length self.now.sets }
+        requires same_n { length s.now ≡ length self.now.sets }
+        ensures { IsTrue result ↔ HasSliceWithin self.now.sets ∅ v (all_nodes self.now.sets ∖ members s.now) }
+    {
+        let Some(quorum_set) = &self.sets[v as usize] else {
+            return false;
+        };
+        !s.has(v) && quorum_set.avoids(s)
     }
 
     /// Whether `u` is a quorum (Mazières 2015) once the faulty nodes are deleted. Linear in the entries of its members.

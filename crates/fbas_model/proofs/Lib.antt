@@ -3,3 +3,4 @@ pub mod Slices
 pub mod QuorumLaw
 pub mod Sizes
 pub mod Unions
+pub mod Mentioned

@@ -1,6 +1,4 @@
-use Rattle.std.proofs.Common.{◌≡◌, ◌+◌, ◌<◌, ◌≤◌, arith, length, take, ap, ◌∙◌, sym, take_all}
-use Rattle.std.specs.Prelude.{sum_by}
-use Rattle.fbas_model.specs.Systems.{entries_in}
+use Rattle.std.proofs.Common.{◌<◌, arith, length, ap, ◌∙◌, sym, take_all}
 use Rattle.fbas_core.proofs.Sums.{entries_at, entries_in-sum, entries_within}
 use Rattle.fbas_core.proofs.System.entries.Goals as goal
 

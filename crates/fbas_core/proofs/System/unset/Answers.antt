@@ -1,4 +1,4 @@
-use Rattle.std.proofs.Common.{◌≡◌, ◌∙◌, sym}
+use Rattle.std.proofs.Common.{◌∙◌, sym}
 use Rattle.fbas_core.proofs.Sums.{unset_in-count}
 use Rattle.fbas_core.proofs.System.unset.Goals as goal
 
