@@ -1,5 +1,5 @@
 -- The place of a name among strictly sorted names.
-use Rattle.std.proofs.Common.{◌≡◌, ℕ, ◌<◌, ◌≤◌, inl, inr, Bool, true, false, not, List, length, refl, sym, ◌∙◌, ap, subst, arith, Some, None, slice_get, slice_index_or, Contains, ltb, Less, []}
+use Rattle.std.proofs.Common.{◌≡◌, ℕ, ◌<◌, ◌≤◌, inl, inr, Bool, true, false, not, List, length, refl, ◌∙◌, ap, subst, arith, Some, None, slice_get, slice_index_or, Contains, ltb, Less, []}
 use Rattle.std.specs.List.{prefix_len}
 use Rattle.std.specs.List.Sorted.{IsStrictlySortedBy}
 use Rattle.std.specs.Str.{bytes_eq}
