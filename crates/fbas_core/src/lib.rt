@@ -1,7 +1,7 @@
 // A system: the nodes' names and quorum sets, with its slices and quorums.
 #![tactic(auto)]
 
-ghost use Rattle.std.specs.Prelude.{◌≡◌, ◌<◌, ◌≤◌, ◌↔◌, length, map, IsTrue, IfSome, MatchOption, Contains, slice_get, option_copied, Some, count_by, is_none};
+ghost use Rattle.std.specs.Prelude.{◌≡◌, ℕ, ◌<◌, ◌≤◌, ◌↔◌, length, map, IsTrue, IfSome, MatchOption, Contains, slice_get, option_copied, Some, count_by, is_none};
 ghost use Rattle.fbas_model.specs.Nodes.{members, ∅, ◌∖◌};
 ghost use Rattle.fbas_model.specs.Names.{place_of};
 ghost use Rattle.fbas_model.specs.Systems.{System as Whole, IsSystem, entries_in, unset_in};
@@ -59,18 +59,20 @@ impl System {
         self.names.len()
     }
 
-    /// The names of the nodes.
+    /// The names of the nodes, of which each has a place for its quorum set.
     pub fn names(&self) -> &Names
-        ensures { result.now ≡ self.now.names }
+        ensures names { result.now ≡ self.now.names }
+        ensures places { length self.now.names ≡ length self.now.sets }
     {
         &self.names
     }
 
-    /// The node of a name, or none where it has no node: O(log n) comparisons.
+    /// The node of a name, the only one that has it, or none: O(log n) comparisons.
     pub fn find(&self, name: &[u8]) -> Option<u32>
         ensures found { MatchOption result (Contains self.now.names name.now → ⊥) (λ v. slice_get self.now.names v ≡ Some name.now) }
         ensures place { result ≡ place_of self.now.names name.now }
         ensures below { IfSome result (λ v. v < length self.now.sets) }
+        ensures only { IfSome result (λ v. (other : ℕ) → slice_get self.now.names other ≡ Some name.now → other ≡ v) }
     {
         self.names.find(name)
     }

@@ -1,0 +1,75 @@
+// What a configuration may be refused for.
+
+ghost use Rattle.std.specs.Prelude.{◌≡◌};
+ghost use Rattle.node_json.specs.declared.faults.ConfigFault.TheVariants.{Memory};
+
+use std::alloc::{AllocError, AllocFailed};
+use thiserror::Error;
+
+/// What is wrong with a quorum set.
+#[derive(Clone, Copy, Debug, PartialEq, Eq, Error)]
+pub enum SetFault {
+    /// It is no object.
+    #[error("shape")]
+    Shape,
+    /// Its threshold is missing, or no whole number from 0 to 2^64 - 1.
+    #[error("threshold")]
+    Threshold,
+    /// Its validators are no array of keys.
+    #[error("validators")]
+    Validators,
+    /// Its inner quorum sets are no array.
+    #[error("inner")]
+    Inner,
+}
+
+/// Why the bytes are no configuration: the first fault. Elements of the array are counted from 0.
+#[derive(Clone, Copy, Debug, PartialEq, Eq, Error)]
+pub enum ConfigFault {
+    /// The bytes are no JSON text.
+    #[error("not-json")]
+    NotJson,
+    /// The text is no array.
+    #[error("not-nodes")]
+    NotNodes,
+    /// An element is no object.
+    #[error("not-node {0}")]
+    NotNode(u64),
+    /// The `publicKey` of an element is missing, or no key.
+    #[error("bad-key {0}")]
+    BadKey(u64),
+    /// An element has the key of an earlier one.
+    #[error("duplicate {0}")]
+    Duplicate(u64),
+    /// A quorum set of an element lies deeper than 16.
+    #[error("too-deep {0}")]
+    TooDeep(u64),
+    /// A quorum set of an element is none.
+    #[error("bad-quorum-set {0} {1}")]
+    BadQuorumSet(u64, SetFault),
+    /// There are so many nodes, more than 4,096.
+    #[error("too-many-nodes {0}")]
+    TooManyNodes(u64),
+    /// There are so many entries of quorum sets at all depths, more than 1,000,000.
+    #[error("too-many-entries {0}")]
+    TooManyEntries(u64),
+    /// Memory ran out.
+    #[error("memory")]
+    Memory,
+}
+
+impl From<AllocError> for ConfigFault {
+    ghost from_gives = { λ _ e. e ≡ Memory };
+
+    fn from(_e: AllocError) -> ConfigFault {
+        ConfigFault::Memory
+    }
+}
+
+impl<T: Drop> From<AllocFailed<T>> for ConfigFault {
+    ghost from_gives = { λ _ e. e ≡ Memory };
+
+    fn from(_e: AllocFailed<T>) -> ConfigFault {
+        ConfigFault::Memory
+    }
+}

@@ -1,0 +1,113 @@
+// Quorum sets as a configuration writes them.
+
+ghost use Rattle.std.specs.Prelude.{◌≡◌, ◌⊎◌, Ok, Err, IfOk, IfErr, codes, option_map};
+ghost use Rattle.serde_json.specs.Find.{get};
+ghost use Rattle.serde_json.specs.View.{view, items_view};
+ghost use Rattle.node_json.specs.Reading.{or_missing, threshold_of, validators_of, inner_by, set_of, sets_by};
+ghost use Rattle.node_json.specs.View.{names_view, set_view, sets_view};
+
+use crate::faults::{ConfigFault, SetFault};
+use crate::keys::read_keys;
+use serde_json::Value;
+use std::alloc::{AllocError, Global};
+
+// A quorum set with names in place of numbers. The names lie in the tree that it was read from.
+#[derive(Drop)]
+pub(crate) struct NamedSet<'v> {
+    pub threshold: u64,
+    pub validators: Vec<&'v str>,
+    pub inner: Vec<NamedSet<'v>>,
+}
+
+// The value of a member that is there and not `null`.
+pub(crate) fn member<'v>(members: &'v Value, name: &str) -> Option<&'v Value>
+    ensures { option_map (λ v. view v.now) result ≡ or_missing (get name.now (view members.now)) }
+{
+    match members.get(name) {
+        None | Some(Value::Null) => None,
+        Some(value) => Some(value),
+    }
+}
+
+fn read_threshold(value: &Value) -> Option<u64>
+    ensures { result ≡ threshold_of (view value.now) }
+{
+    value.get("threshold").and_then(Value::as_u64)
+}
+
+// The keys of the member `validators`, which may be missing.
+fn read_validators(alloc: Global, value: &Value) -> Result<Option<Vec<&str>>, AllocError>
+    ensures { IfOk result (λ keys. option_map (λ v. names_view v.items) keys ≡ validators_of (view value.now)) }
+{
+    match member(value, "validators") {
+        None => Ok(Some(Vec::new(alloc))),
+        Some(Value::Array(items)) => read_keys(alloc, items),
+        Some(_) => Ok(None),
+    }
+}
+
+// The quorum set of element `at`, where `levels` more levels may nest.
+#[cycle(sets)]
+pub(crate) fn read_set(
+    alloc: Global,
+    value: &Value,
+    at: u64,
+    levels: u64,
+) -> Result<NamedSet<'_>, ConfigFault>
+    ensures ok { IfOk result (λ s. set_of at levels (view value.now) ≡ Ok (set_view s)) }
+    ensures err { IfErr result (λ e. (e ≡ ConfigFault.Memory) ⊎ (set_of at levels (view value.now) ≡ Err e)) }
+{
+    if levels == 0 {
+        return Err(ConfigFault::TooDeep(at));
+    }
+    if !value.is_object() {
+        return Err(ConfigFault::BadQuorumSet(at, SetFault::Shape));
+    }
+    let Some(threshold) = read_threshold(value) else {
+        return Err(ConfigFault::BadQuorumSet(at, SetFault::Threshold));
+    };
+    let Some(validators) = read_validators(alloc, value)? else {
+        return Err(ConfigFault::BadQuorumSet(at, SetFault::Validators));
+    };
+    let inner = read_inner(alloc, value, at, levels - 1)?;
+    Ok(NamedSet {
+        threshold,
+        validators,
+        inner,
+    })
+}
+
+// The sets in a quorum set of element `at`, where `levels` more levels may nest.
+#[cycle(sets)]
+fn read_inner(
+    alloc: Global,
+    value: &Value,
+    at: u64,
+    levels: u64,
+) -> Result<Vec<NamedSet<'_>>, ConfigFault>
+    ensures ok { IfOk result (λ v. inner_by (set_of at levels) at (view value.now) ≡ Ok (sets_view v.items)) }
+    ensures err { IfErr result (λ e. (e ≡ ConfigFault.Memory) ⊎ (inner_by (set_of at levels) at (view value.now) ≡ Err e)) }
+{
+    match member(value, "innerQuorumSets") {
+        None => Ok(Vec::new(alloc)),
+        Some(Value::Array(items)) => read_sets(alloc, items, at, levels),
+        Some(_) => Err(ConfigFault::BadQuorumSet(at, SetFault::Inner)),
+    }
+}
+
+#[cycle(sets)]
+fn read_sets(
+    alloc: Global,
+    items: &Vec<Value>,
+    at: u64,
+    levels: u64,
+) -> Result<Vec<NamedSet<'_>>, ConfigFault>
+    ensures ok { IfOk result (λ v. sets_by (set_of at levels) (items_view items.now.items) ≡ Ok (sets_view v.items)) }
+    ensures err { IfErr result (λ e. (e ≡ ConfigFault.Memory) ⊎ (sets_by (set_of at levels) (items_view items.now.items) ≡ Err e)) }
+{
+    let mut sets = Vec::new(alloc);
+    for item in items {
+        sets.push(read_set(alloc, item, at, levels)?)?;
+    }
+    Ok(sets)
+}
