@@ -4,3 +4,4 @@ pub mod QuorumLaw
 pub mod Sizes
 pub mod Unions
 pub mod Mentioned
+pub mod Tables
