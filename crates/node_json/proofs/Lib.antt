@@ -6,3 +6,5 @@ pub mod Numbering
 pub mod Placing
 pub mod Soundness
 pub mod Limits
+pub mod Samples
+pub mod Laws

@@ -1,5 +1,5 @@
 -- The system of nodes within the limits, and what it keeps.
-use Rattle.std.proofs.Common.{◌≡◌, ℕ, ◌+◌, ◌<◌, ◌≤◌, List, [], ◌∷◌, length, map, fold, get_or, Option, Some, None, option_map, unwrap_or, Bool, true, false, not, cond, nat_lt, if◌then◌else◌, Result, Ok, Err, All, IfSome, IsTrue, refl, sym, ap, subst, ◌∙◌, arith}
+use Rattle.std.proofs.Common.{◌≡◌, ℕ, ◌<◌, ◌≤◌, List, [], ◌∷◌, length, map, fold, get_or, Option, Some, None, option_map, unwrap_or, Bool, true, false, not, cond, nat_lt, if◌then◌else◌, Ok, Err, All, IfSome, IsTrue, refl, sym, ap, subst, ◌∙◌, arith}
 use Rattle.std.proofs.lemmas.Bool.{lt-ltb, le-ltb, ltb-true, cond_both}
 use Rattle.std.proofs.lemmas.List.{length-map}
 use Rattle.std.proofs.lemmas.List.Elements.{All-map, All-head, All-tail}
@@ -7,16 +7,16 @@ use Rattle.std.specs.List.{prefix_len}
 use Rattle.std.specs.Str.{bytes_eq}
 use denote.Ref.{Bor}
 use Rattle.fbas_model.specs.Fbas.{Fbas}
-use Rattle.fbas_model.specs.Names.{Name, AreNamesOf, place_of, is_key}
-use Rattle.fbas_model.specs.QuorumSets.{IsBelow, AreBelow, depth}
+use Rattle.fbas_model.specs.Names.{Name, AreNamesOf, is_key}
+use Rattle.fbas_model.specs.QuorumSets.{IsBelow, AreBelow}
 use Rattle.fbas_model.specs.Systems.{System, IsSystem, IsWithin, entries_in}
-use Rattle.fbas_model.specs.Trees.{QuorumSet, Entries}
+use Rattle.fbas_model.specs.Trees.{Entries}
 use Rattle.node_json.proofs.NamesInOrder.{names_in_order, in_order-in_order, All-in_order}
 use Rattle.node_json.specs.Configuration.{number_of, nodes_then, numbered, all_numbered, all_names, set_named, system_by, within_entries, within_nodes, system_with, system_of}
 use Rattle.node_json.specs.Reading.{nodes_of}
 use Rattle.node_json.specs.Named.{NamedSet, NamedSets, named_set, no_sets, one_set, NamedNode}
 use Rattle.node_json.specs.NamesInOrder.{in_order}
-use Rattle.node_json.specs.Sound.{AreSound}
+use Rattle.node_json.specs.Sound.{AreSound, IsShallow}
 use Rattle.node_json.specs.View.{names_view}
 use Rattle.node_json.specs.declared.faults.ConfigFault.{ConfigFault}
 use Rattle.node_json.specs.declared.faults.ConfigFault.TheVariants.{TooManyNodes, TooManyEntries}
@@ -56,7 +56,7 @@ named-has P (n ∷ ns) found name h all =
     named-has P ns (if bytes_eq n.key name then n.quorum_set else found) name
     (cond_both (bytes_eq n.key name) n.quorum_set found (λ o. IfSome o P) (λ _. All-head (λ m. IfSome m.quorum_set P) n ns all) (λ _. h)) (All-tail (λ m. IfSome m.quorum_set P) n ns all)
 
-within-numbered : (names : List Name) (o : Option NamedSet) → 0 < length names → IfSome o (λ s. (ns : List Name) → depth (numbered ns s) ≤ 16) → IfSome (option_map (numbered names) o) (IsWithin (length names))
+within-numbered : (names : List Name) (o : Option NamedSet) → 0 < length names → IfSome o IsShallow → IfSome (option_map (numbered names) o) (IsWithin (length names))
 within-numbered names None some h = h
 within-numbered names (Some s) some h = record { below = numbered-below names some s; shallow = h names }
 
@@ -71,7 +71,7 @@ is_system nodes names sets sound n s few entries = record {
   keys = subst (All (λ name. IsTrue (is_key name))) (sym n) (All-in_order (λ name. IsTrue (is_key name)) (all_names nodes) sound.keys);
   few = few;
   within = subst (All (λ o. IfSome o (IsWithin (length names)))) (sym s) (All-map (λ o. IfSome o (IsWithin (length names))) (λ name. option_map (numbered names) (set_named nodes name)) names (λ k d h.
-      within-numbered names (set_named nodes (get_or names k d)) (omega arith) (named-has (λ s. (ns : List Name) → depth (numbered ns s) ≤ 16) nodes None (get_or names k d) tt sound.shallow)));
+      within-numbered names (set_named nodes (get_or names k d)) (omega arith) (named-has IsShallow nodes None (get_or names k d) tt sound.shallow)));
   entries = entries;
 }
 

@@ -1,7 +1,7 @@
 -- Names in order: that they are the names given, strictly sorted, and that no other list is.
-use Rattle.std.proofs.Common.{◌≡◌, List, [], ◌∷◌, fold, Bool, true, false, true≢false, ◌||◌, ◌↔◌, Ordering, Less, Equal, Greater, is_eq, ap, ap₂, refl, sym, subst, ◌∙◌, All, Contains}
-use Rattle.std.proofs.lemmas.Bool.{both_ways, false_from_ne_true}
-use Rattle.std.proofs.lemmas.Cmp.{nat_list_cmp_total, nat_list_eq_equiv, tied_itself}
+use Rattle.std.proofs.Common.{◌≡◌, List, [], ◌∷◌, fold, Bool, true, false, true≢false, ◌||◌, Ordering, Less, Equal, Greater, is_eq, ap, ap₂, refl, sym, subst, ◌∙◌, All, Contains}
+use Rattle.std.proofs.lemmas.Bool.{both_ways}
+use Rattle.std.proofs.lemmas.Cmp.{nat_list_cmp_total, nat_list_eq_equiv}
 use Rattle.std.proofs.lemmas.List.Elements.{All-from_recursion, recursion_from_All, All-nil, All-head, All-tail}
 use Rattle.std.proofs.lemmas.Map.Text.{is_eq-slice_cmp}
 use Rattle.std.proofs.lemmas.Map.Views.{All-insert_key, Contains-from_any, list_any-from_Contains}

@@ -9,7 +9,7 @@ use Rattle.fbas_model.specs.Trees.{QuorumSet, quorum_set, node, inner}
 use Rattle.quorum_set.specs.Views.{entries_of, inner_entries}
 use Rattle.node_json.specs.Configuration.{number_of, nodes_then, numbered, all_numbered}
 use Rattle.node_json.specs.Named as spec
-use Rattle.node_json.specs.View.{names_view, sets_in, set_view, sets_view}
+use Rattle.node_json.specs.View.{sets_in, set_view, sets_view}
 use Rattle.node_json.specs.declared.quorum_sets.NamedSet.{NamedSet}
 
 entries_of-nodes_then : (vs : List ℕ) (qs : List QuorumSet) → entries_of vs qs ≡ nodes_then vs (inner_entries qs)

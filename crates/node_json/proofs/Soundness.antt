@@ -1,6 +1,9 @@
 -- What holds of the nodes that are read: each name is a key, and quorum sets nest at most so deep as they are read.
-use Rattle.std.proofs.Common.{◌≡◌, ℕ, zero, suc, ◌+◌, ◌≤◌, List, [], ◌∷◌, ◌++◌, length, map, max, Bool, true, false, Option, Some, None, option_map, option_and_then, ok_or, Result, Ok, Err, All, IfSome, IsTrue, cond, not, codes, refl, sym, ap, subst, ◌∙◌, arith}
+use Rattle.std.proofs.Common.{◌≡◌, ℕ, zero, suc, ◌+◌, ◌≤◌, List, [], ◌∷◌, ◌++◌, map, get_or, Bool, true, false, Option, Some, None, option_map, option_and_then, ok_or, Result, Ok, Err, All, IfSome, IsTrue, cond, not, codes, refl, sym, subst, ◌∙◌, arith}
 use Rattle.std.proofs.lemmas.List.Elements.{All-nil, All-cons, All-append}
+use Rattle.std.proofs.lemmas.Bool.{or_parts, not-true}
+use Rattle.std.proofs.lemmas.List.Folds.{list_any-append}
+use Rattle.std.specs.Str.{bytes_eq}
 use Rattle.serde_json.specs.Data.{Data, Items, no_items, item}
 use Rattle.serde_json.specs.Find.{get, as_str, as_array}
 use Rattle.fbas_model.specs.Names.{Name, is_key}
@@ -10,7 +13,7 @@ use Rattle.node_json.specs.Configuration.{number_of, nodes_then, numbered, all_n
 use Rattle.node_json.specs.Named.{NamedSet, NamedSets, named_set, no_sets, one_set, NamedNode}
 use Rattle.node_json.specs.NamesInOrder.{is_among}
 use Rattle.node_json.specs.Reading.{and_then, after, unless, or_missing, is_object, key_if, key_of, keys_in, items_or_none, threshold_of, validators_of, inner_of, sets_by, inner_by, set_by, set_of, max_levels, set_if_any, node_key_of, node_set_of, node_of, nodes_from, nodes_in}
-use Rattle.node_json.specs.Sound.{AreSound}
+use Rattle.node_json.specs.Sound.{AreSound, IsShallow}
 use Rattle.node_json.specs.declared.faults.ConfigFault.{ConfigFault}
 use Rattle.node_json.specs.declared.faults.ConfigFault.TheVariants.{NotNode, BadKey, Duplicate, BadQuorumSet, NotNodes}
 use Rattle.node_json.specs.declared.faults.SetFault.TheVariants.{Shape, Threshold, Validators, Inner}
@@ -31,6 +34,10 @@ after-ok f (Err e) b h = cc
 unless-ok : {A : Type 0} (e : ConfigFault) (t : Bool) (r : Result A ConfigFault) (a : A) → unless e t r ≡ Ok a → r ≡ Ok a
 unless-ok e true r a h = h
 unless-ok e false r a h = cc
+
+unless-test : {A : Type 0} (e : ConfigFault) (t : Bool) (r : Result A ConfigFault) (a : A) → unless e t r ≡ Ok a → t ≡ true
+unless-test e true r a h = refl
+unless-test e false r a h = cc
 
 ok_or-ok : {A : Type 0} (o : Option A) (e : ConfigFault) (a : A) → ok_or o e ≡ Ok a → o ≡ Some a
 ok_or-ok (Some x) e a h = cc
@@ -153,7 +160,7 @@ node_of-sound i earlier d n h =
     let found = after-ok (with_key k.0) (node_set_of i d) n made in
     subst IsSoundNode found.2 (record { key = node_key_of-key i d k.0 k.1; set = set_if_any-sound i (or_missing (get (codes "quorumSet") d)) found.0 found.1 })
 
-each_shallow : (o : Option NamedSet) → IfSome o (IsSoundSet 16) → IfSome o (λ s. (names : List Name) → depth (numbered names s) ≤ 16)
+each_shallow : (o : Option NamedSet) → IfSome o (IsSoundSet 16) → IfSome o IsShallow
 each_shallow None h = h
 each_shallow (Some s) h = h.shallow
 
@@ -161,19 +168,45 @@ names_if_any-keys : (o : Option NamedSet) → IfSome o (IsSoundSet 16) → All I
 names_if_any-keys None h = All-nil IsKey
 names_if_any-keys (Some s) h = h.keys
 
-nodes_from-sound : (i : ℕ) (earlier : List Name) (ds : Items) (nodes : List NamedNode) → nodes_from i earlier ds ≡ Ok nodes → AreSound nodes
+-- a key that is not among others and one more
+apart-push : (k x : Name) (ks : List Name) → is_among k (ks ++ x ∷ []) ≡ false → (is_among k ks ≡ false) × (bytes_eq k x ≡ false)
+apart-push k x ks h =
+    let both = or_parts (is_among k ks) (is_among k (x ∷ [])) (sym (list_any-append (bytes_eq k) ks (x ∷ [])) ∙ h) in
+    (both.0, (or_parts (bytes_eq k x) false both.1).0)
+
+node_of-new : (i : ℕ) (earlier : List Name) (d : Data) (n : NamedNode) → node_of i earlier d ≡ Ok n → is_among n.key earlier ≡ false
+node_of-new i earlier d n h =
+    let with_key = λ (key : Name) (found : Option NamedSet). let made : NamedNode = record { key = key; quorum_set = found } in made in
+    let rest = λ (key : Name). unless (Duplicate i) (not (is_among key earlier)) (after (with_key key) (node_set_of i d)) in
+    let k = and_then-ok rest (node_key_of i d) n h in
+    let found = after-ok (with_key k.0) (node_set_of i d) n (unless-ok (Duplicate i) (not (is_among k.0 earlier)) (after (with_key k.0) (node_set_of i d)) n k.2) in
+    subst (λ (m : NamedNode). is_among m.key earlier ≡ false) found.2 (not-true (is_among k.0 earlier) (unless-test (Duplicate i) (not (is_among k.0 earlier)) (after (with_key k.0) (node_set_of i d)) n k.2))
+
+-- what each node keeps, and all of them together
+record AreSoundFrom (earlier : List Name) (nodes : List NamedNode) : Type 0 where
+  sound : AreSound nodes
+  new : All (λ n. is_among n.key earlier ≡ false) nodes
+
+nodes_from-sound : (i : ℕ) (earlier : List Name) (ds : Items) (nodes : List NamedNode) → nodes_from i earlier ds ≡ Ok nodes → AreSoundFrom earlier nodes
 nodes_from-sound i earlier no_items nodes h =
     let e : [] ≡ nodes = cc in
-    subst AreSound e (record { keys = All-nil IsKey; shallow = All-nil (λ n. IfSome n.quorum_set (λ s. (names : List Name) → depth (numbered names s) ≤ 16)) })
+    subst (AreSoundFrom earlier) e (record {
+      sound = record { keys = All-nil IsKey; apart = tt; shallow = All-nil (λ n. IfSome n.quorum_set IsShallow) };
+      new = All-nil (λ n. is_among n.key earlier ≡ false);
+    })
 nodes_from-sound i earlier (item d ds) nodes h =
     let rest = λ (node : NamedNode). after (λ ns. node ∷ ns) (nodes_from (i + 1) (earlier ++ node.key ∷ []) ds) in
     let n = and_then-ok rest (node_of i earlier d) nodes h in
     let ns = after-ok (λ ns. n.0 ∷ ns) (nodes_from (i + 1) (earlier ++ n.0.key ∷ []) ds) nodes n.2 in
     let one = node_of-sound i earlier d n.0 n.1 in
     let more = nodes_from-sound (i + 1) (earlier ++ n.0.key ∷ []) ds ns.0 ns.1 in
-    subst AreSound ns.2 (record {
-      keys = All-cons IsKey n.0.key (names_if_any n.0.quorum_set ++ all_names ns.0) one.key (All-append IsKey (names_if_any n.0.quorum_set) (all_names ns.0) (names_if_any-keys n.0.quorum_set one.set) more.keys);
-      shallow = All-cons (λ m. IfSome m.quorum_set (λ s. (names : List Name) → depth (numbered names s) ≤ 16)) n.0 ns.0 (each_shallow n.0.quorum_set one.set) more.shallow;
+    subst (AreSoundFrom earlier) ns.2 (record {
+      sound = record {
+        keys = All-cons IsKey n.0.key (names_if_any n.0.quorum_set ++ all_names ns.0) one.key (All-append IsKey (names_if_any n.0.quorum_set) (all_names ns.0) (names_if_any-keys n.0.quorum_set one.set) more.sound.keys);
+        apart = ((λ k d h. (apart-push (get_or ns.0 k d).key n.0.key earlier (more.new k d h)).1), more.sound.apart);
+        shallow = All-cons (λ m. IfSome m.quorum_set IsShallow) n.0 ns.0 (each_shallow n.0.quorum_set one.set) more.sound.shallow;
+      };
+      new = All-cons (λ m. is_among m.key earlier ≡ false) n.0 ns.0 (node_of-new i earlier d n.0 n.1) (λ k d h. (apart-push (get_or ns.0 k d).key n.0.key earlier (more.new k d h)).0);
     })
 
 -- each configuration's nodes
@@ -181,4 +214,5 @@ pub nodes_in-sound : (tree : Data) (nodes : List NamedNode) → nodes_in tree �
 unfolding nodes_in
 nodes_in-sound tree nodes h =
     let items = and_then-ok (nodes_from 0 []) (ok_or (as_array tree) NotNodes) nodes h in
-    nodes_from-sound 0 [] items.0 nodes items.2
+    let all = nodes_from-sound 0 [] items.0 nodes items.2 in
+    all.sound

@@ -4,3 +4,4 @@ pub mod Reading
 pub mod View
 pub mod Configuration
 pub mod Sound
+pub mod SystemOf

@@ -41,20 +41,20 @@ pub enum ConfigFault {
     /// An element has the key of an earlier one.
     #[error("duplicate {0}")]
     Duplicate(u64),
-    /// A quorum set of an element lies deeper than 16.
+    /// A quorum set of an element lies more than 16 deep.
     #[error("too-deep {0}")]
     TooDeep(u64),
-    /// A quorum set of an element is none.
+    /// A quorum set of an element has this fault.
     #[error("bad-quorum-set {0} {1}")]
     BadQuorumSet(u64, SetFault),
-    /// There are so many nodes, more than 4,096.
+    /// There are this many nodes, more than 4,096.
     #[error("too-many-nodes {0}")]
     TooManyNodes(u64),
-    /// There are so many entries of quorum sets at all depths, more than 1,000,000.
+    /// The quorum sets have this many entries at all depths, more than 1,000,000.
     #[error("too-many-entries {0}")]
     TooManyEntries(u64),
-    /// Memory ran out.
-    #[error("memory")]
+    /// There was too little memory.
+    #[error("out of memory")]
     Memory,
 }
 

@@ -10,3 +10,6 @@ mod system;
 
 pub use faults::{ConfigFault, SetFault};
 pub use system::read_config;
+
+#[cfg(test)]
+mod tests;

@@ -1,10 +1,15 @@
-// Sets of names.
+// The names of the nodes.
 
-ghost use Rattle.std.specs.Prelude.{◌≡◌, [], ◌∷◌, not, IfOk, OnOk};
-ghost use Rattle.node_json.specs.NamesInOrder.{is_among, with_names};
-ghost use Rattle.node_json.specs.View.{names_view};
+ghost use Rattle.std.specs.Prelude.{◌≡◌, ◌<◌, ◌^◌, [], ◌∷◌, not, length, IfOk, OnOk};
+ghost use Rattle.fbas_model.specs.Names.{AreNamesOf};
+ghost use Rattle.node_json.specs.Configuration.{names_in_set, all_names};
+ghost use Rattle.node_json.specs.NamesInOrder.{is_among, in_order, with_names};
+ghost use Rattle.node_json.specs.View.{names_view, set_view, nodes_view};
 
-use std::alloc::AllocError;
+use crate::nodes::NamedNode;
+use crate::quorum_sets::NamedSet;
+use name_set::Names;
+use std::alloc::{AllocError, Global};
 use std::collections::BTreeSet;
 
 // Adds the name, and says whether it is new there.
@@ -13,4 +18,54 @@ pub(crate) fn add_name<'v>(names: &mut BTreeSet<&'v str>, name: &'v str) -> Resu
     ensures added { OnOk result (names_view names.new.keys ≡ with_names (names_view names.old.keys) (name.now ∷ [])) }
 {
     Ok(names.insert(name)?)
+}
+
+// Adds each name of the list.
+fn add_all<'v>(names: &mut BTreeSet<&'v str>, list: &[&'v str]) -> Result<(), AllocError>
+    ensures { OnOk result (names_view names.new.keys ≡ with_names (names_view names.old.keys) (names_view list.now)) }
+{
+    for name in list {
+        add_name(names, *name)?;
+    }
+    Ok(())
+}
+
+// Adds the names in a quorum set, at all depths.
+fn add_names<'v>(names: &mut BTreeSet<&'v str>, set: &NamedSet<'v>) -> Result<(), AllocError>
+    ensures { OnOk result (names_view names.new.keys ≡ with_names (names_view names.old.keys) (names_in_set (set_view set.now))) }
+{
+    add_all(names, &set.validators)?;
+    for inner in &set.inner {
+        add_names(names, inner)?;
+    }
+    Ok(())
+}
+
+// Every name that is declared or stands in a quorum set.
+pub(crate) fn distinct_names<'v>(
+    alloc: Global,
+    nodes: &[NamedNode<'v>],
+) -> Result<BTreeSet<&'v str>, AllocError>
+    ensures { IfOk result (λ names. names_view names.keys ≡ in_order (all_names (nodes_view nodes.now))) }
+{
+    let mut names = BTreeSet::new(alloc);
+    for node in nodes {
+        add_name(&mut names, node.key)?;
+        if let Some(set) = &node.quorum_set {
+            add_names(&mut names, set)?;
+        }
+    }
+    Ok(names)
+}
+
+// The names as the nodes have them.
+pub(crate) fn owned_names(alloc: Global, names: BTreeSet<&str>) -> Result<Names, AllocError>
+    requires { length names.keys < 2 ^ 32 }
+    ensures { IfOk result (λ owned. AreNamesOf (names_view names.entry.keys) owned) }
+{
+    let mut list = Vec::new(alloc);
+    for name in names {
+        list.push(name.as_bytes().to_vec(alloc)?)?;
+    }
+    Names::of(list)
 }

@@ -1,78 +1,29 @@
 // From names to numbers.
 
-ghost use Rattle.std.specs.Prelude.{◌≡◌, ◌⊎◌, Ok, Err, ◌<◌, ◌^◌, ◌+◌, ◌++◌, ◌∷◌, [], length, map, fold, vec_len, IfOk, IfErr, IfSome, OnOk, option_map};
+ghost use Rattle.std.specs.Prelude.{◌≡◌, ◌⊎◌, Ok, Err, List, map, IfOk, IfErr, IfSome, option_map};
 ghost use Rattle.std.specs.List.Sorted.{IsStrictlySortedBy};
-ghost use Rattle.fbas_model.specs.Names.{name_cmp, AreNamesOf};
+ghost use Rattle.fbas_model.specs.Names.{name_cmp};
 ghost use Rattle.fbas_model.specs.QuorumSets.{all_entries};
-ghost use Rattle.fbas_model.specs.Systems.{entries_in, IsSystem};
-ghost use Rattle.node_json.specs.NamesInOrder.{in_order, with_names};
-ghost use Rattle.node_json.specs.Configuration.{names_in_set, all_names, number_of, numbered, set_named, system_by, within_entries, system_with, system_of};
+ghost use Rattle.fbas_model.specs.Systems.{entries_in};
+ghost use Rattle.node_json.specs.Configuration.{number_of, numbered, set_named, system_with, system_of};
+ghost use Rattle.node_json.specs.Named.{NamedNode as Declared};
+ghost use Rattle.node_json.specs.Reading.{nodes_of};
 ghost use Rattle.node_json.specs.Sound.{AreSound};
+ghost use Rattle.node_json.specs.SystemOf.{IsSystemOf};
 ghost use Rattle.node_json.specs.View.{names_view, set_view, nodes_view};
 
 use crate::faults::ConfigFault;
-use crate::names::add_name;
+use crate::names::{distinct_names, owned_names};
 use crate::nodes::{NamedNode, read_nodes, read_tree};
 use crate::quorum_sets::NamedSet;
 use fbas_core::System;
 use name_set::Names;
 use quorum_set::QuorumSet;
 use std::alloc::{AllocError, Global};
-use std::collections::BTreeSet;
 
 const MAX_NODES: usize = 4096;
 
 const MAX_ENTRIES: u64 = 1_000_000;
-
-// Adds each name of the list.
-fn add_all<'v>(names: &mut BTreeSet<&'v str>, list: &[&'v str]) -> Result<(), AllocError>
-    ensures { OnOk result (names_view names.new.keys ≡ with_names (names_view names.old.keys) (names_view list.now)) }
-{
-    for name in list {
-        add_name(names, *name)?;
-    }
-    Ok(())
-}
-
-// Adds the names in a quorum set, at all depths.
-fn add_names<'v>(names: &mut BTreeSet<&'v str>, set: &NamedSet<'v>) -> Result<(), AllocError>
-    ensures { OnOk result (names_view names.new.keys ≡ with_names (names_view names.old.keys) (names_in_set (set_view set.now))) }
-{
-    add_all(names, &set.validators)?;
-    for inner in &set.inner {
-        add_names(names, inner)?;
-    }
-    Ok(())
-}
-
-// Every name that is declared or stands in a quorum set.
-fn distinct_names<'v>(
-    alloc: Global,
-    nodes: &[NamedNode<'v>],
-) -> Result<BTreeSet<&'v str>, AllocError>
-    ensures { IfOk result (λ names. names_view names.keys ≡ in_order (all_names (nodes_view nodes.now))) }
-{
-    let mut names = BTreeSet::new(alloc);
-    for node in nodes {
-        add_name(&mut names, node.key)?;
-        if let Some(set) = &node.quorum_set {
-            add_names(&mut names, set)?;
-        }
-    }
-    Ok(names)
-}
-
-// The names of the nodes.
-fn owned_names(alloc: Global, names: BTreeSet<&str>) -> Result<Names, AllocError>
-    requires { length names.keys < 2 ^ 32 }
-    ensures { IfOk result (λ owned. AreNamesOf (names_view names.entry.keys) owned) }
-{
-    let mut list = Vec::new(alloc);
-    for name in names {
-        list.push(name.as_bytes().to_vec(alloc)?)?;
-    }
-    Names::of(list)
-}
 
 // The numbers of the names of the list: O(log n) comparisons for each.
 fn numbers(alloc: Global, names: &Names, list: &[&str]) -> Result<Vec<u32>, AllocError>
@@ -138,7 +89,7 @@ fn no_sets(alloc: Global, names: &Names) -> Result<Vec<Option<QuorumSet>>, Alloc
 {
     let n = names.len() as usize;
     let mut sets = Vec::with_capacity(alloc, n)?;
-    for at in 0..n {
+    for _at in 0..n {
         sets.push(None)?;
     }
     Ok(sets)
@@ -190,9 +141,23 @@ fn system(alloc: Global, nodes: &[NamedNode]) -> Result<System, ConfigFault>
 }
 
 /// The system of a configuration, or its first fault.
+///
+/// A configuration is a JSON array of objects. Each has a `publicKey`, and may have a `quorumSet`: an object with a
+/// `threshold`, and maybe `validators`, an array of keys, and `innerQuorumSets`, an array of such objects; other members are
+/// passed over. A key is 1 to 128 printable bytes with no space and no comma. The nodes are all keys that are declared or
+/// stand in a quorum set.
+///
+/// Faults come in this order: the text, the array, then for each element the object, its key, whether an earlier element
+/// has it, and its quorum sets, each before those in it; at last the number of nodes and that of entries.
+/// `Memory` stands for want of memory.
+///
+/// Linear in the bytes, but for O(log n) comparisons for each name that is declared or stands in a quorum set.
 pub fn read_config(alloc: Global, bytes: &[u8]) -> Result<System, ConfigFault>
     ensures ok { IfOk result (λ s. system_of bytes.now ≡ Ok s) }
     ensures err { IfErr result (λ e. (e ≡ ConfigFault.Memory) ⊎ (system_of bytes.now ≡ Err e)) }
+
+    // What the definition gives is the system of the declared nodes.
+    ensures means { IfOk result (λ s. (nodes : List Declared) × (nodes_of bytes.now ≡ Ok nodes) × IsSystemOf nodes s) }
 {
     let tree = read_tree(alloc, bytes)?;
     let nodes = read_nodes(alloc, &tree)?;

@@ -1,4 +1,4 @@
-use Rattle.std.proofs.Common.{◌≡◌, ◌<◌, length, ap, ◌∙◌, arith}
+use Rattle.std.proofs.Common.{◌<◌, length, ap, ◌∙◌, arith}
 use Rattle.node_json.proofs.Placing.{placed, unplaced}
 use Rattle.node_json.proofs.system.placed_sets.Goals as goal
 use Rattle.node_json.proofs.system.placed_sets.Goals.{in-Some+in-Some-1, in-Some+in-None-1, in_default+in-Some-1, in_default+in-None-1}

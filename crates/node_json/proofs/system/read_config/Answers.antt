@@ -1,6 +1,11 @@
-use Rattle.std.proofs.Common.{◌≡◌, Err, inl, inr, rules, ◌∙◌}
+use Rattle.std.proofs.Common.{◌≡◌, List, Ok, Err, inl, inr, rules, ap, sym, ◌∙◌}
+use Rattle.std.proofs.lemmas.Result.{IfOk-weaker}
 use Rattle.serde_json.specs.View.{view}
 use Rattle.node_json.specs.Configuration.{system_of, system_with}
+use Rattle.node_json.specs.Named.{NamedNode}
+use Rattle.node_json.specs.Reading.{nodes_of}
+use Rattle.node_json.specs.SystemOf.{IsSystemOf}
+use Rattle.node_json.proofs.Laws.{system_with-is}
 use Rattle.node_json.specs.View.{nodes_view}
 use Rattle.node_json.proofs.NodeReading.{nodes_of-no_tree, nodes_of-tree}
 use Rattle.node_json.proofs.Soundness.{nodes_in-sound}
@@ -35,3 +40,11 @@ pub returns-clause-err : goal.returns-clause-err
 returns-clause-err c =
     let all : system_of c.args.bytes.now ≡ system_with (nodes_view c.in_ok-nodes.nodes.items) = system_of-nodes _ _ (nodes_of-tree _ _ c.in_ok-tree.ensures.ok ∙ c.in_ok-nodes.ensures.ok) in
     rw (all, ← c.deref.ensures.value) c.system.ensures.err
+
+pub returns-clause-means : goal.returns-clause-means
+returns-clause-means c =
+    let nodes = nodes_view c.in_ok-nodes.nodes.items in
+    let read : nodes_of c.args.bytes.now ≡ Ok nodes = nodes_of-tree _ _ c.in_ok-tree.ensures.ok ∙ c.in_ok-nodes.ensures.ok in
+    let sound = nodes_in-sound (view c.in_ok-tree.tree) nodes c.in_ok-nodes.ensures.ok in
+    IfOk-weaker c.system.result (λ s. system_with (nodes_view c.deref.result.now) ≡ Ok s) (λ s. (ns : List NamedNode) × (nodes_of c.args.bytes.now ≡ Ok ns) × IsSystemOf ns s)
+    (λ s made. (nodes, read, system_with-is nodes s sound.apart (ap (λ ns. system_with (nodes_view ns)) (sym c.deref.ensures.value) ∙ made))) c.system.ensures.ok

@@ -1,4 +1,4 @@
-use Rattle.std.proofs.Common.{◌≡◌, ◌≤◌, length, inr, ap, sym, ◌∙◌, arith, rules}
+use Rattle.std.proofs.Common.{◌≡◌, ◌≤◌, length, inr, sym, ◌∙◌, arith, rules}
 use Rattle.fbas_model.specs.Systems.{entries_in}
 use Rattle.std.proofs.lemmas.List.{length-map}
 use Rattle.node_json.specs.Configuration.{all_names}

@@ -1,7 +1,7 @@
 use Rattle.std.proofs.Common.{◌≡◌, drop}
 use Rattle.node_json.specs.NamesInOrder.{with_names}
 use Rattle.node_json.specs.View.{names_view}
-use Rattle.node_json.proofs.system.add_all.Given as goal
+use Rattle.node_json.proofs.names.add_all.Given as goal
 
 abbrev pub invariant-loop-name : goal.invariant-loop-name
 invariant-loop-name l = with_names (names_view l.initial.names.keys) (names_view l.list) ≡ with_names (names_view l.names.keys) (names_view (drop l.name-index l.list))

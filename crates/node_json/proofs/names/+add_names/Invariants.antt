@@ -2,7 +2,7 @@ use Rattle.std.proofs.Common.{◌≡◌, drop}
 use Rattle.node_json.specs.Configuration.{names_in_sets}
 use Rattle.node_json.specs.NamesInOrder.{with_names}
 use Rattle.node_json.specs.View.{names_view, sets_view}
-use Rattle.node_json.proofs.system.+add_names.Given as goal
+use Rattle.node_json.proofs.names.+add_names.Given as goal
 
 abbrev pub invariant-loop-inner : goal.invariant-loop-inner
 invariant-loop-inner l =
