@@ -48,6 +48,10 @@ written-append Cert xs ys s =
     let room : s.room - length xs - length ys ≡ s.room - length (xs ++ ys) = omega (arith, length-append xs ys) in
     λ i. record s { files = files i; room = room i }
 
+pub written-room : (to : To) (xs : List ℕ) (s : DeskState) → (written to xs s).room ≡ s.room - length xs
+written-room Out xs s = refl
+written-room Cert xs s = refl
+
 -- what can't take the rest could not take the whole
 pub CannotPut-written : (to : To) (xs : List ℕ) (n : ℕ) (s : DeskState) → CannotPut to n (written to xs s) → CannotPut to (length xs + n) s
 CannotPut-written Out xs n s small = omega arith

@@ -1,5 +1,5 @@
 // Whole files and whole texts, over the pieces that a desk gives and takes.
-ghost use Rattle.std.specs.Prelude.{◌≡◌, ◌≢◌, ◌<◌, ◌≤◌, ◌++◌, ℕ, List, IsTrue, [], length, take, IfOk, OnOk, OnErr, IsErr, IsErrOf};
+ghost use Rattle.std.specs.Prelude.{◌≡◌, ◌<◌, ◌≤◌, ℕ, IsTrue, [], length, take, IfOk, OnOk, OnErr, IsErr, IsErrOf};
 ghost use Rattle.desk_io.specs.State.{left_of, with_left, written, CannotPut};
 ghost use Rattle.desk_io.specs.Faults.{ReadFails, WriteFails};
 
@@ -35,13 +35,18 @@ pub fn read_all<D: Desk>(
     which: Which,
     limit: u64,
 ) -> Result<Vec<u8>, ReadError>
-    ensures all { IfOk result (λ bytes. IsTrue D.tells → bytes.items ≡ left_of which (D.state desk.old)) }
+    ensures all { IfOk result (λ bytes. IsTrue D.tells →
+        bytes.items ≡ left_of which (D.state desk.old)) }
     ensures ended { OnOk result (IsTrue D.tells → left_of which (D.state desk.new) ≡ []) }
     ensures fits { IfOk result (λ bytes. length bytes.items ≤ limit) }
-    ensures longer { IsErrOf result ReadError.Longer → IsTrue D.tells → limit < length (left_of which (D.state desk.old)) }
-    ensures rest { IsTrue D.tells → D.state desk.new ≡ with_left which (left_of which (D.state desk.new)) (D.state desk.old) }
-    ensures plain { IsErrOf result ReadError.Failed → IsTrue D.tells → IsTrue (D.state desk.old).plain → ⊥ }
-    ensures faults { ReadFails (D.faults desk.old) (D.faults desk.new) (IsErrOf result ReadError.Failed) }
+    ensures longer { IsErrOf result ReadError.Longer → IsTrue D.tells →
+        limit < length (left_of which (D.state desk.old)) }
+    ensures rest { IsTrue D.tells →
+        D.state desk.new ≡ with_left which (left_of which (D.state desk.new)) (D.state desk.old) }
+    ensures plain { IsErrOf result ReadError.Failed → IsTrue D.tells →
+        IsTrue (D.state desk.old).plain → ⊥ }
+    ensures faults { ReadFails (D.faults desk.old) (D.faults desk.new)
+        (IsErrOf result ReadError.Failed) }
 {
     let mut bytes = Vec::new(alloc);
     let mut buffer = [0u8; PIECE];
@@ -65,10 +70,13 @@ pub fn read_all<D: Desk>(
 ///
 /// After an `Err` a proper prefix of them is out, which is less than all. Takes no memory.
 pub fn put_all<D: Desk>(desk: &mut D, to: To, bytes: &[u8]) -> Result<(), WriteFailed>
-    ensures written { OnOk result (IsTrue D.tells → D.state desk.new ≡ written to bytes.now (D.state desk.old)) }
+    ensures written { OnOk result (IsTrue D.tells →
+        D.state desk.new ≡ written to bytes.now (D.state desk.old)) }
+    ensures fits { OnOk result (IsTrue D.tells → length bytes.now ≤ (D.state desk.old).room) }
     ensures prefix { OnErr result (IsTrue D.tells → (n : ℕ) × (n < length bytes.now)
         × (D.state desk.new ≡ written to (take n bytes.now) (D.state desk.old))) }
-    ensures plain { OnErr result (IsTrue D.tells → IsTrue (D.state desk.old).plain → CannotPut to (length bytes.now) (D.state desk.old)) }
+    ensures plain { OnErr result (IsTrue D.tells → IsTrue (D.state desk.old).plain →
+        CannotPut to (length bytes.now) (D.state desk.old)) }
     ensures faults { WriteFails (D.faults desk.old) (D.faults desk.new) (IsErr result) }
 {
     let mut at = 0;

@@ -1,8 +1,8 @@
 use Rattle.std.proofs.Common.{◌≡◌, ◌-◌, take, drop, length, ap, ◌∙◌, sym, arith, length-drop}
-use Rattle.std.proofs.lemmas.List.{take_all}
+use Rattle.std.proofs.lemmas.List.{take_all, length-take-le}
 use Rattle.std.proofs.Math.Seq.{take-add}
-use Rattle.desk_io.specs.State.{written}
-use Rattle.desk_io.proofs.Written.{written-append}
+use Rattle.desk_io.specs.State.{DeskState, written}
+use Rattle.desk_io.proofs.Written.{written-append, written-room}
 use Rattle.desk_io.proofs.whole.put_all.Goals as goal
 
 pub loop-at-preserved : goal.loop-at-preserved
@@ -13,6 +13,8 @@ loop-at-preserved g c =
     let rest : take (length bytes - at) (drop at bytes) ≡ drop at bytes = take_all (length bytes - at) (drop at bytes) (omega (arith, length-drop at bytes)) in
     record {
       within = omega (arith, ap length rest, length-drop at bytes, c.in_ok-at.ensures.bound, c.loop-at.invariant.within);
+      fits = λ tells. let room = ap (λ (s : DeskState). s.room) (c.loop-at.invariant.state tells) ∙ written-room c.args.to (take at bytes) (g.D.Desk.state c.args.desk.now) in
+          omega (arith, room, length-take-le at bytes c.loop-at.invariant.within, c.in_ok-at.ensures.fits tells, c.loop-at.invariant.fits tells);
       state = λ tells.
           c.in_ok-at.ensures.written tells
           ∙ ap (λ xs. written c.args.to (take n xs) (g.D.Desk.state c.loop-at.desk)) rest
