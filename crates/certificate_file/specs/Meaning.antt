@@ -17,10 +17,10 @@ abbrev pub Holds : System → Accepted → Type 0
 Holds f a = AnswerHolds f a.header a.answer
 
 -- each set has a place for each of n nodes
-abbrev pub AnswerFits : ℕ → Answer → Type 0
-AnswerFits n (pair p) = (length p.first ≡ n) × (length p.second ≡ n)
+abbrev pub AnswerHasPlaces : ℕ → Answer → Type 0
+AnswerHasPlaces n (pair p) = (length p.first ≡ n) × (length p.second ≡ n)
 
 -- each set of the header and of the answer has a place for each of n nodes
-pub record Fits (n : ℕ) (a : Accepted) : Type 0 where
+pub record HasPlaces (n : ℕ) (a : Accepted) : Type 0 where
   pub faulty : length a.header.faulty ≡ n
-  pub answer : AnswerFits n a.answer
+  pub answer : AnswerHasPlaces n a.answer

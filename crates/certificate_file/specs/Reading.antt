@@ -4,7 +4,7 @@ use Rattle.fbas_model.specs.Counting.{is_quorum}
 use Rattle.fbas_model.specs.Systems.{System}
 use Rattle.certificate_file.specs.Lines.{Lines, tail, line}
 use Rattle.certificate_file.specs.Acceptance.{within_limits}
-use Rattle.certificate_file.specs.Meaning.{Holds, Fits}
+use Rattle.certificate_file.specs.Meaning.{Holds, HasPlaces}
 use Rattle.certificate_file.specs.declared.places.Accepted.{Accepted}
 use Rattle.certificate_file.specs.declared.places.Place.{Place}
 use Rattle.certificate_file.specs.declared.places.Place.TheVariants.{AtTitle, AtDigest, AtFrom, AtFaulty, AtKind, AtFirst, AtSecond, AtEnd}
@@ -28,21 +28,21 @@ abbrev pub next_line : ℕ → Lines → Result Taken CertError
 next_line l (tail bytes) = within_limits l bytes (Err (Truncated l))
 next_line l (line text more) = within_limits l text (Ok (record { text = text; more = more }))
 
--- an answer that holds, and whose sets fit the system
+-- an answer that holds, and whose sets have a place for each node
 abbrev pub IsShown : System → Accepted → Type 0
-IsShown f a = Fits (length f.sets) a × Holds f a
+IsShown f a = HasPlaces (length f.sets) a × Holds f a
 
 -- what is known at a place
-abbrev pub Known : System → Place → Type 0
-Known f AtTitle = Unit {0}
-Known f AtDigest = Unit {0}
-Known f AtFrom = Unit {0}
-Known f AtFaulty = Unit {0}
-Known f (AtKind h) = length h.faulty ≡ length f.sets
-Known f (AtFirst h) = length h.faulty ≡ length f.sets
-Known f (AtSecond h u) = (length h.faulty ≡ length f.sets) × (length u ≡ length f.sets) × (is_quorum f.sets h.faulty u ≡ true)
-Known f (AtEnd a) = IsShown f a
+abbrev pub IsKnown : System → Place → Type 0
+IsKnown f AtTitle = Unit {0}
+IsKnown f AtDigest = Unit {0}
+IsKnown f AtFrom = Unit {0}
+IsKnown f AtFaulty = Unit {0}
+IsKnown f (AtKind h) = length h.faulty ≡ length f.sets
+IsKnown f (AtFirst h) = length h.faulty ≡ length f.sets
+IsKnown f (AtSecond h u) = (length h.faulty ≡ length f.sets) × (length u ≡ length f.sets) × (is_quorum f.sets h.faulty u ≡ true)
+IsKnown f (AtEnd a) = IsShown f a
 
-abbrev pub KnownState : System → State → Type 0
-KnownState f (Going place) = Known f place
-KnownState f (Done a) = IsShown f a
+abbrev pub IsKnownState : System → State → Type 0
+IsKnownState f (Going place) = IsKnown f place
+IsKnownState f (Done a) = IsShown f a

@@ -4,7 +4,7 @@ ghost use Rattle.desk_io.specs.State.{left_of, with_left};
 ghost use Rattle.desk_io.specs.Faults.{ReadFails};
 ghost use Rattle.certificate_file.specs.Lines.{feeds};
 ghost use Rattle.certificate_file.specs.Acceptance.{checked};
-ghost use Rattle.certificate_file.specs.Meaning.{Holds, Fits};
+ghost use Rattle.certificate_file.specs.Meaning.{Holds, HasPlaces};
 
 use crate::faults::CertError;
 use crate::lines::Lines;
@@ -33,7 +33,7 @@ pub fn check<D: Desk>(
     ensures err { IfErr result (λ e. IsTrue D.tells → (e ≡ CertError.Memory) ⊎ (e ≡ CertError.Read)
         ⊎ (checked system.now digest.now (left_of Which.Cert (D.state desk.old)) ≡ Err e)) }
     ensures holds { IfOk result (Holds system.now) }
-    ensures fits { IfOk result (Fits (length system.now.sets)) }
+    ensures places { IfOk result (HasPlaces (length system.now.sets)) }
     ensures cut { IfOk result (λ a. IsTrue D.tells → (front : List ℕ) (b : ℕ) (more : List ℕ)
         → left_of Which.Cert (D.state desk.old) ≡ front ++ b ∷ more
         → checked system.now digest.now front ≡ Err (CertError.Truncated (1 + feeds front))) }

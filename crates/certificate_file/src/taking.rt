@@ -3,7 +3,7 @@ ghost use Rattle.std.specs.Prelude.{◌≡◌, ◌⊎◌, length, true, IfOk, If
 ghost use Rattle.fbas_model.specs.Counting.{is_quorum};
 ghost use Rattle.certificate_file.specs.Words.{digest_of};
 ghost use Rattle.certificate_file.specs.Acceptance.{and_then, expected, digest_line, from_line, faulty_line, kind_line, quorum, first_line, second_line, paired, take_line};
-ghost use Rattle.certificate_file.specs.Reading.{Known, KnownState};
+ghost use Rattle.certificate_file.specs.Reading.{IsKnown, IsKnownState};
 
 use crate::faults::CertError;
 use crate::lists::named;
@@ -74,7 +74,7 @@ fn from_line(line: u64, text: &[u8]) -> Result<State, CertError>
 fn faulty_line(alloc: Global, system: &System, line: u64, text: &[u8]) -> Result<State, CertError>
     ensures unread { IsErrOf result CertError.Read → ⊥ }
     ensures ok { IfOk result (λ s. faulty_line system.now line text.now ≡ Ok s) }
-    ensures known { IfOk result (KnownState system.now) }
+    ensures known { IfOk result (IsKnownState system.now) }
     ensures err { IfErr result (λ e. (e ≡ CertError.Memory) ⊎ (faulty_line system.now line text.now ≡ Err e)) }
 {
     let faulty = named(alloc, system, line, "faulty", text)?;
@@ -119,7 +119,7 @@ fn first_line(
     requires { length header.faulty ≡ length system.now.sets }
     ensures unread { IsErrOf result CertError.Read → ⊥ }
     ensures ok { IfOk result (λ s. first_line system.now header line text.now ≡ Ok s) }
-    ensures known { IfOk result (KnownState system.now) }
+    ensures known { IfOk result (IsKnownState system.now) }
     ensures err { IfErr result (λ e. (e ≡ CertError.Memory) ⊎ (first_line system.now header line text.now ≡ Err e)) }
 {
     let named = named(alloc, system, line, "first", text)?;
@@ -135,11 +135,11 @@ fn paired(
     line: u64,
     second: NodeSet,
 ) -> Result<State, CertError>
-    requires known { Known system.now (Place.AtSecond header first) }
+    requires known { IsKnown system.now (Place.AtSecond header first) }
     requires same_n { length second ≡ length system.now.sets }
     ensures unread { IsErrOf result CertError.Read → ⊥ }
     ensures value { result ≡ and_then (paired header line first) (quorum system.now header line second) }
-    ensures known { IfOk result (KnownState system.now) }
+    ensures known { IfOk result (IsKnownState system.now) }
 {
     match make_pair(system, &header.faulty, first, second) {
         Ok(pair) => Ok(State::Going(Place::AtEnd(Accepted {
@@ -160,10 +160,10 @@ fn second_line(
     line: u64,
     text: &[u8],
 ) -> Result<State, CertError>
-    requires { Known system.now (Place.AtSecond header first) }
+    requires { IsKnown system.now (Place.AtSecond header first) }
     ensures unread { IsErrOf result CertError.Read → ⊥ }
     ensures ok { IfOk result (λ s. second_line system.now header first line text.now ≡ Ok s) }
-    ensures known { IfOk result (KnownState system.now) }
+    ensures known { IfOk result (IsKnownState system.now) }
     ensures err { IfErr result (λ e. (e ≡ CertError.Memory) ⊎ (second_line system.now header first line text.now ≡ Err e)) }
 {
     let second = named(alloc, system, line, "second", text)?;
@@ -180,10 +180,10 @@ pub fn take_line(
     line: u64,
     text: &[u8],
 ) -> Result<State, CertError>
-    requires { Known system.now place }
+    requires { IsKnown system.now place }
     ensures unread { IsErrOf result CertError.Read → ⊥ }
     ensures ok { IfOk result (λ s. take_line system.now digest.now place line text.now ≡ Ok s) }
-    ensures known { IfOk result (KnownState system.now) }
+    ensures known { IfOk result (IsKnownState system.now) }
     ensures err { IfErr result (λ e. (e ≡ CertError.Memory) ⊎ (take_line system.now digest.now place line text.now ≡ Err e)) }
 {
     match place {

@@ -24,7 +24,7 @@ abbrev pub AreTheTwo : Table → Table → Pair → Type 0
 AreTheTwo u w p = (p ≡ record { first = u; second = w }) ⊎ (p ≡ record { first = w; second = u })
 
 -- why u and w are no such pair, where the first reason counts
-abbrev pub Fault : Fbas → Nodes → Nodes → Nodes → PairFault → Type 0
-Fault f b u w (NotQuorum First) = Quorum f b u → ⊥
-Fault f b u w (NotQuorum Second) = Quorum f b u × (Quorum f b w → ⊥)
-Fault f b u w (Overlap v) = Quorum f b u × Quorum f b w × IsLeast (u ∩ w) v
+abbrev pub IsFault : Fbas → Nodes → Nodes → Nodes → PairFault → Type 0
+IsFault f b u w (NotQuorum First) = Quorum f b u → ⊥
+IsFault f b u w (NotQuorum Second) = Quorum f b u × (Quorum f b w → ⊥)
+IsFault f b u w (Overlap v) = Quorum f b u × Quorum f b w × IsLeast (u ∩ w) v

@@ -4,7 +4,7 @@
 ghost use Rattle.std.specs.Prelude.{◌≡◌, ◌<◌, length, IfOk, IfErr, ◌&&◌, unwrap_or};
 ghost use Rattle.fbas_model.specs.Nodes.{members};
 ghost use Rattle.fbas_model.specs.Counting.{is_quorum};
-ghost use Rattle.witness_pair.specs.Pairs.{IsPair, AreTheTwo, Fault};
+ghost use Rattle.witness_pair.specs.Pairs.{IsPair, AreTheTwo, IsFault};
 ghost use Rattle.witness_pair.specs.Making.{least, shared, pair_of, made};
 
 use fbas_core::System;
@@ -105,7 +105,7 @@ pub fn make_pair(
     requires same_faulty { length faulty.now ≡ length system.now.sets }
     ensures pair { IfOk result (IsPair system.now.sets (members faulty.now)) }
     ensures sets { IfOk result (AreTheTwo u w) }
-    ensures fault { IfErr result (Fault system.now.sets (members faulty.now) (members u) (members w)) }
+    ensures fault { IfErr result (IsFault system.now.sets (members faulty.now) (members u) (members w)) }
     ensures computed { result ≡ made system.now.sets faulty.now u w }
 {
     if !is_quorum(system, faulty, &u) {
