@@ -1,5 +1,5 @@
 // The machine's files and standard output.
-ghost use Rattle.std.specs.Prelude.{◌≡◌, ◌<◌, ◌≤◌, IfOk, IfSome, None, Some, length};
+ghost use Rattle.std.specs.Prelude.{◌≡◌, ◌<◌, ◌≤◌, IfOk, IfSome, IsNone, Some, length};
 
 use crate::counts::FaultCounts;
 use crate::desk::{Desk, ReadFailed, To, Which, WriteFailed};
@@ -51,7 +51,7 @@ fn read_some(file: &mut impl Read, buf: &mut [u8]) -> Option<usize>
 /// Where no file is begun nothing is left.
 fn read_begun<F: Read>(begun: &mut Option<F>, buf: &mut [u8]) -> Option<usize>
     ensures bound { IfSome result (λ count. count ≤ length buf.new) }
-    ensures nothing { begun.old ≡ None → result ≡ Some 0 }
+    ensures nothing { IsNone begun.old → result ≡ Some 0 }
 {
     match begun {
         Some(file) => read_some(file, buf),
@@ -78,7 +78,7 @@ fn write_some(file: &mut impl Write, bytes: &[u8]) -> Option<usize>
 fn write_created<F: Write>(created: &mut Option<F>, bytes: &[u8]) -> Option<usize>
     ensures bound { IfSome result (λ count. count ≤ length bytes.now) }
     ensures some { IfSome result (λ count. 0 < length bytes.now → 0 < count) }
-    ensures uncreated { created.old ≡ None → result ≡ None }
+    ensures uncreated { IsNone created.old → IsNone result }
 {
     match created {
         Some(file) => write_some(file, bytes),
@@ -89,11 +89,13 @@ fn write_created<F: Write>(created: &mut Option<F>, bytes: &[u8]) -> Option<usiz
 impl<'a, R: Files + Print> RealDesk<'a, R> {
     ghost use Rattle.std.specs.Prelude.{◌≢◌, ◌↔◌, IsTrue, IsSome};
     ghost use Rattle.desk_io.specs.declared.desk.Which.{Which};
-    ghost use Rattle.desk_io.specs.RealDesk.{begun_of};
+    ghost use Rattle.desk_io.specs.RealDesk.{begun_of, created_of, faults_of};
 
     /// A desk over this runtime, with nothing begun and nothing created.
     pub fn new(rt: &'a R) -> Self
-        ensures { ⟦<RealDesk<'a, R> as Desk>⟧.faults result ≡ record { reads = 0; writes = 0 } }
+        ensures begun { (which : Which) → IsNone (begun_of which result) }
+        ensures created { IsNone (created_of result) }
+        ensures faults { faults_of result ≡ record { reads = 0; writes = 0 } }
     {
         RealDesk {
             rt,
@@ -109,8 +111,8 @@ impl<'a, R: Files + Print> RealDesk<'a, R> {
     fn reopen(&mut self, which: Which, name: &str) -> bool
         ensures begun { IsTrue result ↔ IsSome (begun_of which self.new) }
         ensures others { (other : Which) → other ≢ which → begun_of other self.new ≡ begun_of other self.old }
-        ensures created { self.new.created ≡ self.old.created }
-        ensures faults { self.new.faults ≡ self.old.faults }
+        ensures created { created_of self.new ≡ created_of self.old }
+        ensures faults { faults_of self.new ≡ faults_of self.old }
     {
         let opened = open_with(self.rt, OpenOptions::new().read(true), name);
         let begun = opened.is_some();
@@ -121,19 +123,40 @@ impl<'a, R: Files + Print> RealDesk<'a, R> {
         }
         begun
     }
+
+    /// Reads of the file that is begun there. Where none is, nothing is left.
+    fn read_there(&mut self, which: Which, buf: &mut [u8]) -> Option<usize>
+        ensures bound { IfSome result (λ count. count ≤ length buf.new) }
+        ensures nothing { IsNone (begun_of which self.old) → result ≡ Some 0 }
+        ensures faults { faults_of self.new ≡ faults_of self.old }
+    {
+        match which {
+            Which::Config => read_begun(&mut self.config, buf),
+            Which::Orgs => read_begun(&mut self.orgs, buf),
+            Which::Cert => read_begun(&mut self.cert, buf),
+        }
+    }
 }
 
 impl<R: Files + Print> Desk for RealDesk<'_, R> {
-    ghost use Rattle.std.specs.Prelude.{false};
+    ghost use Rattle.std.specs.Prelude.{◌≢◌, ◌↔◌, false, IsErr, IsOk, IsSome, OnErr, OnOk};
+    ghost use Rattle.desk_io.specs.declared.desk.Which.{Which};
+    ghost use Rattle.desk_io.specs.Faults.{ReadCause, WriteCause};
+    ghost use Rattle.desk_io.specs.RealDesk.{begun_of, created_of, faults_of};
     ghost use Rattle.desk_io.specs.State.{nothing_told};
 
     ghost tells = { false };
 
     ghost state = { λ _. nothing_told };
 
-    ghost faults = { λ d. d.faults };
+    ghost faults = { λ d. faults_of d };
 
-    fn begin(&mut self, which: Which, name: &str) -> Result<(), ReadFailed> {
+    fn begin(&mut self, which: Which, name: &str) -> Result<(), ReadFailed>
+        ensures begun { IsSome (begun_of which self.new) ↔ IsOk result }
+        ensures others { (other : Which) → other ≢ which → begun_of other self.new ≡ begun_of other self.old }
+        ensures created { created_of self.new ≡ created_of self.old }
+        ensures cause { ReadCause (faults_of self.old) (faults_of self.new) result }
+    {
         if self.reopen(which, name) {
             Ok(())
         } else {
@@ -141,19 +164,23 @@ impl<R: Files + Print> Desk for RealDesk<'_, R> {
         }
     }
 
-    fn next(&mut self, which: Which, buf: &mut [u8]) -> Result<usize, ReadFailed> {
-        let read = match which {
-            Which::Config => read_begun(&mut self.config, buf),
-            Which::Orgs => read_begun(&mut self.orgs, buf),
-            Which::Cert => read_begun(&mut self.cert, buf),
-        };
-        match read {
+    fn next(&mut self, which: Which, buf: &mut [u8]) -> Result<usize, ReadFailed>
+        ensures bound { IfOk result (λ count. count ≤ length buf.new) }
+        ensures nothing { IsNone (begun_of which self.old) → result ≡ Ok 0 }
+        ensures cause { ReadCause (faults_of self.old) (faults_of self.new) result }
+    {
+        match self.read_there(which, buf) {
             Some(count) => Ok(count),
             None => Err(self.faults.read_failed()),
         }
     }
 
-    fn create(&mut self, name: &str) -> Result<(), WriteFailed> {
+    fn create(&mut self, name: &str) -> Result<(), WriteFailed>
+        ensures created { OnOk result (IsSome (created_of self.new)) }
+        ensures failed { OnErr result (created_of self.new ≡ created_of self.old) }
+        ensures begun { (which : Which) → begun_of which self.new ≡ begun_of which self.old }
+        ensures cause { WriteCause (faults_of self.old) (faults_of self.new) result }
+    {
         let mut options = OpenOptions::new();
         options.write(true).create(true).truncate(true);
         match open_with(self.rt, &options, name) {
@@ -165,7 +192,13 @@ impl<R: Files + Print> Desk for RealDesk<'_, R> {
         }
     }
 
-    fn put(&mut self, to: To, bytes: &[u8]) -> Result<usize, WriteFailed> {
+    fn put(&mut self, to: To, bytes: &[u8]) -> Result<usize, WriteFailed>
+        ensures bound { IfOk result (λ count. count ≤ length bytes.now) }
+        ensures some { IfOk result (λ count. 0 < length bytes.now → 0 < count) }
+        ensures uncreated { to ≡ To.Cert → IsNone (created_of self.old) → IsErr result }
+        ensures begun { (which : Which) → begun_of which self.new ≡ begun_of which self.old }
+        ensures cause { WriteCause (faults_of self.old) (faults_of self.new) result }
+    {
         let written = match to {
             To::Out => write_some(&mut std::io::writer(self.rt), bytes),
             To::Cert => write_created(&mut self.created, bytes),
