@@ -84,6 +84,10 @@ index-marked size es last ids b index = record {
       let keeps : SamePlace (get_or (marked es ids b) k d) (get_or es k d) = marked-keeps es ids b k d in
       let below : (get_or es k d).id ≤ last = index.bounded k d (omega (arith, here, length-marked es ids b)) in
       omega (arith, keeps.0, below);
+  positive = λ k d here.
+      let keeps : SamePlace (get_or (marked es ids b) k d) (get_or es k d) = marked-keeps es ids b k d in
+      let above : 0 < (get_or es k d).id = index.positive k d (omega (arith, here, length-marked es ids b)) in
+      omega (arith, keeps.0, above);
 }
 
 -- an arena that grows at its end keeps what its entries show
@@ -127,6 +131,7 @@ module _ (xs ys grown : List Literal) (es more : List Entry) (last id start end 
     within = All-weaker (IsWithin (length xs)) (IsWithin (length grown)) (λ e inside. (inside.0, omega (arith, inside.1, grown_length))) es index.within;
     rising = index.rising;
     bounded = index.bounded;
+    positive = index.positive;
   })
 
   pub held_in-grown : more ≡ es → held_in grown more ≡ held_in xs es
@@ -140,6 +145,7 @@ module _ (xs ys grown : List Literal) (es more : List Entry) (last id start end 
           within = All-push (IsWithin (length grown)) es e (All-weaker (IsWithin (length xs)) (IsWithin (length grown)) (λ f inside. (inside.0, omega (arith, inside.1, grown_length))) es index.within) (omega (arith, is_start, is_end, grown_length), omega (arith, is_end));
           rising = all_pairs_push (λ f g. f.id < g.id) es e index.rising (λ k d here. (let below : (get_or es k d).id ≤ last = index.bounded k d here in omega (arith, below, above)));
           bounded = All-push (λ f. f.id ≤ id) es e (All-weaker (λ f. f.id ≤ last) (λ f. f.id ≤ id) (λ f below. omega (arith, below, above)) es index.bounded) (omega arith);
+          positive = All-push (λ f. 0 < f.id) es e index.positive (omega (arith, above));
         })
 
     pub held_in-pushed : held_in grown more ≡ with_clause (held_in xs es) id ys
@@ -201,3 +207,6 @@ held_in-rising arena (e ∷ es) up =
       | true ↦ AllPairs-cons (λ f g. f.0 < g.0) (e.id, clause_in arena e) (held_in arena es) (held_in-above arena es e.id (rising-head e es up)) rest
       | false ↦ rest
     ]
+
+pub none_at_zero : (arena : List Literal) (es : List Entry) → All (λ e. 0 < e.id) es → clause_at (held_in arena es) 0 ≡ None
+none_at_zero arena es positive = clause_at-none arena es 0 (λ j d within same. (let above : 0 < (get_or es j d).id = positive j d within in absurd (omega (arith, above, same))))

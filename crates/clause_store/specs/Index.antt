@@ -1,5 +1,5 @@
 -- What is true of an index.
-use Rattle.std.specs.Prelude.{ℕ, ◌≤◌, List, All}
+use Rattle.std.specs.Prelude.{ℕ, ◌≤◌, ◌<◌, List, All}
 use Rattle.clause_store.specs.declared.index.Entry.{Entry}
 use Rattle.clause_store.specs.Entries.{IsRising}
 
@@ -12,3 +12,4 @@ pub record IsIndex (size : ℕ) (entries : List Entry) (last : ℕ) : Type 0 whe
   pub within : All (IsWithin size) entries
   pub rising : IsRising entries
   pub bounded : All (λ e. e.id ≤ last) entries
+  pub positive : All (λ e. 0 < e.id) entries

@@ -49,6 +49,7 @@ impl Store {
     /// The last id that was pushed, 0 where none was. A removal does not move it.
     pub fn last(&self) -> u64
         ensures value { result ≡ self.now.last }
+        ensures none_at_zero { clause_at self.now.held 0 ≡ None }
         ensures none_above { (k : ℕ) → self.now.last < k → clause_at self.now.held k ≡ None }
         ensures rising { AllPairs (λ e f. e.0 < f.0) self.now.held }
     {
@@ -117,6 +118,7 @@ impl Store {
     pub fn first_above(&self, id: u64) -> Option<(u64, &[Lit])>
         ensures some { IfSome result (λ e. IsFirstAbove self.now.held id e.0 e.1.now) }
         ensures none { result ≡ None → (k : ℕ) → id < k → clause_at self.now.held k ≡ None }
+        ensures none_at_zero { clause_at self.now.held 0 ≡ None }
     {
         let start = place_above(&self.entries, id);
         for entry in &self.entries[start..] {
@@ -167,29 +169,33 @@ mod tests {
     #[test]
     fn ids_with_gaps(rt: HostRuntime) -> Result<(), Fail> {
         let alloc = rt.alloc();
-        let cases: [(&[u64], Option<u64>, &str); 6] = [
+        let cases: [(&[u64], u64, &str); 6] = [
             (
                 &[],
-                None,
+                0,
                 "last 10 2:[Lit(1), Lit(-2)] 5:[] 9:[Lit(3)] 10:[Lit(-1), Lit(-3), Lit(2)]",
             ),
-            (&[10], None, "last 10 2:[Lit(1), Lit(-2)] 5:[] 9:[Lit(3)]"),
-            (&[9, 2], None, "last 10 5:[] 10:[Lit(-1), Lit(-3), Lit(2)]"),
-            (&[2, 9, 10, 5], None, "last 10"),
+            (&[10], 0, "last 10 2:[Lit(1), Lit(-2)] 5:[] 9:[Lit(3)]"),
+            (&[9, 2], 0, "last 10 5:[] 10:[Lit(-1), Lit(-3), Lit(2)]"),
+            (&[2, 9, 10, 5], 0, "last 10"),
             (
                 &[9, 3, 2],
-                Some(3),
+                3,
                 "last 10 2:[Lit(1), Lit(-2)] 5:[] 9:[Lit(3)] 10:[Lit(-1), Lit(-3), Lit(2)]",
             ),
             (
                 &[9, 2, 9],
-                Some(9),
+                9,
                 "last 10 2:[Lit(1), Lit(-2)] 5:[] 9:[Lit(3)] 10:[Lit(-1), Lit(-3), Lit(2)]",
             ),
         ];
         for (ids, missing, want) in cases {
             let mut store = store(alloc)?;
-            assert_eq!(rt; store.remove_all(ids).err(), missing, "{ids:?}");
+            assert_eq!(rt;
+                store.remove_all(ids).err().unwrap_or(0),
+                missing,
+                "{ids:?}"
+            );
             assert_eq!(rt; shown(alloc, &store)?.as_str(), want, "{ids:?}");
         }
         Ok(())

@@ -3,11 +3,12 @@ use Rattle.std.specs.Prelude.{All}
 use Rattle.std.specs.List.{AllWithin}
 use Rattle.std.proofs.lemmas.List.Elements.{All-drop}
 use Rattle.lrat_model.specs.Clauses.{clause_at}
+use Rattle.lrat_model.specs.Steps.{Database}
 use Rattle.clause_store.specs.Entries.{IsRising}
 use Rattle.clause_store.specs.Shown.{held_in}
 use Rattle.clause_store.specs.Index.{IsWithin}
 use Rattle.clause_store.proofs.EntryLaws.{rising-drop, above-drop}
-use Rattle.clause_store.proofs.ArenaLaws.{above_from}
+use Rattle.clause_store.proofs.ArenaLaws.{above_from, none_at_zero}
 use Rattle.clause_store.proofs.StoreLaws.{rest_is, first_held}
 use Rattle.clause_store.proofs.store.Store.first_above.Goals as goal
 
@@ -31,3 +32,13 @@ pub returns-then-entry-clause-some : goal.returns-then-entry-clause-some
 returns-then-entry-clause-some c =
     let so_far = c.loop-entry.invariant in
     first_held c.args.self.now.held c.self.inside.arena.items c.deref-then-entry.result.now _ c.loop-entry.entry-index _ c.args.id c.deref-then-entry.ensures.value so_far.rising so_far.above c.loop-entry-test.true so_far.alike c.if-entry.true
+
+pub returns-then-entry-clause-none_at_zero : goal.returns-then-entry-clause-none_at_zero
+returns-then-entry-clause-none_at_zero c =
+    let inside = c.self.inside in
+    ap (λ (d : Database). clause_at d.held 0) (sym c.self.view_is) ∙ none_at_zero inside.arena.items inside.entries.items c.self.invariant.positive
+
+pub returns-clause-none_at_zero : goal.returns-clause-none_at_zero
+returns-clause-none_at_zero c =
+    let inside = c.self.inside in
+    ap (λ (d : Database). clause_at d.held 0) (sym c.self.view_is) ∙ none_at_zero inside.arena.items inside.entries.items c.self.invariant.positive
