@@ -4,6 +4,7 @@
 ghost use Rattle.std.specs.Prelude.{◌≡◌, ℕ, ◌<◌, ◌≤◌, ◌↔◌, length, map, IsTrue, IfSome, MatchOption, Contains, slice_get, option_copied, Some, count_by, is_none};
 ghost use Rattle.fbas_model.specs.Nodes.{members, ∅, ◌∖◌};
 ghost use Rattle.fbas_model.specs.Names.{place_of};
+ghost use Rattle.fbas_model.specs.QuorumSets.{all_entries};
 ghost use Rattle.fbas_model.specs.Systems.{System as Whole, IsSystem, entries_in, unset_in};
 ghost use Rattle.fbas_model.specs.Fbas.{HasSliceWithin, Quorum, BlocksNode, all_nodes};
 
@@ -80,9 +81,13 @@ impl System {
     /// The quorum set of the node, or none where it has none: O(1).
     pub fn quorum_set(&self, v: u32) -> Option<&QuorumSet>
         requires { v < length self.now.sets }
-        ensures { slice_get self.now.sets v ≡ Some (option_copied result) }
+        ensures set { slice_get self.now.sets v ≡ Some (option_copied result) }
+        ensures small { IfSome result (λ q. all_entries q.now ≤ 1000000) }
     {
-        self.sets[v as usize].as_ref()
+        match &self.sets[v as usize] {
+            Some(quorum_set) => Some(quorum_set),
+            None => None,
+        }
     }
 
     /// How many entries the quorum sets have, at all depths: linear in them.
