@@ -1,0 +1,83 @@
+#!/usr/bin/env python3
+"""Writes configurations in stellarbeat's shape: configurations.py FOLDER makes the files that the benchmarks read."""
+import json
+import os
+import sys
+
+
+def key(number):
+    """A key as long as Stellar's: 56 bytes, in an order that is not that of the numbers."""
+    return "G%07d" % ((number * 2654435761) % 10_000_019) + "A" * 48
+
+
+def ordered_key(number):
+    return "G%07d" % number + "A" * 48
+
+
+def node(name, quorum_set):
+    return {
+        "publicKey": name,
+        "name": "node " + name[:8],
+        "isValidating": True,
+        "geoData": {"latitude": 1.25, "longitude": -3.5},
+        "quorumSet": quorum_set,
+    }
+
+
+def short_key(number):
+    """A key of four bytes, so that a million entries fit into 16 MiB."""
+    return "%04x" % (number * 40503 % 65536)
+
+
+def dense(nodes, entries, name):
+    """Each node lists so many others that there are this many entries in all, in inner quorum sets of 50."""
+    names = [name(v) for v in range(nodes)]
+    share = entries // nodes
+    extra = entries - share * nodes
+    out = []
+    for v in range(nodes):
+        rest = share + (1 if v < extra else 0)
+        inner, at = [], v + 1
+        while rest > 0:
+            count = min(50, rest - 1)
+            if count <= 0:
+                break
+            members = [names[(at + i) % nodes] for i in range(count)]
+            inner.append({"threshold": count // 2 + 1, "validators": members, "innerQuorumSets": []})
+            at += count
+            rest -= count + 1
+        validators = [names[(at + i) % nodes] for i in range(rest)]
+        total = len(inner) + len(validators)
+        quorum_set = {"threshold": total // 2 + 1, "validators": validators, "innerQuorumSets": inner}
+        out.append(node(names[v], quorum_set))
+    return out
+
+
+def chain(nodes, name, step):
+    """Node v needs node v + step, so that one node without a slice takes all others with it."""
+    out = []
+    for v in range(nodes):
+        after = v + step
+        if 0 <= after < nodes:
+            out.append(node(name(v), {"threshold": 1, "validators": [name(after)], "innerQuorumSets": []}))
+        else:
+            out.append({"publicKey": name(v)})
+    return out
+
+
+def write(path, nodes):
+    with open(path, "w") as file:
+        json.dump(nodes, file, separators=(",", ":"))
+
+
+def main():
+    folder = sys.argv[1]
+    os.makedirs(folder, exist_ok=True)
+    write(os.path.join(folder, "half.json"), dense(4096, 500_000, short_key))
+    write(os.path.join(folder, "whole.json"), dense(4096, 1_000_000, short_key))
+    write(os.path.join(folder, "long-keys.json"), dense(4096, 250_000, key))
+    write(os.path.join(folder, "chain-up.json"), chain(4096, ordered_key, 1))
+    write(os.path.join(folder, "chain-down.json"), chain(4096, ordered_key, -1))
+
+
+main()

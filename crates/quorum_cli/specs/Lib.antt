@@ -1,0 +1,5 @@
+pub mod Status
+pub mod Questions
+pub mod Answers
+pub mod Printing
+pub mod Meaning

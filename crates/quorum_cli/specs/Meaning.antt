@@ -1,0 +1,62 @@
+-- What an accepted certificate means.
+use Rattle.std.specs.Prelude.{◌≡◌, ℕ, List, Some, Result, Ok, Err}
+use Rattle.sha2.specs.Sha256.{sha256}
+use Rattle.fbas_model.specs.Systems.{System}
+use Rattle.desk_io.specs.State.{Files}
+use Rattle.cli_words.specs.Order.{Ordered}
+use Rattle.cli_words.specs.declared.orders.Command.TheVariants.{Check}
+use Rattle.cli_words.specs.declared.orders.OrderFault.{OrderFault}
+use Rattle.cli_words.specs.Words.{order_of}
+use Rattle.node_json.specs.Configuration.{system_of}
+use Rattle.certificate_file.specs.Acceptance.{checked}
+use Rattle.certificate_file.specs.Meaning.{Holds}
+use Rattle.certificate_file.specs.declared.places.Accepted.{Accepted}
+use Rattle.quorum_cli.specs.declared.status.Status.TheVariants.{Yes, Usage}
+use Rattle.quorum_cli.specs.declared.reading.Outcome.{Outcome}
+use Rattle.quorum_cli.specs.declared.reading.Outcome.TheVariants.{Told, Asked}
+
+-- the certificate is accepted for a configuration and its system, and its answer holds: of a pair, its two sets are
+-- quorums of the system once the nodes of its header are deleted, and share no node
+pub record Shows (system : System) (config cert : List ℕ) : Type 0 where
+  pub accepted : Accepted
+  pub checks : checked system (sha256 config) cert ≡ Ok accepted
+  pub holds : Holds system accepted
+
+-- the named file is such a certificate
+pub record HasCert (system : System) (config : List ℕ) (files : Files) (name : List ℕ) : Type 0 where
+  pub cert : List ℕ
+  pub held : files name ≡ Some cert
+  pub shows : Shows system config cert
+
+-- the order names such a certificate for the configuration
+pub record HasAccepted (order : Ordered) (config : List ℕ) (files : Files) : Type 0 where
+  pub system : System
+  pub read : system_of config ≡ Ok system
+  pub cert : HasCert system config files order.cert
+
+-- the order names a configuration and such a certificate for it
+pub record NamesFiles (order : Ordered) (files : Files) : Type 0 where
+  pub config : List ℕ
+  pub held : files order.config ≡ Some config
+  pub accepted : HasAccepted order config files
+
+-- the words are an order that names a configuration and a certificate that is accepted for it
+pub record NamesAccepted (words : List (List ℕ)) (files : Files) : Type 0 where
+  pub order : Ordered
+  pub taken : order_of words ≡ Ok order
+  pub names : NamesFiles order files
+
+-- a yes that is told before any question is asked is that of an accepted certificate, of which this is so
+abbrev pub YesMeans : Type 0 → Outcome → Type 0
+YesMeans meaning (Told a) = a.status ≡ Yes → meaning
+YesMeans meaning (Asked f question) = Unit {0}
+
+-- the words are an order to check a certificate
+abbrev pub IsCheck : Result Ordered OrderFault → Type 0
+IsCheck (Ok order) = order.command ≡ Check
+IsCheck (Err fault) = ⊥
+
+-- the words are refused
+abbrev pub IsToldUsage : Outcome → Type 0
+IsToldUsage (Told a) = a.status ≡ Usage
+IsToldUsage (Asked f question) = ⊥

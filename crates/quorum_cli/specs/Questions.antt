@@ -1,0 +1,127 @@
+-- What an order asks of a system, and what answers it.
+use Rattle.std.specs.Prelude.{◌≡◌, ◌⊎◌, ◌<◌, ℕ, List, [], length, Option, unwrap_or, Result, Ok, Err, codes, ◌++◌}
+use Rattle.fbas_model.specs.Nodes.{Table, members}
+use Rattle.fbas_model.specs.Names.{Name}
+use Rattle.fbas_model.specs.Systems.{System}
+use Rattle.fbas_model.specs.Fbas.{all_nodes, IsGreatestQuorum, Available, AreUnmet, MeetsQuorums, BlocksNode}
+use Rattle.fbas_model.specs.Nodes.{◌∖◌}
+use Rattle.name_set.specs.Lists.{names_read, name_read}
+use Rattle.name_set.specs.declared.lists.NameFault.{NameFault}
+use Rattle.cli_words.specs.Order.{Ordered}
+use Rattle.cli_words.specs.declared.orders.Command.{Command}
+use Rattle.cli_words.specs.declared.orders.Command.TheVariants as command
+use Rattle.report.specs.Lines.{Text, names_refused, greatest, unavailable, not_blocking, shown}
+use Rattle.quorum_cli.specs.declared.status.Status.TheVariants.{Yes, No, Usage}
+use Rattle.quorum_cli.specs.declared.reply.Reply.{Reply as Answer}
+use Rattle.quorum_cli.specs.declared.question.Question.{Question}
+use Rattle.quorum_cli.specs.declared.question.Question.TheVariants.{Show, Greatest, Available as AvailableWithout, Blocks, Vblocks}
+use Rattle.quorum_cli.specs.declared.question.Refusal.{Refusal}
+use Rattle.quorum_cli.specs.declared.question.Refusal.TheVariants.{Names, Memory}
+
+-- ---- what is asked
+
+abbrev pub and_then : {A B : Type 0} → (A → Result B Answer) → Result A Answer → Result B Answer
+and_then f (Ok a) = f a
+and_then f (Err e) = Err e
+
+abbrev pub names_refusal : Text → NameFault → Answer
+names_refusal option fault = record { status = Usage; text = names_refused option fault }
+
+abbrev pub or_refused : {A : Type 0} → Text → Result A NameFault → Result A Answer
+or_refused option (Ok a) = Ok a
+or_refused option (Err fault) = Err (names_refusal option fault)
+
+-- the set that an option's list names: an option that is not given is the empty list
+abbrev pub set_named : List Name → Text → Option Text → Result Table Answer
+set_named names option list = or_refused option (names_read (unwrap_or list []) names)
+
+-- the node that an option names
+abbrev pub node_named : List Name → Text → Option Text → Result ℕ Answer
+node_named names option name = or_refused option (name_read (unwrap_or name []) names)
+
+-- what the order asks, its names read in the order of the options `--node`, `--faulty`, `--set`
+abbrev pub question_of : Command → List Name → Ordered → Result Question Answer
+question_of command.Show names o = Ok Show
+question_of command.Check names o = Ok Show
+question_of command.Greatest names o = and_then (λ faulty. Ok (Greatest faulty)) (set_named names (codes "--faulty") o.faulty)
+question_of command.Available names o = and_then (λ set. Ok (AvailableWithout set)) (set_named names (codes "--set") o.set)
+question_of command.Blocks names o =
+    and_then (λ faulty. and_then (λ set. Ok (Blocks set faulty)) (set_named names (codes "--set") o.set)) (set_named names (codes "--faulty") o.faulty)
+question_of command.Vblocks names o =
+    and_then (λ node. and_then (λ set. Ok (Vblocks node set)) (set_named names (codes "--set") o.set)) (node_named names (codes "--node") o.node)
+
+-- the refusal is that of the result, or memory is wanting
+abbrev pub Refuses : {A : Type 0} → Refusal → Result A Answer → Type 0
+Refuses Memory r = Unit {0}
+Refuses (Names a) r = r ≡ Err a
+
+-- the refusal has this answer, or memory is wanting
+abbrev pub IsRefusal : Refusal → Answer → Type 0
+IsRefusal Memory a = Unit {0}
+IsRefusal (Names b) a = b ≡ a
+
+-- a refusal with an answer has the status of a faulty command line
+abbrev pub IsUsage : Refusal → Type 0
+IsUsage Memory = Unit {0}
+IsUsage (Names a) = a.status ≡ Usage
+
+-- each set has a mark for each of n nodes, and each node is one of them
+abbrev pub FitsQuestion : ℕ → Question → Type 0
+FitsQuestion n Show = Unit {0}
+FitsQuestion n (Greatest b) = length b ≡ n
+FitsQuestion n (AvailableWithout s) = length s ≡ n
+FitsQuestion n (Blocks s b) = (length s ≡ n) × (length b ≡ n)
+FitsQuestion n (Vblocks v s) = (v < n) × (length s ≡ n)
+
+-- ---- what answers it
+
+abbrev pub says : Text → Answer → Type 0
+says text a = a ≡ record { status = Yes; text = text }
+
+abbrev pub denies : Text → Answer → Type 0
+denies text a = a ≡ record { status = No; text = text }
+
+-- the greatest quorum is printed, once b is deleted
+pub record AnswersGreatest (f : System) (b : Table) (a : Answer) : Type 0 where
+  pub quorum : Table
+  pub places : length quorum ≡ length f.sets
+  pub is : IsGreatestQuorum f.sets (members b) (all_nodes f.sets) (members quorum)
+  pub said : says (greatest f.names quorum) a
+
+-- yes, and the nodes without s are available
+pub record SaysAvailable (f : System) (s : Table) (a : Answer) : Type 0 where
+  pub is : Available f.sets (members s)
+  pub said : says (codes "available yes\n") a
+
+-- no, and the nodes without s that have no slice there are printed
+pub record SaysUnavailable (f : System) (s : Table) (a : Answer) : Type 0 where
+  pub not : Available f.sets (members s) → ⊥
+  pub unmet : Table
+  pub places : length unmet ≡ length f.sets
+  pub are : AreUnmet f.sets (members s) (members unmet)
+  pub said : denies (unavailable f.names unmet) a
+
+-- yes, and s meets every quorum once b is deleted
+pub record SaysBlocks (f : System) (s b : Table) (a : Answer) : Type 0 where
+  pub is : MeetsQuorums f.sets (members b) (members s)
+  pub said : says (codes "blocks yes\n") a
+
+-- no, and the greatest quorum that s does not meet is printed
+pub record SaysNotBlocks (f : System) (s b : Table) (a : Answer) : Type 0 where
+  pub not : MeetsQuorums f.sets (members b) (members s) → ⊥
+  pub quorum : Table
+  pub places : length quorum ≡ length f.sets
+  pub is : IsGreatestQuorum f.sets (members b) (all_nodes f.sets ∖ members s) (members quorum)
+  pub said : denies (not_blocking f.names quorum) a
+
+-- yes where s meets every slice of v, and else no
+abbrev pub AnswersVblocks : System → ℕ → Table → Answer → Type 0
+AnswersVblocks f v s a = (BlocksNode f.sets v (members s) × says (codes "vblocks yes\n") a) ⊎ ((BlocksNode f.sets v (members s) → ⊥) × denies (codes "vblocks no\n") a)
+
+-- the answer to a question about a system
+abbrev pub Answers : System → Question → Answer → Type 0
+Answers f Show a = says (shown f) a
+Answers f (Greatest b) a = AnswersGreatest f b a
+Answers f (AvailableWithout s) a = SaysAvailable f s a ⊎ SaysUnavailable f s a
+Answers f (Blocks s b) a = SaysBlocks f s b a ⊎ SaysNotBlocks f s b a
+Answers f (Vblocks v s) a = AnswersVblocks f v s a

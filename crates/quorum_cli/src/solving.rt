@@ -1,0 +1,89 @@
+// The answer to a question.
+ghost use Rattle.std.specs.Prelude.{◌≡◌, ◌⊎◌, ◌<◌, IfOk, length};
+ghost use Rattle.quorum_cli.specs.Questions.{Answers, FitsQuestion, AnswersGreatest, SaysAvailable, SaysUnavailable, SaysBlocks, SaysNotBlocks, AnswersVblocks, says};
+ghost use Rattle.report.specs.Lines.{shown};
+
+use crate::question::Question;
+use crate::reply::Reply;
+use crate::status::Status;
+use fbas_core::System;
+use name_set::NodeSet;
+use std::alloc::{AllocError, Global};
+
+fn says(alloc: Global, status: Status, text: &str) -> Result<Reply, AllocError>
+    ensures { IfOk result (λ a. a ≡ record { status = status; text = text.now }) }
+{
+    Ok(Reply::new(status, Vec::from_slice(alloc, text.as_bytes())?))
+}
+
+fn show(alloc: Global, system: &System) -> Result<Reply, AllocError>
+    ensures { IfOk result (says (shown system.now)) }
+{
+    Ok(Reply::new(Status::Yes, report::shown(alloc, system)?))
+}
+
+fn greatest(alloc: Global, system: &System, faulty: &NodeSet) -> Result<Reply, AllocError>
+    requires { length faulty.now ≡ length system.now.sets }
+    ensures { IfOk result (AnswersGreatest system.now faulty.now) }
+{
+    let mut quorum = NodeSet::new(alloc, system.len())?;
+    quorum.fill();
+    greatest_quorum::shrink(system, &mut quorum, faulty);
+    let text = report::with_list(alloc, "", "greatest", system, &quorum)?;
+    Ok(Reply::new(Status::Yes, text))
+}
+
+fn available(alloc: Global, system: &System, set: &NodeSet) -> Result<Reply, AllocError>
+    requires { length set.now ≡ length system.now.sets }
+    ensures { IfOk result (λ a. SaysAvailable system.now set.now a ⊎ SaysUnavailable system.now set.now a) }
+{
+    let mut unmet = NodeSet::new(alloc, system.len())?;
+    if greatest_quorum::available(system, set, &mut unmet) {
+        return says(alloc, Status::Yes, "available yes\n");
+    }
+    let text = report::with_list(alloc, "available no\n", "unmet", system, &unmet)?;
+    Ok(Reply::new(Status::No, text))
+}
+
+fn blocks(
+    alloc: Global,
+    system: &System,
+    set: &NodeSet,
+    faulty: &NodeSet,
+) -> Result<Reply, AllocError>
+    requires set { length set.now ≡ length system.now.sets }
+    requires faulty { length faulty.now ≡ length system.now.sets }
+    ensures { IfOk result (λ a. SaysBlocks system.now set.now faulty.now a ⊎ SaysNotBlocks system.now set.now faulty.now a) }
+{
+    let mut quorum = NodeSet::new(alloc, system.len())?;
+    if greatest_quorum::blocks(system, set, faulty, &mut quorum) {
+        return says(alloc, Status::Yes, "blocks yes\n");
+    }
+    let text = report::with_list(alloc, "blocks no\n", "quorum", system, &quorum)?;
+    Ok(Reply::new(Status::No, text))
+}
+
+fn vblocks(alloc: Global, system: &System, node: u32, set: &NodeSet) -> Result<Reply, AllocError>
+    requires node { node < length system.now.sets }
+    requires set { length set.now ≡ length system.now.sets }
+    ensures { IfOk result (AnswersVblocks system.now node set.now) }
+{
+    if system.v_blocks(node, set) {
+        return says(alloc, Status::Yes, "vblocks yes\n");
+    }
+    says(alloc, Status::No, "vblocks no\n")
+}
+
+/// The answer to a question about a system.
+pub fn solve(alloc: Global, system: &System, question: &Question) -> Result<Reply, AllocError>
+    requires { FitsQuestion (length system.now.sets) question.now }
+    ensures { IfOk result (Answers system.now question.now) }
+{
+    match question {
+        Question::Show => show(alloc, system),
+        Question::Greatest(faulty) => greatest(alloc, system, faulty),
+        Question::Available(set) => available(alloc, system, set),
+        Question::Blocks(set, faulty) => blocks(alloc, system, set, faulty),
+        Question::Vblocks(node, set) => vblocks(alloc, system, *node, set),
+    }
+}

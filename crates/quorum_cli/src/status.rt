@@ -1,0 +1,42 @@
+// How the program ends.
+ghost use Rattle.std.specs.Prelude.{◌≡◌};
+ghost use Rattle.quorum_cli.specs.Status.{code_of};
+
+/// How the program ends: with an answer, or with a failing of the outside or of the memory.
+#[derive(Clone, Copy, Debug, PartialEq, Eq)]
+pub enum Status {
+    /// Yes, shown or accepted.
+    Yes,
+    /// No.
+    No,
+    /// The command line is refused.
+    Usage,
+    /// The configuration is refused.
+    ConfigRefused,
+    /// The certificate is refused.
+    CertRefused,
+    /// A file could not be read.
+    ReadFault,
+    /// The output could not be written.
+    WriteFault,
+    /// There was not enough memory.
+    Memory,
+}
+
+impl Status {
+    /// The exit status of the process.
+    pub fn code(self) -> u8
+        ensures { result ≡ code_of self }
+    {
+        match self {
+            Status::Yes => 0,
+            Status::No => 1,
+            Status::Usage => 3,
+            Status::ConfigRefused => 4,
+            Status::CertRefused => 5,
+            Status::ReadFault => 6,
+            Status::WriteFault => 7,
+            Status::Memory => 8,
+        }
+    }
+}

@@ -1,0 +1,259 @@
+// `run` over a desk in memory: the printed texts and statuses of worked cases, and that an answer comes at all.
+ghost use Rattle.std.specs.Prelude.{◌<◌};
+
+use crate::run::run;
+use crate::status::Status;
+use desk_io::{Call, MemDesk, Which};
+use std::alloc::{AllocError, Global};
+use std::test::Fail;
+
+/// Three nodes, of which each needs two of the three.
+const TWO_OF_THREE: &str = r#"[{"publicKey":"a","quorumSet":{"threshold":2,"validators":["a","b","c"]}},{"publicKey":"b","quorumSet":{"threshold":2,"validators":["a","b","c"]}},{"publicKey":"c","quorumSet":{"threshold":2,"validators":["a","b","c"]}}]"#;
+
+/// The first two lines of a certificate for them; the digest is that of `sha256sum`.
+const HEAD: &str = "fbas-cert 1\nconfig f823e204944abcff32c8dadffba2a0178a590a613358f9a6f271b651cd4e6fbb\n";
+
+const USAGE: &str = "usage: quorum_cli COMMAND\ncheck CONFIG CERT\nCOMMON: --from NAME --faulty NAMES --orgs ORGS --faulty-orgs IDS\n";
+
+fn files(
+    alloc: Global,
+    config: &[u8],
+    cert: &[u8],
+) -> Result<Vec<(String, Vec<u8>)>, AllocError> {
+    let mut files = Vec::new(alloc);
+    files.push((
+        String::from_str(alloc, "config")?,
+        Vec::from_slice(alloc, config)?,
+    ))?;
+    files.push((
+        String::from_str(alloc, "cert")?,
+        Vec::from_slice(alloc, cert)?,
+    ))?;
+    Ok(files)
+}
+
+// The words of a line behind the program's name.
+fn words(alloc: Global, line: &str) -> Result<Vec<String>, AllocError> {
+    let mut words = Vec::new(alloc);
+    words.push(String::from_str(alloc, "quorum_cli")?)?;
+    for word in line.split(' ') {
+        words.push(String::from_str(alloc, word)?)?;
+    }
+    Ok(words)
+}
+
+// How the command line ends over the two files, and what is out then.
+fn ends(
+    alloc: Global,
+    line: &str,
+    config: &[u8],
+    cert: &[u8],
+) -> Result<(Status, Vec<u8>), AllocError> {
+    let mut desk = MemDesk::new(
+        alloc,
+        files(alloc, config, cert)?,
+        Vec::new(alloc),
+        7,
+        1_000,
+        Vec::new(alloc),
+    )?;
+    let status = run(alloc, &words(alloc, line)?, &mut desk);
+    Ok((status, Vec::from_slice(alloc, desk.out())?))
+}
+
+fn checks(alloc: Global, config: &str, cert: &str) -> Result<(Status, Vec<u8>), AllocError> {
+    ends(alloc, "check config cert", config.as_bytes(), cert.as_bytes())
+}
+
+// How `check` ends on two of three, for the lines of a certificate behind the digest.
+fn checks_lines(alloc: Global, lines: &str) -> Result<(Status, Vec<u8>), AllocError> {
+    let mut cert = String::from_str(alloc, HEAD)?;
+    cert.push_str(lines)?;
+    checks(alloc, TWO_OF_THREE, cert.as_str())
+}
+
+#[test]
+fn check_accepts_a_pair_and_names_the_first_fault(rt: HostRuntime) -> Result<(), Fail> {
+    let alloc = rt.alloc();
+    for (lines, status, text) in [
+        (
+            "from\nfaulty a\nkind pair\nfirst b\nsecond c\nend\n",
+            Status::Yes,
+            "accepted pair\nfrom\nfaulty a\n",
+        ),
+        (
+            "from\nfaulty\nkind pair\nfirst a b\nsecond b c\nend\n",
+            Status::CertRefused,
+            "refused overlap 7 b\n",
+        ),
+        (
+            "from\nfaulty\nkind pair\nfirst a\nsecond b c\nend\n",
+            Status::CertRefused,
+            "refused not-quorum 6\n",
+        ),
+        (
+            "from a\nfaulty\nkind pair\nfirst a b\nsecond b c\nend\n",
+            Status::CertRefused,
+            "refused bad-line 3\n",
+        ),
+        (
+            "from\nfaulty b a\nkind pair\nfirst a b\nsecond b c\nend\n",
+            Status::CertRefused,
+            "refused bad-line 4\n",
+        ),
+        (
+            "from\nfaulty z\nkind pair\nfirst a b\nsecond b c\nend\n",
+            Status::CertRefused,
+            "refused unknown-node 4\n",
+        ),
+        (
+            "from\nfaulty a\nkind other\nfirst b\nsecond c\nend\n",
+            Status::CertRefused,
+            "refused bad-line 5\n",
+        ),
+        (
+            "from\nfaulty a\nkind pair\nfirst b\nsecond c\nend\nx",
+            Status::CertRefused,
+            "refused trailing\n",
+        ),
+        (
+            "from\nfaulty a\nkind pair\nfirst b\nsecond c\nend",
+            Status::CertRefused,
+            "refused truncated 8\n",
+        ),
+    ] {
+        let (found, out) = checks_lines(alloc, lines)?;
+        assert_eq!(rt; found, status, "at {lines}");
+        assert_eq!(rt; out.as_slice(), text.as_bytes(), "at {lines}");
+    }
+    Ok(())
+}
+
+#[test]
+fn check_compares_the_title_and_the_digest(rt: HostRuntime) -> Result<(), Fail> {
+    let alloc = rt.alloc();
+    for (cert, text) in [
+        ("fbas-cert 1\r\n", "refused bad-line 1\n"),
+        (
+            "fbas-cert 1\nconfig F823E204944ABCFF32C8DADFFBA2A0178A590A613358F9A6F271B651CD4E6FBB\n",
+            "refused bad-line 2\n",
+        ),
+        (
+            "fbas-cert 1\nconfig 4f53cda18c2baa0c0354bb5f9a3ecbe5ed12ab4d8e11ba873c2f11161202b945\n",
+            "refused digest 4f53cda18c2baa0c0354bb5f9a3ecbe5ed12ab4d8e11ba873c2f11161202b945 f823e204944abcff32c8dadffba2a0178a590a613358f9a6f271b651cd4e6fbb\n",
+        ),
+        ("", "refused truncated 1\n"),
+    ] {
+        let (found, out) = checks(alloc, TWO_OF_THREE, cert)?;
+        assert_eq!(rt; found, Status::CertRefused, "at {cert}");
+        assert_eq!(rt; out.as_slice(), text.as_bytes(), "at {cert}");
+    }
+    Ok(())
+}
+
+#[test]
+fn check_refuses_a_configuration_by_its_first_fault(rt: HostRuntime) -> Result<(), Fail> {
+    let alloc = rt.alloc();
+    for (config, text) in [
+        ("", "config not-json\n"),
+        ("{}", "config not-nodes\n"),
+        ("[1]", "config not-node 0\n"),
+        (
+            r#"[{"publicKey":"a"},{"publicKey":"a"}]"#,
+            "config duplicate 1\n",
+        ),
+        (
+            r#"[{"publicKey":"a","quorumSet":{"threshold":-1}}]"#,
+            "config bad-quorum-set 0 threshold\n",
+        ),
+        (
+            r#"[{"publicKey":"a","quorumSet":{}}]"#,
+            "config bad-quorum-set 0 threshold\n",
+        ),
+        (
+            r#"[{"publicKey":"aaaaaaaaaaaaaaaaaaaaaaaaaaaaaaaaaaaaaaaaaaaaaaaaaaaaaaaaaaaaaaaaaaaaaaaaaaaaaaaaaaaaaaaaaaaaaaaaaaaaaaaaaaaaaaaaaaaaaaaaaaaaaaaaa"}]"#,
+            "config bad-key 0\n",
+        ),
+    ] {
+        let (found, out) = checks(alloc, config, "")?;
+        assert_eq!(rt; found, Status::ConfigRefused, "at {config}");
+        assert_eq!(rt; out.as_slice(), text.as_bytes(), "at {config}");
+    }
+    Ok(())
+}
+
+#[test]
+fn check_refuses_a_configuration_that_is_too_long(rt: HostRuntime) -> Result<(), Fail> {
+    let alloc = rt.alloc();
+    let spaces = vec![in alloc; b' '; 16_777_217]?;
+    let mut desk = MemDesk::new(
+        alloc,
+        files(alloc, &spaces, b"")?,
+        Vec::new(alloc),
+        65_536,
+        100,
+        Vec::new(alloc),
+    )?;
+    let status = run(alloc, &words(alloc, "check config cert")?, &mut desk);
+    assert_eq!(rt; status, Status::ConfigRefused);
+    assert_eq!(rt; desk.out(), b"config too-long\n".as_slice());
+    Ok(())
+}
+
+#[test]
+fn words_that_are_no_order_and_missing_files_end_the_program(rt: HostRuntime) -> Result<(), Fail> {
+    let alloc = rt.alloc();
+    for (line, status, text) in [
+        ("", Status::Usage, USAGE),
+        ("--help", Status::Usage, USAGE),
+        ("intersect config cert", Status::Usage, USAGE),
+        ("check config", Status::Usage, USAGE),
+        ("check config config", Status::Usage, "usage same-path\n"),
+        ("check config missing", Status::ReadFault, ""),
+        ("check missing cert", Status::ReadFault, ""),
+    ] {
+        let (found, out) = ends(alloc, line, TWO_OF_THREE.as_bytes(), b"")?;
+        assert_eq!(rt; found, status, "at {line}");
+        assert_eq!(rt; out.as_slice(), text.as_bytes(), "at {line}");
+    }
+    let mut desk = MemDesk::new(alloc, Vec::new(alloc), Vec::new(alloc), 1, 1_000, Vec::new(alloc))?;
+    assert_eq!(rt; run(alloc, &[], &mut desk), Status::Usage);
+    assert_eq!(rt; desk.out(), USAGE.as_bytes());
+    Ok(())
+}
+
+// How `check` of the accepted certificate ends on a desk with pieces of 8 bytes where this call fails, and what is out.
+fn fails(alloc: Global, call: Call, number: u64) -> Result<(Status, Vec<u8>), AllocError> {
+    let mut cert = String::from_str(alloc, HEAD)?;
+    cert.push_str("from\nfaulty a\nkind pair\nfirst b\nsecond c\nend\n")?;
+    let mut failing = Vec::new(alloc);
+    failing.push((call, number))?;
+    let mut desk = MemDesk::new(
+        alloc,
+        files(alloc, TWO_OF_THREE.as_bytes(), cert.as_bytes())?,
+        Vec::new(alloc),
+        8,
+        1_000,
+        failing,
+    )?;
+    let status = run(alloc, &words(alloc, "check config cert")?, &mut desk);
+    Ok((status, Vec::from_slice(alloc, desk.out())?))
+}
+
+#[test]
+fn a_failing_call_ends_the_program(rt: HostRuntime) -> Result<(), Fail> {
+    let alloc = rt.alloc();
+    for (call, number, status, text) in [
+        (Call::Begin(Which::Config), 1, Status::ReadFault, ""),
+        (Call::Next(Which::Config), 2, Status::ReadFault, ""),
+        (Call::Begin(Which::Cert), 1, Status::ReadFault, ""),
+        (Call::Next(Which::Cert), 18, Status::ReadFault, ""),
+        (Call::Put(desk_io::To::Out), 1, Status::WriteFault, ""),
+        (Call::Put(desk_io::To::Out), 3, Status::WriteFault, "accepted pair\nfr"),
+    ] {
+        let (found, out) = fails(alloc, call, number)?;
+        assert_eq!(rt; found, status, "at call {number}");
+        assert_eq!(rt; out.as_slice(), text.as_bytes(), "at call {number}");
+    }
+    Ok(())
+}

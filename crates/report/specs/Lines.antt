@@ -1,0 +1,138 @@
+-- The lines that the program prints.
+use Rattle.std.specs.Prelude.{ℕ, List, [], ◌∷◌, ◌++◌, length, true, false, Option, Some, None, unwrap_or, slice_get, codes, decimal}
+use Rattle.hex.specs.Hex.{encode_lower}
+use Rattle.fbas_model.specs.Names.{Name}
+use Rattle.fbas_model.specs.Nodes.{Table}
+use Rattle.fbas_model.specs.Systems.{System, entries_in, unset_in}
+use Rattle.name_set.specs.declared.lists.NameFault.{NameFault}
+use Rattle.name_set.specs.declared.lists.NameFault.TheVariants.{Empty, BadKey as BadName, Unknown, Memory as NoNames}
+use Rattle.node_json.specs.declared.faults.SetFault.{SetFault}
+use Rattle.node_json.specs.declared.faults.SetFault.TheVariants.{Shape, Threshold, Validators, Inner}
+use Rattle.node_json.specs.declared.faults.ConfigFault.{ConfigFault}
+use Rattle.node_json.specs.declared.faults.ConfigFault.TheVariants.{NotJson, NotNodes, NotNode, BadKey, Duplicate, TooDeep, BadQuorumSet, TooManyNodes, TooManyEntries, Memory}
+use Rattle.certificate_file.specs.declared.faults.CertError.{CertError}
+use Rattle.certificate_file.specs.declared.faults.CertError.TheVariants.{BadLine, LineTooLong, TooManyLines, Digest, UnknownNode, NotQuorum, Overlap, Truncated, Trailing, Read, Memory as NoMemory}
+use Rattle.certificate_file.specs.declared.places.Accepted.{Accepted}
+use Rattle.certificate_file.specs.declared.places.Answer.{Answer}
+use Rattle.certificate_file.specs.declared.places.Answer.TheVariants.{Pair}
+
+abbrev pub Text : Type 0
+Text = List ℕ
+
+-- the text and a line feed
+abbrev pub line : Text → Text
+line text = text ++ 10 ∷ []
+
+-- the text, a space and a number
+abbrev pub numbered : Text → ℕ → Text
+numbered text n = text ++ 32 ∷ decimal n
+
+-- the text, a space and a word
+abbrev pub worded : Text → Text → Text
+worded text word = text ++ 32 ∷ word
+
+-- each name whose place is marked, with a space before it
+abbrev pub listed : List Name → Table → Text
+listed [] marks = []
+listed (name ∷ names) [] = []
+listed (name ∷ names) (true ∷ marks) = (32 ∷ name) ++ listed names marks
+listed (name ∷ names) (false ∷ marks) = listed names marks
+
+-- a word and the list of a set's names
+abbrev pub list : Text → List Name → Table → Text
+list word names set = word ++ listed names set
+
+-- the name at a place, and nothing where there is no such place
+abbrev pub name_at : List Name → ℕ → Name
+name_at names v = unwrap_or (slice_get names v) []
+
+-- ---- refusals
+
+abbrev pub usage : Text
+usage = codes "usage: quorum_cli COMMAND\nshow CONFIG\ngreatest CONFIG [COMMON]\navailable CONFIG --set NAMES\nblocks CONFIG --set NAMES [COMMON]\nvblocks CONFIG --node NAME --set NAMES\ncheck CONFIG CERT\nCOMMON: --from NAME --faulty NAMES --orgs ORGS --faulty-orgs IDS\n"
+
+abbrev pub same_path : Text
+same_path = codes "usage same-path\n"
+
+-- a want of memory is no refusal of a list, and is not printed
+abbrev pub names_fault : Text → NameFault → Text
+names_fault option (Empty at) = numbered (worded (codes "usage empty-name") option) at
+names_fault option (BadName at) = numbered (worded (codes "usage bad-name") option) at
+names_fault option (Unknown at) = numbered (worded (codes "usage unknown-name") option) at
+names_fault option NoNames = []
+
+-- the list of names behind this option is refused
+abbrev pub names_refused : Text → NameFault → Text
+names_refused option fault = line (names_fault option fault)
+
+abbrev pub set_fault : SetFault → Text
+set_fault Shape = codes "shape"
+set_fault Threshold = codes "threshold"
+set_fault Validators = codes "validators"
+set_fault Inner = codes "inner"
+
+-- a want of memory is no refusal of the bytes, and is not printed
+abbrev pub config_fault : ConfigFault → Text
+config_fault NotJson = codes "config not-json"
+config_fault NotNodes = codes "config not-nodes"
+config_fault (NotNode i) = numbered (codes "config not-node") i
+config_fault (BadKey i) = numbered (codes "config bad-key") i
+config_fault (Duplicate i) = numbered (codes "config duplicate") i
+config_fault (TooDeep i) = numbered (codes "config too-deep") i
+config_fault (BadQuorumSet i fault) = worded (numbered (codes "config bad-quorum-set") i) (set_fault fault)
+config_fault (TooManyNodes n) = numbered (codes "config too-many-nodes") n
+config_fault (TooManyEntries n) = numbered (codes "config too-many-entries") n
+config_fault Memory = []
+
+abbrev pub config_too_long : Text
+config_too_long = codes "config too-long\n"
+
+abbrev pub config_refused : ConfigFault → Text
+config_refused fault = line (config_fault fault)
+
+-- a failed read and a want of memory are no refusals of the bytes, and are not printed
+abbrev pub cert_fault : List Name → CertError → Text
+cert_fault names (BadLine l) = numbered (codes "refused bad-line") l
+cert_fault names (LineTooLong l) = numbered (codes "refused line-too-long") l
+cert_fault names TooManyLines = codes "refused too-many-lines"
+cert_fault names (Digest found wanted) = worded (worded (codes "refused digest") (encode_lower found)) (encode_lower wanted)
+cert_fault names (UnknownNode l) = numbered (codes "refused unknown-node") l
+cert_fault names (NotQuorum l) = numbered (codes "refused not-quorum") l
+cert_fault names (Overlap l v) = worded (numbered (codes "refused overlap") l) (name_at names v)
+cert_fault names (Truncated l) = numbered (codes "refused truncated") l
+cert_fault names Trailing = codes "refused trailing"
+cert_fault names Read = []
+cert_fault names NoMemory = []
+
+abbrev pub cert_refused : List Name → CertError → Text
+cert_refused names fault = line (cert_fault names fault)
+
+-- ---- answers
+
+abbrev pub accepted_kind : Answer → Text
+accepted_kind (Pair p) = codes "accepted pair\n"
+
+-- the kind, and lines 3 and 4 of the certificate
+abbrev pub accepted : List Name → Accepted → Text
+accepted names a = accepted_kind a.answer ++ (codes "from\n" ++ line (list (codes "faulty") names a.header.faulty))
+
+-- a line of its own, and the list of a set's names behind a word
+abbrev pub with_list : Text → Text → List Name → Table → Text
+with_list head word names set = head ++ line (list word names set)
+
+abbrev pub greatest : List Name → Table → Text
+greatest names quorum = with_list [] (codes "greatest") names quorum
+
+abbrev pub unavailable : List Name → Table → Text
+unavailable names unmet = with_list (codes "available no\n") (codes "unmet") names unmet
+
+abbrev pub not_blocking : List Name → Table → Text
+not_blocking names quorum = with_list (codes "blocks no\n") (codes "quorum") names quorum
+
+-- how many nodes there are, how many entries of quorum sets, and how many nodes without a quorum set
+abbrev pub counts : System → Text
+counts f = line (numbered (codes "nodes") (length f.names)) ++ (line (numbered (codes "entries") (entries_in f.sets)) ++ line (numbered (codes "unset") (unset_in f.sets)))
+
+-- the answer to `show`
+abbrev pub shown : System → Text
+shown f = counts f

@@ -1,0 +1,146 @@
+// Why a file is refused.
+ghost use Rattle.std.specs.Prelude.{◌≡◌, ◌<◌, ◌++◌, ◌∷◌, [], length, OnOk, IfOk};
+ghost use Rattle.report.specs.Lines.{numbered, worded, config_fault, config_refused as spec_config_refused, cert_fault, cert_refused as spec_cert_refused, name_at as spec_name_at, names_fault, names_refused as spec_names_refused, set_fault};
+
+use crate::words::{push_behind, push_number, push_word};
+use certificate_file::CertError;
+use node_json::{ConfigFault, SetFault};
+use name_set::{NameFault, Names};
+use std::alloc::{AllocError, Global};
+
+// A word and a number.
+fn numbered_word(alloc: Global, word: &str, number: u64) -> Result<Vec<u8>, AllocError>
+    ensures { IfOk result (λ text. text.items ≡ numbered word.now number) }
+{
+    let mut text = Vec::from_slice(alloc, word.as_bytes())?;
+    push_number(&mut text, number)?;
+    Ok(text)
+}
+
+fn set_word(fault: SetFault) -> &'static str
+    ensures { result.now ≡ set_fault fault }
+{
+    match fault {
+        SetFault::Shape => "shape",
+        SetFault::Threshold => "threshold",
+        SetFault::Validators => "validators",
+        SetFault::Inner => "inner",
+    }
+}
+
+fn bad_quorum_set(alloc: Global, at: u64, fault: SetFault) -> Result<Vec<u8>, AllocError>
+    ensures { IfOk result (λ text. text.items ≡ config_fault (ConfigFault.BadQuorumSet at fault)) }
+{
+    let mut text = numbered_word(alloc, "config bad-quorum-set", at)?;
+    push_behind(&mut text, set_word(fault).as_bytes())?;
+    Ok(text)
+}
+
+fn config_words(alloc: Global, fault: ConfigFault) -> Result<Vec<u8>, AllocError>
+    ensures { IfOk result (λ text. text.items ≡ config_fault fault) }
+{
+    match fault {
+        ConfigFault::NotJson => Vec::from_slice(alloc, b"config not-json"),
+        ConfigFault::NotNodes => Vec::from_slice(alloc, b"config not-nodes"),
+        ConfigFault::NotNode(at) => numbered_word(alloc, "config not-node", at),
+        ConfigFault::BadKey(at) => numbered_word(alloc, "config bad-key", at),
+        ConfigFault::Duplicate(at) => numbered_word(alloc, "config duplicate", at),
+        ConfigFault::TooDeep(at) => numbered_word(alloc, "config too-deep", at),
+        ConfigFault::BadQuorumSet(at, fault) => bad_quorum_set(alloc, at, fault),
+        ConfigFault::TooManyNodes(n) => numbered_word(alloc, "config too-many-nodes", n),
+        ConfigFault::TooManyEntries(n) => numbered_word(alloc, "config too-many-entries", n),
+        ConfigFault::Memory => Ok(Vec::new(alloc)),
+    }
+}
+
+/// The line for a configuration that is refused.
+pub fn config_refused(alloc: Global, fault: ConfigFault) -> Result<Vec<u8>, AllocError>
+    ensures { IfOk result (λ text. text.items ≡ spec_config_refused fault) }
+{
+    let mut text = config_words(alloc, fault)?;
+    text.push(b'\n')?;
+    Ok(text)
+}
+
+fn digests(alloc: Global, found: &[u8; 32], wanted: &[u8; 32]) -> Result<Vec<u8>, AllocError>
+    ensures { IfOk result (λ text. text.items ≡ cert_fault [] (CertError.Digest found.now wanted.now)) }
+{
+    let mut text = Vec::from_slice(alloc, b"refused digest")?;
+    push_behind(&mut text, digest_text::digits(found).as_slice())?;
+    push_behind(&mut text, digest_text::digits(wanted).as_slice())?;
+    Ok(text)
+}
+
+// The name at a place, or nothing where there is no such place.
+fn name_at(names: &Names, node: u32) -> &[u8]
+    ensures { result.now ≡ spec_name_at names.now node }
+{
+    if node < names.len() {
+        names.name(node)
+    } else {
+        &[]
+    }
+}
+
+fn overlap(alloc: Global, names: &Names, line: u64, node: u32) -> Result<Vec<u8>, AllocError>
+    ensures { IfOk result (λ text. text.items ≡ cert_fault names.now (CertError.Overlap line node)) }
+{
+    let mut text = numbered_word(alloc, "refused overlap", line)?;
+    push_behind(&mut text, name_at(names, node))?;
+    Ok(text)
+}
+
+fn cert_words(alloc: Global, names: &Names, fault: &CertError) -> Result<Vec<u8>, AllocError>
+    ensures { IfOk result (λ text. text.items ≡ cert_fault names.now fault.now) }
+{
+    match fault {
+        CertError::BadLine(l) => numbered_word(alloc, "refused bad-line", *l),
+        CertError::LineTooLong(l) => numbered_word(alloc, "refused line-too-long", *l),
+        CertError::TooManyLines => Vec::from_slice(alloc, b"refused too-many-lines"),
+        CertError::Digest(found, wanted) => digests(alloc, found, wanted),
+        CertError::UnknownNode(l) => numbered_word(alloc, "refused unknown-node", *l),
+        CertError::NotQuorum(l) => numbered_word(alloc, "refused not-quorum", *l),
+        CertError::Overlap(l, v) => overlap(alloc, names, *l, *v),
+        CertError::Truncated(l) => numbered_word(alloc, "refused truncated", *l),
+        CertError::Trailing => Vec::from_slice(alloc, b"refused trailing"),
+        CertError::Read | CertError::Memory => Ok(Vec::new(alloc)),
+    }
+}
+
+/// The line for a certificate that is refused.
+pub fn cert_refused(alloc: Global, names: &Names, fault: &CertError) -> Result<Vec<u8>, AllocError>
+    ensures { IfOk result (λ text. text.items ≡ spec_cert_refused names.now fault.now) }
+{
+    let mut text = cert_words(alloc, names, fault)?;
+    text.push(b'\n')?;
+    Ok(text)
+}
+
+fn name_words(alloc: Global, word: &str, option: &str, at: u64) -> Result<Vec<u8>, AllocError>
+    ensures { IfOk result (λ text. text.items ≡ numbered (worded word.now option.now) at) }
+{
+    let mut text = Vec::from_slice(alloc, word.as_bytes())?;
+    push_behind(&mut text, option.as_bytes())?;
+    push_number(&mut text, at)?;
+    Ok(text)
+}
+
+fn names_words(alloc: Global, option: &str, fault: NameFault) -> Result<Vec<u8>, AllocError>
+    ensures { IfOk result (λ text. text.items ≡ names_fault option.now fault) }
+{
+    match fault {
+        NameFault::Empty(at) => name_words(alloc, "usage empty-name", option, at),
+        NameFault::BadKey(at) => name_words(alloc, "usage bad-name", option, at),
+        NameFault::Unknown(at) => name_words(alloc, "usage unknown-name", option, at),
+        NameFault::Memory => Ok(Vec::new(alloc)),
+    }
+}
+
+/// The line for a list of names that is refused, behind this option.
+pub fn names_refused(alloc: Global, option: &str, fault: NameFault) -> Result<Vec<u8>, AllocError>
+    ensures { IfOk result (λ text. text.items ≡ spec_names_refused option.now fault) }
+{
+    let mut text = names_words(alloc, option, fault)?;
+    text.push(b'\n')?;
+    Ok(text)
+}

@@ -1,0 +1,122 @@
+// Words, numbers and names, one behind another.
+ghost use Rattle.std.specs.Prelude.{◌≡◌, ◌<◌, ◌++◌, ◌∷◌, [], length, decimal, codes, OnOk, IfOk};
+ghost use Rattle.report.specs.Lines.{numbered, worded, list, listed, line, accepted as spec_accepted, accepted_kind, with_list as spec_with_list, counts as spec_counts, shown as spec_shown};
+
+use certificate_file::{Accepted, Answer};
+use fbas_core::System;
+use itoa::Buffer;
+use name_set::NodeSet;
+use std::alloc::{AllocError, Global};
+
+// Adds a word.
+pub fn push_word(text: &mut Vec<u8>, word: &str) -> Result<(), AllocError>
+    ensures { OnOk result (text.new.items ≡ text.old.items ++ word.now) }
+{
+    text.extend_from_slice(word.as_bytes())
+}
+
+// Adds a space and bytes.
+pub fn push_behind(text: &mut Vec<u8>, bytes: &[u8]) -> Result<(), AllocError>
+    ensures { OnOk result (text.new.items ≡ worded text.old.items bytes.now) }
+{
+    text.push(b' ')?;
+    text.extend_from_slice(bytes)
+}
+
+// Adds a space and a number.
+pub fn push_number(text: &mut Vec<u8>, number: u64) -> Result<(), AllocError>
+    ensures { OnOk result (text.new.items ≡ numbered text.old.items number) }
+{
+    let mut buffer = Buffer::new();
+    push_behind(text, buffer.format(number).as_bytes())
+}
+
+// Adds each name of the set, with a space before it.
+pub fn push_names(text: &mut Vec<u8>, system: &System, set: &NodeSet) -> Result<(), AllocError>
+    requires { length set.now ≡ length system.now.sets }
+    ensures { OnOk result (text.new.items ≡ text.old.items ++ listed system.now.names set.now) }
+{
+    for v in 0..system.len() {
+        if set.has(v) {
+            push_behind(text, system.names().name(v))?;
+        }
+    }
+    Ok(())
+}
+
+// Adds a line of a word and the names of the set.
+pub fn push_list(
+    text: &mut Vec<u8>,
+    word: &str,
+    system: &System,
+    set: &NodeSet,
+) -> Result<(), AllocError>
+    requires { length set.now ≡ length system.now.sets }
+    ensures { OnOk result (text.new.items ≡ text.old.items ++ line (list word.now system.now.names set.now)) }
+{
+    push_word(text, word)?;
+    push_names(text, system, set)?;
+    text.push(b'\n')?;
+    Ok(())
+}
+
+/// The lines of an accepted certificate: its kind, and its lines `from` and `faulty`.
+pub fn accepted(alloc: Global, system: &System, accepted: &Accepted) -> Result<Vec<u8>, AllocError>
+    requires { length accepted.now.header.faulty ≡ length system.now.sets }
+    ensures { IfOk result (λ text. text.items ≡ spec_accepted system.now.names accepted.now) }
+{
+    let mut text = Vec::new(alloc);
+    push_word(
+        &mut text,
+        match &accepted.answer {
+            Answer::Pair(_) => "accepted pair\n",
+        },
+    )?;
+    push_word(&mut text, "from\n")?;
+    push_list(&mut text, "faulty", system, &accepted.header.faulty)?;
+    Ok(text)
+}
+
+/// A text, and behind it a line of a word and the names of a set.
+pub fn with_list(
+    alloc: Global,
+    head: &str,
+    word: &str,
+    system: &System,
+    set: &NodeSet,
+) -> Result<Vec<u8>, AllocError>
+    requires { length set.now ≡ length system.now.sets }
+    ensures { IfOk result (λ text. text.items ≡ spec_with_list head.now word.now system.now.names set.now) }
+{
+    let mut text = Vec::from_slice(alloc, head.as_bytes())?;
+    push_list(&mut text, word, system, set)?;
+    Ok(text)
+}
+
+// Adds a line of a word and a number.
+fn push_count(text: &mut Vec<u8>, word: &str, number: u64) -> Result<(), AllocError>
+    ensures { OnOk result (text.new.items ≡ text.old.items ++ line (numbered word.now number)) }
+{
+    push_word(text, word)?;
+    push_number(text, number)?;
+    text.push(b'\n')?;
+    Ok(())
+}
+
+// How many nodes a system has, how many entries of quorum sets, and how many nodes without a quorum set.
+fn counts(alloc: Global, system: &System) -> Result<Vec<u8>, AllocError>
+    ensures { IfOk result (λ text. text.items ≡ spec_counts system.now) }
+{
+    let mut text = Vec::new(alloc);
+    push_count(&mut text, "nodes", system.len() as u64)?;
+    push_count(&mut text, "entries", system.entries())?;
+    push_count(&mut text, "unset", system.unset())?;
+    Ok(text)
+}
+
+/// The answer to `show`.
+pub fn shown(alloc: Global, system: &System) -> Result<Vec<u8>, AllocError>
+    ensures { IfOk result (λ text. text.items ≡ spec_shown system.now) }
+{
+    counts(alloc, system)
+}
