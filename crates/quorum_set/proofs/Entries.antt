@@ -1,8 +1,8 @@
 -- The entries at all depths, summed list by list.
-use Rattle.std.proofs.Common.{◌≡◌, ℕ, ◌+◌, ◌≤◌, ◌<◌, refl, sym, ◌∙◌, ap, subst, arith, length, take, List, [], ◌∷◌}
+use Rattle.std.proofs.Common.{◌≡◌, ℕ, ◌+◌, ◌≤◌, ◌<◌, refl, sym, ◌∙◌, ap, arith, length, take, List, [], ◌∷◌}
 use Rattle.std.specs.Prelude.{sum_by, slice_index_or}
 use Rattle.std.proofs.lemmas.List.Sums.{sum_by-cons, sum_by_more, sum_by-take-le}
-use Rattle.fbas_model.specs.Trees.{QuorumSet, Entries, none, node, inner}
+use Rattle.fbas_model.specs.Trees.{QuorumSet}
 use Rattle.fbas_model.specs.QuorumSets.{all_entries, all_entries_of}
 use Rattle.quorum_set.specs.Views.{inner_entries, entries_of}
 

@@ -1,9 +1,6 @@
-use Rattle.std.proofs.Common.{◌≡◌, ℕ, ◌+◌, ◌<◌, ◌≤◌, ◌^◌, arith, length, take, ◌∙◌, take_all}
-use Rattle.std.specs.Prelude.{sum_by}
-use Rattle.fbas_model.specs.QuorumSets.{all_entries, all_entries_of}
-use Rattle.quorum_set.specs.Views.{entries_of}
+use Rattle.std.proofs.Common.{◌<◌, arith, length, ◌∙◌, take_all}
 use Rattle.quorum_set.proofs.Counting.{lighter}
-use Rattle.quorum_set.proofs.Entries.{with_own, entries_within, entries_more, entries-lists}
+use Rattle.quorum_set.proofs.Entries.{entries_within, entries_more, entries-lists}
 use Rattle.quorum_set.proofs.QuorumSet.+entries.Goals as goal
 
 pub entries-requires : goal.entries-requires
