@@ -1,11 +1,12 @@
 // A system: the nodes' names and quorum sets, with its slices and quorums.
 #![tactic(auto)]
 
-ghost use Rattle.std.specs.Prelude.{◌≡◌, ◌<◌, ◌≤◌, ◌↔◌, length, map, IsTrue, IfSome, MatchOption, Contains, slice_get, option_map, Some};
-ghost use Rattle.fbas_model.specs.Nodes.{members};
+ghost use Rattle.std.specs.Prelude.{◌≡◌, ℕ, ◌<◌, ◌≤◌, ◌↔◌, length, map, IsTrue, IfSome, MatchOption, Contains, slice_get, option_copied, Some, count_by, is_none};
+ghost use Rattle.fbas_model.specs.Nodes.{members, ∅, ◌∖◌};
 ghost use Rattle.fbas_model.specs.Names.{place_of};
-ghost use Rattle.fbas_model.specs.Systems.{System as Whole, IsSystem};
-ghost use Rattle.fbas_model.specs.Fbas.{HasSliceWithin, Quorum, BlocksNode};
+ghost use Rattle.fbas_model.specs.QuorumSets.{all_entries};
+ghost use Rattle.fbas_model.specs.Systems.{System as Whole, IsSystem, entries_in, unset_in};
+ghost use Rattle.fbas_model.specs.Fbas.{HasSliceWithin, Quorum, BlocksNode, all_nodes};
 
 use name_set::{Names, NodeSet};
 use quorum_set::QuorumSet;
@@ -33,6 +34,13 @@ impl Model for System {
     ghost invariant = { λ s. IsSystem s.names s.sets.items };
 }
 
+/// How many of the nodes have no quorum set.
+fn count_unset(sets: &[Option<QuorumSet>]) -> usize
+    ensures { result ≡ count_by is_none sets.now }
+{
+    sets.iter().filter(|set| set.is_none()).count()
+}
+
 impl System {
     /// The system of the names, where the quorum set of each stands at its place.
     pub fn of(names: Names, sets: Vec<Option<QuorumSet>>) -> System
@@ -52,20 +60,54 @@ impl System {
         self.names.len()
     }
 
-    /// The names of the nodes.
+    /// The names of the nodes, of which each has a place for its quorum set.
     pub fn names(&self) -> &Names
-        ensures { result.now ≡ self.now.names }
+        ensures names { result.now ≡ self.now.names }
+        ensures places { length self.now.names ≡ length self.now.sets }
     {
         &self.names
     }
 
-    /// The node of a name, or none where it has no node: O(log n) comparisons.
+    /// The node of a name, the only one that has it, or none: O(log n) comparisons.
     pub fn find(&self, name: &[u8]) -> Option<u32>
         ensures found { MatchOption result (Contains self.now.names name.now → ⊥) (λ v. slice_get self.now.names v ≡ Some name.now) }
         ensures place { result ≡ place_of self.now.names name.now }
         ensures below { IfSome result (λ v. v < length self.now.sets) }
+        ensures only { IfSome result (λ v. (other : ℕ) → slice_get self.now.names other ≡ Some name.now → other ≡ v) }
     {
         self.names.find(name)
+    }
+
+    /// The quorum set of the node, or none where it has none: O(1).
+    pub fn quorum_set(&self, v: u32) -> Option<&QuorumSet>
+        requires { v < length self.now.sets }
+        ensures set { slice_get self.now.sets v ≡ Some (option_copied result) }
+        ensures small { IfSome result (λ q. all_entries q.now ≤ 1000000) }
+    {
+        match &self.sets[v as usize] {
+            Some(quorum_set) => Some(quorum_set),
+            None => None,
+        }
+    }
+
+    /// How many entries the quorum sets have, at all depths: linear in them.
+    pub fn entries(&self) -> u64
+        ensures { result ≡ entries_in self.now.sets }
+    {
+        let mut entries = 0;
+        for set in &self.sets {
+            if let Some(quorum_set) = set {
+                entries += quorum_set.entries();
+            }
+        }
+        entries
+    }
+
+    /// How many nodes have no quorum set: O(n).
+    pub fn unset(&self) -> u64
+        ensures { result ≡ unset_in self.now.sets }
+    {
+        count_unset(&self.sets) as u64
     }
 
     /// Whether the node has a quorum slice (Mazières 2015) that lies in `u` once the faulty nodes are deleted.
@@ -80,6 +122,18 @@ impl System {
             Some(quorum_set) => (u.has(v) || faulty.has(v)) && quorum_set.satisfied_in(u, faulty),
             None => false,
         }
+    }
+
+    /// Whether the node has a quorum slice (Mazières 2015) with no node of `s`. Linear in the entries of its quorum set.
+    pub fn slice_outside(&self, v: u32, s: &NodeSet) -> bool
+        requires node { v < length self.now.sets }
+        requires same_n { length s.now ≡ length self.now.sets }
+        ensures { IsTrue result ↔ HasSliceWithin self.now.sets ∅ v (all_nodes self.now.sets ∖ members s.now) }
+    {
+        let Some(quorum_set) = &self.sets[v as usize] else {
+            return false;
+        };
+        !s.has(v) && quorum_set.avoids(s)
     }
 
     /// Whether `u` is a quorum (Mazières 2015) once the faulty nodes are deleted. Linear in the entries of its members.

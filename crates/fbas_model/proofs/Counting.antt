@@ -1,5 +1,5 @@
 -- A quorum set has a choice inside a set exactly where enough of its entries have a part inside it.
-use Rattle.std.proofs.Common.{◌≡◌, ℕ, zero, suc, ◌+◌, ◌≤◌, ◌<◌, ◌⊎◌, ◌↔◌, Bool, true, false, ◌&&◌, ◌||◌, ◌==◌, IsTrue, cond, inl, inr, refl, sym, ◌∙◌, ap, subst, arith, leb, eqb}
+use Rattle.std.proofs.Common.{◌≡◌, ℕ, zero, suc, ◌+◌, ◌≤◌, ◌↔◌, Bool, true, false, ◌==◌, IsTrue, cond, inl, inr, refl, sym, ◌∙◌, subst, arith, leb}
 use Rattle.std.proofs.lemmas.Bool.{cases_Bool, and_parts, and_from, leb-true, le-leb, eqb-true, eq-eqb, or_cases, or_left, or_right, false≢true}
 use Rattle.fbas_model.specs.Nodes.{Nodes, ◌∈◌, ◌⊆◌, ∅, only, ◌∪◌}
 use Rattle.fbas_model.specs.Trees.{QuorumSet, quorum_set, Entries, none, node, inner}

@@ -1,5 +1,5 @@
 -- Quorum sets and quorums by counting, where a node or an inner quorum set counts once for each place where it stands.
-use Rattle.std.specs.Prelude.{ℕ, ◌+◌, Bool, true, false, not, ◌&&◌, ◌||◌, List, [], ◌∷◌, Option, Some, None, nat_le, if◌then◌else◌}
+use Rattle.std.specs.Prelude.{ℕ, ◌+◌, Bool, true, false, not, ◌&&◌, ◌||◌, [], ◌∷◌, Option, Some, None, nat_le, if◌then◌else◌}
 use Rattle.fbas_model.specs.Nodes.{Nodes, Table, members, ◌∪◌}
 use Rattle.fbas_model.specs.Trees.{QuorumSet, quorum_set, Entries, none, node, inner}
 use Rattle.fbas_model.specs.Fbas.{Fbas}

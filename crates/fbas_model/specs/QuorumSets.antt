@@ -1,6 +1,6 @@
--- What a quorum set lets a node choose.
-use Rattle.std.specs.Prelude.{ℕ, zero, suc, ◌+◌, ◌≤◌, ◌<◌, max}
-use Rattle.fbas_model.specs.Nodes.{Nodes, ◌∈◌, ◌⊆◌, ∅, only, ◌∪◌}
+-- What a quorum set lets a node choose. A node's quorum slices (Mazières 2015) are the node together with each choice.
+use Rattle.std.specs.Prelude.{ℕ, suc, ◌+◌, ◌≤◌, ◌<◌, max}
+use Rattle.fbas_model.specs.Nodes.{Nodes, ◌⊆◌, ∅, only, ◌∪◌}
 use Rattle.fbas_model.specs.Trees.{QuorumSet, quorum_set, Entries, none, node, inner}
 
 -- how many entries: a node that stands twice counts twice

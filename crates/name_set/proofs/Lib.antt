@@ -1,2 +1,3 @@
 mod NameLists
 mod Places
+pub mod ListLaws

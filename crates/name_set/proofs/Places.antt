@@ -1,11 +1,12 @@
 -- The place of a name among strictly sorted names.
-use Rattle.std.proofs.Common.{◌≡◌, ℕ, ◌+◌, ◌<◌, ◌≤◌, ◌⊎◌, inl, inr, Bool, true, false, not, List, length, refl, sym, ◌∙◌, ap, subst, arith, Some, None, slice_index_or, Contains, ltb, Less, Equal, []}
+use Rattle.std.proofs.Common.{◌≡◌, ℕ, ◌<◌, ◌≤◌, inl, inr, Bool, true, false, not, List, length, refl, ◌∙◌, ap, subst, arith, Some, None, slice_get, slice_index_or, Contains, ltb, Less, []}
 use Rattle.std.specs.List.{prefix_len}
 use Rattle.std.specs.List.Sorted.{IsStrictlySortedBy}
 use Rattle.std.specs.Str.{bytes_eq}
 use Rattle.std.proofs.lemmas.Bool.{cases_lt, lt-ltb, both_ways, false_from_ne_true, not-true, ltb-true}
 use Rattle.std.proofs.lemmas.List.{get_or_default}
-use Rattle.std.proofs.lemmas.List.Sums.{prefix_len-le-length, prefix_len_passes, prefix_len_stops}
+use Rattle.std.proofs.lemmas.Option.{slice_get_within, get_or_from_slice_get}
+use Rattle.std.proofs.lemmas.List.Sums.{prefix_len_passes, prefix_len_stops}
 use Rattle.std.proofs.lemmas.Map.Keys.{Less-from_sorted}
 use Rattle.std.proofs.lemmas.Slice.Eq.{bytes_eq-Decides}
 use Rattle.std.proofs.lemmas.Cmp.{tied_itself, nat_list_cmp_total}
@@ -30,7 +31,7 @@ place-missing names name missing = elim (cases_lt (before names name) (length na
 ]
 
 pub place-found : (names : List Name) (name : Name) (m : ℕ) → IsStrictlySortedBy name_cmp names → m < length names → slice_index_or names m [] ≡ name → place_of names name ≡ Some m
-place-found names name m sorted within here = 
+place-found names name m sorted within here =
     let p = λ (n : Name). not (bytes_eq n name) in
     let n = before names name in
     let same : bytes_eq (slice_index_or names m []) name ≡ true = (bytes_eq-Decides (slice_index_or names m []) name).1 here in
@@ -39,7 +40,7 @@ place-found names name m sorted within here =
       | inr g ↦ g
     ] in
     let not_before : m ≤ n = elim (cases_lt n m) [
-      | inl g ↦ 
+      | inl g ↦
           let first = at_first names name (omega arith) in
           let apart : name_cmp (slice_index_or names n []) (slice_index_or names m []) ≡ Less = Less-from_sorted name_cmp names n m [] sorted g within in
           let less : name_cmp name name ≡ Less = subst (λ (x : Name). name_cmp x name ≡ Less) first (subst (λ (y : Name). name_cmp (slice_index_or names n []) y ≡ Less) here apart) in
@@ -49,3 +50,20 @@ place-found names name m sorted within here =
     let e : n ≡ m = omega arith in
     let low : ltb n (length names) ≡ true = lt-ltb n (length names) (omega arith) in
     rw low (ap Some e)
+
+before_itself : (name : Name) → name_cmp name name ≡ Less → ⊥
+before_itself name less = let tie = tied_itself nat_list_cmp_total name in cc
+
+-- strictly sorted names have a name at one place
+pub place-only : (names : List Name) (name : Name) (m k : ℕ) → IsStrictlySortedBy name_cmp names → slice_get names m ≡ Some name → slice_get names k ≡ Some name → k ≡ m
+place-only names name m k sorted at_m at_k =
+    let here : slice_index_or names m [] ≡ name = get_or_from_slice_get names m name [] at_m in
+    let there : slice_index_or names k [] ≡ name = get_or_from_slice_get names k name [] at_k in
+    let less = λ (i j : ℕ) (p : slice_index_or names i [] ≡ name) (q : slice_index_or names j [] ≡ name) (g : i < j) (h : j < length names). before_itself name (subst (λ (x : Name). name_cmp x name ≡ Less) p (subst (λ (y : Name). name_cmp (slice_index_or names i []) y ≡ Less) q (Less-from_sorted name_cmp names i j [] sorted g h))) in
+    elim (cases_lt m k) [
+      | inl g ↦ absurd (less m k here there g (slice_get_within names k name at_k))
+      | inr g ↦ elim (cases_lt k m) [
+        | inl h ↦ absurd (less k m there here h (slice_get_within names m name at_m))
+        | inr h ↦ omega arith
+      ]
+    ]

@@ -1,6 +1,6 @@
 // The names of the nodes.
 
-ghost use Rattle.std.specs.Prelude.{◌≡◌, ◌<◌, ◌^◌, length, map, vec_len, IfOk, IfSome, slice_get, MatchOption, Contains};
+ghost use Rattle.std.specs.Prelude.{◌≡◌, ℕ, ◌<◌, ◌^◌, length, map, vec_len, IfOk, IfSome, slice_get, MatchOption, Contains};
 ghost use Rattle.fbas_model.specs.Names.{AreNamesOf, place_of};
 
 use std::alloc::AllocError;
@@ -51,11 +51,12 @@ impl Names {
         &self.list[at as usize]
     }
 
-    /// The place of a name, or none where it is not among them: O(log n) comparisons.
+    /// The place of a name, the only one that it has, or none where it is not among them: O(log n) comparisons.
     pub fn find(&self, name: &[u8]) -> Option<u32>
         ensures found { MatchOption result (Contains self.now name.now → ⊥) (λ at. slice_get self.now at ≡ Some name.now) }
         ensures place { result ≡ place_of self.now name.now }
         ensures below { IfSome result (λ at. at < length self.now) }
+        ensures only { IfSome result (λ at. (other : ℕ) → slice_get self.now other ≡ Some name.now → other ≡ at) }
     {
         let mut low = 0;
         let mut high = self.list.len();

@@ -1,13 +1,13 @@
 -- What the loops over the two lists of a quorum set count.
-use Rattle.std.proofs.Common.{◌≡◌, ℕ, zero, suc, ◌+◌, ◌≤◌, ◌<◌, ◌↔◌, Bool, ◌&&◌, IsTrue, cond, inl, inr, refl, sym, ◌∙◌, ap, subst, arith, leb, length, take, add-zero}
+use Rattle.std.proofs.Common.{◌≡◌, ℕ, zero, suc, ◌+◌, ◌≤◌, ◌<◌, ◌↔◌, Bool, IsTrue, cond, inl, inr, refl, sym, ◌∙◌, ap, subst, arith, leb, length, take, add-zero}
 use Rattle.std.proofs.lemmas.Bool.{cases_Bool, and_parts, and_from, leb-true, le-leb}
 use Rattle.fbas_model.specs.Nodes.{Nodes}
-use Rattle.fbas_model.specs.Trees.{QuorumSet, quorum_set, Entries, none, node, inner}
+use Rattle.fbas_model.specs.Trees.{QuorumSet, quorum_set}
 use Rattle.fbas_model.specs.QuorumSets.{HasChoiceWithin, IsBelow, AreBelow, weight, weight_of}
 use Rattle.fbas_model.specs.Counting.{is_satisfied, count_met}
 use Rattle.fbas_model.proofs.Counting.{choice_satisfied, satisfied_choice}
 use Rattle.std.specs.Prelude.{List, [], ◌∷◌, All, count_by, slice_index_or}
-use Rattle.std.proofs.lemmas.List.Elements.{All-nil, All-cons}
+use Rattle.std.proofs.lemmas.List.Elements.{All-nil, All-cons, All-head, All-tail}
 use Rattle.std.proofs.lemmas.List.Sums.{count_by_more_yes, count_by_more_no, sum_by-cons}
 use Rattle.quorum_set.specs.Views.{inner_entries, entries_of}
 
@@ -38,6 +38,15 @@ IsBelow-nodes n (w ∷ ws) qs h = All-cons (λ w. w < n) w ws h.0 (IsBelow-nodes
 pub IsBelow-inners : (n : ℕ) (ws : List ℕ) (qs : List QuorumSet) → AreBelow n (entries_of ws qs) → All (IsBelow n) qs
 IsBelow-inners n [] qs h = IsBelow-inner n qs h
 IsBelow-inners n (w ∷ ws) qs h = IsBelow-inners n ws qs h.1
+
+IsBelow-of_inner : (n : ℕ) (qs : List QuorumSet) → All (IsBelow n) qs → AreBelow n (inner_entries qs)
+IsBelow-of_inner n [] h = tt
+IsBelow-of_inner n (q ∷ qs) h = (All-head (IsBelow n) q qs h, IsBelow-of_inner n qs (All-tail (IsBelow n) q qs h))
+
+-- the entries' nodes are below n where the validators and the inner quorum sets are
+pub IsBelow-entries_of : (n : ℕ) (ws : List ℕ) (qs : List QuorumSet) → All (λ w. w < n) ws → All (IsBelow n) qs → AreBelow n (entries_of ws qs)
+IsBelow-entries_of n [] qs h all = IsBelow-of_inner n qs all
+IsBelow-entries_of n (w ∷ ws) qs h all = (All-head (λ w. w < n) w ws h, IsBelow-entries_of n ws qs (All-tail (λ w. w < n) w ws h) all)
 
 lighter_inner : (qs : List QuorumSet) (i : ℕ) (d : QuorumSet) → i < length qs → weight (slice_index_or qs i d) ≤ weight_of (inner_entries qs)
 lighter_inner [] i d h = absurd (omega arith)

@@ -1,4 +1,4 @@
-use Rattle.std.proofs.Common.{◌≡◌, IsTrue, true, false, MatchBool}
+use Rattle.std.proofs.Common.{◌≡◌}
 use Rattle.std.proofs.lemmas.Bool.{false≢true, MatchBool-at_true}
 use Rattle.fbas_model.specs.Nodes.{members, ∅, IsInhabited}
 use Rattle.fbas_model.proofs.Slices.{not_within_none, not_faulty}

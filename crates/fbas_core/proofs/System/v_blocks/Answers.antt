@@ -1,4 +1,4 @@
-use Rattle.std.proofs.Common.{◌≡◌, ◌<◌, true, refl, sym, ◌∙◌, ap, Some, None}
+use Rattle.std.proofs.Common.{refl, sym, ◌∙◌, ap, Some}
 use Rattle.fbas_model.specs.Nodes.{members}
 use Rattle.fbas_model.proofs.Slices.{blocks_none, blocks_iff, at_place}
 use Rattle.fbas_core.proofs.System.v_blocks.Goals as goal

@@ -1,7 +1,6 @@
-use Rattle.std.proofs.Common.{rules, ◌≡◌, ℕ, ◌+◌, ◌<◌, ◌≤◌, ◌^◌, ◌↔◌, Bool, List, length, IsTrue, IfOk, All, count_by, true, false, [], ◌∷◌, slice_index_or, Bor, sym, subst, arith, ◌∙◌, take_all}
-use Rattle.fbas_model.specs.Nodes.{Nodes, Table, members, ◌∈◌, ◌⊆◌, ∅, only, ◌∪◌, ◌∖◌, Meets}
-use Rattle.fbas_model.specs.QuorumSets.{Choice, HasChoiceWithin, IsBelow}
-use Rattle.quorum_set.specs.Views.{entries_of}
+use Rattle.std.proofs.Common.{◌<◌, length, arith, ◌∙◌, take_all}
+use Rattle.fbas_model.specs.Nodes.{members, ◌∪◌}
+use Rattle.fbas_model.specs.QuorumSets.{IsBelow}
 use Rattle.fbas_model.specs.Counting.{is_satisfied}
 use Rattle.fbas_model.proofs.Counting.{is_satisfied-is}
 use Rattle.quorum_set.proofs.Counting.{IsBelow-nodes, IsBelow-inners, lighter, count_step, answer_iff, item_of_all}

@@ -1,4 +1,4 @@
-use Rattle.std.proofs.Common.{◌≡◌, ℕ, ◌+◌, take}
+use Rattle.std.proofs.Common.{◌≡◌, ◌+◌, take}
 use Rattle.std.specs.Prelude.{count_by}
 use Rattle.fbas_model.specs.Nodes.{members, ◌∪◌}
 use Rattle.fbas_model.specs.Counting.{is_satisfied}

@@ -1,8 +1,8 @@
-use Rattle.std.proofs.Common.{ℕ, List, Vec, Global, ◌≡◌, ◌<◌, ◌≤◌, ◌+◌, ◌-◌, ◌/◌, arith, length, map, ◌∙◌, sym, []}
+use Rattle.std.proofs.Common.{ℕ, Vec, Global, ◌<◌, ◌+◌, ◌-◌, ◌/◌, arith, length, map, ◌∙◌, sym, []}
 use Rattle.std.proofs.lemmas.List.{length-map}
 use Rattle.name_set.proofs.NameLists.{raised, lowered, found, nowhere, probed}
 use Rattle.std.proofs.lemmas.Option.{get_or_from_slice_get}
-use Rattle.name_set.proofs.Places.{place-found, place-missing}
+use Rattle.name_set.proofs.Places.{place-found, place-missing, place-only}
 use Rattle.name_set.proofs.names.Names.find.Goals as goal
 
 pub loop-low-preserved-in-Less : goal.loop-low-preserved-in-Less
@@ -33,10 +33,11 @@ returns-in-Equal c =
       found = here;
       place = sym (place-found (map text xs) c.args.name.now m c.self.invariant.0 within_names (get_or_from_slice_get (map text xs) m c.args.name.now [] here));
       below = within_names;
+      only = λ other at. place-only (map text xs) c.args.name.now m other c.self.invariant.0 here at;
     })
 
 pub returns : goal.returns
 returns c =
     let names = map (λ (name : Vec ℕ Global). name.items) c.self.inside.list.items in
     let missing = nowhere names c.args.name.now c.loop-low.low c.loop-low.high c.loop-low.invariant c.loop-low-test.false in
-    rw (← c.self.view_is) (record { found = missing; place = sym (place-missing names c.args.name.now missing); below = tt })
+    rw (← c.self.view_is) (record { found = missing; place = sym (place-missing names c.args.name.now missing); below = tt; only = tt })

@@ -1,0 +1,126 @@
+-- Which certificates are accepted, and the first fault of the others.
+use Rattle.std.specs.Prelude.{ℕ, ◌+◌, List, [], ◌∷◌, map, length, Bool, true, false, nat_le, Option, Some, None, ok_or, Result, Ok, Err, codes}
+use Rattle.std.specs.List.{list_all, list_any}
+use Rattle.std.specs.Str.{bytes_eq}
+use Rattle.fbas_model.specs.Nodes.{Table}
+use Rattle.fbas_model.specs.Names.{Name}
+use Rattle.fbas_model.specs.Counting.{is_quorum}
+use Rattle.fbas_model.specs.Systems.{System}
+use Rattle.witness_pair.specs.Making.{shared, least, pair_of}
+use Rattle.certificate_file.specs.Lines.{Lines, tail, line, lines_of}
+use Rattle.certificate_file.specs.Words.{Word, names_after, digest_in}
+use Rattle.certificate_file.specs.declared.faults.CertError.{CertError}
+use Rattle.certificate_file.specs.declared.places.Header.{Header}
+use Rattle.certificate_file.specs.declared.places.Answer.TheVariants.{Pair as pair}
+use Rattle.certificate_file.specs.declared.places.Accepted.{Accepted}
+use Rattle.certificate_file.specs.declared.places.Place.{Place}
+use Rattle.certificate_file.specs.declared.places.Place.TheVariants.{AtTitle, AtDigest, AtFrom, AtFaulty, AtKind, AtFirst, AtSecond, AtEnd}
+use Rattle.certificate_file.specs.declared.places.State.{State}
+use Rattle.certificate_file.specs.declared.places.State.TheVariants.{Going, Done}
+use Rattle.certificate_file.specs.declared.faults.CertError.TheVariants.{BadLine, LineTooLong, TooManyLines, Digest, UnknownNode, NotQuorum, Overlap, Truncated, Trailing}
+
+-- ---- results in a row
+
+-- the first fault, or what follows from the value
+abbrev pub and_then : {A B : Type 0} → (A → Result B CertError) → Result A CertError → Result B CertError
+and_then f (Ok a) = f a
+and_then f (Err e) = Err e
+
+-- the result where the test passes, or else the fault
+abbrev pub unless : {A : Type 0} → CertError → Bool → Result A CertError → Result A CertError
+unless e true r = r
+unless e false r = Err e
+
+-- ---- lists of names
+
+abbrev pub is_among : Name → List Name → Bool
+is_among name names = list_any (λ n. bytes_eq n name) names
+
+abbrev pub all_among : List Name → List Name → Bool
+all_among chosen names = list_all (λ n. is_among n names) chosen
+
+-- which of the names are chosen
+abbrev pub marks : List Name → List Name → Table
+marks names chosen = map (λ n. is_among n chosen) names
+
+-- the nodes of the chosen names, on line l
+abbrev pub nodes_of : List Name → ℕ → List Name → Result Table CertError
+nodes_of names l chosen = unless (UnknownNode l) (all_among chosen names) (Ok (marks names chosen))
+
+-- the nodes that line l lists behind a word
+abbrev pub named : List Name → ℕ → Word → List ℕ → Result Table CertError
+named names l word text = and_then (nodes_of names l) (ok_or (names_after word text) (BadLine l))
+
+-- ---- lines
+
+-- a line that has to be this text
+abbrev pub expected : {A : Type 0} → ℕ → List ℕ → List ℕ → Result A CertError → Result A CertError
+expected l text wanted r = unless (BadLine l) (bytes_eq text wanted) r
+
+-- the digest of the configuration, which is to be d
+abbrev pub digest_line : List ℕ → ℕ → List ℕ → Result State CertError
+digest_line d l text =
+    and_then (λ found. unless (Digest found d) (bytes_eq found d) (Ok (Going AtFrom))) (ok_or (digest_in text) (BadLine l))
+
+-- no node is named: a name, which would restrict the system to its trust closure, is not read yet
+abbrev pub from_line : ℕ → List ℕ → Result State CertError
+from_line l text = expected l text (codes "from") (Ok (Going AtFaulty))
+
+-- the faulty nodes
+abbrev pub faulty_line : System → ℕ → List ℕ → Result State CertError
+faulty_line f l text = and_then (λ faulty. Ok (Going (AtKind (record { faulty = faulty })))) (named f.names l (codes "faulty") text)
+
+-- a pair: no other kind is read yet
+abbrev pub kind_line : Header → ℕ → List ℕ → Result State CertError
+kind_line h l text = expected l text (codes "kind pair") (Ok (Going (AtFirst h)))
+
+-- a quorum once the faulty nodes are deleted
+abbrev pub quorum : System → Header → ℕ → Table → Result Table CertError
+quorum f h l u = unless (NotQuorum l) (is_quorum f.sets h.faulty u) (Ok u)
+
+-- the result where no node is shared
+abbrev pub apart : ℕ → Option ℕ → Result State CertError → Result State CertError
+apart l None r = r
+apart l (Some v) r = Err (Overlap l v)
+
+-- the first quorum
+abbrev pub first_line : System → Header → ℕ → List ℕ → Result State CertError
+first_line f h l text = and_then (λ u. Ok (Going (AtSecond h u))) (and_then (quorum f h l) (named f.names l (codes "first") text))
+
+-- the pair of two quorums
+abbrev pub paired : Header → ℕ → Table → Table → Result State CertError
+paired h l u w = apart l (least (shared u w)) (Ok (Going (AtEnd (record { header = h; answer = pair (pair_of u w) }))))
+
+-- the second quorum, which shares no node with the first
+abbrev pub second_line : System → Header → Table → ℕ → List ℕ → Result State CertError
+second_line f h u l text = and_then (paired h l u) (and_then (quorum f h l) (named f.names l (codes "second") text))
+
+-- line l taken at its place, for the system f and the digest d of its configuration
+unfoldable pub take_line : System → List ℕ → Place → ℕ → List ℕ → Result State CertError
+take_line f d AtTitle l text = expected l text (codes "fbas-cert 1") (Ok (Going AtDigest))
+take_line f d AtDigest l text = digest_line d l text
+take_line f d AtFrom l text = from_line l text
+take_line f d AtFaulty l text = faulty_line f l text
+take_line f d (AtKind h) l text = kind_line h l text
+take_line f d (AtFirst h) l text = first_line f h l text
+take_line f d (AtSecond h u) l text = second_line f h u l text
+take_line f d (AtEnd a) l text = expected l text (codes "end") (Ok (Done a))
+
+-- ---- the whole
+
+-- a line, or the start of one, that is not one line too many and not too long
+abbrev pub within_limits : {A : Type 0} → ℕ → List ℕ → Result A CertError → Result A CertError
+within_limits l text r = unless TooManyLines (nat_le l 17179869184) (unless (LineTooLong l) (nat_le (length text) 134217728) r)
+
+-- the lines from line l on
+abbrev pub check_lines : System → List ℕ → ℕ → State → Lines → Result Accepted CertError
+check_lines f d l (Done a) (tail []) = Ok a
+check_lines f d l (Done a) (tail (b ∷ bytes)) = Err Trailing
+check_lines f d l (Done a) (line text more) = Err Trailing
+check_lines f d l (Going place) (tail bytes) = within_limits l bytes (Err (Truncated l))
+check_lines f d l (Going place) (line text more) =
+    within_limits l text (and_then (λ state. check_lines f d (l + 1) state more) (take_line f d place l text))
+
+-- what a certificate is answered, for a system and the digest of its configuration
+unfoldable pub checked : System → List ℕ → List ℕ → Result Accepted CertError
+checked f d bytes = check_lines f d 1 (Going AtTitle) (lines_of bytes)

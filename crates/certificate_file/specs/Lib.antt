@@ -1,0 +1,5 @@
+pub mod Lines
+pub mod Words
+pub mod Acceptance
+pub mod Meaning
+pub mod Reading

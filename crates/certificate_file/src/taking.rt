@@ -1,0 +1,199 @@
+// What each line of a certificate says at its place.
+ghost use Rattle.std.specs.Prelude.{◌≡◌, ◌⊎◌, length, true, IfOk, IfErr, IsErrOf, Ok, Err};
+ghost use Rattle.fbas_model.specs.Counting.{is_quorum};
+ghost use Rattle.certificate_file.specs.Words.{digest_of};
+ghost use Rattle.certificate_file.specs.Acceptance.{and_then, expected, digest_line, from_line, faulty_line, kind_line, quorum, first_line, second_line, paired, take_line};
+ghost use Rattle.certificate_file.specs.Reading.{IsKnown, IsKnownState};
+
+use crate::faults::CertError;
+use crate::lists::named;
+use crate::places::{Accepted, Answer, Header, Place, State};
+use crate::words::words;
+use digest_text::digits;
+use fbas_core::System;
+use name_set::NodeSet;
+use std::alloc::Global;
+use witness_pair::{PairFault, make_pair};
+
+/// A line that has to be the wanted text.
+fn expected(line: u64, text: &[u8], wanted: &str, next: State) -> Result<State, CertError>
+    ensures unread { IsErrOf result CertError.Read → ⊥ }
+    ensures value { result ≡ expected line text.now wanted.now (Ok next) }
+{
+    if text != wanted.as_bytes() {
+        return Err(CertError::BadLine(line));
+    }
+    Ok(next)
+}
+
+/// The digest that 64 digits with lower-case letters say.
+fn read_digest(text: &[u8]) -> Option<[u8; 32]>
+    ensures { result ≡ digest_of text.now }
+{
+    let mut found = [0; 32];
+    if hex::decode_to_slice(text, &mut found).is_err() {
+        return None;
+    }
+    if digits(&found).as_slice() != text {
+        return None;
+    }
+    Some(found)
+}
+
+/// Line 2: the digest of the configuration.
+fn digest_line(alloc: Global, digest: &[u8; 32], line: u64, text: &[u8]) -> Result<State, CertError>
+    ensures unread { IsErrOf result CertError.Read → ⊥ }
+    ensures ok { IfOk result (λ s. digest_line digest.now line text.now ≡ Ok s) }
+    ensures err { IfErr result (λ e. (e ≡ CertError.Memory) ⊎ (digest_line digest.now line text.now ≡ Err e)) }
+{
+    let words = words(alloc, text)?;
+    let [word, digits] = words.as_slice() else {
+        return Err(CertError::BadLine(line));
+    };
+    if word.as_slice() != b"config".as_slice() {
+        return Err(CertError::BadLine(line));
+    }
+    let Some(found) = read_digest(digits) else {
+        return Err(CertError::BadLine(line));
+    };
+    if found.as_slice() != digest.as_slice() {
+        return Err(CertError::Digest(found, *digest));
+    }
+    Ok(State::Going(Place::AtFrom))
+}
+
+/// Line 3: no node is named. A name, which would restrict the system to its trust closure, is not read yet.
+fn from_line(line: u64, text: &[u8]) -> Result<State, CertError>
+    ensures unread { IsErrOf result CertError.Read → ⊥ }
+    ensures value { result ≡ from_line line text.now }
+{
+    expected(line, text, "from", State::Going(Place::AtFaulty))
+}
+
+/// Line 4: the faulty nodes.
+fn faulty_line(alloc: Global, system: &System, line: u64, text: &[u8]) -> Result<State, CertError>
+    ensures unread { IsErrOf result CertError.Read → ⊥ }
+    ensures ok { IfOk result (λ s. faulty_line system.now line text.now ≡ Ok s) }
+    ensures known { IfOk result (IsKnownState system.now) }
+    ensures err { IfErr result (λ e. (e ≡ CertError.Memory) ⊎ (faulty_line system.now line text.now ≡ Err e)) }
+{
+    let faulty = named(alloc, system, line, "faulty", text)?;
+    Ok(State::Going(Place::AtKind(Header { faulty })))
+}
+
+/// Line 5: a pair. No other kind is read yet.
+fn kind_line(line: u64, text: &[u8], header: Header) -> Result<State, CertError>
+    ensures unread { IsErrOf result CertError.Read → ⊥ }
+    ensures value { result ≡ kind_line header line text.now }
+{
+    expected(
+        line,
+        text,
+        "kind pair",
+        State::Going(Place::AtFirst(header)),
+    )
+}
+
+/// The set, where it is a quorum once the faulty nodes are deleted.
+fn quorum(system: &System, header: &Header, line: u64, u: NodeSet) -> Result<NodeSet, CertError>
+    requires same_n { length u ≡ length system.now.sets }
+    requires same_faulty { length header.now.faulty ≡ length system.now.sets }
+    ensures unread { IsErrOf result CertError.Read → ⊥ }
+    ensures value { result ≡ quorum system.now header.now line u }
+    ensures is { IfOk result (λ r. (r ≡ u) × (is_quorum system.now.sets header.now.faulty u ≡ true)) }
+{
+    if !system.is_quorum(&u, &header.faulty) {
+        return Err(CertError::NotQuorum(line));
+    }
+    Ok(u)
+}
+
+/// The line `first`: a quorum.
+fn first_line(
+    alloc: Global,
+    system: &System,
+    header: Header,
+    line: u64,
+    text: &[u8],
+) -> Result<State, CertError>
+    requires { length header.faulty ≡ length system.now.sets }
+    ensures unread { IsErrOf result CertError.Read → ⊥ }
+    ensures ok { IfOk result (λ s. first_line system.now header line text.now ≡ Ok s) }
+    ensures known { IfOk result (IsKnownState system.now) }
+    ensures err { IfErr result (λ e. (e ≡ CertError.Memory) ⊎ (first_line system.now header line text.now ≡ Err e)) }
+{
+    let named = named(alloc, system, line, "first", text)?;
+    let first = quorum(system, &header, line, named)?;
+    Ok(State::Going(Place::AtSecond(header, first)))
+}
+
+/// The pair of a quorum and a set, where that is a quorum too and shares no node with it.
+fn paired(
+    system: &System,
+    header: Header,
+    first: NodeSet,
+    line: u64,
+    second: NodeSet,
+) -> Result<State, CertError>
+    requires known { IsKnown system.now (Place.AtSecond header first) }
+    requires same_n { length second ≡ length system.now.sets }
+    ensures unread { IsErrOf result CertError.Read → ⊥ }
+    ensures value { result ≡ and_then (paired header line first) (quorum system.now header line second) }
+    ensures known { IfOk result (IsKnownState system.now) }
+{
+    match make_pair(system, &header.faulty, first, second) {
+        Ok(pair) => Ok(State::Going(Place::AtEnd(Accepted {
+            header,
+            answer: Answer::Pair(pair),
+        }))),
+        Err(PairFault::NotQuorum(_)) => Err(CertError::NotQuorum(line)),
+        Err(PairFault::Overlap(v)) => Err(CertError::Overlap(line, v)),
+    }
+}
+
+/// The line `second`: a quorum that shares no node with the first.
+fn second_line(
+    alloc: Global,
+    system: &System,
+    header: Header,
+    first: NodeSet,
+    line: u64,
+    text: &[u8],
+) -> Result<State, CertError>
+    requires { IsKnown system.now (Place.AtSecond header first) }
+    ensures unread { IsErrOf result CertError.Read → ⊥ }
+    ensures ok { IfOk result (λ s. second_line system.now header first line text.now ≡ Ok s) }
+    ensures known { IfOk result (IsKnownState system.now) }
+    ensures err { IfErr result (λ e. (e ≡ CertError.Memory) ⊎ (second_line system.now header first line text.now ≡ Err e)) }
+{
+    let second = named(alloc, system, line, "second", text)?;
+    paired(system, header, first, line, second)
+}
+
+/// What a line says at its place.
+#[tactic(auto, unfolding(crate::specs::Acceptance::take_line))]
+pub fn take_line(
+    alloc: Global,
+    system: &System,
+    digest: &[u8; 32],
+    place: Place,
+    line: u64,
+    text: &[u8],
+) -> Result<State, CertError>
+    requires { IsKnown system.now place }
+    ensures unread { IsErrOf result CertError.Read → ⊥ }
+    ensures ok { IfOk result (λ s. take_line system.now digest.now place line text.now ≡ Ok s) }
+    ensures known { IfOk result (IsKnownState system.now) }
+    ensures err { IfErr result (λ e. (e ≡ CertError.Memory) ⊎ (take_line system.now digest.now place line text.now ≡ Err e)) }
+{
+    match place {
+        Place::AtTitle => expected(line, text, "fbas-cert 1", State::Going(Place::AtDigest)),
+        Place::AtDigest => digest_line(alloc, digest, line, text),
+        Place::AtFrom => from_line(line, text),
+        Place::AtFaulty => faulty_line(alloc, system, line, text),
+        Place::AtKind(header) => kind_line(line, text, header),
+        Place::AtFirst(header) => first_line(alloc, system, header, line, text),
+        Place::AtSecond(header, first) => second_line(alloc, system, header, first, line, text),
+        Place::AtEnd(accepted) => expected(line, text, "end", State::Done(accepted)),
+    }
+}

@@ -1,0 +1,4 @@
+pub mod EntryLaws
+pub mod ArenaLaws
+pub mod RemovalLaws
+pub mod StoreLaws

@@ -1,0 +1,5 @@
+pub mod Entries
+pub mod Shown
+pub mod Index
+pub mod Arena
+pub mod Nearest

@@ -1,0 +1,87 @@
+//! The index of an arena.
+ghost use Rattle.std.specs.Prelude.{◌≡◌, ◌≢◌, ◌<◌, ◌≤◌, List, [], ◌∷◌, Some, None, true, false, length, All, IfSome, OnOk, OnErr, IfErr};
+ghost use Rattle.std.specs.List.{AllWithin, HoldsAt};
+ghost use Rattle.lrat_model.specs.Literal.{Literal};
+ghost use Rattle.lrat_model.specs.Steps.{deletion_fault};
+ghost use Rattle.lrat_model.specs.declared.step.StepFault.TheVariants.{NoSuchClause};
+ghost use Rattle.clause_store.specs.Entries.{IsRising, is_held_in, marked};
+ghost use Rattle.clause_store.specs.Shown.{held_in};
+
+/// Where the literals of a clause stand in the arena, and whether the clause is held still.
+#[derive(Clone, Copy)]
+pub struct Entry {
+    pub id: u64,
+    pub start: usize,
+    pub end: usize,
+    pub is_held: bool,
+}
+
+/// The place of the first entry above an id, by binary search.
+pub fn place_above(entries: &[Entry], id: u64) -> usize
+    requires { IsRising entries.now }
+    ensures bound { result ≤ length entries.now }
+    ensures below { AllWithin (λ e. e.id ≤ id) entries.now 0 result }
+    ensures above { AllWithin (λ e. id < e.id) entries.now result (length entries.now) }
+{
+    entries.partition_point(|entry| entry.id <= id)
+}
+
+/// The place of the entry of an id.
+pub fn place_of(entries: &[Entry], id: u64) -> Option<usize>
+    requires { IsRising entries.now }
+    ensures some { IfSome result (λ place. (place < length entries.now) × HoldsAt (λ e. e.id ≡ id) entries.now place) }
+    ensures none { result ≡ None → All (λ e. e.id ≢ id) entries.now }
+{
+    let above = place_above(entries, id);
+    if above == 0 {
+        return None;
+    }
+    let place = above - 1;
+    if entries[place].id == id {
+        Some(place)
+    } else {
+        None
+    }
+}
+
+/// Marks the entry of an id as held, or as held no more. Gives whether it was held.
+pub fn mark(entries: &mut [Entry], id: u64, is_held: bool) -> bool
+    requires { IsRising entries.old }
+    ensures was { result ≡ is_held_in entries.old id }
+    ensures marked { entries.new ≡ marked entries.old (id ∷ []) is_held }
+{
+    let Some(place) = place_of(entries, id) else {
+        return false;
+    };
+    let was_held = entries[place].is_held;
+    entries[place].is_held = is_held;
+    was_held
+}
+
+/// Marks the entries of these ids as held no more, or none of them: `Err` has the first id that is not
+/// held, a second time in the list among them.
+pub fn mark_removed(entries: &mut [Entry], ids: &[u64]) -> Result<(), u64>
+    requires { IsRising entries.old }
+    ensures ok { (arena : List Literal) → OnOk result (deletion_fault (held_in arena entries.old) [] ids.now ≡ None) }
+    ensures marked { OnOk result (entries.new ≡ marked entries.old ids.now false) }
+    ensures missing { (arena : List Literal) → IfErr result (λ id. deletion_fault (held_in arena entries.old) [] ids.now ≡ Some (NoSuchClause id)) }
+    ensures unchanged { OnErr result (entries.new ≡ entries.old) }
+{
+    for (i, id) in ids.iter().enumerate() {
+        if !mark(entries, *id, false) {
+            mark_held(entries, &ids[..i]);
+            return Err(*id);
+        }
+    }
+    Ok(())
+}
+
+/// Marks the entries of these ids as held.
+pub fn mark_held(entries: &mut [Entry], ids: &[u64])
+    requires { IsRising entries.old }
+    ensures { entries.new ≡ marked entries.old ids.now true }
+{
+    for id in ids {
+        mark(entries, *id, true);
+    }
+}

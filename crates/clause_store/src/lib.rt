@@ -1,0 +1,8 @@
+//! Clauses under ids, their literals in one arena.
+#![tactic(auto)]
+
+mod index;
+mod store;
+
+pub use lrat_model::Lit;
+pub use store::Store;

@@ -1,0 +1,221 @@
+//! The store.
+ghost use Rattle.std.specs.Prelude.{◌≡◌, ℕ, ◌<◌, [], ◌∷◌, Some, None, OnOk, OnErr, IfErr, IfSome, AllPairs, is_some};
+ghost use Rattle.std.specs.Option.{option_copied};
+ghost use Rattle.lrat_model.specs.Clauses.{clause_at, with_clause, without};
+ghost use Rattle.lrat_model.specs.Steps.{deletion_fault};
+ghost use Rattle.lrat_model.specs.declared.step.StepFault.TheVariants.{NoSuchClause};
+ghost use Rattle.clause_store.specs.Nearest.{IsFirstAbove};
+
+use crate::index::{Entry, mark, mark_removed, place_above, place_of};
+use lrat_model::Lit;
+use std::alloc::{AllocError, Global};
+use std::marker::Model;
+
+/// Clauses under ids, and the last id: a database of `lrat_model`.
+///
+/// The literals of all clauses lie in one arena. A clause that is removed leaves its room there.
+#[derive(Drop)]
+pub struct Store {
+    arena: Vec<Lit>,
+    entries: Vec<Entry>,
+    last: u64,
+}
+
+impl Model for Store {
+    ghost use Rattle.lrat_model.specs.Steps.{Database};
+
+    ghost Value = { Database };
+
+    ghost use Rattle.clause_store.specs.Arena.{shown, IsArena};
+
+    ghost view = { shown };
+
+    ghost invariant = { IsArena };
+}
+
+impl Store {
+    /// No clause, and the last id 0. Takes no memory.
+    pub fn new(alloc: Global) -> Store
+        ensures held { result.held ≡ [] }
+        ensures last { result.last ≡ 0 }
+    {
+        Store {
+            arena: Vec::new(alloc),
+            entries: Vec::new(alloc),
+            last: 0,
+        }
+    }
+
+    /// The last id that was pushed, 0 where none was. A removal does not move it.
+    pub fn last(&self) -> u64
+        ensures value { result ≡ self.now.last }
+        ensures none_at_zero { clause_at self.now.held 0 ≡ None }
+        ensures none_above { (k : ℕ) → self.now.last < k → clause_at self.now.held k ≡ None }
+        ensures rising { AllPairs (λ e f. e.0 < f.0) self.now.held }
+    {
+        self.last
+    }
+
+    /// Holds a clause under an id above the last one. Where memory runs out the store is as it was.
+    /// O(literals), amortised.
+    pub fn push(&mut self, id: u64, lits: &[Lit]) -> Result<(), AllocError>
+        requires { self.old.last < id }
+        ensures held { OnOk result (self.new.held ≡ with_clause self.old.held id lits.now) }
+        ensures last { OnOk result (self.new.last ≡ id) }
+        ensures unchanged { OnErr result (self.new ≡ self.old) }
+    {
+        let start = self.arena.len();
+        self.arena.extend_from_slice(lits)?;
+        let end = self.arena.len();
+        self.entries.push(Entry {
+            id,
+            start,
+            end,
+            is_held: true,
+        })?;
+        self.last = id;
+        Ok(())
+    }
+
+    /// Takes the clause of an id out, and gives whether there was one. O(log n) for n pushed clauses.
+    pub fn remove(&mut self, id: u64) -> bool
+        ensures found { result ≡ is_some (clause_at self.old.held id) }
+        ensures held { self.new.held ≡ without self.old.held (id ∷ []) }
+        ensures last { self.new.last ≡ self.old.last }
+    {
+        mark(&mut self.entries, id, false)
+    }
+
+    /// Takes the clauses of these ids out, or none of them: `Err` has the first id that is not held,
+    /// a second time in the list among them. O(k log n) for k ids and n pushed clauses.
+    pub fn remove_all(&mut self, ids: &[u64]) -> Result<(), u64>
+        ensures ok { OnOk result (deletion_fault self.old.held [] ids.now ≡ None) }
+        ensures held { OnOk result (self.new.held ≡ without self.old.held ids.now) }
+        ensures last { self.new.last ≡ self.old.last }
+        ensures missing { IfErr result (λ id. deletion_fault self.old.held [] ids.now ≡ Some (NoSuchClause id)) }
+        ensures unchanged { OnErr result (self.new ≡ self.old) }
+    {
+        mark_removed(&mut self.entries, ids)
+    }
+
+    /// The literals under an id. O(log n) for n pushed clauses.
+    pub fn lits(&self, id: u64) -> Option<&[Lit]>
+        ensures { option_copied result ≡ clause_at self.now.held id }
+    {
+        let Some(place) = place_of(&self.entries, id) else {
+            return None;
+        };
+        let entry = self.entries[place];
+        if entry.is_held {
+            Some(&self.arena[entry.start..entry.end])
+        } else {
+            None
+        }
+    }
+
+    /// The least id above this one that is held, and its literals: with `first_above(0)` first, each
+    /// clause in the order of ids. O(log n) for n pushed clauses, and O(1) for each removed one between.
+    pub fn first_above(&self, id: u64) -> Option<(u64, &[Lit])>
+        ensures some { IfSome result (λ e. IsFirstAbove self.now.held id e.0 e.1.now) }
+        ensures none { result ≡ None → (k : ℕ) → id < k → clause_at self.now.held k ≡ None }
+        ensures none_at_zero { clause_at self.now.held 0 ≡ None }
+    {
+        let start = place_above(&self.entries, id);
+        for entry in &self.entries[start..] {
+            if entry.is_held {
+                return Some((entry.id, &self.arena[entry.start..entry.end]));
+            }
+        }
+        None
+    }
+}
+
+#[cfg(test)]
+mod tests {
+    use super::*;
+    use std::test::Fail;
+
+    const PUSHED: [(u64, &[i32]); 4] = [(2, &[1, -2]), (5, &[]), (9, &[3]), (10, &[-1, -3, 2])];
+
+    fn store(alloc: Global) -> Result<Store, AllocError> {
+        let mut store = Store::new(alloc);
+        for (id, numbers) in PUSHED {
+            let mut lits = Vec::new(alloc);
+            for number in numbers {
+                if *number != 0 && *number != i32::MIN {
+                    lits.push(Lit::of(*number))?;
+                }
+            }
+            if store.last() < id {
+                store.push(id, &lits)?;
+            }
+        }
+        Ok(store)
+    }
+
+    // What is held, in the order of ids.
+    fn shown(alloc: Global, store: &Store) -> Result<String, AllocError> {
+        let mut text = format!(in alloc; "last {}", store.last())?;
+        let mut above = 0;
+        for _ in 0..PUSHED.len() {
+            if let Some((id, lits)) = store.first_above(above) {
+                text.push_str(&format!(in alloc; " {id}:{lits:?}")?)?;
+                above = id;
+            }
+        }
+        Ok(text)
+    }
+
+    #[test]
+    fn ids_with_gaps(rt: HostRuntime) -> Result<(), Fail> {
+        let alloc = rt.alloc();
+        let cases: [(&[u64], u64, &str); 6] = [
+            (
+                &[],
+                0,
+                "last 10 2:[Lit(1), Lit(-2)] 5:[] 9:[Lit(3)] 10:[Lit(-1), Lit(-3), Lit(2)]",
+            ),
+            (&[10], 0, "last 10 2:[Lit(1), Lit(-2)] 5:[] 9:[Lit(3)]"),
+            (&[9, 2], 0, "last 10 5:[] 10:[Lit(-1), Lit(-3), Lit(2)]"),
+            (&[2, 9, 10, 5], 0, "last 10"),
+            (
+                &[9, 3, 2],
+                3,
+                "last 10 2:[Lit(1), Lit(-2)] 5:[] 9:[Lit(3)] 10:[Lit(-1), Lit(-3), Lit(2)]",
+            ),
+            (
+                &[9, 2, 9],
+                9,
+                "last 10 2:[Lit(1), Lit(-2)] 5:[] 9:[Lit(3)] 10:[Lit(-1), Lit(-3), Lit(2)]",
+            ),
+        ];
+        for (ids, missing, want) in cases {
+            let mut store = store(alloc)?;
+            assert_eq!(rt;
+                store.remove_all(ids).err().unwrap_or(0),
+                missing,
+                "{ids:?}"
+            );
+            assert_eq!(rt; shown(alloc, &store)?.as_str(), want, "{ids:?}");
+        }
+        Ok(())
+    }
+
+    #[test]
+    fn one_removed(rt: HostRuntime) -> Result<(), Fail> {
+        let mut store = store(rt.alloc())?;
+        for (id, found, length) in [
+            (4, false, None),
+            (9, true, Some(1)),
+            (9, false, None),
+            (10, true, Some(3)),
+            (11, false, None),
+        ] {
+            assert_eq!(rt; store.lits(id).map(|lits| lits.len()), length, "{id}");
+            assert_eq!(rt; store.remove(id), found, "{id}");
+            assert_eq!(rt; store.lits(id).is_none(), true, "{id}");
+        }
+        assert_eq!(rt; store.last(), 10);
+        Ok(())
+    }
+}

@@ -1,0 +1,270 @@
+-- How some command lines are read, computed from the definition.
+use Rattle.std.proofs.Common.{◌≡◌, ◌==◌, ℕ, List, [], ◌∷◌, Some, Result, Ok, Err, codes, refl, if◌then◌else◌}
+use Rattle.clap.specs.Words.{Text}
+use Rattle.cli_words.proofs.OnLiterals.{words_on_literals}
+use Rattle.cli_words.specs.Order.{Ordered, nothing_for}
+use Rattle.cli_words.specs.Words.{order_of}
+use Rattle.cli_words.specs.declared.orders.Command.TheVariants.{Show, Greatest, Available, Blocks, Vblocks, Check}
+use Rattle.cli_words.specs.declared.orders.OrderFault.{OrderFault}
+use Rattle.cli_words.specs.declared.orders.OrderFault.TheVariants.{Words, SamePath}
+
+abbrev put_first : ℕ → List Text → List Text
+put_first b [] = (b ∷ []) ∷ []
+put_first b (word ∷ words) = (b ∷ word) ∷ words
+
+-- the words of a line, parted at each space, so that two spaces have an empty word between them
+abbrev words_of : Text → List Text
+words_of [] = [] ∷ []
+words_of (b ∷ bs) = if b == 32 then [] ∷ words_of bs else put_first b (words_of bs)
+
+-- the order of a line after the program's name
+abbrev typed : Text → Result Ordered OrderFault
+typed line = order_of (codes "quorum_cli" ∷ words_of line)
+
+no_words : order_of [] ≡ Err Words
+no_words = refl
+
+program_alone : order_of (codes "quorum_cli" ∷ []) ≡ Err Words
+program_alone = refl
+
+-- ---- the commands
+
+show : typed (codes "show f") ≡ Ok (record (nothing_for Show) { config = codes "f" })
+unfolding words_on_literals
+show = refl
+
+greatest : typed (codes "greatest f") ≡ Ok (record (nothing_for Greatest) { config = codes "f" })
+unfolding words_on_literals
+greatest = refl
+
+greatest_faulty : typed (codes "greatest f --faulty a,b") ≡ Ok (record (nothing_for Greatest) { config = codes "f"; faulty = Some (codes "a,b") })
+unfolding words_on_literals
+greatest_faulty = refl
+
+available : typed (codes "available f --set a") ≡ Ok (record (nothing_for Available) { config = codes "f"; set = Some (codes "a") })
+unfolding words_on_literals
+available = refl
+
+blocks : typed (codes "blocks f --set a") ≡ Ok (record (nothing_for Blocks) { config = codes "f"; set = Some (codes "a") })
+unfolding words_on_literals
+blocks = refl
+
+blocks_faulty : typed (codes "blocks f --set a --faulty b") ≡ Ok (record (nothing_for Blocks) { config = codes "f"; faulty = Some (codes "b"); set = Some (codes "a") })
+unfolding words_on_literals
+blocks_faulty = refl
+
+vblocks : typed (codes "vblocks f --node v --set a") ≡ Ok (record (nothing_for Vblocks) { config = codes "f"; node = Some (codes "v"); set = Some (codes "a") })
+unfolding words_on_literals
+vblocks = refl
+
+check : typed (codes "check f c") ≡ Ok (record (nothing_for Check) { config = codes "f"; cert = codes "c" })
+unfolding words_on_literals
+check = refl
+
+unknown_command : typed (codes "intersect f c") ≡ Err Words
+unfolding words_on_literals
+unknown_command = refl
+
+part_of_a_command : typed (codes "sho f") ≡ Err Words
+unfolding words_on_literals
+part_of_a_command = refl
+
+option_before_command : typed (codes "--set=a blocks f") ≡ Err Words
+unfolding words_on_literals
+option_before_command = refl
+
+dashes_before_command : typed (codes "-- show f") ≡ Err Words
+unfolding words_on_literals
+dashes_before_command = refl
+
+command_alone : typed (codes "show") ≡ Err Words
+unfolding words_on_literals
+command_alone = refl
+
+no_certificate : typed (codes "check f") ≡ Err Words
+unfolding words_on_literals
+no_certificate = refl
+
+one_path_more : typed (codes "check f c d") ≡ Err Words
+unfolding words_on_literals
+one_path_more = refl
+
+one_path_more_than_one : typed (codes "show f g") ≡ Err Words
+unfolding words_on_literals
+one_path_more_than_one = refl
+
+set_is_needed : typed (codes "available f") ≡ Err Words
+unfolding words_on_literals
+set_is_needed = refl
+
+node_is_needed : typed (codes "vblocks f --set a") ≡ Err Words
+unfolding words_on_literals
+node_is_needed = refl
+
+option_of_another_command : typed (codes "available f --set a --faulty b") ≡ Err Words
+unfolding words_on_literals
+option_of_another_command = refl
+
+unknown_option : typed (codes "greatest f --from a") ≡ Err Words
+unfolding words_on_literals
+unknown_option = refl
+
+-- ---- one path for both files
+
+same_path : typed (codes "check f f") ≡ Err SamePath
+unfolding words_on_literals
+same_path = refl
+
+other_text_of_a_path : typed (codes "check f ./f") ≡ Ok (record (nothing_for Check) { config = codes "f"; cert = codes "./f" })
+unfolding words_on_literals
+other_text_of_a_path = refl
+
+same_path_not_taken : typed (codes "check f f --set=a") ≡ Err Words
+unfolding words_on_literals
+same_path_not_taken = refl
+
+both_empty : typed (codes "check  ") ≡ Err SamePath
+unfolding words_on_literals
+both_empty = refl
+
+-- ---- options
+
+joined : typed (codes "blocks f --set=a") ≡ Ok (record (nothing_for Blocks) { config = codes "f"; set = Some (codes "a") })
+unfolding words_on_literals
+joined = refl
+
+option_first : typed (codes "blocks --set=a f") ≡ Ok (record (nothing_for Blocks) { config = codes "f"; set = Some (codes "a") })
+unfolding words_on_literals
+option_first = refl
+
+value_first : typed (codes "blocks --set a f") ≡ Ok (record (nothing_for Blocks) { config = codes "f"; set = Some (codes "a") })
+unfolding words_on_literals
+value_first = refl
+
+first_equals_parts : typed (codes "blocks f --set=a=b") ≡ Ok (record (nothing_for Blocks) { config = codes "f"; set = Some (codes "a=b") })
+unfolding words_on_literals
+first_equals_parts = refl
+
+empty_joined : typed (codes "blocks f --set=") ≡ Ok (record (nothing_for Blocks) { config = codes "f"; set = Some [] })
+unfolding words_on_literals
+empty_joined = refl
+
+empty_value : typed (codes "blocks f --set ") ≡ Ok (record (nothing_for Blocks) { config = codes "f"; set = Some [] })
+unfolding words_on_literals
+empty_value = refl
+
+no_value : typed (codes "blocks f --set") ≡ Err Words
+unfolding words_on_literals
+no_value = refl
+
+abbreviation : typed (codes "blocks f --se=a") ≡ Err Words
+unfolding words_on_literals
+abbreviation = refl
+
+given_twice : typed (codes "blocks f --set=a --set=b") ≡ Err Words
+unfolding words_on_literals
+given_twice = refl
+
+given_twice_alike : typed (codes "blocks f --set=a --set=a") ≡ Err Words
+unfolding words_on_literals
+given_twice_alike = refl
+
+value_with_dash : typed (codes "blocks f --set -x") ≡ Err Words
+unfolding words_on_literals
+value_with_dash = refl
+
+joined_with_dash : typed (codes "blocks f --set=-x") ≡ Ok (record (nothing_for Blocks) { config = codes "f"; set = Some (codes "-x") })
+unfolding words_on_literals
+joined_with_dash = refl
+
+dash_as_value : typed (codes "blocks f --set -") ≡ Ok (record (nothing_for Blocks) { config = codes "f"; set = Some (codes "-") })
+unfolding words_on_literals
+dash_as_value = refl
+
+waiting_before_dashes : typed (codes "blocks f --set -- a") ≡ Err Words
+unfolding words_on_literals
+waiting_before_dashes = refl
+
+-- ---- paths
+
+dash : typed (codes "check - c") ≡ Ok (record (nothing_for Check) { config = codes "-"; cert = codes "c" })
+unfolding words_on_literals
+dash = refl
+
+empty_path : typed (codes "check  c") ≡ Ok (record (nothing_for Check) { config = []; cert = codes "c" })
+unfolding words_on_literals
+empty_path = refl
+
+show_empty_path : typed (codes "show ") ≡ Ok (record (nothing_for Show) { config = [] })
+unfolding words_on_literals
+show_empty_path = refl
+
+path_with_dash : typed (codes "show -f") ≡ Err Words
+unfolding words_on_literals
+path_with_dash = refl
+
+after_dashes : typed (codes "check -- --help -c") ≡ Ok (record (nothing_for Check) { config = codes "--help"; cert = codes "-c" })
+unfolding words_on_literals
+after_dashes = refl
+
+dashes_between : typed (codes "check f -- c") ≡ Ok (record (nothing_for Check) { config = codes "f"; cert = codes "c" })
+unfolding words_on_literals
+dashes_between = refl
+
+dashes_at_end : typed (codes "check f c --") ≡ Ok (record (nothing_for Check) { config = codes "f"; cert = codes "c" })
+unfolding words_on_literals
+dashes_at_end = refl
+
+second_dashes : typed (codes "check -- f --") ≡ Ok (record (nothing_for Check) { config = codes "f"; cert = codes "--" })
+unfolding words_on_literals
+second_dashes = refl
+
+option_after_dashes : typed (codes "blocks f -- --set=a") ≡ Err Words
+unfolding words_on_literals
+option_after_dashes = refl
+
+-- ---- no help and no version
+
+help : typed (codes "help") ≡ Err Words
+unfolding words_on_literals
+help = refl
+
+help_on_a_command : typed (codes "help show") ≡ Err Words
+unfolding words_on_literals
+help_on_a_command = refl
+
+help_option : typed (codes "--help") ≡ Err Words
+unfolding words_on_literals
+help_option = refl
+
+help_short : typed (codes "-h") ≡ Err Words
+unfolding words_on_literals
+help_short = refl
+
+version_option : typed (codes "--version") ≡ Err Words
+unfolding words_on_literals
+version_option = refl
+
+version_short : typed (codes "-V") ≡ Err Words
+unfolding words_on_literals
+version_short = refl
+
+help_of_a_command : typed (codes "blocks --help") ≡ Err Words
+unfolding words_on_literals
+help_of_a_command = refl
+
+help_short_of_a_command : typed (codes "check f c -h") ≡ Err Words
+unfolding words_on_literals
+help_short_of_a_command = refl
+
+version_of_a_command : typed (codes "check f c --version") ≡ Err Words
+unfolding words_on_literals
+version_of_a_command = refl
+
+version_short_of_a_command : typed (codes "check f c -V") ≡ Err Words
+unfolding words_on_literals
+version_short_of_a_command = refl
+
+help_as_path : typed (codes "check help c") ≡ Ok (record (nothing_for Check) { config = codes "help"; cert = codes "c" })
+unfolding words_on_literals
+help_as_path = refl

@@ -1,0 +1,49 @@
+-- Each stage of the reading of a command's words.
+use Rattle.std.proofs.Common.{◌≡◌, List, [], ◌∷◌, true, false, Ok, Err, inl, inr, refl, rules}
+use Rattle.clap.specs.Words.{App, Row, Text, kind_of, matches_of, is_simple_and_free}
+use Rattle.clap.specs.Walk.{is_empty}
+use Rattle.clap.specs.Kinds.{Kinds, HasKind}
+use Rattle.clap.specs.declared.error.Error.{Error}
+use Rattle.clap.specs.declared.error.kind.ErrorKind.TheVariants.{OutOfMemory}
+use Rattle.cli_words.specs.Order.{Ordered, has_same_path}
+use Rattle.cli_words.specs.Words.{app_for, is_taken, order_by, order_in, path_checked}
+use Rattle.cli_words.specs.declared.orders.Command.{Command}
+use Rattle.cli_words.specs.declared.orders.Command.TheVariants.{Show, Greatest, Available, Blocks, Vblocks, Check}
+use Rattle.cli_words.specs.declared.orders.OrderFault.TheVariants.{Words, SamePath}
+
+-- an error that is not of memory comes only where a kind does
+pub is_empty-refused : (kinds : Kinds) (e : Error) → HasKind kinds e → (kind_of e ≡ OutOfMemory → ⊥) → is_empty kinds ≡ false
+is_empty-refused [] e (inl memory) other = absurd (other memory)
+is_empty-refused [] e (inr never) other = absurd never
+is_empty-refused (k ∷ ks) e h other = search rules
+
+-- clap states the matches of each command
+pub is_stated : (k : Command) (app : App) → app ≡ app_for k → is_simple_and_free app ≡ true
+unfolding app_for
+is_stated Show app e = rw e refl
+is_stated Greatest app e = rw e refl
+is_stated Available app e = rw e refl
+is_stated Blocks app e = rw e refl
+is_stated Vblocks app e = rw e refl
+is_stated Check app e = rw e refl
+
+pub order_by-taken : (k : Command) (words : List Text) (app : App) (rows : List Row) (o : Ordered) → app ≡ app_for k → is_taken app words ≡ true → rows ≡ matches_of app words → o ≡ order_in k rows
+    → order_by k words ≡ path_checked o
+unfolding order_by
+order_by-taken k words app rows o a t r e =
+    let taken : is_taken (app_for k) words ≡ true = rw (← a) t in
+    rw (taken, ← a, ← r, ← e) refl
+
+pub order_by-same : (k : Command) (words : List Text) (app : App) (rows : List Row) (o : Ordered) → app ≡ app_for k → is_taken app words ≡ true → rows ≡ matches_of app words → o ≡ order_in k rows
+    → has_same_path o ≡ true → order_by k words ≡ Err SamePath
+order_by-same k words app rows o a t r e same = rw (order_by-taken k words app rows o a t r e, same) refl
+
+pub order_by-other : (k : Command) (words : List Text) (app : App) (rows : List Row) (o : Ordered) → app ≡ app_for k → is_taken app words ≡ true → rows ≡ matches_of app words → o ≡ order_in k rows
+    → has_same_path o ≡ false → order_by k words ≡ Ok o
+order_by-other k words app rows o a t r e other = rw (order_by-taken k words app rows o a t r e, other) refl
+
+pub order_by-refused : (k : Command) (words : List Text) (app : App) → app ≡ app_for k → is_taken app words ≡ false → order_by k words ≡ Err Words
+unfolding order_by
+order_by-refused k words app a t =
+    let refused : is_taken (app_for k) words ≡ false = rw (← a) t in
+    rw refused refl

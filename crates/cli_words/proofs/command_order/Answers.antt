@@ -1,0 +1,24 @@
+use Rattle.std.proofs.Common.{◌≡◌, Err, inl, inr, map, rules, string_bytes, sym}
+use Rattle.clap.specs.Words.{app_of, found_of, rows_of}
+use Rattle.cli_words.specs.Order.{order_view}
+use Rattle.cli_words.proofs.WordsLemmas.{is_stated, order_by-other, order_by-refused, order_by-same}
+use Rattle.cli_words.proofs.command_order.Goals as goal
+
+pub matched-requires : goal.matched-requires
+matched-requires c = is_stated c.args.command (app_of c.in_ok-arguments.arguments) c.in_ok-arguments.ensures
+
+pub returns-in_err-matches-clause-err : goal.returns-in_err-matches-clause-err
+returns-in_err-matches-clause-err c =
+    let handed_on : c.from_residual-in_err-matches.result ≡ Err c.in_err-matches.field-0.0 = search rules in
+    rw handed_on (elim c.in_err-matches.ensures.err [
+      | inl memory ↦ inl memory
+      | inr words ↦ inr (rw words.0 (order_by-refused c.args.command (map string_bytes c.args.words.now) (app_of c.in_ok-arguments.arguments) c.in_ok-arguments.ensures words.1))
+    ])
+
+pub returns-then-has_same_path-clause-err : goal.returns-then-has_same_path-clause-err
+returns-then-has_same_path-clause-err c =
+    inr (order_by-same c.args.command (map string_bytes c.args.words.now) (app_of c.in_ok-arguments.arguments) (rows_of (found_of c.in_ok-matches.matches)) (order_view c.in_ok-order.order) c.in_ok-arguments.ensures c.in_ok-matches.ensures.taken c.in_ok-matches.ensures.rows c.in_ok-order.ensures (sym c.if-has_same_path.ensures))
+
+pub returns-clause-ok : goal.returns-clause-ok
+returns-clause-ok c =
+    order_by-other c.args.command (map string_bytes c.args.words.now) (app_of c.in_ok-arguments.arguments) (rows_of (found_of c.in_ok-matches.matches)) (order_view c.in_ok-order.order) c.in_ok-arguments.ensures c.in_ok-matches.ensures.taken c.in_ok-matches.ensures.rows c.in_ok-order.ensures (sym c.if-has_same_path.ensures)

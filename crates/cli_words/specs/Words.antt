@@ -1,0 +1,99 @@
+-- Which words are taken, and the order that they give. Options, positionals and their refusals are those that clap states.
+use Rattle.std.specs.Prelude.{List, [], ◌∷◌, Bool, true, Option, Some, None, unwrap_or, Result, Ok, Err, codes, if◌then◌else◌}
+use Rattle.std.specs.Str.{bytes_eq}
+use Rattle.clap.specs.Words.{App, Row, Rule, Text, fault_of, first_of, matches_of, new_rule}
+use Rattle.clap.specs.Walk.{is_empty}
+use Rattle.clap.specs.Simple.{new_shape}
+use Rattle.cli_words.specs.Order.{Ordered, nothing_for, has_same_path}
+use Rattle.cli_words.specs.declared.orders.Command.{Command}
+use Rattle.cli_words.specs.declared.orders.Command.TheVariants.{Show, Greatest, Available, Blocks, Vblocks, Check}
+use Rattle.cli_words.specs.declared.orders.OrderFault.{OrderFault}
+use Rattle.cli_words.specs.declared.orders.OrderFault.TheVariants.{Words, SamePath}
+
+-- ---- the arguments of each command
+
+-- a word that must be there, by its place among these
+abbrev pub positional : Text → Rule
+positional id = record (new_rule id) { required = true }
+
+-- an option that must be there
+abbrev pub needed : Text → Rule
+needed id = record (new_rule id) { long = Some id; required = true }
+
+-- an option that may be left out
+abbrev pub optional : Text → Rule
+optional id = record (new_rule id) { long = Some id }
+
+-- an app of this name and these arguments
+abbrev pub app_with : Text → List Rule → App
+app_with name rules = record { top = record (new_shape name) { rules = rules }; subs = [] }
+
+-- the arguments of a command, as clap reads them
+unfoldable pub app_for : Command → App
+app_for Show = app_with (codes "show") (positional (codes "config") ∷ [])
+app_for Greatest = app_with (codes "greatest") (positional (codes "config") ∷ optional (codes "faulty") ∷ [])
+app_for Available = app_with (codes "available") (positional (codes "config") ∷ needed (codes "set") ∷ [])
+app_for Blocks = app_with (codes "blocks") (positional (codes "config") ∷ needed (codes "set") ∷ optional (codes "faulty") ∷ [])
+app_for Vblocks = app_with (codes "vblocks") (positional (codes "config") ∷ needed (codes "node") ∷ needed (codes "set") ∷ [])
+app_for Check = app_with (codes "check") (positional (codes "config") ∷ positional (codes "cert") ∷ [])
+
+-- clap takes the words: it has no kind of refusal for them
+unfoldable pub is_taken : App → List Text → Bool
+is_taken app words = is_empty (fault_of app words)
+
+-- ---- what is read of words that are taken
+
+-- the first text of an argument, or the empty text
+abbrev pub text_of : Text → List Row → Text
+text_of id rows = unwrap_or (first_of id rows) []
+
+-- the texts that a command reads
+abbrev pub order_in : Command → List Row → Ordered
+order_in Show rows = record (nothing_for Show) { config = text_of (codes "config") rows }
+order_in Greatest rows = record (nothing_for Greatest) { config = text_of (codes "config") rows; faulty = first_of (codes "faulty") rows }
+order_in Available rows = record (nothing_for Available) { config = text_of (codes "config") rows; set = first_of (codes "set") rows }
+order_in Blocks rows = record (nothing_for Blocks) {
+  config = text_of (codes "config") rows;
+  faulty = first_of (codes "faulty") rows;
+  set = first_of (codes "set") rows;
+}
+order_in Vblocks rows = record (nothing_for Vblocks) {
+  config = text_of (codes "config") rows;
+  node = first_of (codes "node") rows;
+  set = first_of (codes "set") rows;
+}
+order_in Check rows = record (nothing_for Check) { config = text_of (codes "config") rows; cert = text_of (codes "cert") rows }
+
+-- one path for both files is refused
+abbrev pub path_checked : Ordered → Result Ordered OrderFault
+path_checked o = if has_same_path o then Err SamePath else Ok o
+
+-- the order that a command's own words give, which begin with its name
+unfoldable pub order_by : Command → List Text → Result Ordered OrderFault
+order_by command words = if is_taken (app_for command) words then path_checked (order_in command (matches_of (app_for command) words)) else Err Words
+
+-- ---- the command line
+
+-- the command of a name
+abbrev pub command_named : Text → Option Command
+command_named name = if bytes_eq name (codes "show") then Some Show
+    else (if bytes_eq name (codes "greatest") then Some Greatest
+    else (if bytes_eq name (codes "available") then Some Available
+    else (if bytes_eq name (codes "blocks") then Some Blocks
+    else (if bytes_eq name (codes "vblocks") then Some Vblocks
+    else (if bytes_eq name (codes "check") then Some Check else None)))))
+
+-- the order of a command, if there is one
+abbrev pub order_if_any : Option Command → List Text → Result Ordered OrderFault
+order_if_any None words = Err Words
+order_if_any (Some command) words = order_by command words
+
+-- the order of words that begin with the command's name
+abbrev pub order_after : List Text → Result Ordered OrderFault
+order_after [] = Err Words
+order_after (name ∷ rest) = order_if_any (command_named name) (name ∷ rest)
+
+-- the order of the words, which begin with the program's name
+abbrev pub order_of : List Text → Result Ordered OrderFault
+order_of [] = Err Words
+order_of (program ∷ words) = order_after words

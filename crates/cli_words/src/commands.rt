@@ -1,0 +1,257 @@
+// What clap reads for each command, and the order that its matches give.
+ghost use Rattle.std.specs.Prelude.{◌≡◌, ◌≢◌, ◌⊎◌, true, false, map, IfOk, IfErr, codes, string_bytes, option_map};
+ghost use Rattle.clap.specs.Words.{kind_of, app_of, rule_of, found_of, rows_of, matches_of, is_simple_and_free, first_of};
+ghost use Rattle.cli_words.specs.Words.{positional as positional_rule, needed as needed_rule, optional as optional_rule, app_for, is_taken, text_of, order_in};
+ghost use Rattle.cli_words.specs.Order.{order_view, nothing_for};
+
+use crate::orders::{Command, Order, OrderFault};
+use clap::error::ErrorKind;
+use clap::{Arg, ArgMatches};
+use std::alloc::{AllocError, Global};
+
+fn positional<'a>(alloc: Global, id: &'a str) -> Arg<'a>
+    ensures rule { rule_of result ≡ positional_rule id.now }
+    ensures local { result.global ≡ false }
+{
+    Arg::new(alloc, id).required(true)
+}
+
+fn needed<'a>(alloc: Global, id: &'a str) -> Arg<'a>
+    ensures rule { rule_of result ≡ needed_rule id.now }
+    ensures local { result.global ≡ false }
+{
+    Arg::new(alloc, id).long(id).required(true)
+}
+
+fn optional<'a>(alloc: Global, id: &'a str) -> Arg<'a>
+    ensures rule { rule_of result ≡ optional_rule id.now }
+    ensures local { result.global ≡ false }
+{
+    Arg::new(alloc, id).long(id)
+}
+
+// The arguments that the command takes.
+pub fn arguments_of<'a>(alloc: Global, command: Command) -> Result<clap::Command<'a>, AllocError>
+    ensures { IfOk result (λ c. app_of c ≡ app_for command) }
+{
+    match command {
+        Command::Show => show_arguments(alloc),
+        Command::Greatest => greatest_arguments(alloc),
+        Command::Available => available_arguments(alloc),
+        Command::Blocks => blocks_arguments(alloc),
+        Command::Vblocks => vblocks_arguments(alloc),
+        Command::Check => check_arguments(alloc),
+    }
+}
+
+#[tactic(auto, unfolding(crate::specs::Words::app_for))]
+fn show_arguments<'a>(alloc: Global) -> Result<clap::Command<'a>, AllocError>
+    ensures { IfOk result (λ c. app_of c ≡ app_for Command.Show) }
+{
+    clap::Command::new(alloc, "show").arg(positional(alloc, "config"))
+}
+
+#[tactic(auto, unfolding(crate::specs::Words::app_for))]
+fn greatest_arguments<'a>(alloc: Global) -> Result<clap::Command<'a>, AllocError>
+    ensures { IfOk result (λ c. app_of c ≡ app_for Command.Greatest) }
+{
+    clap::Command::new(alloc, "greatest")
+        .arg(positional(alloc, "config"))?
+        .arg(optional(alloc, "faulty"))
+}
+
+#[tactic(auto, unfolding(crate::specs::Words::app_for))]
+fn available_arguments<'a>(alloc: Global) -> Result<clap::Command<'a>, AllocError>
+    ensures { IfOk result (λ c. app_of c ≡ app_for Command.Available) }
+{
+    clap::Command::new(alloc, "available")
+        .arg(positional(alloc, "config"))?
+        .arg(needed(alloc, "set"))
+}
+
+#[tactic(auto, unfolding(crate::specs::Words::app_for))]
+fn blocks_arguments<'a>(alloc: Global) -> Result<clap::Command<'a>, AllocError>
+    ensures { IfOk result (λ c. app_of c ≡ app_for Command.Blocks) }
+{
+    clap::Command::new(alloc, "blocks")
+        .arg(positional(alloc, "config"))?
+        .arg(needed(alloc, "set"))?
+        .arg(optional(alloc, "faulty"))
+}
+
+#[tactic(auto, unfolding(crate::specs::Words::app_for))]
+fn vblocks_arguments<'a>(alloc: Global) -> Result<clap::Command<'a>, AllocError>
+    ensures { IfOk result (λ c. app_of c ≡ app_for Command.Vblocks) }
+{
+    clap::Command::new(alloc, "vblocks")
+        .arg(positional(alloc, "config"))?
+        .arg(needed(alloc, "node"))?
+        .arg(needed(alloc, "set"))
+}
+
+#[tactic(auto, unfolding(crate::specs::Words::app_for))]
+fn check_arguments<'a>(alloc: Global) -> Result<clap::Command<'a>, AllocError>
+    ensures { IfOk result (λ c. app_of c ≡ app_for Command.Check) }
+{
+    clap::Command::new(alloc, "check")
+        .arg(positional(alloc, "config"))?
+        .arg(positional(alloc, "cert"))
+}
+
+// The matches of the words, or their refusal.
+#[tactic(auto, unfolding(crate::specs::Words::is_taken))]
+pub fn matched<'a>(
+    arguments: clap::Command<'a>,
+    words: &'a [String],
+) -> Result<ArgMatches<'a>, OrderFault>
+    requires { is_simple_and_free (app_of arguments) ≡ true }
+    ensures taken { IfOk result (λ m. is_taken (app_of arguments.entry) (map string_bytes words.entry.now) ≡ true) }
+    ensures rows { IfOk result (λ m. rows_of (found_of m)
+        ≡ matches_of (app_of arguments.entry) (map string_bytes words.entry.now)) }
+    ensures err { IfErr result (λ e. (e ≡ OrderFault.Memory)
+        ⊎ ((e ≡ OrderFault.Words)
+        × (is_taken (app_of arguments.entry) (map string_bytes words.entry.now) ≡ false))) }
+{
+    match arguments.try_get_matches_from(words) {
+        Ok(matches) => Ok(matches),
+        Err(e) => Err(fault(&e)),
+    }
+}
+
+fn fault(e: &clap::Error) -> OrderFault
+    ensures { (result ≡ OrderFault.Memory)
+        ⊎ ((result ≡ OrderFault.Words) × (kind_of e.now ≢ ErrorKind.OutOfMemory)) }
+{
+    if e.kind() == ErrorKind::OutOfMemory {
+        OrderFault::Memory
+    } else {
+        OrderFault::Words
+    }
+}
+
+fn text_at<'a>(matches: &ArgMatches<'a>, id: &str) -> Option<&'a str>
+    ensures { option_map (λ s. s.now) result ≡ first_of id.now (rows_of (found_of matches.now)) }
+{
+    matches.get_str(id)
+}
+
+// The text of an argument, empty where there is none.
+fn text(alloc: Global, matches: &ArgMatches<'_>, id: &str) -> Result<String, AllocError>
+    ensures { IfOk result (λ s. string_bytes s ≡ text_of id.now (rows_of (found_of matches.now))) }
+{
+    match text_at(matches, id) {
+        Some(text) => String::from_str(alloc, text),
+        None => Ok(String::new(alloc)),
+    }
+}
+
+fn text_if_any(
+    alloc: Global,
+    matches: &ArgMatches<'_>,
+    id: &str,
+) -> Result<Option<String>, AllocError>
+    ensures { IfOk result (λ o. option_map string_bytes o ≡ first_of id.now (rows_of (found_of matches.now))) }
+{
+    match text_at(matches, id) {
+        Some(text) => Ok(Some(String::from_str(alloc, text)?)),
+        None => Ok(None),
+    }
+}
+
+fn nothing(alloc: Global, command: Command) -> Order
+    ensures { order_view result ≡ nothing_for command }
+{
+    Order {
+        command,
+        config: String::new(alloc),
+        cert: String::new(alloc),
+        node: None,
+        faulty: None,
+        set: None,
+    }
+}
+
+// The order that the command's matches give.
+pub fn order_from(
+    alloc: Global,
+    command: Command,
+    matches: &ArgMatches<'_>,
+) -> Result<Order, AllocError>
+    ensures { IfOk result (λ o. order_view o ≡ order_in command (rows_of (found_of matches.now))) }
+{
+    match command {
+        Command::Show => show_order(alloc, matches),
+        Command::Greatest => greatest_order(alloc, matches),
+        Command::Available => available_order(alloc, matches),
+        Command::Blocks => blocks_order(alloc, matches),
+        Command::Vblocks => vblocks_order(alloc, matches),
+        Command::Check => check_order(alloc, matches),
+    }
+}
+
+fn show_order(alloc: Global, matches: &ArgMatches<'_>) -> Result<Order, AllocError>
+    ensures { IfOk result (λ o. order_view o
+        ≡ order_in Command.Show (rows_of (found_of matches.now))) }
+{
+    Ok(Order {
+        config: text(alloc, matches, "config")?,
+        ..nothing(alloc, Command::Show)
+    })
+}
+
+fn greatest_order(alloc: Global, matches: &ArgMatches<'_>) -> Result<Order, AllocError>
+    ensures { IfOk result (λ o. order_view o
+        ≡ order_in Command.Greatest (rows_of (found_of matches.now))) }
+{
+    Ok(Order {
+        config: text(alloc, matches, "config")?,
+        faulty: text_if_any(alloc, matches, "faulty")?,
+        ..nothing(alloc, Command::Greatest)
+    })
+}
+
+fn available_order(alloc: Global, matches: &ArgMatches<'_>) -> Result<Order, AllocError>
+    ensures { IfOk result (λ o. order_view o
+        ≡ order_in Command.Available (rows_of (found_of matches.now))) }
+{
+    Ok(Order {
+        config: text(alloc, matches, "config")?,
+        set: text_if_any(alloc, matches, "set")?,
+        ..nothing(alloc, Command::Available)
+    })
+}
+
+fn blocks_order(alloc: Global, matches: &ArgMatches<'_>) -> Result<Order, AllocError>
+    ensures { IfOk result (λ o. order_view o
+        ≡ order_in Command.Blocks (rows_of (found_of matches.now))) }
+{
+    Ok(Order {
+        config: text(alloc, matches, "config")?,
+        faulty: text_if_any(alloc, matches, "faulty")?,
+        set: text_if_any(alloc, matches, "set")?,
+        ..nothing(alloc, Command::Blocks)
+    })
+}
+
+fn vblocks_order(alloc: Global, matches: &ArgMatches<'_>) -> Result<Order, AllocError>
+    ensures { IfOk result (λ o. order_view o
+        ≡ order_in Command.Vblocks (rows_of (found_of matches.now))) }
+{
+    Ok(Order {
+        config: text(alloc, matches, "config")?,
+        node: text_if_any(alloc, matches, "node")?,
+        set: text_if_any(alloc, matches, "set")?,
+        ..nothing(alloc, Command::Vblocks)
+    })
+}
+
+fn check_order(alloc: Global, matches: &ArgMatches<'_>) -> Result<Order, AllocError>
+    ensures { IfOk result (λ o. order_view o
+        ≡ order_in Command.Check (rows_of (found_of matches.now))) }
+{
+    Ok(Order {
+        config: text(alloc, matches, "config")?,
+        cert: text(alloc, matches, "cert")?,
+        ..nothing(alloc, Command::Check)
+    })
+}

@@ -1,0 +1,181 @@
+// The words of the command line, read to an order.
+#![tactic(auto)]
+
+ghost use Rattle.std.specs.Prelude.{◌≡◌, ◌⊎◌, map, Ok, Err, IfOk, IfErr, string_bytes};
+ghost use Rattle.cli_words.specs.Words.{order_by, order_of, command_named as spec_command_named};
+ghost use Rattle.cli_words.specs.Order.{order_view, has_same_path as spec_has_same_path};
+
+mod commands;
+mod orders;
+
+use commands::{arguments_of, matched, order_from};
+pub use orders::{Command, Order, OrderFault};
+use std::alloc::Global;
+
+/// The order that the words give, or why they give none. The words begin with the program's name, and a
+/// request for help is no order. No names are read here: a list of names stays a text.
+///
+/// `Words` comes where the words are not those of a command, `SamePath` where they are and the path of the
+/// certificate equals that of the configuration as text. O(n) in the total length n of the words.
+pub fn order(alloc: Global, words: &[String]) -> Result<Order, OrderFault>
+    ensures ok { IfOk result (λ o. order_of (map string_bytes words.now) ≡ Ok (order_view o)) }
+    ensures err { IfErr result (λ e. (e ≡ OrderFault.Memory)
+        ⊎ (order_of (map string_bytes words.now) ≡ Err e)) }
+{
+    let [_, rest @ ..] = words else {
+        return Err(OrderFault::Words);
+    };
+    let [name, ..] = rest else {
+        return Err(OrderFault::Words);
+    };
+    match command_named(name.as_str()) {
+        Some(command) => command_order(alloc, command, rest),
+        None => Err(OrderFault::Words),
+    }
+}
+
+fn command_named(name: &str) -> Option<Command>
+    ensures { result ≡ spec_command_named name.now }
+{
+    if name == "show" {
+        return Some(Command::Show);
+    }
+    if name == "greatest" {
+        return Some(Command::Greatest);
+    }
+    if name == "available" {
+        return Some(Command::Available);
+    }
+    if name == "blocks" {
+        return Some(Command::Blocks);
+    }
+    if name == "vblocks" {
+        return Some(Command::Vblocks);
+    }
+    if name == "check" {
+        return Some(Command::Check);
+    }
+    None
+}
+
+// The order of a command by its own words, which begin with its name.
+fn command_order(alloc: Global, command: Command, words: &[String]) -> Result<Order, OrderFault>
+    ensures ok { IfOk result (λ o. order_by command (map string_bytes words.now)
+        ≡ Ok (order_view o)) }
+    ensures err { IfErr result (λ e. (e ≡ OrderFault.Memory)
+        ⊎ (order_by command (map string_bytes words.now) ≡ Err e)) }
+{
+    let arguments = arguments_of(alloc, command)?;
+    let matches = matched(arguments, words)?;
+    let order = order_from(alloc, command, &matches)?;
+    if has_same_path(&order) {
+        return Err(OrderFault::SamePath);
+    }
+    Ok(order)
+}
+
+fn has_same_path(order: &Order) -> bool
+    ensures { result ≡ spec_has_same_path (order_view order.now) }
+{
+    matches!(order.command, Command::Check) && order.config == order.cert
+}
+
+#[cfg(test)]
+mod tests {
+    use super::*;
+    use std::alloc::AllocError;
+
+    // The words of a line after the program's name, parted at each space.
+    fn words_of(alloc: Global, line: &str) -> Result<Vec<String>, AllocError> {
+        let mut words = Vec::new(alloc);
+        words.push(String::from_str(alloc, "quorum_cli")?)?;
+        for word in line.split(' ') {
+            words.push(String::from_str(alloc, word)?)?;
+        }
+        Ok(words)
+    }
+
+    #[test]
+    fn takes_each_command(rt: HostRuntime) {
+        for (line, command, config, cert, node, faulty, set) in [
+            ("show f", Command::Show, "f", "", None, None, None),
+            ("greatest f", Command::Greatest, "f", "", None, None, None),
+            (
+                "greatest f --faulty a,b",
+                Command::Greatest,
+                "f",
+                "",
+                None,
+                Some("a,b"),
+                None,
+            ),
+            (
+                "available f --set a",
+                Command::Available,
+                "f",
+                "",
+                None,
+                None,
+                Some("a"),
+            ),
+            (
+                "blocks f --set=",
+                Command::Blocks,
+                "f",
+                "",
+                None,
+                None,
+                Some(""),
+            ),
+            (
+                "blocks --set=-x --faulty b f",
+                Command::Blocks,
+                "f",
+                "",
+                None,
+                Some("b"),
+                Some("-x"),
+            ),
+            (
+                "vblocks f --node v --set a",
+                Command::Vblocks,
+                "f",
+                "",
+                Some("v"),
+                None,
+                Some("a"),
+            ),
+            ("check f c", Command::Check, "f", "c", None, None, None),
+        ] {
+            let words = words_of(rt.alloc(), line).expect(&rt, "words");
+            let order = order(rt.alloc(), words.as_slice()).expect(&rt, line);
+            assert_eq!(rt; order.command, command, "at {line}");
+            assert_eq!(rt; order.config.as_str(), config, "at {line}");
+            assert_eq!(rt; order.cert.as_str(), cert, "at {line}");
+            assert_eq!(rt; order.node.as_deref(), node, "at {line}");
+            assert_eq!(rt; order.faulty.as_deref(), faulty, "at {line}");
+            assert_eq!(rt; order.set.as_deref(), set, "at {line}");
+        }
+    }
+
+    #[test]
+    fn refuses_other_words(rt: HostRuntime) {
+        for (line, fault) in [
+            ("", OrderFault::Words),
+            ("--help", OrderFault::Words),
+            ("check f", OrderFault::Words),
+            ("check f f", OrderFault::SamePath),
+            ("blocks f --set -x", OrderFault::Words),
+            ("blocks f --set a --set a", OrderFault::Words),
+            ("available f --set a --faulty b", OrderFault::Words),
+            ("intersect f c", OrderFault::Words),
+        ] {
+            let words = words_of(rt.alloc(), line).expect(&rt, "words");
+            assert_eq!(rt;
+                order(rt.alloc(), words.as_slice()).err(),
+                Some(fault),
+                "at {line}"
+            );
+        }
+    }
+}

@@ -1,0 +1,20 @@
+-- What the machine's desk has begun and created.
+use Rattle.std.specs.Prelude.{Option}
+use Rattle.desk_io.specs.declared.desk.Which.{Which}
+use Rattle.desk_io.specs.declared.desk.Which.TheVariants.{Config, Orgs, Cert}
+use Rattle.desk_io.specs.declared.real.RealDesk.{RealDesk}
+use Rattle.desk_io.specs.Faults.{Faults}
+
+-- the open file that is read there, if one is begun
+abbrev pub begun_of : {R File Dir : Type 0} → Which → RealDesk R File Dir → Option File
+begun_of Config d = d.config
+begun_of Orgs d = d.orgs
+begun_of Cert d = d.cert
+
+-- the certificate file, if one is created
+abbrev pub created_of : {R File Dir : Type 0} → RealDesk R File Dir → Option File
+created_of d = d.created
+
+-- how often the desk has failed
+abbrev pub faults_of : {R File Dir : Type 0} → RealDesk R File Dir → Faults
+faults_of d = d.faults

@@ -1,0 +1,257 @@
+// The machine's files and standard output.
+ghost use Rattle.std.specs.Prelude.{◌≡◌, ◌<◌, ◌≤◌, IfOk, IfSome, IsNone, Some, length};
+
+use crate::counts::FaultCounts;
+use crate::desk::{Desk, ReadFailed, To, Which, WriteFailed};
+use std::fs::OpenOptions;
+use std::io::{ErrorKind, Read, Write};
+use std::rt::Files;
+
+/// How often a call of the system is tried that says it was interrupted. The last interruption is a failure.
+const TRIES: u32 = 1_000;
+
+/// The desk of the machine: files of the file system by their paths, and standard output.
+///
+/// It tells no bytes. Nothing of what is put is kept back, so a `put` that fails says so itself. Each call of the
+/// system is tried at most 1,000 times where it's interrupted.
+#[derive(Drop)]
+pub struct RealDesk<'a, R: Files> {
+    rt: &'a R,
+    config: Option<R::File>,
+    orgs: Option<R::File>,
+    cert: Option<R::File>,
+    created: Option<R::File>,
+    faults: FaultCounts,
+}
+
+fn open_with<R: Files>(rt: &R, options: &OpenOptions, name: &str) -> Option<R::File> {
+    for _ in 0..TRIES {
+        match options.open(rt, name) {
+            Ok(file) => return Some(file),
+            Err(e) if e.kind() == ErrorKind::Interrupted => {}
+            Err(_) => return None,
+        }
+    }
+    None
+}
+
+fn read_some(file: &mut impl Read, buf: &mut [u8]) -> Option<usize>
+    ensures { IfSome result (λ count. count ≤ length buf.new) }
+{
+    for _ in 0..TRIES {
+        match file.read(buf) {
+            Ok(count) => return Some(count),
+            Err(e) if e.kind() == ErrorKind::Interrupted => {}
+            Err(_) => return None,
+        }
+    }
+    None
+}
+
+/// Where no file is begun nothing is left.
+fn read_begun<F: Read>(begun: &mut Option<F>, buf: &mut [u8]) -> Option<usize>
+    ensures bound { IfSome result (λ count. count ≤ length buf.new) }
+    ensures nothing { IsNone begun.old → result ≡ Some 0 }
+{
+    match begun {
+        Some(file) => read_some(file, buf),
+        None => Some(0),
+    }
+}
+
+/// `None` where it fails, or where none of some bytes is taken.
+fn write_some(file: &mut impl Write, bytes: &[u8]) -> Option<usize>
+    ensures bound { IfSome result (λ count. count ≤ length bytes.now) }
+    ensures some { IfSome result (λ count. 0 < length bytes.now → 0 < count) }
+{
+    for _ in 0..TRIES {
+        match file.write(bytes) {
+            Ok(count) if count > 0 || bytes.is_empty() => return Some(count),
+            Err(e) if e.kind() == ErrorKind::Interrupted => {}
+            _ => return None,
+        }
+    }
+    None
+}
+
+/// Where no file is created it fails.
+fn write_created<F: Write>(created: &mut Option<F>, bytes: &[u8]) -> Option<usize>
+    ensures bound { IfSome result (λ count. count ≤ length bytes.now) }
+    ensures some { IfSome result (λ count. 0 < length bytes.now → 0 < count) }
+    ensures uncreated { IsNone created.old → IsNone result }
+{
+    match created {
+        Some(file) => write_some(file, bytes),
+        None => None,
+    }
+}
+
+impl<'a, R: Files + Print> RealDesk<'a, R> {
+    ghost use Rattle.std.specs.Prelude.{◌≢◌, ◌↔◌, IsTrue, IsSome};
+    ghost use Rattle.desk_io.specs.declared.desk.Which.{Which};
+    ghost use Rattle.desk_io.specs.RealDesk.{begun_of, created_of, faults_of};
+
+    /// A desk over this runtime, with nothing begun and nothing created.
+    pub fn new(rt: &'a R) -> Self
+        ensures begun { (which : Which) → IsNone (begun_of which result) }
+        ensures created { IsNone (created_of result) }
+        ensures faults { faults_of result ≡ record { reads = 0; writes = 0 } }
+    {
+        RealDesk {
+            rt,
+            config: None,
+            orgs: None,
+            cert: None,
+            created: None,
+            faults: FaultCounts::new(),
+        }
+    }
+
+    /// Opens the file that is to be read there. Where it can't be opened, none is.
+    fn reopen(&mut self, which: Which, name: &str) -> bool
+        ensures begun { IsTrue result ↔ IsSome (begun_of which self.new) }
+        ensures others { (other : Which) → other ≢ which → begun_of other self.new ≡ begun_of other self.old }
+        ensures created { created_of self.new ≡ created_of self.old }
+        ensures faults { faults_of self.new ≡ faults_of self.old }
+    {
+        let opened = open_with(self.rt, OpenOptions::new().read(true), name);
+        let begun = opened.is_some();
+        match which {
+            Which::Config => self.config = opened,
+            Which::Orgs => self.orgs = opened,
+            Which::Cert => self.cert = opened,
+        }
+        begun
+    }
+
+    /// Reads of the file that is begun there. Where none is, nothing is left.
+    fn read_there(&mut self, which: Which, buf: &mut [u8]) -> Option<usize>
+        ensures bound { IfSome result (λ count. count ≤ length buf.new) }
+        ensures nothing { IsNone (begun_of which self.old) → result ≡ Some 0 }
+        ensures faults { faults_of self.new ≡ faults_of self.old }
+    {
+        match which {
+            Which::Config => read_begun(&mut self.config, buf),
+            Which::Orgs => read_begun(&mut self.orgs, buf),
+            Which::Cert => read_begun(&mut self.cert, buf),
+        }
+    }
+}
+
+impl<R: Files + Print> Desk for RealDesk<'_, R> {
+    ghost use Rattle.std.specs.Prelude.{◌≢◌, ◌↔◌, false, IsErr, IsOk, IsSome, OnErr, OnOk};
+    ghost use Rattle.desk_io.specs.declared.desk.Which.{Which};
+    ghost use Rattle.desk_io.specs.Faults.{ReadCause, WriteCause};
+    ghost use Rattle.desk_io.specs.RealDesk.{begun_of, created_of, faults_of};
+    ghost use Rattle.desk_io.specs.State.{nothing_told};
+
+    ghost tells = { false };
+
+    ghost state = { λ _. nothing_told };
+
+    ghost faults = { λ d. faults_of d };
+
+    fn begin(&mut self, which: Which, name: &str) -> Result<(), ReadFailed>
+        ensures begun { IsSome (begun_of which self.new) ↔ IsOk result }
+        ensures others { (other : Which) → other ≢ which → begun_of other self.new ≡ begun_of other self.old }
+        ensures created { created_of self.new ≡ created_of self.old }
+        ensures cause { ReadCause (faults_of self.old) (faults_of self.new) result }
+    {
+        if self.reopen(which, name) {
+            Ok(())
+        } else {
+            Err(self.faults.read_failed())
+        }
+    }
+
+    fn next(&mut self, which: Which, buf: &mut [u8]) -> Result<usize, ReadFailed>
+        ensures bound { IfOk result (λ count. count ≤ length buf.new) }
+        ensures nothing { IsNone (begun_of which self.old) → result ≡ Ok 0 }
+        ensures cause { ReadCause (faults_of self.old) (faults_of self.new) result }
+    {
+        match self.read_there(which, buf) {
+            Some(count) => Ok(count),
+            None => Err(self.faults.read_failed()),
+        }
+    }
+
+    fn create(&mut self, name: &str) -> Result<(), WriteFailed>
+        ensures created { OnOk result (IsSome (created_of self.new)) }
+        ensures failed { OnErr result (created_of self.new ≡ created_of self.old) }
+        ensures begun { (which : Which) → begun_of which self.new ≡ begun_of which self.old }
+        ensures cause { WriteCause (faults_of self.old) (faults_of self.new) result }
+    {
+        let mut options = OpenOptions::new();
+        options.write(true).create(true).truncate(true);
+        match open_with(self.rt, &options, name) {
+            Some(file) => {
+                self.created = Some(file);
+                Ok(())
+            }
+            None => Err(self.faults.write_failed()),
+        }
+    }
+
+    fn put(&mut self, to: To, bytes: &[u8]) -> Result<usize, WriteFailed>
+        ensures bound { IfOk result (λ count. count ≤ length bytes.now) }
+        ensures some { IfOk result (λ count. 0 < length bytes.now → 0 < count) }
+        ensures uncreated { to ≡ To.Cert → IsNone (created_of self.old) → IsErr result }
+        ensures begun { (which : Which) → begun_of which self.new ≡ begun_of which self.old }
+        ensures cause { WriteCause (faults_of self.old) (faults_of self.new) result }
+    {
+        let written = match to {
+            To::Out => write_some(&mut std::io::writer(self.rt), bytes),
+            To::Cert => write_created(&mut self.created, bytes),
+        };
+        match written {
+            Some(count) => Ok(count),
+            None => Err(self.faults.write_failed()),
+        }
+    }
+}
+
+#[cfg(test)]
+mod tests {
+    use super::*;
+    use std::io;
+
+    /// Says that it's interrupted as often as this, and then moves a byte.
+    #[derive(Drop)]
+    struct Interrupted(u32);
+
+    impl Interrupted {
+        fn turn(&mut self) -> io::Result<usize>
+            ensures { IfOk result (λ count. count ≡ 1) }
+        {
+            if self.0 == 0 {
+                return Ok(1);
+            }
+            self.0 -= 1;
+            Err(io::Error::from(ErrorKind::Interrupted))
+        }
+    }
+
+    impl Read for Interrupted {
+        fn read(&mut self, buf: &mut [u8]) -> io::Result<usize> {
+            Ok(self.turn()?.min(buf.len()))
+        }
+    }
+
+    impl Write for Interrupted {
+        fn write(&mut self, bytes: &[u8]) -> io::Result<usize> {
+            Ok(self.turn()?.min(bytes.len()))
+        }
+
+        fn flush(&mut self) -> io::Result<()> {
+            Ok(())
+        }
+    }
+
+    #[test]
+    fn the_thousandth_interruption_fails(rt: HostRuntime) {
+        for (times, moved) in [(0, Some(1)), (999, Some(1)), (1_000, None)] {
+            assert_eq!(rt; read_some(&mut Interrupted(times), &mut [0; 4]), moved);
+            assert_eq!(rt; write_some(&mut Interrupted(times), b"text"), moved);
+        }
+    }
+}

@@ -1,0 +1,2 @@
+pub mod PassedOrTaken
+pub mod Sets

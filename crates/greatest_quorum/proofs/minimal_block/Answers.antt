@@ -1,0 +1,29 @@
+use Rattle.std.proofs.Common.{sym, ◌∙◌, arith}
+use Rattle.std.proofs.lemmas.Bool.{both_ways}
+use Rattle.fbas_model.specs.Nodes.{members}
+use Rattle.greatest_quorum.proofs.Minimal.{thinned_pass, thinned_take, thinned_keep, thinned_whole}
+use Rattle.greatest_quorum.proofs.minimal_block.Goals as goal
+use Rattle.greatest_quorum.proofs.minimal_block.Goals.{then-has+then-not-blocks, then-has+else-not-blocks, else-has}
+
+pub loop-v-preserved : goal.loop-v-preserved
+loop-v-preserved c =
+    let f = c.args.system.now.sets in
+    let b = members c.args.faulty.now in
+    let start = c.args.s.now in
+    let now = c.loop-v.s in
+    let scratch = c.args.scratch.now in
+    let after = c.loop-v.scratch in
+    let v = c.loop-v.v in
+    let thinned = c.loop-v.invariant in
+    elim c.if-has.branch [
+      | then-has+then-not-blocks w ↦
+          rw (w.s-is, w.scratch-is) (thinned_keep f b start now w.take.new.self w.put.new.self scratch after w.blocks-then-has.new.scratch v thinned (sym c.has.ensures ∙ w.if-has.true) w.take.ensures.size w.take.ensures.taken w.blocks-then-has.ensures.same_n (λ h. both_ways w.blocks-then-has.result w.if-not-blocks.true (w.blocks-then-has.ensures.blocks.1 h)) w.put.ensures.size w.put.ensures.added)
+      | then-has+else-not-blocks w ↦
+          rw (w.s-is, w.scratch-is) (thinned_take f b start now w.take.new.self scratch after w.blocks-then-has.new.scratch v thinned w.take.ensures.size w.take.ensures.taken w.blocks-then-has.ensures.same_n (w.blocks-then-has.ensures.blocks.0 w.if-not-blocks.false))
+      | else-has w ↦
+          rw (w.s-is, w.scratch-is) (thinned_pass f b start now scratch after v thinned (sym c.has.ensures ∙ w.if-has.false))
+    ]
+
+pub returns-clause-minimal : goal.returns-clause-minimal
+returns-clause-minimal c =
+    thinned_whole c.args.system.now.sets (members c.args.faulty.now) c.args.s.now c.loop-v.s c.args.scratch.now c.loop-v.scratch c.loop-v.v (omega (arith, c.len-v-end.ensures.sets, c.requires.same_n)) c.requires.blocks c.loop-v.invariant

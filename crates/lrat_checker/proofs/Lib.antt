@@ -1,0 +1,8 @@
+pub mod ValueLaws
+pub mod StatusFrom
+pub mod StatusLaws
+pub mod RangeLaws
+pub mod AlikeLaws
+pub mod HintLaws
+pub mod LemmaLaws
+pub mod FaultLaws

@@ -1,0 +1,18 @@
+-- What an assignment is seen as.
+use Rattle.std.specs.Prelude.{ℕ, ◌-◌, List, length, vec_capacity}
+use Rattle.lrat_model.specs.Literal.{Literal}
+use Rattle.lrat_checker.specs.declared.assignment.Assignment.TheInside.{Inside}
+use Rattle.lrat_checker.specs.Values.{IsAssignment}
+
+-- the number of variables, and the literals that are true
+pub record Assigned : Type 0 where
+  pub vars : ℕ
+  pub trues : List Literal
+
+-- what an assignment is seen as
+abbrev pub shown : Inside → Assigned
+shown a = record { vars = length a.values.items - 1; trues = a.trail.items }
+
+-- what is true of each assignment
+abbrev pub IsSound : Inside → Type 0
+IsSound a = IsAssignment a.values.items a.trail.items (vec_capacity a.trail)

@@ -1,0 +1,8 @@
+pub mod Ranges
+pub mod Alike
+pub mod Values
+pub mod Assigned
+pub mod Hints
+pub mod Covers
+pub mod Checking
+pub mod State

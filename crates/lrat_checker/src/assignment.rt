@@ -1,0 +1,122 @@
+//! Which literals are true, while hints are taken.
+ghost use Rattle.std.specs.Prelude.{◌≡◌, ◌+◌, ◌≤◌, ◌<◌, ◌^◌, [], ◌∷◌, ◌++◌, true, false, length, All, IfOk};
+ghost use Rattle.lrat_model.specs.Literal.{Literal, has, negated, variable_of};
+ghost use Rattle.lrat_checker.specs.Alike.{Alike};
+ghost use Rattle.lrat_checker.specs.Values.{value_of, true_by};
+
+use lrat_model::Lit;
+use std::alloc::{AllocError, Global};
+use std::marker::Model;
+
+/// What a variable is set to.
+#[derive(Clone, Copy)]
+pub enum Value {
+    Unassigned,
+    True,
+    False,
+}
+
+/// The values of variables, and the trail: the literals that were made true, in order.
+#[derive(Drop)]
+pub struct Assignment {
+    values: Vec<Value>,
+    trail: Vec<Lit>,
+}
+
+impl Model for Assignment {
+    ghost use Rattle.lrat_checker.specs.Assigned.{Assigned, shown, IsSound};
+
+    ghost Value = { Assigned };
+
+    ghost view = { shown };
+
+    ghost invariant = { IsSound };
+}
+
+impl Assignment {
+    /// No variable of this many has a value. Takes all the memory that an assignment ever needs.
+    pub fn new(alloc: Global, vars: u64) -> Result<Assignment, AllocError>
+        requires { vars < 2 ^ 31 }
+        ensures vars { IfOk result (λ a. a.vars ≡ vars) }
+        ensures trues { IfOk result (λ a. a.trues ≡ []) }
+    {
+        let places = vars as usize + 1;
+        let values = vec![in alloc; Value::Unassigned; places]?;
+        let trail = Vec::with_capacity(alloc, places)?;
+        Ok(Assignment { values, trail })
+    }
+
+    /// The number of variables.
+    pub fn vars(&self) -> u64
+        ensures { result ≡ self.now.vars }
+    {
+        self.values.len() as u64 - 1
+    }
+
+    /// Whether the literal is true.
+    pub fn is_true(&self, l: Lit) -> bool
+        requires { variable_of l ≤ self.now.vars }
+        ensures { result ≡ has self.now.trues l }
+    {
+        match self.values[l.variable() as usize] {
+            Value::Unassigned => false,
+            Value::True => l.number() > 0,
+            Value::False => l.number() < 0,
+        }
+    }
+
+    /// Makes a literal true whose variable has no value.
+    fn make_true(&mut self, l: Lit)
+        requires range { variable_of l ≤ self.old.vars }
+        requires open { has self.old.trues l ≡ false }
+        requires consistent { has self.old.trues (negated l) ≡ false }
+        ensures trues { self.new.trues ≡ self.old.trues ++ l ∷ [] }
+        ensures vars { self.new.vars ≡ self.old.vars }
+    {
+        self.values[l.variable() as usize] = value_of(l);
+        self.trail.push(l).unwrap();
+    }
+
+    /// Makes a literal true that is not false.
+    pub fn force(&mut self, l: Lit)
+        requires range { variable_of l ≤ self.old.vars }
+        requires consistent { has self.old.trues (negated l) ≡ false }
+        ensures trues { Alike (l ∷ self.old.trues) self.new.trues }
+        ensures vars { self.new.vars ≡ self.old.vars }
+    {
+        if !self.is_true(l) {
+            self.make_true(l);
+        }
+    }
+
+    /// No variable has a value any more. O(literals that are true).
+    pub fn clear(&mut self)
+        ensures trues { self.new.trues ≡ [] }
+        ensures vars { self.new.vars ≡ self.old.vars }
+    {
+        unassign(&mut self.values, &self.trail);
+        self.trail.clear();
+    }
+}
+
+/// The value that makes a literal true.
+fn value_of(l: Lit) -> Value
+    ensures { result ≡ value_of l }
+{
+    if l.number() > 0 {
+        Value::True
+    } else {
+        Value::False
+    }
+}
+
+/// Takes the values of these literals' variables away.
+fn unassign(values: &mut [Value], trail: &[Lit])
+    requires range { All (λ l. variable_of l < length values.old) trail.now }
+    requires agree { (l : Literal) → true_by values.old l ≡ true → has trail.now l ≡ true }
+    ensures { (l : Literal) → true_by values.new l ≡ false }
+{
+    for l in trail {
+        values[l.variable() as usize] = Value::Unassigned;
+    }
+}

@@ -1,0 +1,288 @@
+//! The checker.
+ghost use Rattle.std.specs.Prelude.{◌≡◌, ◌≢◌, ◌<◌, ◌^◌, [], ◌∷◌, Some, None, Err, IfOk, IfErr, OnErr, OnOk, MatchBool};
+ghost use Rattle.std.specs.List.{list_all};
+ghost use Rattle.lrat_model.specs.Literal.{has};
+ghost use Rattle.lrat_model.specs.Clauses.{with_clause, without};
+ghost use Rattle.lrat_model.specs.Steps.{step_of, step_fault, addition_fault, deletion_fault, after_step, progress_of, progress_at};
+ghost use Rattle.lrat_model.specs.declared.step.StepFault.TheVariants.{Memory};
+ghost use Rattle.lrat_checker.specs.Ranges.{IsInRange, AreInRange};
+ghost use Rattle.lrat_checker.specs.Covers.{Covers};
+ghost use Rattle.lrat_checker.specs.Checking.{IsAddition};
+
+use crate::assignment::Assignment;
+use crate::hint::lemma_fault;
+use clause_store::Store;
+use lrat_model::{Lit, Progress, Step, StepFault};
+use std::alloc::{AllocError, Global};
+use std::marker::Model;
+
+/// A checker of steps: the clauses that are held, by id, the last id, and the number of variables.
+#[derive(Drop)]
+pub struct Checker {
+    store: Store,
+    assignment: Assignment,
+}
+
+impl Model for Checker {
+    ghost use Rattle.lrat_checker.specs.Checking.{Checking};
+
+    ghost Value = { Checking };
+
+    ghost use Rattle.lrat_checker.specs.State.{shown, IsReady};
+
+    ghost view = { shown };
+
+    ghost invariant = { IsReady };
+}
+
+impl Checker {
+    /// A checker that holds the clauses of a store, among this many variables. Takes all the memory that
+    /// it ever needs, other than for the clauses that it adds: O(vars).
+    pub fn start(alloc: Global, store: Store, vars: u64) -> Result<Checker, AllocError>
+        requires small { vars < 2 ^ 31 }
+        requires range { AreInRange vars store.held }
+        ensures database { IfOk result (λ c. c.database ≡ store) }
+        ensures vars { IfOk result (λ c. c.vars ≡ vars) }
+    {
+        let assignment = Assignment::new(alloc, vars)?;
+        Ok(Checker { store, assignment })
+    }
+
+    /// The last id that was taken.
+    pub fn last(&self) -> u64
+        ensures { result ≡ self.now.database.last }
+    {
+        self.store.last()
+    }
+
+    /// Takes a step, or answers its first fault: of an addition its id, then its literals in order, then
+    /// its hints in order; of a deletion its ids in order. A checker that answered a fault is as it was.
+    /// Only an addition that has no fault takes memory.
+    ///
+    /// O(literals of the step and of the clauses that its hints name), and O(log n) for each id.
+    pub fn step(&mut self, step: &Step) -> Result<Progress, StepFault>
+        ensures taken { OnOk result (step_fault self.old.vars self.old.database (step_of step.now) ≡ None) }
+        ensures database { OnOk result (self.new.database ≡ after_step self.old.database (step_of step.now)) }
+        ensures progress { IfOk result (λ progress. progress ≡ progress_of (step_of step.now)) }
+        ensures refused { IfErr result (λ fault. fault ≢ Memory → step_fault self.old.vars self.old.database (step_of step.now) ≡ Some fault) }
+        ensures memory { result ≡ Err Memory → IsAddition (step_of step.now) × (step_fault self.old.vars self.old.database (step_of step.now) ≡ None) }
+        ensures unchanged { OnErr result (self.new ≡ self.old) }
+        ensures vars { self.new.vars ≡ self.old.vars }
+    {
+        match step {
+            Step::Add { id, lits, hints } => self.add(*id, lits, hints),
+            Step::Delete { id: _, ids } => self.delete(ids),
+        }
+    }
+
+    /// Holds a clause that is given, under an id above the last one. Where memory runs out the checker is
+    /// as it was.
+    pub fn give(&mut self, id: u64, lits: &[Lit]) -> Result<(), AllocError>
+        requires above { self.old.database.last < id }
+        requires range { IsInRange self.old.vars lits.now }
+        ensures held { OnOk result (self.new.database.held ≡ with_clause self.old.database.held id lits.now) }
+        ensures last { OnOk result (self.new.database.last ≡ id) }
+        ensures unchanged { OnErr result (self.new ≡ self.old) }
+        ensures vars { self.new.vars ≡ self.old.vars }
+    {
+        self.store.push(id, lits)
+    }
+
+    /// Whether a clause held under a smaller id is a subset of the list.
+    /// O(literals held under smaller ids x literals of the list).
+    pub fn covers(&self, id: u64, lits: &[Lit]) -> bool
+        ensures { MatchBool result (Covers self.now.database.held id lits.now) (¬ Covers self.now.database.held id lits.now) }
+    {
+        let mut above = 0;
+        while let Some((next, clause)) = self.store.first_above(above) {
+            if next >= id {
+                return false;
+            }
+            if is_subset(clause, lits) {
+                return true;
+            }
+            above = next;
+        }
+        false
+    }
+
+    fn add(&mut self, id: u64, lits: &[Lit], hints: &[i64]) -> Result<Progress, StepFault>
+        ensures taken { OnOk result (addition_fault self.old.vars self.old.database id lits.now hints.now ≡ None) }
+        ensures held { OnOk result (self.new.database.held ≡ with_clause self.old.database.held id lits.now) }
+        ensures last { OnOk result (self.new.database.last ≡ id) }
+        ensures progress { IfOk result (λ progress. progress ≡ progress_at lits.now) }
+        ensures refused { IfErr result (λ fault. fault ≢ Memory → addition_fault self.old.vars self.old.database id lits.now hints.now ≡ Some fault) }
+        ensures memory { result ≡ Err Memory → addition_fault self.old.vars self.old.database id lits.now hints.now ≡ None }
+        ensures unchanged { OnErr result (self.new ≡ self.old) }
+        ensures vars { self.new.vars ≡ self.old.vars }
+    {
+        let last = self.store.last();
+        if id <= last {
+            return Err(StepFault::IdOrder(last, id));
+        }
+        if let Some(fault) = lemma_fault(&self.store, &mut self.assignment, lits, hints) {
+            return Err(fault);
+        }
+        if self.store.push(id, lits).is_err() {
+            return Err(StepFault::Memory);
+        }
+        Ok(if lits.is_empty() {
+            Progress::Refuted
+        } else {
+            Progress::Going
+        })
+    }
+
+    fn delete(&mut self, ids: &[u64]) -> Result<Progress, StepFault>
+        ensures taken { OnOk result (deletion_fault self.old.database.held [] ids.now ≡ None) }
+        ensures held { OnOk result (self.new.database.held ≡ without self.old.database.held ids.now) }
+        ensures last { self.new.database.last ≡ self.old.database.last }
+        ensures progress { IfOk result (λ progress. progress ≡ Progress.Going) }
+        ensures refused { IfErr result (λ fault. deletion_fault self.old.database.held [] ids.now ≡ Some fault) }
+        ensures no_memory { result ≢ Err Memory }
+        ensures unchanged { OnErr result (self.new ≡ self.old) }
+        ensures vars { self.new.vars ≡ self.old.vars }
+    {
+        match self.store.remove_all(ids) {
+            Ok(()) => Ok(Progress::Going),
+            Err(id) => Err(StepFault::NoSuchClause(id)),
+        }
+    }
+}
+
+/// Whether the literal is in the list.
+fn has(literals: &[Lit], l: Lit) -> bool
+    ensures { result ≡ has literals.now l }
+{
+    literals.iter().any(|m| l.same(*m))
+}
+
+/// Whether each literal of the one is in the other.
+fn is_subset(small: &[Lit], large: &[Lit]) -> bool
+    ensures { result ≡ list_all (has large.now) small.now }
+{
+    small.iter().all(|l| has(large, *l))
+}
+
+#[cfg(test)]
+mod tests {
+    use super::*;
+    use std::test::Fail;
+
+    // The formula of two nodes that each need both: its 16 clauses, over 8 variables.
+    const FORMULA: [&[i32]; 16] = [
+        &[1, 2],
+        &[3, 4],
+        &[-1, -3],
+        &[-2, -4],
+        &[-5, 1],
+        &[-5, 2],
+        &[-1, 5],
+        &[-6, 1],
+        &[-6, 2],
+        &[-2, 6],
+        &[-7, 3],
+        &[-7, 4],
+        &[-3, 7],
+        &[-8, 3],
+        &[-8, 4],
+        &[-4, 8],
+    ];
+
+    fn lits(alloc: Global, numbers: &[i32]) -> Result<Vec<Lit>, AllocError> {
+        let mut lits = Vec::new(alloc);
+        for number in numbers {
+            if *number != 0 && *number != i32::MIN {
+                lits.push(Lit::of(*number))?;
+            }
+        }
+        Ok(lits)
+    }
+
+    fn addition(
+        alloc: Global,
+        id: u64,
+        numbers: &[i32],
+        hints: &[i64],
+    ) -> Result<Step, AllocError> {
+        Ok(Step::Add {
+            id,
+            lits: lits(alloc, numbers)?,
+            hints: Vec::from_slice(alloc, hints)?,
+        })
+    }
+
+    fn checker(alloc: Global) -> Result<Checker, AllocError> {
+        let mut checker = Checker::start(alloc, Store::new(alloc), 8)?;
+        for numbers in FORMULA {
+            let clause = lits(alloc, numbers)?;
+            let last = checker.last();
+            if last < 16 && clause.iter().all(|l| l.variable() <= 8) {
+                checker.give(last + 1, &clause)?;
+            }
+        }
+        Ok(checker)
+    }
+
+    fn shown(alloc: Global, answer: Result<Progress, StepFault>) -> Result<String, AllocError> {
+        match answer {
+            Ok(progress) => format!(in alloc; "{progress:?}"),
+            Err(fault) => format!(in alloc; "{fault}"),
+        }
+    }
+
+    // One checker takes these in turn: a fault leaves no literal true, and no id behind.
+    #[test]
+    fn steps_of_two_of_two(rt: HostRuntime) -> Result<(), Fail> {
+        let alloc = rt.alloc();
+        let mut checker = checker(alloc)?;
+        let cases: [(u64, &[i32], &[i64], &str); 12] = [
+            (16, &[-1], &[7, 6, 3, 4, 2], "id-order 16 16"),
+            (17, &[9, -9], &[], "bad-literal 9"),
+            (17, &[-1, 2, 1, 9], &[], "tautology 1"),
+            (17, &[-1], &[6, 7, 3, 4, 2], "not-unit 1"),
+            (17, &[-1], &[7, 1, 6, 3, 4, 2], "not-unit 2"),
+            (17, &[-1], &[7, -6, 3, 4, 2], "rat-step 2"),
+            (17, &[-1], &[7, 40, 3, 4, 2], "no-such-clause 40"),
+            (17, &[-1], &[7, 5, 6, 3, 4], "no-conflict"),
+            (17, &[], &[], "no-conflict"),
+            (17, &[-1], &[7, 6, 3, 4, 2], "Going"),
+            (19, &[-1, -1], &[17, -9], "Going"),
+            (20, &[], &[17, 1, 10, 8], "Refuted"),
+        ];
+        for (id, numbers, hints, want) in cases {
+            let step = addition(alloc, id, numbers, hints)?;
+            let answer = checker.step(&step);
+            assert_eq!(rt; shown(alloc, answer)?.as_str(), want, "{step:?}");
+        }
+        assert_eq!(rt; checker.last(), 20);
+        Ok(())
+    }
+
+    #[test]
+    fn deleted_and_covered(rt: HostRuntime) -> Result<(), Fail> {
+        let alloc = rt.alloc();
+        let mut checker = checker(alloc)?;
+        for (ids, want) in [
+            ([3, 17], "no-such-clause 17"),
+            ([7, 7], "no-such-clause 7"),
+            ([7, 3], "Going"),
+            ([4, 3], "no-such-clause 3"),
+        ] {
+            let step = Step::Delete {
+                id: 1,
+                ids: Vec::from_slice(alloc, &ids)?,
+            };
+            let answer = checker.step(&step);
+            assert_eq!(rt; shown(alloc, answer)?.as_str(), want, "{ids:?}");
+        }
+        let step = addition(alloc, 17, &[-1], &[7, 6, 3, 4, 2])?;
+        let answer = checker.step(&step);
+        assert_eq!(rt; shown(alloc, answer)?.as_str(), "no-such-clause 7");
+        let list = lits(alloc, &[-4, 5, -2, -3])?;
+        for (id, want) in [(4, false), (5, true), (17, true)] {
+            assert_eq!(rt; checker.covers(id, &list), want, "{id}");
+        }
+        Ok(())
+    }
+}

@@ -1,0 +1,9 @@
+//! A checker of LRAT proofs without RAT, step by step.
+#![tactic(auto)]
+
+mod assignment;
+mod checker;
+mod hint;
+
+pub use checker::Checker;
+pub use lrat_model::{Lit, Progress, Step, StepFault};

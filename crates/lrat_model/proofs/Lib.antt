@@ -1,0 +1,6 @@
+pub mod Literals
+pub mod Statuses
+pub mod Truth
+pub mod Runs
+pub mod News
+pub mod StatusFrom

@@ -1,0 +1,7 @@
+pub mod Literal
+pub mod Clauses
+pub mod Propagation
+pub mod Steps
+pub mod Runs
+pub mod Lemmas
+pub mod Entries

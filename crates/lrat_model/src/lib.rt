@@ -1,0 +1,37 @@
+//! Literals, clauses, the steps of an LRAT proof without RAT, and what they show.
+#![tactic(auto)]
+
+ghost use Rattle.std.specs.Prelude.{◌≡◌, ℕ, Bool, true, false, List, ℤ, Some, None, [], ◌∷◌, ◌++◌};
+ghost use Rattle.lrat_model.specs.Literal.{Literal, clause_true, formula_true};
+ghost use Rattle.lrat_model.specs.Clauses.{Held, Satisfies, IsUnsatisfiable};
+ghost use Rattle.lrat_model.specs.Propagation.{Follows};
+ghost use Rattle.lrat_model.specs.Steps.{Database, ProofStep, Addition, step_fault, progress_of};
+ghost use Rattle.lrat_model.specs.Runs.{Run, formula_database};
+ghost use Rattle.lrat_model.specs.Lemmas.{IsUseful, IsNew};
+ghost use Rattle.lrat_model.specs.declared.step.Progress.TheVariants.{Refuted};
+
+pub mod lit;
+pub mod plain;
+pub mod step;
+
+pub use lit::Lit;
+pub use step::{ClauseStatus, Progress, Step, StepFault};
+
+/// A clause that follows is true in each assignment in which all clauses held are true, and so is a
+/// lemma that is taken.
+pub fn a_taken_lemma_is_true()
+    ensures follows { (held : Held) (clause : List Literal) (hints : List ℤ) (v : ℕ → Bool) → Follows held clause hints → Satisfies v held → clause_true v clause ≡ true }
+    ensures taken { (vars : ℕ) (database : Database) (id : ℕ) (clause : List Literal) (hints : List ℤ) (v : ℕ → Bool) → step_fault vars database (Addition id clause hints) ≡ None → Satisfies v database.held → clause_true v clause ≡ true }
+{}
+
+/// Where a run of steps ends with the empty lemma, no assignment makes all clauses true that were
+/// held before it, deletions or not: it is false in each assignment that formula whose clauses they are.
+pub fn a_run_to_the_empty_lemma_refutes()
+    ensures held { (vars : ℕ) (old : Database) (steps : List ProofStep) (last : ProofStep) (new : Database) → Run vars old (steps ++ last ∷ []) new → progress_of last ≡ Refuted → IsUnsatisfiable old.held }
+    ensures formula { (vars : ℕ) (clauses : List (List Literal)) (steps : List ProofStep) (last : ProofStep) (new : Database) → Run vars (formula_database clauses) (steps ++ last ∷ []) new → progress_of last ≡ Refuted → (v : ℕ → Bool) → formula_true v clauses ≡ false }
+{}
+
+/// No clause held is a subset of a useful lemma.
+pub fn a_useful_lemma_is_new()
+    ensures { (held : Held) (clause : List Literal) → IsUseful held clause → IsNew held clause }
+{}

@@ -1,0 +1,27 @@
+// Which byte strings may be names.
+
+ghost use Rattle.std.specs.Prelude.{◌≡◌};
+ghost use Rattle.std.specs.List.{list_all};
+ghost use Rattle.fbas_model.specs.Names.{is_key, is_key_byte};
+
+fn is_key_byte(byte: u8) -> bool
+    ensures { result ≡ is_key_byte byte }
+{
+    0x21 <= byte && byte <= 0x7e && byte != b','
+}
+
+fn has_key_bytes(name: &[u8]) -> bool
+    ensures { result ≡ list_all is_key_byte name.now }
+{
+    name.iter().all(|byte| is_key_byte(*byte))
+}
+
+/// Whether the bytes may be the name of a node: 1 to 128 printable bytes with no space and no comma. O(1).
+pub fn is_key(name: &[u8]) -> bool
+    ensures { result ≡ is_key name.now }
+{
+    if name.is_empty() || name.len() > 128 {
+        return false;
+    }
+    has_key_bytes(name)
+}
