@@ -17,10 +17,12 @@ abbrev mutual
   pub names_in_set : NamedSet → List Name
   names_in_set (named_set threshold validators inners) = validators ++ names_in_sets inners
 
+  -- those of quorum sets, one after another
   pub names_in_sets : NamedSets → List Name
   names_in_sets no_sets = []
   names_in_sets (one_set s ss) = names_in_set s ++ names_in_sets ss
 
+-- those of a quorum set, or none
 abbrev pub names_if_any : Option NamedSet → List Name
 names_if_any None = []
 names_if_any (Some s) = names_in_set s
@@ -46,6 +48,7 @@ abbrev mutual
   pub numbered : List Name → NamedSet → QuorumSet
   numbered names (named_set threshold validators inners) = quorum_set threshold (nodes_then (map (number_of names) validators) (all_numbered names inners))
 
+  -- inner quorum sets as entries
   pub all_numbered : List Name → NamedSets → Entries
   all_numbered names no_sets = none
   all_numbered names (one_set s ss) = inner (numbered names s) (all_numbered names ss)
@@ -56,12 +59,15 @@ set_named nodes name = fold (λ found n. if bytes_eq n.key name then n.quorum_se
 
 -- ---- the system
 
+-- the names, and at the place of each the quorum set that is declared for it
 abbrev pub system_by : List Name → List NamedNode → System
 system_by names nodes = record { names = names; sets = map (λ name. option_map (numbered names) (set_named nodes name)) names }
 
+-- the system, if its quorum sets have at most 1,000,000 entries
 abbrev pub within_entries : System → Result System ConfigFault
 within_entries system = if nat_lt 1000000 (entries_in system.sets) then Err (TooManyEntries (entries_in system.sets)) else Ok system
 
+-- the system of the names, if they are at most 4,096
 abbrev pub within_nodes : List Name → List NamedNode → Result System ConfigFault
 within_nodes names nodes = if nat_lt 4096 (length names) then Err (TooManyNodes (length names)) else within_entries (system_by names nodes)
 

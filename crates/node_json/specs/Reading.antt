@@ -44,6 +44,7 @@ or_missing (Some (string s)) = Some (string s)
 or_missing (Some (array ds)) = Some (array ds)
 or_missing (Some (object ms)) = Some (object ms)
 
+-- whether it has members
 abbrev pub is_object : Data → Bool
 is_object d = is_some (as_object d)
 
@@ -103,11 +104,13 @@ unfoldable pub set_of : ℕ → ℕ → Data → Result NamedSet ConfigFault
 set_of i zero d = Err (TooDeep i)
 set_of i (suc levels) d = set_by (set_of i levels) i d
 
+-- how deep quorum sets may nest
 abbrev pub max_levels : ℕ
 max_levels = 16
 
 -- ---- nodes
 
+-- the quorum set of element i that the member is, or none where there is no member
 abbrev pub set_if_any : ℕ → Option Data → Result (Option NamedSet) ConfigFault
 set_if_any i None = Ok None
 set_if_any i (Some d) = after Some (set_of i max_levels d)
