@@ -68,7 +68,7 @@ pub fn read_all<D: Desk>(
 
 /// Puts all the bytes, in as many calls of `put` as the desk makes of them, at most one a byte.
 ///
-/// After an `Err` a proper prefix of them is out, which is less than all. Takes no memory.
+/// After an `Err` a proper prefix of them is out. Takes no memory.
 pub fn put_all<D: Desk>(desk: &mut D, to: To, bytes: &[u8]) -> Result<(), WriteFailed>
     ensures written { OnOk result (IsTrue D.tells →
         D.state desk.new ≡ written to bytes.now (D.state desk.old)) }
