@@ -6,4 +6,5 @@ mod checker;
 mod hint;
 
 pub use checker::Checker;
+pub use clause_store::Store;
 pub use lrat_model::{Lit, Progress, Step, StepFault};

@@ -24,8 +24,8 @@ pub fn a_taken_lemma_is_true()
     ensures taken { (vars : ℕ) (database : Database) (id : ℕ) (clause : List Literal) (hints : List ℤ) (v : ℕ → Bool) → step_fault vars database (Addition id clause hints) ≡ None → Satisfies v database.held → clause_true v clause ≡ true }
 {}
 
-/// Where a run of steps ends with the empty lemma, no assignment makes all clauses true that were
-/// held before it, deletions or not: it is false in each assignment that formula whose clauses they are.
+/// Where a run of steps ends with the empty lemma, no assignment makes all the clauses true that were held
+/// before it, whatever the run deleted. So a formula whose clauses these are is false in each assignment.
 pub fn a_run_to_the_empty_lemma_refutes()
     ensures held { (vars : ℕ) (old : Database) (steps : List ProofStep) (last : ProofStep) (new : Database) → Run vars old (steps ++ last ∷ []) new → progress_of last ≡ Refuted → IsUnsatisfiable old.held }
     ensures formula { (vars : ℕ) (clauses : List (List Literal)) (steps : List ProofStep) (last : ProofStep) (new : Database) → Run vars (formula_database clauses) (steps ++ last ∷ []) new → progress_of last ≡ Refuted → (v : ℕ → Bool) → formula_true v clauses ≡ false }
