@@ -1,2 +1,3 @@
 pub mod PassedOrTaken
 pub mod Sets
+pub mod Built

@@ -239,3 +239,6 @@ pub fn available(alloc: Global, sets: &[Option<QuorumSet>], b: &NodeSet) -> Resu
     rest.minus(b);
     Ok(rest.is_empty() || is_quorum(sets, &rest, &none))
 }
+
+#[cfg(test)]
+mod tests;
