@@ -47,7 +47,11 @@ fn refuse_words(alloc: Global, fault: OrderFault) -> Result<Reply, Stop>
     ensures memory { IfErr result (λ e. e ≡ Stop.Memory) }
 {
     match fault {
-        OrderFault::Words => reply_with(alloc, Status::Usage, "usage: quorum_cli COMMAND\nshow CONFIG\ngreatest CONFIG [COMMON]\navailable CONFIG --set NAMES\nblocks CONFIG --set NAMES [COMMON]\nvblocks CONFIG --node NAME --set NAMES\ncheck CONFIG CERT\nCOMMON: --from NAME --faulty NAMES --orgs ORGS --faulty-orgs IDS\n"),
+        OrderFault::Words => reply_with(
+            alloc,
+            Status::Usage,
+            "usage: quorum_cli COMMAND\nshow CONFIG\ngreatest CONFIG [COMMON]\navailable CONFIG --set NAMES\nblocks CONFIG --set NAMES [COMMON]\nvblocks CONFIG --node NAME --set NAMES\ncheck CONFIG CERT\nCOMMON: --from NAME --faulty NAMES --orgs ORGS --faulty-orgs IDS\n",
+        ),
         OrderFault::SamePath => reply_with(alloc, Status::Usage, "usage same-path\n"),
         OrderFault::Memory => Err(Stop::Memory),
     }
@@ -215,16 +219,16 @@ fn carry_out<D: Desk>(alloc: Global, order: &Order, desk: &mut D) -> Result<Outc
 {
     match read_file(alloc, desk, Which::Config, &order.config)? {
         Some(config) => over_config(alloc, order, &config, desk),
-        None => Ok(Outcome::Told(reply_with(
-            alloc,
-            Status::ConfigRefused,
-            "config too-long\n",
-        )?)),
+        None => Ok(Outcome::Told(reply_with(alloc, Status::ConfigRefused, "config too-long\n")?)),
     }
 }
 
 /// What comes of the words, which begin with the program's name.
-pub fn outcome_of_words<D: Desk>(alloc: Global, words: &[String], desk: &mut D) -> Result<Outcome, Stop>
+pub fn outcome_of_words<D: Desk>(
+    alloc: Global,
+    words: &[String],
+    desk: &mut D,
+) -> Result<Outcome, Stop>
     ensures outcome { IfOk result (λ o. IsTrue D.tells →
         outcome_of (words_of words.now) (D.state desk.old).files ≡ Some o) }
     ensures fits { IfOk result FitsOutcome }

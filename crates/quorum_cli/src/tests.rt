@@ -8,18 +8,17 @@ use std::alloc::{AllocError, Global};
 use std::test::Fail;
 
 /// Three nodes, of which each needs two of the three.
-const TWO_OF_THREE: &str = r#"[{"publicKey":"a","quorumSet":{"threshold":2,"validators":["a","b","c"]}},{"publicKey":"b","quorumSet":{"threshold":2,"validators":["a","b","c"]}},{"publicKey":"c","quorumSet":{"threshold":2,"validators":["a","b","c"]}}]"#;
+const TWO_OF_THREE: &str =
+    r#"[{"publicKey":"a","quorumSet":{"threshold":2,"validators":["a","b","c"]}},{"publicKey":"b","quorumSet":{"threshold":2,"validators":["a","b","c"]}},{"publicKey":"c","quorumSet":{"threshold":2,"validators":["a","b","c"]}}]"#;
 
 /// The first two lines of a certificate for them; the digest is that of `sha256sum`.
-const HEAD: &str = "fbas-cert 1\nconfig f823e204944abcff32c8dadffba2a0178a590a613358f9a6f271b651cd4e6fbb\n";
+const HEAD: &str =
+    "fbas-cert 1\nconfig f823e204944abcff32c8dadffba2a0178a590a613358f9a6f271b651cd4e6fbb\n";
 
-const USAGE: &str = "usage: quorum_cli COMMAND\ncheck CONFIG CERT\nCOMMON: --from NAME --faulty NAMES --orgs ORGS --faulty-orgs IDS\n";
+const USAGE: &str =
+    "usage: quorum_cli COMMAND\ncheck CONFIG CERT\nCOMMON: --from NAME --faulty NAMES --orgs ORGS --faulty-orgs IDS\n";
 
-fn files(
-    alloc: Global,
-    config: &[u8],
-    cert: &[u8],
-) -> Result<Vec<(String, Vec<u8>)>, AllocError> {
+fn files(alloc: Global, config: &[u8], cert: &[u8]) -> Result<Vec<(String, Vec<u8>)>, AllocError> {
     let mut files = Vec::new(alloc);
     files.push((
         String::from_str(alloc, "config")?,
@@ -62,7 +61,12 @@ fn ends(
 }
 
 fn checks(alloc: Global, config: &str, cert: &str) -> Result<(Status, Vec<u8>), AllocError> {
-    ends(alloc, "check config cert", config.as_bytes(), cert.as_bytes())
+    ends(
+        alloc,
+        "check config cert",
+        config.as_bytes(),
+        cert.as_bytes(),
+    )
 }
 
 // How `check` ends on two of three, for the lines of a certificate behind the digest.
@@ -216,7 +220,14 @@ fn words_that_are_no_order_and_missing_files_end_the_program(rt: HostRuntime) ->
         assert_eq!(rt; found, status, "at {line}");
         assert_eq!(rt; out.as_slice(), text.as_bytes(), "at {line}");
     }
-    let mut desk = MemDesk::new(alloc, Vec::new(alloc), Vec::new(alloc), 1, 1_000, Vec::new(alloc))?;
+    let mut desk = MemDesk::new(
+        alloc,
+        Vec::new(alloc),
+        Vec::new(alloc),
+        1,
+        1_000,
+        Vec::new(alloc),
+    )?;
     assert_eq!(rt; run(alloc, &[], &mut desk), Status::Usage);
     assert_eq!(rt; desk.out(), USAGE.as_bytes());
     Ok(())
@@ -249,7 +260,12 @@ fn a_failing_call_ends_the_program(rt: HostRuntime) -> Result<(), Fail> {
         (Call::Begin(Which::Cert), 1, Status::ReadFault, ""),
         (Call::Next(Which::Cert), 18, Status::ReadFault, ""),
         (Call::Put(desk_io::To::Out), 1, Status::WriteFault, ""),
-        (Call::Put(desk_io::To::Out), 3, Status::WriteFault, "accepted pair\nfr"),
+        (
+            Call::Put(desk_io::To::Out),
+            3,
+            Status::WriteFault,
+            "accepted pair\nfr",
+        ),
     ] {
         let (found, out) = fails(alloc, call, number)?;
         assert_eq!(rt; found, status, "at call {number}");

@@ -4,8 +4,8 @@ ghost use Rattle.report.specs.Lines.{numbered, worded, config_fault, config_refu
 
 use crate::words::{push_behind, push_number, push_word};
 use certificate_file::CertError;
-use node_json::{ConfigFault, SetFault};
 use name_set::{NameFault, Names};
+use node_json::{ConfigFault, SetFault};
 use std::alloc::{AllocError, Global};
 
 // A word and a number.
