@@ -1,5 +1,6 @@
 -- The printed names of the nodes from some node on.
-use Rattle.std.proofs.Common.{◌≡◌, ℕ, zero, suc, ◌+◌, ◌<◌, ◌≤◌, Bool, true, false, List, [], ◌∷◌, ◌++◌, length, drop, refl, ap, arith, Some, slice_get, slice_index_or}
+use Rattle.std.proofs.Common.{◌≡◌, ℕ, zero, suc, ◌+◌, ◌<◌, ◌≤◌, Bool, true, false, List, [], ◌∷◌, ◌++◌, length, drop, refl, sym, ◌∙◌, ap, arith, Some, slice_get, slice_index_or}
+use Rattle.std.proofs.lemmas.List.{append_assoc}
 use Rattle.fbas_model.specs.Names.{Name}
 use Rattle.fbas_model.specs.Nodes.{Table}
 use Rattle.report.specs.Lines.{listed}
@@ -21,3 +22,14 @@ listed-passed (n ∷ ns) (false ∷ ms) zero a b m = refl
 listed-passed (n ∷ ns) (t ∷ ms) (suc v) a b m =
     let e : suc v + 1 ≡ suc (v + 1) = omega arith in
     rw e (listed-passed ns ms v (omega arith) (omega arith) m)
+
+-- what was to come is printed, and the rest is to come
+pub grown : (text more rest left whole : List ℕ) → left ≡ more ++ rest → text ++ left ≡ whole → (text ++ more) ++ rest ≡ whole
+grown text more rest left whole e h = append_assoc text more rest ∙ (ap (λ (t : List ℕ). text ++ t) (sym e) ∙ h)
+
+pub drop_read : {X : Type 0} (xs : List X) (i : ℕ) (x : X) → slice_get xs i ≡ Some x → drop i xs ≡ x ∷ drop (i + 1) xs
+drop_read [] i x h = absurd cc
+drop_read (y ∷ ys) zero x h = let e : y ≡ x = cc in ap (λ z. z ∷ ys) e
+drop_read (y ∷ ys) (suc i) x h =
+    let e : suc i + 1 ≡ suc (i + 1) = omega arith in
+    rw e (drop_read ys i x h)

@@ -1,9 +1,11 @@
 -- The lines that the program prints.
-use Rattle.std.specs.Prelude.{ℕ, List, [], ◌∷◌, ◌++◌, length, true, false, Option, Some, None, unwrap_or, slice_get, codes, decimal}
+use Rattle.std.specs.Prelude.{ℕ, ◌+◌, List, [], ◌∷◌, ◌++◌, length, true, false, Option, Some, None, unwrap_or, slice_get, codes, decimal}
 use Rattle.hex.specs.Hex.{encode_lower}
 use Rattle.fbas_model.specs.Names.{Name}
 use Rattle.fbas_model.specs.Nodes.{Table}
 use Rattle.fbas_model.specs.Systems.{System, entries_in, unset_in}
+use Rattle.fbas_model.specs.Fbas.{Fbas}
+use Rattle.quorum_set.specs.Findings.{Found, bad_threshold, repeated, findings_of}
 use Rattle.name_set.specs.declared.lists.NameFault.{NameFault}
 use Rattle.name_set.specs.declared.lists.NameFault.TheVariants.{Empty, BadKey as BadName, Unknown, Memory as NoNames}
 use Rattle.node_json.specs.declared.faults.SetFault.{SetFault}
@@ -133,6 +135,34 @@ not_blocking names quorum = with_list (codes "blocks no\n") (codes "quorum") nam
 abbrev pub counts : System → Text
 counts f = line (numbered (codes "nodes") (length f.names)) ++ (line (numbered (codes "entries") (entries_in f.sets)) ++ line (numbered (codes "unset") (unset_in f.sets)))
 
+-- each number with a dot before it
+abbrev pub dotted : List ℕ → Text
+dotted [] = []
+dotted (i ∷ is) = (46 ∷ decimal i) ++ dotted is
+
+-- the path of a quorum set: a dot alone for that of the node itself
+abbrev pub path_of : List ℕ → Text
+path_of [] = codes "."
+path_of (i ∷ is) = dotted (i ∷ is)
+
+-- what is found, the node and the path
+abbrev pub finding_head : Text → List Name → ℕ → List ℕ → Text
+finding_head word names v path = worded (worded word (name_at names v)) (path_of path)
+
+abbrev pub finding_line : List Name → ℕ → Found → Text
+finding_line names v (bad_threshold path threshold entries) = line (numbered (numbered (finding_head (codes "threshold") names v path) threshold) entries)
+finding_line names v (repeated path w) = line (worded (finding_head (codes "repeated") names v path) (name_at names w))
+
+abbrev pub finding_lines : List Name → ℕ → List Found → Text
+finding_lines names v [] = []
+finding_lines names v (f ∷ fs) = finding_line names v f ++ finding_lines names v fs
+
+-- what is found in these quorum sets, of which the first is that of node v
+abbrev pub found_lines : List Name → ℕ → Fbas → Text
+found_lines names v [] = []
+found_lines names v (None ∷ sets) = found_lines names (v + 1) sets
+found_lines names v (Some q ∷ sets) = finding_lines names v (findings_of q) ++ found_lines names (v + 1) sets
+
 -- the answer to `show`
 abbrev pub shown : System → Text
-shown f = counts f
+shown f = counts f ++ found_lines f.names 0 f.sets

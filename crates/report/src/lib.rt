@@ -1,8 +1,10 @@
 // The lines that the program prints.
 #![tactic(auto)]
 
+mod findings;
 mod refusals;
 mod words;
 
+pub use findings::shown;
 pub use refusals::{cert_refused, config_refused, names_refused};
-pub use words::{accepted, shown, with_list};
+pub use words::{accepted, with_list};

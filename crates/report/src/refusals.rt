@@ -1,8 +1,8 @@
 // Why a file is refused.
 ghost use Rattle.std.specs.Prelude.{◌≡◌, ◌<◌, ◌++◌, ◌∷◌, [], length, OnOk, IfOk};
-ghost use Rattle.report.specs.Lines.{numbered, worded, config_fault, config_refused as spec_config_refused, cert_fault, cert_refused as spec_cert_refused, name_at as spec_name_at, names_fault, names_refused as spec_names_refused, set_fault};
+ghost use Rattle.report.specs.Lines.{numbered, worded, config_fault, config_refused as spec_config_refused, cert_fault, cert_refused as spec_cert_refused, names_fault, names_refused as spec_names_refused, set_fault};
 
-use crate::words::{push_behind, push_number, push_word};
+use crate::words::{name_at, push_behind, push_number};
 use certificate_file::CertError;
 use name_set::{NameFault, Names};
 use node_json::{ConfigFault, SetFault};
@@ -69,17 +69,6 @@ fn digests(alloc: Global, found: &[u8; 32], wanted: &[u8; 32]) -> Result<Vec<u8>
     push_behind(&mut text, digest_text::digits(found).as_slice())?;
     push_behind(&mut text, digest_text::digits(wanted).as_slice())?;
     Ok(text)
-}
-
-// The name at a place, or nothing where there is no such place.
-fn name_at(names: &Names, node: u32) -> &[u8]
-    ensures { result.now ≡ spec_name_at names.now node }
-{
-    if node < names.len() {
-        names.name(node)
-    } else {
-        &[]
-    }
 }
 
 fn overlap(alloc: Global, names: &Names, line: u64, node: u32) -> Result<Vec<u8>, AllocError>

@@ -1,11 +1,11 @@
 // Words, numbers and names, one behind another.
 ghost use Rattle.std.specs.Prelude.{◌≡◌, ◌<◌, ◌++◌, ◌∷◌, [], length, decimal, codes, OnOk, IfOk};
-ghost use Rattle.report.specs.Lines.{numbered, worded, list, listed, line, accepted as spec_accepted, accepted_kind, with_list as spec_with_list, counts as spec_counts, shown as spec_shown};
+ghost use Rattle.report.specs.Lines.{numbered, worded, list, listed, line, accepted as spec_accepted, accepted_kind, with_list as spec_with_list, counts as spec_counts, name_at as spec_name_at};
 
 use certificate_file::{Accepted, Answer};
 use fbas_core::System;
 use itoa::Buffer;
-use name_set::NodeSet;
+use name_set::{Names, NodeSet};
 use std::alloc::{AllocError, Global};
 
 // Adds a word.
@@ -23,12 +23,31 @@ pub fn push_behind(text: &mut Vec<u8>, bytes: &[u8]) -> Result<(), AllocError>
     text.extend_from_slice(bytes)
 }
 
+// Adds a number.
+pub fn push_decimal(text: &mut Vec<u8>, number: u64) -> Result<(), AllocError>
+    ensures { OnOk result (text.new.items ≡ text.old.items ++ decimal number) }
+{
+    let mut buffer = Buffer::new();
+    text.extend_from_slice(buffer.format(number).as_bytes())
+}
+
 // Adds a space and a number.
 pub fn push_number(text: &mut Vec<u8>, number: u64) -> Result<(), AllocError>
     ensures { OnOk result (text.new.items ≡ numbered text.old.items number) }
 {
-    let mut buffer = Buffer::new();
-    push_behind(text, buffer.format(number).as_bytes())
+    text.push(b' ')?;
+    push_decimal(text, number)
+}
+
+// The name at a place, or nothing where there is no such place.
+pub fn name_at(names: &Names, node: u32) -> &[u8]
+    ensures { result.now ≡ spec_name_at names.now node }
+{
+    if node < names.len() {
+        names.name(node)
+    } else {
+        &[]
+    }
 }
 
 // Adds each name of the set, with a space before it.
@@ -104,7 +123,7 @@ fn push_count(text: &mut Vec<u8>, word: &str, number: u64) -> Result<(), AllocEr
 }
 
 // How many nodes a system has, how many entries of quorum sets, and how many nodes without a quorum set.
-fn counts(alloc: Global, system: &System) -> Result<Vec<u8>, AllocError>
+pub fn counts(alloc: Global, system: &System) -> Result<Vec<u8>, AllocError>
     ensures { IfOk result (λ text. text.items ≡ spec_counts system.now) }
 {
     let mut text = Vec::new(alloc);
@@ -112,11 +131,4 @@ fn counts(alloc: Global, system: &System) -> Result<Vec<u8>, AllocError>
     push_count(&mut text, "entries", system.entries())?;
     push_count(&mut text, "unset", system.unset())?;
     Ok(text)
-}
-
-/// The answer to `show`.
-pub fn shown(alloc: Global, system: &System) -> Result<Vec<u8>, AllocError>
-    ensures { IfOk result (λ text. text.items ≡ spec_shown system.now) }
-{
-    counts(alloc, system)
 }
