@@ -54,10 +54,6 @@ sets_by-one one done s d ds e = rw e (after_one (sets_by one ds))
     after_one (Ok more) = ap Ok (sym (sets_before-one done s more))
     after_one (Err e) = refl
 
-pub sets_by-fault : (one : Data → Result spec.NamedSet ConfigFault) (done : List NamedSet) (d : Data) (ds : Items) (e : ConfigFault) → one d ≡ Err e
-    → after (sets_before done) (sets_by one (item d ds)) ≡ Err e
-sets_by-fault one done d ds e h = rw h refl
-
 -- a step of the loop over the sets, and its end
 pub sets_loop : (one : Data → Result spec.NamedSet ConfigFault) (all : Result spec.NamedSets ConfigFault) (done more : List NamedSet) (s : NamedSet) (xs : List Value) (i : ℕ) (v : Value) → i < length xs → v ≡ get_or xs i v
     → one (view v) ≡ Ok (set_view s) → more ≡ done ++ s ∷ [] → all ≡ after (sets_before done) (sets_by one (items_view (drop i xs))) → all ≡ after (sets_before more) (sets_by one (items_view (drop (i + 1) xs)))

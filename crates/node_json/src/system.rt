@@ -95,8 +95,8 @@ fn no_sets(alloc: Global, names: &Names) -> Result<Vec<Option<QuorumSet>>, Alloc
     Ok(sets)
 }
 
-// The entries of a quorum set at all depths, unless they are too many for a number of 64 bits: no file that fits in
-// memory has so many.
+// The entries of a quorum set at all depths, or none where they are too many for 64 bits. No file that fits in memory has
+// so many, so that counts as want of memory.
 fn entries(set: &QuorumSet) -> Option<u64>
     ensures { IfSome result (λ n. n ≡ all_entries set.now) }
 {
@@ -131,6 +131,7 @@ fn system(alloc: Global, nodes: &[NamedNode]) -> Result<System, ConfigFault>
     if n > MAX_NODES {
         return Err(ConfigFault::TooManyNodes(n as u64));
     }
+    // At most 4,096 names come so far, so that numbers of 32 bits suffice.
     let names = owned_names(alloc, found)?;
     let sets = placed_sets(alloc, &names, nodes)?;
     let entries = count_entries(&sets).ok_or(ConfigFault::Memory)?;
