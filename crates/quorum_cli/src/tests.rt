@@ -15,8 +15,26 @@ const TWO_OF_THREE: &str =
 const HEAD: &str =
     "fbas-cert 1\nconfig f823e204944abcff32c8dadffba2a0178a590a613358f9a6f271b651cd4e6fbb\n";
 
+/// Node a needs two of b, which stands twice, and node b needs itself.
+const REPEATED: &str =
+    r#"[{"publicKey":"a","quorumSet":{"threshold":2,"validators":["b","b"]}},{"publicKey":"b","quorumSet":{"threshold":1,"validators":["b"]}}]"#;
+
+/// Node x needs node y, which is not declared.
+const UNDECLARED: &str = r#"[{"publicKey":"x","quorumSet":{"threshold":1,"validators":["y"]}}]"#;
+
+/// A node that needs one inner quorum set, whose threshold is 0.
+const ZERO_INSIDE: &str =
+    r#"[{"publicKey":"a","quorumSet":{"threshold":1,"validators":[],"innerQuorumSets":[{"threshold":0,"validators":["a"]}]}}]"#;
+
+const LARGE_THRESHOLD: &str =
+    r#"[{"publicKey":"a","latitude":1.25,"quorumSet":{"threshold":9007199254740991,"validators":[]}}]"#;
+
+/// Three organisations of three nodes: each node needs two of the organisations, by two of their nodes.
+const ORGANISATIONS: &str =
+    r#"[{"publicKey":"p1","quorumSet":{"threshold":2,"validators":[],"innerQuorumSets":[{"threshold":2,"validators":["p1","p2","p3"]},{"threshold":2,"validators":["q1","q2","q3"]},{"threshold":2,"validators":["r1","r2","r3"]}]}},{"publicKey":"p2","quorumSet":{"threshold":2,"validators":[],"innerQuorumSets":[{"threshold":2,"validators":["p1","p2","p3"]},{"threshold":2,"validators":["q1","q2","q3"]},{"threshold":2,"validators":["r1","r2","r3"]}]}},{"publicKey":"p3","quorumSet":{"threshold":2,"validators":[],"innerQuorumSets":[{"threshold":2,"validators":["p1","p2","p3"]},{"threshold":2,"validators":["q1","q2","q3"]},{"threshold":2,"validators":["r1","r2","r3"]}]}},{"publicKey":"q1","quorumSet":{"threshold":2,"validators":[],"innerQuorumSets":[{"threshold":2,"validators":["p1","p2","p3"]},{"threshold":2,"validators":["q1","q2","q3"]},{"threshold":2,"validators":["r1","r2","r3"]}]}},{"publicKey":"q2","quorumSet":{"threshold":2,"validators":[],"innerQuorumSets":[{"threshold":2,"validators":["p1","p2","p3"]},{"threshold":2,"validators":["q1","q2","q3"]},{"threshold":2,"validators":["r1","r2","r3"]}]}},{"publicKey":"q3","quorumSet":{"threshold":2,"validators":[],"innerQuorumSets":[{"threshold":2,"validators":["p1","p2","p3"]},{"threshold":2,"validators":["q1","q2","q3"]},{"threshold":2,"validators":["r1","r2","r3"]}]}},{"publicKey":"r1","quorumSet":{"threshold":2,"validators":[],"innerQuorumSets":[{"threshold":2,"validators":["p1","p2","p3"]},{"threshold":2,"validators":["q1","q2","q3"]},{"threshold":2,"validators":["r1","r2","r3"]}]}},{"publicKey":"r2","quorumSet":{"threshold":2,"validators":[],"innerQuorumSets":[{"threshold":2,"validators":["p1","p2","p3"]},{"threshold":2,"validators":["q1","q2","q3"]},{"threshold":2,"validators":["r1","r2","r3"]}]}},{"publicKey":"r3","quorumSet":{"threshold":2,"validators":[],"innerQuorumSets":[{"threshold":2,"validators":["p1","p2","p3"]},{"threshold":2,"validators":["q1","q2","q3"]},{"threshold":2,"validators":["r1","r2","r3"]}]}}]"#;
+
 const USAGE: &str =
-    "usage: quorum_cli COMMAND\ncheck CONFIG CERT\nCOMMON: --from NAME --faulty NAMES --orgs ORGS --faulty-orgs IDS\n";
+    "usage: quorum_cli COMMAND\nshow CONFIG\ngreatest CONFIG [COMMON]\navailable CONFIG --set NAMES\nblocks CONFIG --set NAMES [COMMON]\nvblocks CONFIG --node NAME --set NAMES\ncheck CONFIG CERT\nCOMMON: --from NAME --faulty NAMES --orgs ORGS --faulty-orgs IDS\n";
 
 fn files(alloc: Global, config: &[u8], cert: &[u8]) -> Result<Vec<(String, Vec<u8>)>, AllocError> {
     let mut files = Vec::new(alloc);
@@ -270,6 +288,132 @@ fn a_failing_call_ends_the_program(rt: HostRuntime) -> Result<(), Fail> {
         let (found, out) = fails(alloc, call, number)?;
         assert_eq!(rt; found, status, "at call {number}");
         assert_eq!(rt; out.as_slice(), text.as_bytes(), "at call {number}");
+    }
+    Ok(())
+}
+
+#[test]
+fn plain_questions_are_answered(rt: HostRuntime) -> Result<(), Fail> {
+    let alloc = rt.alloc();
+    for (config, line, status, text) in [
+        (
+            ZERO_INSIDE,
+            "show config",
+            Status::Yes,
+            "nodes 1\nentries 2\nunset 0\nthreshold a .0 0 1\n",
+        ),
+        (ZERO_INSIDE, "greatest config", Status::Yes, "greatest\n"),
+        (
+            LARGE_THRESHOLD,
+            "show config",
+            Status::Yes,
+            "nodes 1\nentries 0\nunset 0\nthreshold a . 9007199254740991 0\n",
+        ),
+        (
+            REPEATED,
+            "show config",
+            Status::Yes,
+            "nodes 2\nentries 3\nunset 0\nrepeated a . b\n",
+        ),
+        (REPEATED, "greatest config", Status::Yes, "greatest a b\n"),
+        (
+            UNDECLARED,
+            "show config",
+            Status::Yes,
+            "nodes 2\nentries 1\nunset 1\n",
+        ),
+        (
+            UNDECLARED,
+            "greatest config --faulty y",
+            Status::Yes,
+            "greatest x\n",
+        ),
+        (
+            UNDECLARED,
+            "available config --set y",
+            Status::No,
+            "available no\nunmet x\n",
+        ),
+        (
+            "[]",
+            "available config --set=",
+            Status::Yes,
+            "available yes\n",
+        ),
+        (
+            ORGANISATIONS,
+            "blocks config --set p1,p2,q1",
+            Status::No,
+            "blocks no\nquorum p3 q2 q3 r1 r2 r3\n",
+        ),
+        (
+            ORGANISATIONS,
+            "blocks config --set=p1,p2,q1,q2",
+            Status::Yes,
+            "blocks yes\n",
+        ),
+    ] {
+        let (found, out) = ends(alloc, line, config.as_bytes(), b"")?;
+        assert_eq!(rt; found, status, "at {line}");
+        assert_eq!(rt; out.as_slice(), text.as_bytes(), "at {line}");
+    }
+    Ok(())
+}
+
+#[test]
+fn names_on_the_command_line_are_read_to_their_first_fault(rt: HostRuntime) -> Result<(), Fail> {
+    let alloc = rt.alloc();
+    for (line, status, text) in [
+        (
+            "vblocks config --node a --set b,c",
+            Status::Yes,
+            "vblocks yes\n",
+        ),
+        (
+            "vblocks config --node a --set b",
+            Status::No,
+            "vblocks no\n",
+        ),
+        (
+            "vblocks config --node a --set a,a",
+            Status::Yes,
+            "vblocks yes\n",
+        ),
+        ("greatest config --faulty a", Status::Yes, "greatest b c\n"),
+        (
+            "blocks config --set a,,b",
+            Status::Usage,
+            "usage empty-name --set 2\n",
+        ),
+        (
+            "blocks config --set a,z",
+            Status::Usage,
+            "usage unknown-name --set 2\n",
+        ),
+        (
+            "blocks config --set a,z,",
+            Status::Usage,
+            "usage unknown-name --set 2\n",
+        ),
+        (
+            "blocks config --set z --faulty a,\u{7f}",
+            Status::Usage,
+            "usage bad-name --faulty 2\n",
+        ),
+        (
+            "vblocks config --node a,b --set z",
+            Status::Usage,
+            "usage bad-name --node 1\n",
+        ),
+        (
+            "vblocks config --node= --set z",
+            Status::Usage,
+            "usage empty-name --node 1\n",
+        ),
+    ] {
+        let (found, out) = ends(alloc, line, TWO_OF_THREE.as_bytes(), b"")?;
+        assert_eq!(rt; found, status, "at {line}");
+        assert_eq!(rt; out.as_slice(), text.as_bytes(), "at {line}");
     }
     Ok(())
 }
