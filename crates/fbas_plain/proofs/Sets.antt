@@ -1,10 +1,10 @@
 -- Trying every set of nodes, node by node, and what is left of a system.
-use Rattle.std.proofs.Common.{◌≡◌, ℕ, ◌+◌, ◌<◌, ◌≤◌, ◌⊎◌, ◌↔◌, Bool, true, false, not, ◌&&◌, ◌||◌, ◌==◌, IsTrue, nat_lt, length, inl, inr, refl, sym, ◌∙◌, ap, subst, arith, eqb}
-use Rattle.std.proofs.lemmas.Bool.{cases_Bool, cases_lt, and_parts, and_from, false_from_ne_true, false≢true, both_ways, ltb-true, lt-ltb, eq-eqb, eqb-true, not-true, not_from_false}
+use Rattle.std.proofs.Common.{◌≡◌, ℕ, ◌+◌, ◌<◌, ◌≤◌, ◌↔◌, Bool, true, false, not, ◌&&◌, ◌||◌, ◌==◌, IsTrue, nat_lt, length, inl, inr, refl, sym, ◌∙◌, ap, subst, arith}
+use Rattle.std.proofs.lemmas.Bool.{cases_Bool, cases_lt, and_parts, and_from, false_from_ne_true, false≢true, both_ways, ltb-true, eq-eqb, eqb-true, not-true, not_from_false}
 use Rattle.std.proofs.lemmas.List.{get_or_past}
 use borrow.Author.Count.{below_more}
 use mathlib.Core.Path.{fun_ext}
-use Rattle.fbas_model.specs.Nodes.{Nodes, Table, members, ◌∈◌, ◌⊆◌, ∅, only, ◌∪◌, ◌∖◌, IsInhabited}
+use Rattle.fbas_model.specs.Nodes.{Nodes, Table, members, ◌∈◌, ∅, only, ◌∪◌, ◌∖◌, IsInhabited}
 use Rattle.fbas_model.specs.Fbas.{Fbas, all_nodes, Quorum, Available}
 use Rattle.fbas_plain.specs.Plain.{AgreeBelow}
 

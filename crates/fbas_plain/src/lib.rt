@@ -164,51 +164,51 @@ pub fn meets_quorums(
     Ok(meets_each_from(sets, s, faulty, 0, &mut u))
 }
 
-/// Whether `u`, if it is a quorum, meets every quorum. `scratch` is overwritten.
+/// Whether `first`, if it is a quorum, meets every quorum. `second` is overwritten.
 fn meets_all_if_quorum(
     sets: &[Option<QuorumSet>],
     faulty: &NodeSet,
-    u: &NodeSet,
-    scratch: &mut NodeSet,
+    first: &NodeSet,
+    second: &mut NodeSet,
 ) -> bool
     requires formed { IsWellFormed sets.now }
-    requires same_n { length u.now ≡ length sets.now }
-    requires same_scratch { length scratch.old ≡ length sets.now }
+    requires same_n { length first.now ≡ length sets.now }
+    requires same_second { length second.old ≡ length sets.now }
     requires same_faulty { length faulty.now ≡ length sets.now }
-    ensures same_scratch { length scratch.new ≡ length scratch.old }
-    ensures meets { IsTrue result ↔ (Quorum sets.now (members faulty.now) (members u.now) → MeetsQuorums sets.now (members faulty.now) (members u.now)) }
+    ensures same_second { length second.new ≡ length second.old }
+    ensures meets { IsTrue result ↔ (Quorum sets.now (members faulty.now) (members first.now) → MeetsQuorums sets.now (members faulty.now) (members first.now)) }
 {
-    !is_quorum(sets, u, faulty) || meets_each_from(sets, u, faulty, 0, scratch)
+    !is_quorum(sets, first, faulty) || meets_each_from(sets, first, faulty, 0, second)
 }
 
-/// Whether each quorum whose nodes below `v` are those of `u` meets every quorum. Each node from `v` on is left out, and
-/// put in. `scratch` is overwritten.
+/// Whether each quorum whose nodes below `v` are those of `first` meets every quorum. Each node from `v` on is left out, and
+/// put in. `second` is overwritten.
 fn all_meet_from(
     sets: &[Option<QuorumSet>],
     faulty: &NodeSet,
     v: u32,
-    u: &mut NodeSet,
-    scratch: &mut NodeSet,
+    first: &mut NodeSet,
+    second: &mut NodeSet,
 ) -> bool
     requires formed { IsWellFormed sets.now }
-    requires same_n { length u.old ≡ length sets.now }
-    requires same_scratch { length scratch.old ≡ length sets.now }
+    requires same_n { length first.old ≡ length sets.now }
+    requires same_second { length second.old ≡ length sets.now }
     requires same_faulty { length faulty.now ≡ length sets.now }
     requires node { v ≤ length sets.now }
-    ensures same_n { length u.new ≡ length u.old }
-    ensures same_scratch { length scratch.new ≡ length scratch.old }
-    ensures kept { AgreeBelow v (members u.old) (members u.new) }
-    ensures meet { IsTrue result ↔ ((w : Nodes) → AgreeBelow v (members u.old) w → Quorum sets.now (members faulty.now) w → MeetsQuorums sets.now (members faulty.now) w) }
+    ensures same_n { length first.new ≡ length first.old }
+    ensures same_second { length second.new ≡ length second.old }
+    ensures kept { AgreeBelow v (members first.old) (members first.new) }
+    ensures meet { IsTrue result ↔ ((w : Nodes) → AgreeBelow v (members first.old) w → Quorum sets.now (members faulty.now) w → MeetsQuorums sets.now (members faulty.now) w) }
 {
     if v as usize == sets.len() {
-        return meets_all_if_quorum(sets, faulty, u, scratch);
+        return meets_all_if_quorum(sets, faulty, first, second);
     }
-    u.take(v);
-    if !all_meet_from(sets, faulty, v + 1, u, scratch) {
+    first.take(v);
+    if !all_meet_from(sets, faulty, v + 1, first, second) {
         return false;
     }
-    u.put(v);
-    all_meet_from(sets, faulty, v + 1, u, scratch)
+    first.put(v);
+    all_meet_from(sets, faulty, v + 1, first, second)
 }
 
 /// Whether every two quorums share a node once the faulty nodes are deleted. Every pair of sets of nodes is tried: O(4^n)
@@ -222,9 +222,9 @@ pub fn intersects(
     requires same_faulty { length faulty.now ≡ length sets.now }
     ensures { IfOk result (λ b. IsTrue b ↔ Intersects sets.now (members faulty.now)) }
 {
-    let mut u = NodeSet::new(alloc, sets.len() as u32)?;
-    let mut scratch = NodeSet::new(alloc, sets.len() as u32)?;
-    Ok(all_meet_from(sets, faulty, 0, &mut u, &mut scratch))
+    let mut first = NodeSet::new(alloc, sets.len() as u32)?;
+    let mut second = NodeSet::new(alloc, sets.len() as u32)?;
+    Ok(all_meet_from(sets, faulty, 0, &mut first, &mut second))
 }
 
 /// Whether no node is outside `b`, or the nodes outside `b` are a quorum of the whole system. Costs what `is_quorum` does.

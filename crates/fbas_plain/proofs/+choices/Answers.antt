@@ -1,4 +1,4 @@
-use Rattle.std.proofs.Common.{◌≡◌, ◌-◌, ◌<◌, true, false, sym, ◌∙◌, arith}
+use Rattle.std.proofs.Common.{◌<◌, sym, ◌∙◌, arith}
 use Rattle.std.proofs.lemmas.Bool.{both_ways, ltb-true}
 use Rattle.fbas_model.specs.Nodes.{members, ◌∈◌, ◌∪◌}
 use Rattle.fbas_model.specs.QuorumSets.{HasChoiceWithin}

@@ -1,5 +1,3 @@
-use Rattle.std.proofs.Common.{◌≡◌, sym, ◌∙◌, false, refl}
-use Rattle.std.proofs.lemmas.Bool.{not-true}
 use Rattle.fbas_model.specs.Nodes.{Nodes, members, Meets}
 use Rattle.fbas_model.specs.Fbas.{Quorum}
 use Rattle.fbas_plain.proofs.Sets.{all_chosen, failed_without, agree_through, agree_without, agree_less, kept_through, tried_both}

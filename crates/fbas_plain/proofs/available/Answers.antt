@@ -1,4 +1,4 @@
-use Rattle.std.proofs.Common.{◌≡◌, length, sym, ◌∙◌}
+use Rattle.std.proofs.Common.{◌≡◌, length, ◌∙◌}
 use Rattle.std.proofs.lemmas.Bool.{MatchBool-at_true, MatchBool-at_false}
 use Rattle.fbas_model.specs.Nodes.{members, ∅, IsInhabited}
 use Rattle.fbas_plain.proofs.Sets.{rest_is, available_none, available_iff}

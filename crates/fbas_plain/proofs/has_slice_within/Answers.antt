@@ -1,4 +1,4 @@
-use Rattle.std.proofs.Common.{◌≡◌, sym, ◌∙◌, ap, Some}
+use Rattle.std.proofs.Common.{sym, ◌∙◌, ap, Some}
 use Rattle.std.proofs.lemmas.Bool.{false≢true}
 use Rattle.fbas_model.specs.Nodes.{members}
 use Rattle.fbas_model.proofs.Slices.{no_slice, slice_iff, at_place}
