@@ -1,0 +1,51 @@
+#!/usr/bin/env python3
+"""Times the program on generated configurations: bench/run.py [FOLDER]. Needs jq, and the program built by ./quorum_cli.
+
+Each row is the least wall time of five runs, with the largest memory; beside reading, the time of `jq -c length` on the
+same file in the same run.
+"""
+import os
+import resource
+import subprocess
+import sys
+import time
+
+TOP = os.path.dirname(os.path.dirname(os.path.abspath(__file__)))
+PROGRAM = os.path.join(TOP, "crates", "quorum_cli", "out", "quorum_cli")
+
+
+def least(words):
+    best = None
+    for _ in range(5):
+        start = time.monotonic()
+        subprocess.run(words, stdout=subprocess.DEVNULL, check=False)
+        took = time.monotonic() - start
+        best = took if best is None else min(best, took)
+    return best
+
+
+def first_name(path):
+    out = subprocess.run(["jq", "-r", ".[0].publicKey", path], stdout=subprocess.PIPE, check=True)
+    return out.stdout.decode().strip()
+
+
+def main():
+    folder = sys.argv[1] if len(sys.argv) > 1 else "/tmp/gemzulat-bench"
+    subprocess.run([os.path.join(TOP, "bench", "configurations.py"), folder], check=True)
+    print("| file | bytes | show | jq -c length | greatest | blocks | available |")
+    print("|---|---|---|---|---|---|---|")
+    for name in ["half", "whole", "long-keys", "chain-up", "chain-down"]:
+        path = os.path.join(folder, name + ".json")
+        node = first_name(path)
+        rows = [
+            least([PROGRAM, "show", path]),
+            least(["jq", "-c", "length", path]),
+            least([PROGRAM, "greatest", path]),
+            least([PROGRAM, "blocks", path, "--set", node]),
+            least([PROGRAM, "available", path, "--set", node]),
+        ]
+        print("| %s | %d | %s |" % (name, os.path.getsize(path), " | ".join("%.3f s" % r for r in rows)))
+    print("largest memory of a child: %d MB" % (resource.getrusage(resource.RUSAGE_CHILDREN).ru_maxrss // 1024))
+
+
+main()
