@@ -32,8 +32,8 @@ def first_name(path):
 def main():
     folder = sys.argv[1] if len(sys.argv) > 1 else "/tmp/gemzulat-bench"
     subprocess.run([os.path.join(TOP, "bench", "configurations.py"), folder], check=True)
-    print("| file | bytes | show | jq -c length | greatest | blocks | available |")
-    print("|---|---|---|---|---|---|---|")
+    print("| file | bytes | show | jq -c length | greatest | blocks | available | vblocks |")
+    print("|---|---|---|---|---|---|---|---|")
     for name in ["half", "whole", "long-keys", "chain-up", "chain-down"]:
         path = os.path.join(folder, name + ".json")
         node = first_name(path)
@@ -43,6 +43,7 @@ def main():
             least([PROGRAM, "greatest", path]),
             least([PROGRAM, "blocks", path, "--set", node]),
             least([PROGRAM, "available", path, "--set", node]),
+            least([PROGRAM, "vblocks", path, "--node", node, "--set", node]),
         ]
         print("| %s | %d | %s |" % (name, os.path.getsize(path), " | ".join("%.3f s" % r for r in rows)))
     print("largest memory of a child: %d MB" % (resource.getrusage(resource.RUSAGE_CHILDREN).ru_maxrss // 1024))
