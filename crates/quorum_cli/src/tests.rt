@@ -54,7 +54,9 @@ fn words(alloc: Global, line: &str) -> Result<Vec<String>, AllocError> {
     let mut words = Vec::new(alloc);
     words.push(String::from_str(alloc, "quorum_cli")?)?;
     for word in line.split(' ') {
-        words.push(String::from_str(alloc, word)?)?;
+        if !word.is_empty() {
+            words.push(String::from_str(alloc, word)?)?;
+        }
     }
     Ok(words)
 }
