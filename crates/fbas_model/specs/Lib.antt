@@ -6,3 +6,4 @@ pub mod QuorumSets
 pub mod Fbas
 pub mod Counting
 pub mod Systems
+pub mod Restriction
