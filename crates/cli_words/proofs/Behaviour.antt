@@ -4,7 +4,7 @@ use Rattle.clap.specs.Words.{Text}
 use Rattle.cli_words.proofs.OnLiterals.{words_on_literals}
 use Rattle.cli_words.specs.Order.{Ordered, nothing_for}
 use Rattle.cli_words.specs.Words.{order_of}
-use Rattle.cli_words.specs.declared.orders.Command.TheVariants.{Show, Greatest, Available, Blocks, Vblocks, Check}
+use Rattle.cli_words.specs.declared.orders.Command.TheVariants.{Show, Closure, Greatest, Available, Blocks, Vblocks, Check}
 use Rattle.cli_words.specs.declared.orders.OrderFault.{OrderFault}
 use Rattle.cli_words.specs.declared.orders.OrderFault.TheVariants.{Words, SamePath}
 
@@ -33,6 +33,10 @@ show : typed (codes "show f") ≡ Ok (record (nothing_for Show) { config = codes
 unfolding words_on_literals
 show = refl
 
+closure : typed (codes "closure f --node a") ≡ Ok (record (nothing_for Closure) { config = codes "f"; node = Some (codes "a") })
+unfolding words_on_literals
+closure = refl
+
 greatest : typed (codes "greatest f") ≡ Ok (record (nothing_for Greatest) { config = codes "f" })
 unfolding words_on_literals
 greatest = refl
@@ -41,9 +45,18 @@ greatest_faulty : typed (codes "greatest f --faulty a,b") ≡ Ok (record (nothin
 unfolding words_on_literals
 greatest_faulty = refl
 
+greatest_common : typed (codes "greatest f --from a --faulty b --orgs o --faulty-orgs c,d")
+    ≡ Ok (record (nothing_for Greatest) { config = codes "f"; orgs = Some (codes "o"); from = Some (codes "a"); faulty = Some (codes "b"); faulty_orgs = Some (codes "c,d") })
+unfolding words_on_literals
+greatest_common = refl
+
 available : typed (codes "available f --set a") ≡ Ok (record (nothing_for Available) { config = codes "f"; set = Some (codes "a") })
 unfolding words_on_literals
 available = refl
+
+available_from : typed (codes "available f --from a --set b") ≡ Ok (record (nothing_for Available) { config = codes "f"; from = Some (codes "a"); set = Some (codes "b") })
+unfolding words_on_literals
+available_from = refl
 
 blocks : typed (codes "blocks f --set a") ≡ Ok (record (nothing_for Blocks) { config = codes "f"; set = Some (codes "a") })
 unfolding words_on_literals
@@ -52,6 +65,11 @@ blocks = refl
 blocks_faulty : typed (codes "blocks f --set a --faulty b") ≡ Ok (record (nothing_for Blocks) { config = codes "f"; faulty = Some (codes "b"); set = Some (codes "a") })
 unfolding words_on_literals
 blocks_faulty = refl
+
+blocks_common : typed (codes "blocks f --set a --from b --orgs=o --faulty-orgs=")
+    ≡ Ok (record (nothing_for Blocks) { config = codes "f"; orgs = Some (codes "o"); from = Some (codes "b"); faulty_orgs = Some []; set = Some (codes "a") })
+unfolding words_on_literals
+blocks_common = refl
 
 vblocks : typed (codes "vblocks f --node v --set a") ≡ Ok (record (nothing_for Vblocks) { config = codes "f"; node = Some (codes "v"); set = Some (codes "a") })
 unfolding words_on_literals
@@ -105,7 +123,15 @@ option_of_another_command : typed (codes "available f --set a --faulty b") ≡ E
 unfolding words_on_literals
 option_of_another_command = refl
 
-unknown_option : typed (codes "greatest f --from a") ≡ Err Words
+from_of_check : typed (codes "check f c --from a") ≡ Err Words
+unfolding words_on_literals
+from_of_check = refl
+
+closure_needs_a_node : typed (codes "closure f") ≡ Err Words
+unfolding words_on_literals
+closure_needs_a_node = refl
+
+unknown_option : typed (codes "greatest f --quorum a") ≡ Err Words
 unfolding words_on_literals
 unknown_option = refl
 

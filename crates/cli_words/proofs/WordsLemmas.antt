@@ -1,6 +1,6 @@
 -- Each stage of the reading of a command's words.
-use Rattle.std.proofs.Common.{◌≡◌, List, [], ◌∷◌, true, false, Ok, Err, inl, inr, refl, rules}
-use Rattle.clap.specs.Words.{App, Row, Text, kind_of, matches_of, is_simple_and_free}
+use Rattle.std.proofs.Common.{◌≡◌, ◌∙◌, ap, List, [], ◌∷◌, true, false, Ok, Err, inl, inr, refl, rules}
+use Rattle.clap.specs.Words.{App, Row, Rule, Text, kind_of, matches_of, is_simple_and_free, with_rule}
 use Rattle.clap.specs.Walk.{is_empty}
 use Rattle.clap.specs.Kinds.{Kinds, HasKind}
 use Rattle.clap.specs.declared.error.Error.{Error}
@@ -8,7 +8,7 @@ use Rattle.clap.specs.declared.error.kind.ErrorKind.TheVariants.{OutOfMemory}
 use Rattle.cli_words.specs.Order.{Ordered, has_same_path}
 use Rattle.cli_words.specs.Words.{app_for, is_taken, order_by, order_in, path_checked}
 use Rattle.cli_words.specs.declared.orders.Command.{Command}
-use Rattle.cli_words.specs.declared.orders.Command.TheVariants.{Show, Greatest, Available, Blocks, Vblocks, Check}
+use Rattle.cli_words.specs.declared.orders.Command.TheVariants.{Show, Closure, Greatest, Available, Blocks, Vblocks, Check}
 use Rattle.cli_words.specs.declared.orders.OrderFault.TheVariants.{Words, SamePath}
 
 -- an error that is not of memory comes only where a kind does
@@ -21,6 +21,7 @@ is_empty-refused (k ∷ ks) e h other = search rules
 pub is_stated : (k : Command) (app : App) → app ≡ app_for k → is_simple_and_free app ≡ true
 unfolding app_for
 is_stated Show app e = rw e refl
+is_stated Closure app e = rw e refl
 is_stated Greatest app e = rw e refl
 is_stated Available app e = rw e refl
 is_stated Blocks app e = rw e refl
@@ -47,3 +48,7 @@ unfolding order_by
 order_by-refused k words app a t =
     let refused : is_taken (app_for k) words ≡ false = rw (← a) t in
     rw refused refl
+
+-- an app that grows by one rule
+pub rule_added : {new old app : App} {rule wanted : Rule} → new ≡ with_rule old rule → rule ≡ wanted → old ≡ app → new ≡ with_rule app wanted
+rule_added {wanted} n r o = n ∙ (ap (with_rule _) r ∙ ap (λ a. with_rule a wanted) o)

@@ -1,5 +1,5 @@
 -- The order that a command line gives.
-use Rattle.std.specs.Prelude.{ℕ, List, [], Bool, true, false, ◌&&◌, Option, None, option_map, string_bytes}
+use Rattle.std.specs.Prelude.{ℕ, List, [], Bool, true, false, ◌&&◌, ◌||◌, Option, Some, None, option_map, string_bytes}
 use Rattle.std.specs.Str.{bytes_eq}
 use Rattle.cli_words.specs.declared.orders.Command.{Command}
 use Rattle.cli_words.specs.declared.orders.Command.TheVariants.{Check}
@@ -10,8 +10,11 @@ pub record Ordered : Type 0 where
   pub command : Command
   pub config : List ℕ
   pub cert : List ℕ
+  pub orgs : Option (List ℕ)
   pub node : Option (List ℕ)
+  pub from : Option (List ℕ)
   pub faulty : Option (List ℕ)
+  pub faulty_orgs : Option (List ℕ)
   pub set : Option (List ℕ)
 
 -- the order that a Rust value is
@@ -20,20 +23,38 @@ order_view o = record {
   command = o.command;
   config = string_bytes o.config;
   cert = string_bytes o.cert;
+  orgs = option_map string_bytes o.orgs;
   node = option_map string_bytes o.node;
+  from = option_map string_bytes o.from;
   faulty = option_map string_bytes o.faulty;
+  faulty_orgs = option_map string_bytes o.faulty_orgs;
   set = option_map string_bytes o.set;
 }
 
 -- the command without any text
 abbrev pub nothing_for : Command → Ordered
-nothing_for command = record { command = command; config = []; cert = []; node = None; faulty = None; set = None }
+nothing_for command = record {
+  command = command;
+  config = [];
+  cert = [];
+  orgs = None;
+  node = None;
+  from = None;
+  faulty = None;
+  faulty_orgs = None;
+  set = None;
+}
 
--- the commands with both a configuration and a certificate
-abbrev pub has_both_paths : Command → Bool
-has_both_paths Check = true
-has_both_paths command = false
+-- the commands with a certificate, which all have a configuration too
+abbrev pub has_certificate : Command → Bool
+has_certificate Check = true
+has_certificate command = false
 
--- one path stands for both the configuration and the certificate
+-- whether the path, where there is one, is this one
+abbrev pub is_path : Option (List ℕ) → List ℕ → Bool
+is_path None path = false
+is_path (Some given) path = bytes_eq given path
+
+-- one path stands for both the certificate and the configuration, or the organisations
 abbrev pub has_same_path : Ordered → Bool
-has_same_path o = has_both_paths o.command && bytes_eq o.config o.cert
+has_same_path o = has_certificate o.command && (bytes_eq o.config o.cert || is_path o.orgs o.cert)

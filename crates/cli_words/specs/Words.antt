@@ -1,12 +1,12 @@
 -- Which words are taken, and the order that they give. Options, positionals and their refusals are those that clap states.
 use Rattle.std.specs.Prelude.{List, [], ◌∷◌, Bool, true, Option, Some, None, unwrap_or, Result, Ok, Err, codes, if◌then◌else◌}
 use Rattle.std.specs.Str.{bytes_eq}
-use Rattle.clap.specs.Words.{App, Row, Rule, Text, fault_of, first_of, matches_of, new_rule}
+use Rattle.clap.specs.Words.{App, Row, Rule, Text, fault_of, first_of, matches_of, new_rule, with_rule}
 use Rattle.clap.specs.Walk.{is_empty}
 use Rattle.clap.specs.Simple.{new_shape}
 use Rattle.cli_words.specs.Order.{Ordered, nothing_for, has_same_path}
 use Rattle.cli_words.specs.declared.orders.Command.{Command}
-use Rattle.cli_words.specs.declared.orders.Command.TheVariants.{Show, Greatest, Available, Blocks, Vblocks, Check}
+use Rattle.cli_words.specs.declared.orders.Command.TheVariants.{Show, Closure, Greatest, Available, Blocks, Vblocks, Check}
 use Rattle.cli_words.specs.declared.orders.OrderFault.{OrderFault}
 use Rattle.cli_words.specs.declared.orders.OrderFault.TheVariants.{Words, SamePath}
 
@@ -24,6 +24,15 @@ needed id = record (new_rule id) { long = Some id; required = true }
 abbrev pub optional : Text → Rule
 optional id = record (new_rule id) { long = Some id }
 
+-- the app with these arguments behind its own
+abbrev pub with_rules : App → List Rule → App
+with_rules app [] = app
+with_rules app (rule ∷ rules) = with_rules (with_rule app rule) rules
+
+-- the options that ask about a part of the system, and that name faulty nodes
+abbrev pub common_options : List Rule
+common_options = optional (codes "from") ∷ optional (codes "faulty") ∷ optional (codes "orgs") ∷ optional (codes "faulty-orgs") ∷ []
+
 -- an app of this name and these arguments
 abbrev pub app_with : Text → List Rule → App
 app_with name rules = record { top = record (new_shape name) { rules = rules }; subs = [] }
@@ -31,9 +40,10 @@ app_with name rules = record { top = record (new_shape name) { rules = rules }; 
 -- the arguments of a command, as clap reads them
 unfoldable pub app_for : Command → App
 app_for Show = app_with (codes "show") (positional (codes "config") ∷ [])
-app_for Greatest = app_with (codes "greatest") (positional (codes "config") ∷ optional (codes "faulty") ∷ [])
-app_for Available = app_with (codes "available") (positional (codes "config") ∷ needed (codes "set") ∷ [])
-app_for Blocks = app_with (codes "blocks") (positional (codes "config") ∷ needed (codes "set") ∷ optional (codes "faulty") ∷ [])
+app_for Closure = app_with (codes "closure") (positional (codes "config") ∷ needed (codes "node") ∷ [])
+app_for Greatest = app_with (codes "greatest") (positional (codes "config") ∷ common_options)
+app_for Available = app_with (codes "available") (positional (codes "config") ∷ needed (codes "set") ∷ optional (codes "from") ∷ [])
+app_for Blocks = app_with (codes "blocks") (positional (codes "config") ∷ needed (codes "set") ∷ common_options)
 app_for Vblocks = app_with (codes "vblocks") (positional (codes "config") ∷ needed (codes "node") ∷ needed (codes "set") ∷ [])
 app_for Check = app_with (codes "check") (positional (codes "config") ∷ positional (codes "cert") ∷ [])
 
@@ -47,16 +57,27 @@ is_taken app words = is_empty (fault_of app words)
 abbrev pub text_of : Text → List Row → Text
 text_of id rows = unwrap_or (first_of id rows) []
 
+-- the texts of the common options
+abbrev pub common_in : Command → List Row → Ordered
+common_in command rows = record (nothing_for command) {
+  config = text_of (codes "config") rows;
+  orgs = first_of (codes "orgs") rows;
+  from = first_of (codes "from") rows;
+  faulty = first_of (codes "faulty") rows;
+  faulty_orgs = first_of (codes "faulty-orgs") rows;
+}
+
 -- the texts that a command reads
 abbrev pub order_in : Command → List Row → Ordered
 order_in Show rows = record (nothing_for Show) { config = text_of (codes "config") rows }
-order_in Greatest rows = record (nothing_for Greatest) { config = text_of (codes "config") rows; faulty = first_of (codes "faulty") rows }
-order_in Available rows = record (nothing_for Available) { config = text_of (codes "config") rows; set = first_of (codes "set") rows }
-order_in Blocks rows = record (nothing_for Blocks) {
+order_in Closure rows = record (nothing_for Closure) { config = text_of (codes "config") rows; node = first_of (codes "node") rows }
+order_in Greatest rows = common_in Greatest rows
+order_in Available rows = record (nothing_for Available) {
   config = text_of (codes "config") rows;
-  faulty = first_of (codes "faulty") rows;
+  from = first_of (codes "from") rows;
   set = first_of (codes "set") rows;
 }
+order_in Blocks rows = record (common_in Blocks rows) { set = first_of (codes "set") rows }
 order_in Vblocks rows = record (nothing_for Vblocks) {
   config = text_of (codes "config") rows;
   node = first_of (codes "node") rows;
@@ -77,11 +98,12 @@ order_by command words = if is_taken (app_for command) words then path_checked (
 -- the command of a name
 abbrev pub command_named : Text → Option Command
 command_named name = if bytes_eq name (codes "show") then Some Show
+    else (if bytes_eq name (codes "closure") then Some Closure
     else (if bytes_eq name (codes "greatest") then Some Greatest
     else (if bytes_eq name (codes "available") then Some Available
     else (if bytes_eq name (codes "blocks") then Some Blocks
     else (if bytes_eq name (codes "vblocks") then Some Vblocks
-    else (if bytes_eq name (codes "check") then Some Check else None)))))
+    else (if bytes_eq name (codes "check") then Some Check else None))))))
 
 -- the order of a command, if there is one
 abbrev pub order_if_any : Option Command → List Text → Result Ordered OrderFault

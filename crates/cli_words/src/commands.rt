@@ -1,7 +1,7 @@
 // What clap reads for each command, and the order that its matches give.
 ghost use Rattle.std.specs.Prelude.{◌≡◌, ◌≢◌, ◌⊎◌, true, false, map, IfOk, IfErr, codes, string_bytes, option_map};
 ghost use Rattle.clap.specs.Words.{kind_of, app_of, rule_of, found_of, rows_of, matches_of, is_simple_and_free, first_of};
-ghost use Rattle.cli_words.specs.Words.{positional as positional_rule, needed as needed_rule, optional as optional_rule, app_for, is_taken, text_of, order_in};
+ghost use Rattle.cli_words.specs.Words.{positional as positional_rule, needed as needed_rule, optional as optional_rule, app_for, with_rules, common_options, common_in, is_taken, text_of, order_in};
 ghost use Rattle.cli_words.specs.Order.{order_view, nothing_for};
 
 use crate::orders::{Command, Order, OrderFault};
@@ -30,12 +30,28 @@ fn optional<'a>(alloc: Global, id: &'a str) -> Arg<'a>
     Arg::new(alloc, id).long(id)
 }
 
+// The command with the options that ask about a part of the system and that name faulty nodes.
+fn with_common<'a>(
+    alloc: Global,
+    command: clap::Command<'a>,
+) -> Result<clap::Command<'a>, AllocError>
+    ensures { IfOk result (λ c. app_of c ≡ with_rules (app_of command.entry) common_options) }
+{
+    let command = command
+        .arg(optional(alloc, "from"))?
+        .arg(optional(alloc, "faulty"))?
+        .arg(optional(alloc, "orgs"))?
+        .arg(optional(alloc, "faulty-orgs"))?;
+    Ok(command)
+}
+
 // The arguments that the command takes.
 pub fn arguments_of<'a>(alloc: Global, command: Command) -> Result<clap::Command<'a>, AllocError>
     ensures { IfOk result (λ c. app_of c ≡ app_for command) }
 {
     match command {
         Command::Show => show_arguments(alloc),
+        Command::Closure => closure_arguments(alloc),
         Command::Greatest => greatest_arguments(alloc),
         Command::Available => available_arguments(alloc),
         Command::Blocks => blocks_arguments(alloc),
@@ -52,12 +68,20 @@ fn show_arguments<'a>(alloc: Global) -> Result<clap::Command<'a>, AllocError>
 }
 
 #[tactic(auto, unfolding(crate::specs::Words::app_for))]
+fn closure_arguments<'a>(alloc: Global) -> Result<clap::Command<'a>, AllocError>
+    ensures { IfOk result (λ c. app_of c ≡ app_for Command.Closure) }
+{
+    clap::Command::new(alloc, "closure")
+        .arg(positional(alloc, "config"))?
+        .arg(needed(alloc, "node"))
+}
+
+#[tactic(auto, unfolding(crate::specs::Words::app_for))]
 fn greatest_arguments<'a>(alloc: Global) -> Result<clap::Command<'a>, AllocError>
     ensures { IfOk result (λ c. app_of c ≡ app_for Command.Greatest) }
 {
-    clap::Command::new(alloc, "greatest")
-        .arg(positional(alloc, "config"))?
-        .arg(optional(alloc, "faulty"))
+    let command = clap::Command::new(alloc, "greatest").arg(positional(alloc, "config"))?;
+    with_common(alloc, command)
 }
 
 #[tactic(auto, unfolding(crate::specs::Words::app_for))]
@@ -66,17 +90,18 @@ fn available_arguments<'a>(alloc: Global) -> Result<clap::Command<'a>, AllocErro
 {
     clap::Command::new(alloc, "available")
         .arg(positional(alloc, "config"))?
-        .arg(needed(alloc, "set"))
+        .arg(needed(alloc, "set"))?
+        .arg(optional(alloc, "from"))
 }
 
 #[tactic(auto, unfolding(crate::specs::Words::app_for))]
 fn blocks_arguments<'a>(alloc: Global) -> Result<clap::Command<'a>, AllocError>
     ensures { IfOk result (λ c. app_of c ≡ app_for Command.Blocks) }
 {
-    clap::Command::new(alloc, "blocks")
+    let command = clap::Command::new(alloc, "blocks")
         .arg(positional(alloc, "config"))?
-        .arg(needed(alloc, "set"))?
-        .arg(optional(alloc, "faulty"))
+        .arg(needed(alloc, "set"))?;
+    with_common(alloc, command)
 }
 
 #[tactic(auto, unfolding(crate::specs::Words::app_for))]
@@ -165,8 +190,11 @@ fn nothing(alloc: Global, command: Command) -> Order
         command,
         config: String::new(alloc),
         cert: String::new(alloc),
+        orgs: None,
         node: None,
+        from: None,
         faulty: None,
+        faulty_orgs: None,
         set: None,
     }
 }
@@ -181,7 +209,8 @@ pub fn order_from(
 {
     match command {
         Command::Show => show_order(alloc, matches),
-        Command::Greatest => greatest_order(alloc, matches),
+        Command::Closure => closure_order(alloc, matches),
+        Command::Greatest => common_order(alloc, Command::Greatest, matches),
         Command::Available => available_order(alloc, matches),
         Command::Blocks => blocks_order(alloc, matches),
         Command::Vblocks => vblocks_order(alloc, matches),
@@ -199,14 +228,32 @@ fn show_order(alloc: Global, matches: &ArgMatches<'_>) -> Result<Order, AllocErr
     })
 }
 
-fn greatest_order(alloc: Global, matches: &ArgMatches<'_>) -> Result<Order, AllocError>
+fn closure_order(alloc: Global, matches: &ArgMatches<'_>) -> Result<Order, AllocError>
     ensures { IfOk result (λ o. order_view o
-        ≡ order_in Command.Greatest (rows_of (found_of matches.now))) }
+        ≡ order_in Command.Closure (rows_of (found_of matches.now))) }
 {
     Ok(Order {
         config: text(alloc, matches, "config")?,
+        node: text_if_any(alloc, matches, "node")?,
+        ..nothing(alloc, Command::Closure)
+    })
+}
+
+// The configuration and the options that ask about a part of the system and that name faulty nodes.
+fn common_order(
+    alloc: Global,
+    command: Command,
+    matches: &ArgMatches<'_>,
+) -> Result<Order, AllocError>
+    ensures { IfOk result (λ o. order_view o ≡ common_in command (rows_of (found_of matches.now))) }
+{
+    Ok(Order {
+        config: text(alloc, matches, "config")?,
+        orgs: text_if_any(alloc, matches, "orgs")?,
+        from: text_if_any(alloc, matches, "from")?,
         faulty: text_if_any(alloc, matches, "faulty")?,
-        ..nothing(alloc, Command::Greatest)
+        faulty_orgs: text_if_any(alloc, matches, "faulty-orgs")?,
+        ..nothing(alloc, command)
     })
 }
 
@@ -216,6 +263,7 @@ fn available_order(alloc: Global, matches: &ArgMatches<'_>) -> Result<Order, All
 {
     Ok(Order {
         config: text(alloc, matches, "config")?,
+        from: text_if_any(alloc, matches, "from")?,
         set: text_if_any(alloc, matches, "set")?,
         ..nothing(alloc, Command::Available)
     })
@@ -226,10 +274,8 @@ fn blocks_order(alloc: Global, matches: &ArgMatches<'_>) -> Result<Order, AllocE
         ≡ order_in Command.Blocks (rows_of (found_of matches.now))) }
 {
     Ok(Order {
-        config: text(alloc, matches, "config")?,
-        faulty: text_if_any(alloc, matches, "faulty")?,
         set: text_if_any(alloc, matches, "set")?,
-        ..nothing(alloc, Command::Blocks)
+        ..common_order(alloc, Command::Blocks, matches)?
     })
 }
 

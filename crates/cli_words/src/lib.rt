@@ -1,9 +1,9 @@
 // The words of the command line, read to an order.
 #![tactic(auto)]
 
-ghost use Rattle.std.specs.Prelude.{◌≡◌, ◌⊎◌, map, Ok, Err, IfOk, IfErr, string_bytes};
+ghost use Rattle.std.specs.Prelude.{◌≡◌, ◌⊎◌, map, Ok, Err, IfOk, IfErr, string_bytes, option_map};
 ghost use Rattle.cli_words.specs.Words.{order_by, order_of, command_named as spec_command_named};
-ghost use Rattle.cli_words.specs.Order.{order_view, has_same_path as spec_has_same_path};
+ghost use Rattle.cli_words.specs.Order.{order_view, has_same_path as spec_has_same_path, has_certificate as spec_has_certificate, is_path as spec_is_path};
 
 mod commands;
 mod orders;
@@ -16,7 +16,7 @@ use std::alloc::Global;
 /// request for help is no order. No names are read here: a list of names stays a text.
 ///
 /// `Words` comes where the words are not those of a command, `SamePath` where they are and the path of the
-/// certificate equals that of the configuration as text. O(n) in the total length n of the words.
+/// certificate equals that of the configuration or of the organisations as text. O(n) in the total length n of the words.
 pub fn order(alloc: Global, words: &[String]) -> Result<Order, OrderFault>
     ensures ok { IfOk result (λ o. order_of (map string_bytes words.now) ≡ Ok (order_view o)) }
     ensures err { IfErr result (λ e. (e ≡ OrderFault.Memory)
@@ -39,6 +39,9 @@ fn command_named(name: &str) -> Option<Command>
 {
     if name == "show" {
         return Some(Command::Show);
+    }
+    if name == "closure" {
+        return Some(Command::Closure);
     }
     if name == "greatest" {
         return Some(Command::Greatest);
@@ -77,7 +80,23 @@ fn command_order(alloc: Global, command: Command, words: &[String]) -> Result<Or
 fn has_same_path(order: &Order) -> bool
     ensures { result ≡ spec_has_same_path (order_view order.now) }
 {
-    matches!(order.command, Command::Check) && order.config == order.cert
+    has_certificate(order.command)
+        && (order.config == order.cert || is_path(&order.orgs, &order.cert))
+}
+
+fn has_certificate(command: Command) -> bool
+    ensures { result ≡ spec_has_certificate command }
+{
+    matches!(command, Command::Check)
+}
+
+fn is_path(given: &Option<String>, path: &String) -> bool
+    ensures { result ≡ spec_is_path (option_map string_bytes given.now) (string_bytes path.now) }
+{
+    match given {
+        Some(given) => *given == *path,
+        None => false,
+    }
 }
 
 #[cfg(test)]
@@ -99,7 +118,15 @@ mod tests {
     fn takes_each_command(rt: HostRuntime) {
         for (line, command, config, cert, node, faulty, set) in [
             ("show f", Command::Show, "f", "", None, None, None),
-            ("greatest f", Command::Greatest, "f", "", None, None, None),
+            (
+                "closure f --node v",
+                Command::Closure,
+                "f",
+                "",
+                Some("v"),
+                None,
+                None,
+            ),
             (
                 "greatest f --faulty a,b",
                 Command::Greatest,
@@ -159,6 +186,32 @@ mod tests {
     }
 
     #[test]
+    fn takes_the_common_options(rt: HostRuntime) {
+        for (line, from, orgs, faulty_orgs) in [
+            ("greatest f", None, None, None),
+            (
+                "greatest f --from a --orgs o --faulty-orgs c,d",
+                Some("a"),
+                Some("o"),
+                Some("c,d"),
+            ),
+            ("available f --from a --set b", Some("a"), None, None),
+            (
+                "blocks --faulty-orgs= --set b --orgs o f",
+                None,
+                Some("o"),
+                Some(""),
+            ),
+        ] {
+            let words = words_of(rt.alloc(), line).expect(&rt, "words");
+            let order = order(rt.alloc(), words.as_slice()).expect(&rt, line);
+            assert_eq!(rt; order.from.as_deref(), from, "at {line}");
+            assert_eq!(rt; order.orgs.as_deref(), orgs, "at {line}");
+            assert_eq!(rt; order.faulty_orgs.as_deref(), faulty_orgs, "at {line}");
+        }
+    }
+
+    #[test]
     fn refuses_other_words(rt: HostRuntime) {
         for (line, fault) in [
             ("", OrderFault::Words),
@@ -168,6 +221,8 @@ mod tests {
             ("blocks f --set -x", OrderFault::Words),
             ("blocks f --set a --set a", OrderFault::Words),
             ("available f --set a --faulty b", OrderFault::Words),
+            ("closure f", OrderFault::Words),
+            ("check f c --from a", OrderFault::Words),
             ("intersect f c", OrderFault::Words),
         ] {
             let words = words_of(rt.alloc(), line).expect(&rt, "words");

@@ -5,15 +5,19 @@ use std::alloc::AllocError;
 use thiserror::Error;
 
 /// What the program is to do, by the command's name and arguments.
+///
+/// `COMMON` stands for `--from NAME --faulty NAMES --orgs ORGS --faulty-orgs IDS`, each of which may be left out.
 #[derive(Clone, Copy, Debug, PartialEq, Eq)]
 pub enum Command {
     /// `show CONFIG`
     Show,
-    /// `greatest CONFIG [--faulty NAMES]`
+    /// `closure CONFIG --node NAME`
+    Closure,
+    /// `greatest CONFIG [COMMON]`
     Greatest,
-    /// `available CONFIG --set NAMES`
+    /// `available CONFIG --set NAMES [--from NAME]`
     Available,
-    /// `blocks CONFIG --set NAMES [--faulty NAMES]`
+    /// `blocks CONFIG --set NAMES [COMMON]`
     Blocks,
     /// `vblocks CONFIG --node NAME --set NAMES`
     Vblocks,
@@ -27,8 +31,9 @@ pub enum OrderFault {
     /// The words are not those of a command.
     #[error("the words are not those of a command")]
     Words,
-    /// The words are taken, and the path of the certificate equals that of the configuration as text.
-    #[error("the certificate has the path of the configuration")]
+    /// The words are taken, and the path of the certificate equals that of the configuration or of the organisations as
+    /// text.
+    #[error("the certificate has the path of another file")]
     SamePath,
     /// Memory is wanting.
     #[error("out of memory")]
@@ -43,10 +48,16 @@ pub struct Order {
     pub config: String,
     /// The path of the certificate, empty where the command has none.
     pub cert: String,
+    /// The path of the organisations, which `--orgs` gives.
+    pub orgs: Option<String>,
     /// The name that `--node` gives.
     pub node: Option<String>,
+    /// The name that `--from` gives.
+    pub from: Option<String>,
     /// The list of names that `--faulty` gives.
     pub faulty: Option<String>,
+    /// The list of ids that `--faulty-orgs` gives.
+    pub faulty_orgs: Option<String>,
     /// The list of names that `--set` gives.
     pub set: Option<String>,
 }
