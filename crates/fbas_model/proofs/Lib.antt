@@ -5,3 +5,4 @@ pub mod Sizes
 pub mod Unions
 pub mod Mentioned
 pub mod Tables
+pub mod Kept
