@@ -6,3 +6,5 @@ pub mod Unions
 pub mod Mentioned
 pub mod Tables
 pub mod Kept
+pub mod Renumbered
+pub mod RestrictionLaw
