@@ -8,3 +8,4 @@ pub mod Tables
 pub mod Kept
 pub mod Renumbered
 pub mod RestrictionLaw
+pub mod Closure

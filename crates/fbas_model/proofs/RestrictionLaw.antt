@@ -1,7 +1,7 @@
 -- The quorums of a system that is restricted to a closed set are the quorums of the whole system that lie in that set.
-use Rattle.std.proofs.Common.{◌≡◌, ℕ, ◌+◌, ◌<◌, ◌≤◌, ◌==◌, ◌↔◌, ◌⊎◌, inl, inr, Bool, true, false, not, ◌&&◌, ◌||◌, cond, List, length, map, refl, sym, ◌∙◌, ap, ap₂, subst, arith, leb, Option, Some, None, slice_get}
+use Rattle.std.proofs.Common.{◌≡◌, ℕ, ◌+◌, ◌<◌, ◌≤◌, ◌==◌, ◌↔◌, ◌⊎◌, inl, inr, Bool, true, false, not, ◌&&◌, ◌||◌, cond, List, length, map, refl, sym, ◌∙◌, ap, ap₂, subst, arith, leb, Option, Some, None, slice_get, zero-add}
 use Rattle.std.specs.Prelude.{option_map}
-use Rattle.std.proofs.lemmas.Bool.{or_left, or_right, eq-eqb, eqb-true, and_parts, and_from, lt-ltb, ltb-true, not-true, not_from_false}
+use Rattle.std.proofs.lemmas.Bool.{cases_Bool, both_ways, or_left, or_right, eq-eqb, eqb-true, and_parts, and_from, lt-ltb, ltb-true, not-true, not_from_false}
 use Rattle.std.proofs.lemmas.Option.{slice_get-map, slice_get-get_or, get_or_from_slice_get}
 use mathlib.Core.Path.{fun_ext}
 use Rattle.fbas_model.specs.Nodes.{Nodes, ◌∈◌, ◌⊆◌, ◌∪◌, ◌∖◌, Table, members, size}
@@ -9,11 +9,12 @@ use Rattle.fbas_model.specs.Trees.{QuorumSet, quorum_set, Entries, none, node, i
 use Rattle.fbas_model.specs.QuorumSets.{HasChoiceWithin, mentioned, mentioned_by}
 use Rattle.fbas_model.specs.Counting.{is_satisfied, count_met}
 use Rattle.fbas_model.specs.Fbas.{Fbas, HasQuorumSet, HasSliceWithin, Quorum, IsClosed, all_nodes}
-use Rattle.fbas_model.specs.Restriction.{kept, rank, renumbered, renumbered_all, restricted_sets, raised}
+use Rattle.fbas_model.specs.Restriction.{table_from, kept, rank, renumbered, renumbered_all, restricted_sets, raised}
 use Rattle.fbas_model.proofs.Counting.{choice_satisfied, satisfied_choice}
 use Rattle.fbas_model.proofs.Slices.{slice_iff, slice_self}
 use Rattle.fbas_model.proofs.Sizes.{member_lt}
-use Rattle.fbas_model.proofs.Kept.{rank_lt, kept_at, HasRanked, ranked}
+use Rattle.fbas_model.proofs.Kept.{length-kept, kept_at, ranked}
+use Rattle.fbas_model.proofs.Tables.{length-table_from, members-table_from}
 use Rattle.fbas_model.proofs.Renumbered.{length-restricted_sets}
 
 -- on the nodes of `among`, u says of a node what s says of its rank
@@ -122,4 +123,24 @@ quorum-restricted t b f w e g closed within =
             let up : r.0 ∈ raised t w = raised_at t w r.0 r.1 ∙ (ap w r.2 ∙ at) in
             subst (λ (k : ℕ). HasSliceWithin part (members (kept t b)) k w) r.2 ((slice-restricted t b f w r.0 e g closed r.1).1 (q.slices r.0 up));
       },
+    )
+
+-- ---- each set of marked nodes is a raised one
+
+no_member : (b : Bool) → (b ≡ true → ⊥) → b ≡ false
+no_member true h = absurd (h refl)
+no_member false h = refl
+
+pub raised-onto : (t : Table) (f : Fbas) (u : Nodes) → length t ≡ length f → u ⊆ members t → (w : Nodes) × w ⊆ all_nodes (restricted_sets t f) × (u ≡ raised t w)
+raised-onto t f u e within =
+    let b = table_from 0 (length t) u in
+    let w = members (kept t b) in
+    let n = length-table_from 0 (length t) u in
+    (
+      w,
+      λ y at. lt-ltb y (length (restricted_sets t f)) (subst (λ (k : ℕ). y < k) (length-kept t b (sym n) ∙ sym (length-restricted_sets t f e)) (member_lt (kept t b) y at)),
+      fun_ext (λ v. elim (cases_Bool (members t v)) [
+        | inl here ↦ sym (raised_at t w v here ∙ (members-kept t b v n here ∙ (members-table_from 0 (length t) u v (member_lt t v here) ∙ ap u (zero-add v))))
+        | inr out ↦ no_member (u v) (λ at. both_ways (members t v) out (within v at)) ∙ sym (ap (λ (m : Bool). m && w (rank t v)) out)
+      ]),
     )
