@@ -8,6 +8,9 @@ ghost use Rattle.fbas_model.specs.QuorumSets.{all_entries};
 ghost use Rattle.fbas_model.specs.Systems.{System as Whole, IsSystem, entries_in, unset_in};
 ghost use Rattle.fbas_model.specs.Fbas.{HasSliceWithin, Quorum, BlocksNode, all_nodes};
 
+mod restriction;
+mod trust;
+
 use name_set::{Names, NodeSet};
 use quorum_set::QuorumSet;
 use std::marker::Model;

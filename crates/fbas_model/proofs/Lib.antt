@@ -5,3 +5,7 @@ pub mod Sizes
 pub mod Unions
 pub mod Mentioned
 pub mod Tables
+pub mod Kept
+pub mod Renumbered
+pub mod RestrictionLaw
+pub mod Closure

@@ -1,10 +1,11 @@
 -- Tables of one length with the same members are the same.
-use Rattle.std.proofs.Common.{◌≡◌, ℕ, zero, suc, ◌<◌, Bool, true, false, ◌||◌, ◌==◌, [], ◌∷◌, length, refl, sym, ◌∙◌, ap, arith, replicate, inl, inr}
+use Rattle.std.proofs.Common.{◌≡◌, ℕ, zero, suc, ◌+◌, ◌<◌, Bool, true, false, ◌||◌, ◌==◌, [], ◌∷◌, length, refl, sym, ◌∙◌, ap, arith, replicate, inl, inr}
 use Rattle.std.specs.Prelude.{slice_set}
 use Rattle.std.proofs.lemmas.Bool.{cases_Bool, both_ways, eqb-true, eq-eqb}
 use Rattle.std.proofs.lemmas.List.{length-set, length-replicate, get_or-set_other}
 use Rattle.std.proofs.lemmas.Grind.{get_or-set_at}
 use Rattle.fbas_model.specs.Nodes.{Nodes, Table, members, ∅, only, ◌∪◌}
+use Rattle.fbas_model.specs.Restriction.{table_from}
 
 pub table_ext : (s t : Table) → length s ≡ length t → ((v : ℕ) → members s v ≡ members t v) → s ≡ t
 table_ext [] [] e h = refl
@@ -38,3 +39,14 @@ members-set t at h v = elim (cases_Bool (v == at)) [
 -- a set with one node more
 pub table_put : (t next : Table) (at : ℕ) → at < length t → length next ≡ length t → members next ≡ (members t ∪ only at) → next ≡ slice_set t at true
 table_put t next at h e m = table_ext next (slice_set t at true) (e ∙ sym (length-set t at true)) (λ v. ap (λ (s : Nodes). s v) m ∙ sym (members-set t at h v))
+
+-- ---- the table of a set
+
+pub length-table_from : (v n : ℕ) (s : Nodes) → length (table_from v n s) ≡ n
+length-table_from v zero s = refl
+length-table_from v (suc n) s = ap suc (length-table_from (v + 1) n s)
+
+pub members-table_from : (v n : ℕ) (s : Nodes) (x : ℕ) → x < n → members (table_from v n s) x ≡ s (v + x)
+members-table_from v zero s x h = absurd (omega arith)
+members-table_from v (suc n) s zero h = let e : v ≡ v + zero = omega arith in ap s e
+members-table_from v (suc n) s (suc x) h = let e : v + 1 + x ≡ v + suc x = omega arith in members-table_from (v + 1) n s x (omega arith) ∙ ap s e

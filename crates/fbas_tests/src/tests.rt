@@ -1,6 +1,8 @@
 // The systems are written as configurations, and sets of nodes as lists of names.
 
 ghost use Rattle.std.specs.Prelude.{◌≡◌, length, IfOk};
+ghost use Rattle.fbas_model.specs.Nodes.{members};
+ghost use Rattle.fbas_model.specs.Fbas.{IsClosed};
 
 use fbas_core::System;
 use greatest_quorum::{blocks, minimal_block, minimal_quorum};
@@ -14,6 +16,14 @@ const TWO_OF_THREE: &str =
 
 const REPEATED_ENTRY: &str =
     r#"[{"publicKey":"a","quorumSet":{"threshold":2,"validators":["b","b"]}},{"publicKey":"b","quorumSet":{"threshold":1,"validators":["b"]}}]"#;
+
+// Two pairs that know nothing of each other, and a node without a quorum set.
+const TWO_PAIRS: &str =
+    r#"[{"publicKey":"d","quorumSet":{"threshold":2,"validators":["c","d"]}},{"publicKey":"c","quorumSet":{"threshold":2,"validators":["c","d"]}},{"publicKey":"b","quorumSet":{"threshold":2,"validators":["a","b"]}},{"publicKey":"a","quorumSet":{"threshold":2,"validators":["a","b"]}},{"publicKey":"bb"}]"#;
+
+// Each node needs the one before it; the last of them has thresholds that leave no choice.
+const CHAIN: &str =
+    r#"[{"publicKey":"d","quorumSet":{"threshold":1,"validators":["c"]}},{"publicKey":"c","quorumSet":{"threshold":1,"validators":["b"]}},{"publicKey":"b","quorumSet":{"threshold":9,"validators":[],"innerQuorumSets":[{"threshold":0,"validators":["a"]}]}},{"publicKey":"e","quorumSet":{"threshold":1,"validators":["d"]}}]"#;
 
 // The set of the names in a list.
 fn set_of(alloc: Global, system: &System, list: &str) -> Result<NodeSet, Fail>
@@ -51,5 +61,70 @@ fn a_minimal_blocking_set_of_two_of_three(rt: HostRuntime) -> Result<(), Fail> {
     }
     minimal_block(&system, &mut set, &faulty, &mut scratch);
     assert!(rt; set.same(&minimal));
+    Ok(())
+}
+
+// The trust closure of the node that has the name.
+fn closure_of_name(alloc: Global, system: &System, name: &str) -> Result<NodeSet, Fail>
+    ensures size { IfOk result (λ set. length set ≡ length system.now.sets) }
+    ensures closed { IfOk result (λ set. IsClosed system.now.sets (members set)) }
+{
+    match system.find(name.as_bytes()) {
+        Some(v) => Ok(system.closure(alloc, v)?),
+        None => Err("not a node".into()),
+    }
+}
+
+#[test]
+fn closures_hold_what_is_mentioned(rt: HostRuntime) -> Result<(), Fail> {
+    let alloc = rt.alloc();
+    for (text, name, members) in [
+        (TWO_PAIRS, "a", "a,b"),
+        (TWO_PAIRS, "d", "c,d"),
+        (TWO_PAIRS, "bb", "bb"),
+        (CHAIN, "e", "a,b,c,d,e"),
+        (CHAIN, "c", "a,b,c"),
+        (CHAIN, "b", "a,b"),
+        (CHAIN, "a", "a"),
+    ] {
+        let system = read_config(alloc, text.as_bytes())?;
+        let closure = closure_of_name(alloc, &system, name)?;
+        let want = set_of(alloc, &system, members)?;
+        assert!(rt; closure.same(&want), "{name}");
+    }
+    Ok(())
+}
+
+#[test]
+fn a_pair_alone_keeps_its_names_and_quorums(rt: HostRuntime) -> Result<(), Fail> {
+    let alloc = rt.alloc();
+    let system = read_config(alloc, TWO_PAIRS.as_bytes())?;
+    let kept = closure_of_name(alloc, &system, "c")?;
+    let part = system.restrict(alloc, &kept)?;
+    let faulty = system.cut(alloc, &set_of(alloc, &system, "b,d")?, &kept)?;
+    assert!(rt; faulty.same(&set_of(alloc, &part, "d")?));
+    assert_eq!(rt; part.names().len(), 2);
+    assert_eq!(rt; part.names().name(0), "c".as_bytes());
+    assert_eq!(rt; part.names().name(1), "d".as_bytes());
+    assert_eq!(rt; (part.entries(), part.unset()), (4, 0));
+    let nobody = set_of(alloc, &part, "")?;
+    assert!(rt; part.is_quorum(&set_of(alloc, &part, "c,d")?, &nobody));
+    assert!(rt; !part.is_quorum(&set_of(alloc, &part, "c")?, &nobody));
+    assert!(rt; part.is_quorum(&set_of(alloc, &part, "c")?, &faulty));
+    Ok(())
+}
+
+#[test]
+fn a_chain_is_cut_behind_a_node(rt: HostRuntime) -> Result<(), Fail> {
+    let alloc = rt.alloc();
+    let system = read_config(alloc, CHAIN.as_bytes())?;
+    let kept = closure_of_name(alloc, &system, "c")?;
+    let part = system.restrict(alloc, &kept)?;
+    assert_eq!(rt; part.names().len(), 3);
+    assert_eq!(rt; part.names().name(2), "c".as_bytes());
+    assert_eq!(rt; (part.entries(), part.unset()), (3, 1));
+    assert!(rt; closure_of_name(alloc, &part, "b")?.same(&set_of(alloc, &part, "a,b")?));
+    let nobody = set_of(alloc, &part, "")?;
+    assert!(rt; !part.is_quorum(&set_of(alloc, &part, "a,b,c")?, &nobody));
     Ok(())
 }
