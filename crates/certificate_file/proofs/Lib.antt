@@ -5,3 +5,4 @@ pub mod WordLaws
 pub mod ListLaws
 pub mod PairedLaws
 pub mod Meaning
+pub mod PartLaws

@@ -1,16 +1,19 @@
 -- Which certificates are accepted, and the first fault of the others.
-use Rattle.std.specs.Prelude.{ℕ, ◌+◌, List, [], ◌∷◌, map, length, Bool, true, false, nat_le, Option, Some, None, ok_or, Result, Ok, Err, codes}
+use Rattle.std.specs.Prelude.{ℕ, ◌+◌, List, [], ◌∷◌, map, length, Bool, true, false, not, nat_le, Option, Some, None, is_none, ok_or, Result, Ok, Err, codes}
 use Rattle.std.specs.List.{list_all, list_any}
 use Rattle.std.specs.Str.{bytes_eq}
 use Rattle.fbas_model.specs.Nodes.{Table}
-use Rattle.fbas_model.specs.Names.{Name}
+use Rattle.fbas_model.specs.Names.{Name, place_of}
+use Rattle.fbas_model.specs.Fbas.{Fbas}
 use Rattle.fbas_model.specs.Counting.{is_quorum}
 use Rattle.fbas_model.specs.Systems.{System}
+use Rattle.fbas_model.specs.Restriction.{closure_of}
 use Rattle.witness_pair.specs.Making.{shared, least, pair_of}
 use Rattle.certificate_file.specs.Lines.{Lines, tail, line, lines_of}
 use Rattle.certificate_file.specs.Words.{Word, names_after, digest_in}
 use Rattle.certificate_file.specs.declared.faults.CertError.{CertError}
 use Rattle.certificate_file.specs.declared.places.Header.{Header}
+use Rattle.certificate_file.specs.declared.places.Subject.{Subject}
 use Rattle.certificate_file.specs.declared.places.Answer.TheVariants.{Pair as pair}
 use Rattle.certificate_file.specs.declared.places.Accepted.{Accepted}
 use Rattle.certificate_file.specs.declared.places.Place.{Place}
@@ -51,6 +54,16 @@ nodes_of names l chosen = unless (UnknownNode l) (all_among chosen names) (Ok (m
 abbrev pub named : List Name → ℕ → Word → List ℕ → Result Table CertError
 named names l word text = and_then (nodes_of names l) (ok_or (names_after word text) (BadLine l))
 
+-- ---- the part of the system
+
+-- all nodes
+abbrev pub everyone : Fbas → Table
+everyone sets = map (λ _. true) sets
+
+-- the nodes that are not in the set
+abbrev pub others : Table → Table
+others s = map not s
+
 -- ---- lines
 
 -- a line that has to be this text
@@ -62,17 +75,36 @@ abbrev pub digest_line : List ℕ → ℕ → List ℕ → Result State CertErro
 digest_line d l text =
     and_then (λ found. unless (Digest found d) (bytes_eq found d) (Ok (Going AtFrom))) (ok_or (digest_in text) (BadLine l))
 
--- no node is named: a name, which would restrict the system to its trust closure, is not read yet
-abbrev pub from_line : ℕ → List ℕ → Result State CertError
-from_line l text = expected l text (codes "from") (Ok (Going AtFaulty))
+-- the trust closure of the node, if there is one
+abbrev pub from_node : System → ℕ → Option ℕ → Result State CertError
+from_node f l None = Err (UnknownNode l)
+from_node f l (Some v) = Ok (Going (AtFaulty (Some v) (closure_of f.sets v)))
 
--- the faulty nodes
-abbrev pub faulty_line : System → ℕ → List ℕ → Result State CertError
-faulty_line f l text = and_then (λ faulty. Ok (Going (AtKind (record { faulty = faulty })))) (named f.names l (codes "faulty") text)
+-- without a name the whole system, and with one the trust closure of its node
+abbrev pub from_names : System → ℕ → List Name → Result State CertError
+from_names f l [] = Ok (Going (AtFaulty None (everyone f.sets)))
+from_names f l (name ∷ []) = from_node f l (place_of f.names name)
+from_names f l (name ∷ other ∷ more) = Err (BadLine l)
+
+-- the part of the system that the certificate speaks of
+abbrev pub from_line : System → ℕ → List ℕ → Result State CertError
+from_line f l text = and_then (from_names f l) (ok_or (names_after (codes "from") text) (BadLine l))
+
+-- what the header says, where these nodes are faulty: those of them that are in the part
+abbrev pub subject_of : Option ℕ → Table → Table → Subject
+subject_of from nodes faulty = record { header = record { from = from; faulty = shared faulty nodes }; nodes = nodes }
+
+-- the faulty nodes, by their names in the whole system
+abbrev pub faulty_line : System → Option ℕ → Table → ℕ → List ℕ → Result State CertError
+faulty_line f from nodes l text = and_then (λ faulty. Ok (Going (AtKind (subject_of from nodes faulty)))) (named f.names l (codes "faulty") text)
 
 -- a pair: no other kind is read yet
-abbrev pub kind_line : Header → ℕ → List ℕ → Result State CertError
-kind_line h l text = expected l text (codes "kind pair") (Ok (Going (AtFirst h)))
+abbrev pub kind_line : Subject → ℕ → List ℕ → Result State CertError
+kind_line s l text = expected l text (codes "kind pair") (Ok (Going (AtFirst s)))
+
+-- a set of nodes of the part
+abbrev pub within : Subject → ℕ → Table → Result Table CertError
+within s l u = unless (UnknownNode l) (is_none (least (shared u (others s.nodes)))) (Ok u)
 
 -- a quorum once the faulty nodes are deleted
 abbrev pub quorum : System → Header → ℕ → Table → Result Table CertError
@@ -84,26 +116,26 @@ apart l None r = r
 apart l (Some v) r = Err (Overlap l v)
 
 -- the first quorum
-abbrev pub first_line : System → Header → ℕ → List ℕ → Result State CertError
-first_line f h l text = and_then (λ u. Ok (Going (AtSecond h u))) (and_then (quorum f h l) (named f.names l (codes "first") text))
+abbrev pub first_line : System → Subject → ℕ → List ℕ → Result State CertError
+first_line f s l text = and_then (λ u. Ok (Going (AtSecond s u))) (and_then (quorum f s.header l) (and_then (within s l) (named f.names l (codes "first") text)))
 
 -- the pair of two quorums
 abbrev pub paired : Header → ℕ → Table → Table → Result State CertError
 paired h l u w = apart l (least (shared u w)) (Ok (Going (AtEnd (record { header = h; answer = pair (pair_of u w) }))))
 
 -- the second quorum, which shares no node with the first
-abbrev pub second_line : System → Header → Table → ℕ → List ℕ → Result State CertError
-second_line f h u l text = and_then (paired h l u) (and_then (quorum f h l) (named f.names l (codes "second") text))
+abbrev pub second_line : System → Subject → Table → ℕ → List ℕ → Result State CertError
+second_line f s u l text = and_then (paired s.header l u) (and_then (quorum f s.header l) (and_then (within s l) (named f.names l (codes "second") text)))
 
 -- line l taken at its place, for the system f and the digest d of its configuration
 unfoldable pub take_line : System → List ℕ → Place → ℕ → List ℕ → Result State CertError
 take_line f d AtTitle l text = expected l text (codes "fbas-cert 1") (Ok (Going AtDigest))
 take_line f d AtDigest l text = digest_line d l text
-take_line f d AtFrom l text = from_line l text
-take_line f d AtFaulty l text = faulty_line f l text
-take_line f d (AtKind h) l text = kind_line h l text
-take_line f d (AtFirst h) l text = first_line f h l text
-take_line f d (AtSecond h u) l text = second_line f h u l text
+take_line f d AtFrom l text = from_line f l text
+take_line f d (AtFaulty from nodes) l text = faulty_line f from nodes l text
+take_line f d (AtKind s) l text = kind_line s l text
+take_line f d (AtFirst s) l text = first_line f s l text
+take_line f d (AtSecond s u) l text = second_line f s u l text
 take_line f d (AtEnd a) l text = expected l text (codes "end") (Ok (Done a))
 
 -- ---- the whole

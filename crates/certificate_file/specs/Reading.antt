@@ -1,10 +1,13 @@
 -- One line of what is left to read, and what is known between two lines.
-use Rattle.std.specs.Prelude.{◌≡◌, ℕ, List, [], ◌∷◌, length, true, Option, Some, None, Result, Ok, Err}
+use Rattle.std.specs.Prelude.{◌≡◌, ◌<◌, ℕ, List, [], ◌∷◌, length, true, Option, IfSome, Some, None, Result, Ok, Err}
 use Rattle.fbas_model.specs.Counting.{is_quorum}
-use Rattle.fbas_model.specs.Systems.{System}
+use Rattle.fbas_model.specs.Systems.{System, IsSystem}
 use Rattle.certificate_file.specs.Lines.{Lines, tail, line}
 use Rattle.certificate_file.specs.Acceptance.{within_limits}
-use Rattle.certificate_file.specs.Meaning.{Holds, HasPlaces}
+use Rattle.fbas_model.specs.Nodes.{Table, members, ◌⊆◌}
+use Rattle.fbas_model.specs.Fbas.{IsClosed}
+use Rattle.certificate_file.specs.Meaning.{Holds, HasPlaces, part_from}
+use Rattle.certificate_file.specs.declared.places.Subject.{Subject}
 use Rattle.certificate_file.specs.declared.places.Accepted.{Accepted}
 use Rattle.certificate_file.specs.declared.places.Place.{Place}
 use Rattle.certificate_file.specs.declared.places.Place.TheVariants.{AtTitle, AtDigest, AtFrom, AtFaulty, AtKind, AtFirst, AtSecond, AtEnd}
@@ -32,15 +35,34 @@ next_line l (line text more) = within_limits l text (Ok (record { text = text; m
 abbrev pub IsShown : System → Accepted → Type 0
 IsShown f a = HasPlaces (length f.sets) a × Holds f a
 
+-- the nodes of the part that begins at this node, or of the whole system
+pub record IsPart (f : System) (from : Option ℕ) (nodes : Table) : Type 0 where
+  pub system : IsSystem f.names f.sets
+  pub node : IfSome from (λ v. v < length f.sets)
+  pub places : length nodes ≡ length f.sets
+  pub closed : IsClosed f.sets (members nodes)
+  pub same : nodes ≡ part_from f from
+
+-- what is known once the faulty nodes were read
+pub record IsSubject (f : System) (s : Subject) : Type 0 where
+  pub part : IsPart f s.header.from s.nodes
+  pub faulty : length s.header.faulty ≡ length f.sets
+
+-- a quorum of the part
+pub record IsPartQuorum (f : System) (s : Subject) (u : Table) : Type 0 where
+  pub places : length u ≡ length f.sets
+  pub within : members u ⊆ members s.nodes
+  pub quorum : is_quorum f.sets s.header.faulty u ≡ true
+
 -- what is known at a place
 abbrev pub IsKnown : System → Place → Type 0
 IsKnown f AtTitle = Unit {0}
 IsKnown f AtDigest = Unit {0}
 IsKnown f AtFrom = Unit {0}
-IsKnown f AtFaulty = Unit {0}
-IsKnown f (AtKind h) = length h.faulty ≡ length f.sets
-IsKnown f (AtFirst h) = length h.faulty ≡ length f.sets
-IsKnown f (AtSecond h u) = (length h.faulty ≡ length f.sets) × (length u ≡ length f.sets) × (is_quorum f.sets h.faulty u ≡ true)
+IsKnown f (AtFaulty from nodes) = IsPart f from nodes
+IsKnown f (AtKind s) = IsSubject f s
+IsKnown f (AtFirst s) = IsSubject f s
+IsKnown f (AtSecond s u) = IsSubject f s × IsPartQuorum f s u
 IsKnown f (AtEnd a) = IsShown f a
 
 abbrev pub IsKnownState : System → State → Type 0

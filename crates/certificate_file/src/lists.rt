@@ -1,6 +1,6 @@
 // Lists of names.
-ghost use Rattle.std.specs.Prelude.{◌≡◌, ◌⊎◌, length, IfOk, IfErr, IsErrOf, Ok, Err};
-ghost use Rattle.certificate_file.specs.Words.{words_view};
+ghost use Rattle.std.specs.Prelude.{◌≡◌, ◌⊎◌, length, option_map, IfOk, IfErr, IsErrOf, Ok, Err};
+ghost use Rattle.certificate_file.specs.Words.{words_view, names_behind};
 ghost use Rattle.certificate_file.specs.Acceptance.{nodes_of, named};
 
 use crate::faults::CertError;
@@ -31,6 +31,17 @@ fn nodes_of(
     Ok(nodes)
 }
 
+/// The names that follow a word, each once and in order, where the words are such a list.
+pub fn names_behind<'a>(words: &'a [Vec<u8>], word: &str) -> Option<&'a [Vec<u8>]>
+    ensures { option_map (λ names. words_view names.now) result ≡ names_behind word.now (words_view words.now) }
+{
+    let (first, names) = words.split_first()?;
+    if first.as_slice() != word.as_bytes() || !are_names(names) || !are_rising(names) {
+        return None;
+    }
+    Some(names)
+}
+
 /// The nodes that this line lists behind a word: O(bytes + k log n comparisons) for k names.
 pub fn named(
     alloc: Global,
@@ -45,11 +56,8 @@ pub fn named(
     ensures err { IfErr result (λ e. (e ≡ CertError.Memory) ⊎ (named system.now.names line word.now text.now ≡ Err e)) }
 {
     let words = words(alloc, text)?;
-    let Some((first, chosen)) = words.as_slice().split_first() else {
+    let Some(chosen) = names_behind(words.as_slice(), word) else {
         return Err(CertError::BadLine(line));
     };
-    if first.as_slice() != word.as_bytes() || !are_names(chosen) || !are_rising(chosen) {
-        return Err(CertError::BadLine(line));
-    }
     nodes_of(alloc, system, line, chosen)
 }

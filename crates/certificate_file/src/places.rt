@@ -5,14 +5,16 @@ use witness_pair::Pair;
 /// What the first lines of a certificate say.
 #[derive(Drop)]
 pub struct Header {
-    /// The nodes that are deleted.
+    /// The node of whose trust closure the certificate speaks, or none where it speaks of the whole system.
+    pub from: Option<u32>,
+    /// The nodes of that part that are deleted, by their numbers in the whole system.
     pub faulty: NodeSet,
 }
 
 /// What a certificate shows, by its kind.
 #[derive(Drop)]
 pub enum Answer {
-    /// Two quorums that share no node: the system doesn't intersect.
+    /// Two quorums that share no node: the system doesn't intersect. Their nodes have their numbers in the whole system.
     Pair(Pair),
 }
 
@@ -23,16 +25,23 @@ pub struct Accepted {
     pub answer: Answer,
 }
 
+/// The header, and the nodes of the part of the system that the certificate speaks of.
+#[derive(Drop)]
+pub struct Subject {
+    pub header: Header,
+    pub nodes: NodeSet,
+}
+
 /// Which line is awaited, with what the lines before it said.
 #[derive(Drop)]
 pub enum Place {
     AtTitle,
     AtDigest,
     AtFrom,
-    AtFaulty,
-    AtKind(Header),
-    AtFirst(Header),
-    AtSecond(Header, NodeSet),
+    AtFaulty(Option<u32>, NodeSet),
+    AtKind(Subject),
+    AtFirst(Subject),
+    AtSecond(Subject, NodeSet),
     AtEnd(Accepted),
 }
 

@@ -2,12 +2,13 @@
 ghost use Rattle.std.specs.Prelude.{◌≡◌, ◌⊎◌, length, true, IfOk, IfErr, IsErrOf, Ok, Err};
 ghost use Rattle.fbas_model.specs.Counting.{is_quorum};
 ghost use Rattle.certificate_file.specs.Words.{digest_of};
-ghost use Rattle.certificate_file.specs.Acceptance.{and_then, expected, digest_line, from_line, faulty_line, kind_line, quorum, first_line, second_line, paired, take_line};
-ghost use Rattle.certificate_file.specs.Reading.{IsKnown, IsKnownState};
+ghost use Rattle.certificate_file.specs.Acceptance.{and_then, named, within, expected, digest_line, faulty_line, kind_line, quorum, first_line, second_line, paired, take_line};
+ghost use Rattle.certificate_file.specs.Reading.{IsPart, IsSubject, IsKnown, IsKnownState};
 
 use crate::faults::CertError;
 use crate::lists::named;
-use crate::places::{Accepted, Answer, Header, Place, State};
+use crate::parts::{cut, from_line, within};
+use crate::places::{Accepted, Answer, Header, Place, State, Subject};
 use crate::words::words;
 use digest_text::digits;
 use fbas_core::System;
@@ -62,35 +63,36 @@ fn digest_line(alloc: Global, digest: &[u8; 32], line: u64, text: &[u8]) -> Resu
     Ok(State::Going(Place::AtFrom))
 }
 
-/// Line 3: no node is named. A name, which would restrict the system to its trust closure, is not read yet.
-fn from_line(line: u64, text: &[u8]) -> Result<State, CertError>
+/// Line 4: the faulty nodes, which are named in the whole system.
+fn faulty_line(
+    alloc: Global,
+    system: &System,
+    from: Option<u32>,
+    nodes: NodeSet,
+    line: u64,
+    text: &[u8],
+) -> Result<State, CertError>
+    requires { IsPart system.now from nodes }
     ensures unread { IsErrOf result CertError.Read → ⊥ }
-    ensures value { result ≡ from_line line text.now }
+    ensures ok { IfOk result (λ s. faulty_line system.now from nodes line text.now ≡ Ok s) }
+    ensures err { IfErr result (λ e. (e ≡ CertError.Memory) ⊎ (faulty_line system.now from nodes line text.now ≡ Err e)) }
 {
-    expected(line, text, "from", State::Going(Place::AtFaulty))
-}
-
-/// Line 4: the faulty nodes.
-fn faulty_line(alloc: Global, system: &System, line: u64, text: &[u8]) -> Result<State, CertError>
-    ensures unread { IsErrOf result CertError.Read → ⊥ }
-    ensures ok { IfOk result (λ s. faulty_line system.now line text.now ≡ Ok s) }
-    ensures known { IfOk result (IsKnownState system.now) }
-    ensures err { IfErr result (λ e. (e ≡ CertError.Memory) ⊎ (faulty_line system.now line text.now ≡ Err e)) }
-{
-    let faulty = named(alloc, system, line, "faulty", text)?;
-    Ok(State::Going(Place::AtKind(Header { faulty })))
+    let named = named(alloc, system, line, "faulty", text)?;
+    let faulty = cut(alloc, system, named, &nodes)?;
+    let header = Header { from, faulty };
+    Ok(State::Going(Place::AtKind(Subject { header, nodes })))
 }
 
 /// Line 5: a pair. No other kind is read yet.
-fn kind_line(line: u64, text: &[u8], header: Header) -> Result<State, CertError>
+fn kind_line(line: u64, text: &[u8], subject: Subject) -> Result<State, CertError>
     ensures unread { IsErrOf result CertError.Read → ⊥ }
-    ensures value { result ≡ kind_line header line text.now }
+    ensures value { result ≡ kind_line subject line text.now }
 {
     expected(
         line,
         text,
         "kind pair",
-        State::Going(Place::AtFirst(header)),
+        State::Going(Place::AtFirst(subject)),
     )
 }
 
@@ -108,42 +110,59 @@ fn quorum(system: &System, header: &Header, line: u64, u: NodeSet) -> Result<Nod
     Ok(u)
 }
 
+/// The nodes of the part that this line lists behind a word.
+fn named_within(
+    alloc: Global,
+    system: &System,
+    subject: &Subject,
+    line: u64,
+    word: &str,
+    text: &[u8],
+) -> Result<NodeSet, CertError>
+    requires { length subject.now.nodes ≡ length system.now.sets }
+    ensures unread { IsErrOf result CertError.Read → ⊥ }
+    ensures size { IfOk result (λ u. length u ≡ length system.now.sets) }
+    ensures ok { IfOk result (λ u. and_then (within subject.now line) (named system.now.names line word.now text.now) ≡ Ok u) }
+    ensures err { IfErr result (λ e. (e ≡ CertError.Memory) ⊎ (and_then (within subject.now line) (named system.now.names line word.now text.now) ≡ Err e)) }
+{
+    let named = named(alloc, system, line, word, text)?;
+    within(alloc, system, subject, line, named)
+}
+
 /// The line `first`: a quorum.
 fn first_line(
     alloc: Global,
     system: &System,
-    header: Header,
+    subject: Subject,
     line: u64,
     text: &[u8],
 ) -> Result<State, CertError>
-    requires { length header.faulty ≡ length system.now.sets }
+    requires { IsSubject system.now subject }
     ensures unread { IsErrOf result CertError.Read → ⊥ }
-    ensures ok { IfOk result (λ s. first_line system.now header line text.now ≡ Ok s) }
-    ensures known { IfOk result (IsKnownState system.now) }
-    ensures err { IfErr result (λ e. (e ≡ CertError.Memory) ⊎ (first_line system.now header line text.now ≡ Err e)) }
+    ensures ok { IfOk result (λ s. first_line system.now subject line text.now ≡ Ok s) }
+    ensures err { IfErr result (λ e. (e ≡ CertError.Memory) ⊎ (first_line system.now subject line text.now ≡ Err e)) }
 {
-    let named = named(alloc, system, line, "first", text)?;
-    let first = quorum(system, &header, line, named)?;
-    Ok(State::Going(Place::AtSecond(header, first)))
+    let named = named_within(alloc, system, &subject, line, "first", text)?;
+    let first = quorum(system, &subject.header, line, named)?;
+    Ok(State::Going(Place::AtSecond(subject, first)))
 }
 
 /// The pair of a quorum and a set, where that is a quorum too and shares no node with it.
 fn paired(
     system: &System,
-    header: Header,
+    subject: Subject,
     first: NodeSet,
     line: u64,
     second: NodeSet,
 ) -> Result<State, CertError>
-    requires known { IsKnown system.now (Place.AtSecond header first) }
+    requires known { IsKnown system.now (Place.AtSecond subject first) }
     requires same_n { length second ≡ length system.now.sets }
     ensures unread { IsErrOf result CertError.Read → ⊥ }
-    ensures value { result ≡ and_then (paired header line first) (quorum system.now header line second) }
-    ensures known { IfOk result (IsKnownState system.now) }
+    ensures value { result ≡ and_then (paired subject.header line first) (quorum system.now subject.header line second) }
 {
-    match make_pair(system, &header.faulty, first, second) {
+    match make_pair(system, &subject.header.faulty, first, second) {
         Ok(pair) => Ok(State::Going(Place::AtEnd(Accepted {
-            header,
+            header: subject.header,
             answer: Answer::Pair(pair),
         }))),
         Err(PairFault::NotQuorum(_)) => Err(CertError::NotQuorum(line)),
@@ -155,19 +174,18 @@ fn paired(
 fn second_line(
     alloc: Global,
     system: &System,
-    header: Header,
+    subject: Subject,
     first: NodeSet,
     line: u64,
     text: &[u8],
 ) -> Result<State, CertError>
-    requires { IsKnown system.now (Place.AtSecond header first) }
+    requires { IsKnown system.now (Place.AtSecond subject first) }
     ensures unread { IsErrOf result CertError.Read → ⊥ }
-    ensures ok { IfOk result (λ s. second_line system.now header first line text.now ≡ Ok s) }
-    ensures known { IfOk result (IsKnownState system.now) }
-    ensures err { IfErr result (λ e. (e ≡ CertError.Memory) ⊎ (second_line system.now header first line text.now ≡ Err e)) }
+    ensures ok { IfOk result (λ s. second_line system.now subject first line text.now ≡ Ok s) }
+    ensures err { IfErr result (λ e. (e ≡ CertError.Memory) ⊎ (second_line system.now subject first line text.now ≡ Err e)) }
 {
-    let second = named(alloc, system, line, "second", text)?;
-    paired(system, header, first, line, second)
+    let second = named_within(alloc, system, &subject, line, "second", text)?;
+    paired(system, subject, first, line, second)
 }
 
 /// What a line says at its place.
@@ -182,18 +200,18 @@ pub fn take_line(
 ) -> Result<State, CertError>
     requires { IsKnown system.now place }
     ensures unread { IsErrOf result CertError.Read → ⊥ }
-    ensures ok { IfOk result (λ s. take_line system.now digest.now place line text.now ≡ Ok s) }
     ensures known { IfOk result (IsKnownState system.now) }
+    ensures ok { IfOk result (λ s. take_line system.now digest.now place line text.now ≡ Ok s) }
     ensures err { IfErr result (λ e. (e ≡ CertError.Memory) ⊎ (take_line system.now digest.now place line text.now ≡ Err e)) }
 {
     match place {
         Place::AtTitle => expected(line, text, "fbas-cert 1", State::Going(Place::AtDigest)),
         Place::AtDigest => digest_line(alloc, digest, line, text),
-        Place::AtFrom => from_line(line, text),
-        Place::AtFaulty => faulty_line(alloc, system, line, text),
-        Place::AtKind(header) => kind_line(line, text, header),
-        Place::AtFirst(header) => first_line(alloc, system, header, line, text),
-        Place::AtSecond(header, first) => second_line(alloc, system, header, first, line, text),
+        Place::AtFrom => from_line(alloc, system, line, text),
+        Place::AtFaulty(from, nodes) => faulty_line(alloc, system, from, nodes, line, text),
+        Place::AtKind(subject) => kind_line(line, text, subject),
+        Place::AtFirst(subject) => first_line(alloc, system, subject, line, text),
+        Place::AtSecond(subject, first) => second_line(alloc, system, subject, first, line, text),
         Place::AtEnd(accepted) => expected(line, text, "end", State::Done(accepted)),
     }
 }

@@ -59,6 +59,7 @@ impl System {
         ensures names { result ≡ length self.now.names }
         ensures sets { result ≡ length self.now.sets }
         ensures few { result ≤ 4096 }
+        ensures system { IsSystem self.now.names self.now.sets }
     {
         self.names.len()
     }
@@ -77,6 +78,7 @@ impl System {
         ensures place { result ≡ place_of self.now.names name.now }
         ensures below { IfSome result (λ v. v < length self.now.sets) }
         ensures only { IfSome result (λ v. (other : ℕ) → slice_get self.now.names other ≡ Some name.now → other ≡ v) }
+        ensures system { IsSystem self.now.names self.now.sets }
     {
         self.names.find(name)
     }

@@ -51,7 +51,7 @@ least_is u (Some x) h = elim (least u) as (λ (o : Option ℕ). least u ≡ o �
   | Some v ↦ λ e. let l = least-some u v e in let same : x ≡ v = omega (arith, h.1 v l.0, l.1 x h.0) in ap Some same
 ] refl
 
-members-shared : (u w : Table) (v : ℕ) → members (shared u w) v ≡ (members u v && members w v)
+pub members-shared : (u w : Table) (v : ℕ) → members (shared u w) v ≡ (members u v && members w v)
 members-shared [] w zero = refl
 members-shared [] w (suc v) = refl
 members-shared (x ∷ u) [] zero = elim x as (λ (b : Bool). false ≡ (b && false)) [ true ↦ refl | false ↦ refl ]
