@@ -8,3 +8,5 @@ pub mod Soundness
 pub mod Limits
 pub mod Samples
 pub mod Laws
+pub mod OrgReading
+pub mod OrgPlaces

@@ -1,11 +1,8 @@
 -- The organisations that the program's values stand for.
-use Rattle.std.specs.Prelude.{◌≡◌, ℕ, List, map}
-use Rattle.std.specs.BTreeMap.{BTreeMap, get_by}
-use Rattle.std.specs.Cmp.Lexicographic.{slice_cmp}
+use Rattle.std.specs.Prelude.{◌≡◌, ℕ, List, Option, map}
 use Rattle.std.specs.List.{IsDistinct}
-use Rattle.std.specs.Ordering.{nat_cmp}
 use Rattle.std.specs.Str.{bytes_eq}
-use Rattle.fbas_model.specs.Names.{Name, name_cmp, place_of}
+use Rattle.fbas_model.specs.Names.{Name, place_of}
 use Rattle.node_json.specs.Organisations as spec
 use Rattle.node_json.specs.View.{names_view}
 use Rattle.node_json.specs.declared.named_orgs.NamedOrg.{NamedOrg}
@@ -26,7 +23,7 @@ org_view org = record { id = org.id.items; members = org.members }
 abbrev pub orgs_view : List Org → List spec.Org
 orgs_view orgs = map org_view orgs
 
--- the ids are distinct, and the map finds the place of each
-pub record AreIndexed (orgs : List Org) (places : BTreeMap (Vec ℕ Global) ℕ) : Type 0 where
-  pub apart : IsDistinct bytes_eq (spec.ids_of (orgs_view orgs))
-  pub indexed : (id : Name) → get_by (λ key. name_cmp id key.items) places ≡ place_of (spec.ids_of (orgs_view orgs)) id
+-- the ids are distinct, and the index finds the place of each
+pub record AreIndexed (orgs : List spec.Org) (index : Name → Option ℕ) : Type 0 where
+  pub apart : IsDistinct bytes_eq (spec.ids_of orgs)
+  pub found : (id : Name) → index id ≡ place_of (spec.ids_of orgs) id

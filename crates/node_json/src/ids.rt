@@ -1,6 +1,6 @@
 // Lists of ids of organisations in the words of a command line.
 
-ghost use Rattle.std.specs.Prelude.{◌≡◌, ◌⊎◌, ◌||◌, ℕ, All, length, Ok, Err, Some, IfOk, IfErr, is_ok, result_err, option_copied};
+ghost use Rattle.std.specs.Prelude.{◌≡◌, ◌⊎◌, ◌||◌, ℕ, All, length, Ok, Err, Some, IfOk, IfErr};
 ghost use Rattle.fbas_model.specs.Nodes.{members};
 ghost use Rattle.name_set.specs.Lists.{node_at};
 ghost use Rattle.node_json.specs.Organisations.{ids_of, members_under, ids_read};

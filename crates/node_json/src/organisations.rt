@@ -39,11 +39,13 @@ impl Model for Orgs {
 
     ghost Value = { List Organisation };
 
+    ghost use Rattle.std.specs.BTreeMap.{get_by};
+    ghost use Rattle.fbas_model.specs.Names.{name_cmp};
     ghost use Rattle.node_json.specs.OrgsView.{orgs_view, AreIndexed};
 
     ghost view = { λ o. orgs_view o.list.items };
 
-    ghost invariant = { λ o. AreIndexed o.list.items o.places };
+    ghost invariant = { λ o. AreIndexed (orgs_view o.list.items) (λ id. get_by (λ key. name_cmp id key.items) o.places) };
 }
 
 impl Orgs {
