@@ -10,3 +10,4 @@ pub mod Samples
 pub mod Laws
 pub mod OrgReading
 pub mod OrgPlaces
+pub mod OrgMarks
