@@ -11,3 +11,4 @@ pub mod Laws
 pub mod OrgReading
 pub mod OrgPlaces
 pub mod OrgMarks
+pub mod OrgOwned

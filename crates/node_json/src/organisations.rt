@@ -5,7 +5,7 @@ ghost use Rattle.std.specs.List.{IsDistinct};
 ghost use Rattle.std.specs.Str.{bytes_eq};
 ghost use Rattle.name_set.specs.Lists.{marks};
 ghost use Rattle.node_json.specs.Organisations.{among_nodes, ids_of, members_under, named_orgs_of, orgs_of};
-ghost use Rattle.node_json.specs.OrgsView.{named_orgs_view, named_ids};
+ghost use Rattle.node_json.specs.OrgsView.{named_org_view, named_orgs_view, named_ids, org_view};
 ghost use Rattle.node_json.specs.View.{names_view};
 
 use crate::faults::OrgFault;
@@ -81,6 +81,21 @@ fn marked(alloc: Global, names: &Names, list: &[&str]) -> Result<NodeSet, AllocE
     Ok(nodes)
 }
 
+fn owned_id(alloc: Global, id: &str) -> Result<Vec<u8>, AllocError>
+    ensures { IfOk result (λ v. v.items ≡ id.now) }
+{
+    id.as_bytes().to_vec(alloc)
+}
+
+fn owned_org(alloc: Global, names: &Names, org: &NamedOrg) -> Result<Org, AllocError>
+    ensures { IfOk result (λ o. org_view o ≡ among_nodes names.now (named_org_view org.now)) }
+{
+    Ok(Org {
+        id: owned_id(alloc, org.id)?,
+        members: marked(alloc, names, &org.validators)?,
+    })
+}
+
 // The organisations among the nodes of the names.
 fn owned_orgs(alloc: Global, names: &Names, orgs: &[NamedOrg]) -> Result<Orgs, AllocError>
     requires { IsDistinct bytes_eq (named_ids orgs.now) }
@@ -89,12 +104,8 @@ fn owned_orgs(alloc: Global, names: &Names, orgs: &[NamedOrg]) -> Result<Orgs, A
     let mut list = Vec::with_capacity(alloc, orgs.len())?;
     let mut places = BTreeMap::new(alloc);
     for (at, org) in orgs.iter().enumerate() {
-        let id = org.id.as_bytes();
-        places.insert(id.to_vec(alloc)?, at)?;
-        list.push(Org {
-            id: id.to_vec(alloc)?,
-            members: marked(alloc, names, &org.validators)?,
-        })?;
+        places.insert(owned_id(alloc, org.id)?, at)?;
+        list.push(owned_org(alloc, names, org)?)?;
     }
     Ok(Orgs { list, places })
 }
