@@ -12,3 +12,4 @@ pub mod OrgReading
 pub mod OrgPlaces
 pub mod OrgMarks
 pub mod OrgOwned
+pub mod IdReading

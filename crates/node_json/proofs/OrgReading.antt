@@ -1,6 +1,8 @@
 -- The loop over the organisations, step by step, and what comes before it.
-use Rattle.std.proofs.Common.{◌≡◌, ℕ, ◌+◌, ◌<◌, List, [], ◌∷◌, ◌++◌, length, drop, get_or, map, Option, Some, None, Result, Ok, Err, Bool, true, false, not, refl, sym, ap, ◌∙◌, append_assoc}
+use Rattle.std.proofs.Common.{◌≡◌, ℕ, ◌+◌, ◌<◌, ◌≤◌, nat_lt, All, arith, List, [], ◌∷◌, ◌++◌, length, drop, get_or, map, Option, Some, None, Result, Ok, Err, Bool, true, false, not, refl, sym, ap, ◌∙◌, append_assoc}
+use Rattle.std.proofs.lemmas.Bool.{lt-ltb, le-ltb}
 use Rattle.std.proofs.lemmas.List.{at_drop_more, map-append}
+use Rattle.std.proofs.lemmas.List.Elements.{All-map}
 use Rattle.std.proofs.lemmas.List.Sums.{fold-append}
 use Rattle.std.proofs.lemmas.Map.Keys.{IsDistinct-push}
 use Rattle.std.proofs.lemmas.Cmp.{nat_list_eq_equiv}
@@ -14,12 +16,13 @@ use Rattle.serde_json.specs.declared.value.Value.{Value}
 use Rattle.fbas_model.specs.Names.{Name, name_cmp}
 use Rattle.node_json.specs.NamesInOrder.{is_among, in_order, with_names}
 use Rattle.node_json.proofs.NamesInOrder.{is_among-in_order}
+use Rattle.node_json.proofs.OrgMarks.{length-marks}
 use Rattle.node_json.specs.Organisations as spec
-use Rattle.node_json.specs.Organisations.{org_of, org_id_of, org_validators_of, orgs_from, orgs_in}
-use Rattle.node_json.specs.Reading.{after}
+use Rattle.node_json.specs.Organisations.{org_of, org_id_of, org_validators_of, orgs_from, orgs_in, named_orgs_of, among_nodes, orgs_of}
+use Rattle.node_json.specs.Reading.{after, tree_of}
 use Rattle.node_json.specs.OrgsView.{named_org_view, named_orgs_view, named_ids}
 use Rattle.node_json.specs.declared.faults.OrgFault.{OrgFault}
-use Rattle.node_json.specs.declared.faults.OrgFault.TheVariants.{NotOrgs, DuplicateOrg}
+use Rattle.node_json.specs.declared.faults.OrgFault.TheVariants.{NotJson, NotOrgs, DuplicateOrg, TooManyOrgs}
 use Rattle.node_json.specs.declared.named_orgs.NamedOrg.{NamedOrg}
 
 -- ---- the tree
@@ -31,6 +34,29 @@ orgs_in-no_array d a = rw a refl
 pub orgs_in-array : (d : Data) (ds : Items) → as_array d ≡ Some ds → orgs_in d ≡ orgs_from 0 [] ds
 unfolding orgs_in
 orgs_in-array d ds a = rw a refl
+
+-- ---- the whole file
+
+pub orgs_of-no_tree : (names : List Name) (bytes : List ℕ) → tree_of bytes ≡ None → orgs_of names bytes ≡ Err NotJson
+unfolding orgs_of named_orgs_of
+orgs_of-no_tree names bytes e = rw e refl
+
+pub orgs_of-fault : (names : List Name) (bytes : List ℕ) (d : Data) (e : OrgFault) → tree_of bytes ≡ Some d → orgs_in d ≡ Err e → orgs_of names bytes ≡ Err e
+unfolding orgs_of named_orgs_of
+orgs_of-fault names bytes d e tree fault = rw (tree, fault) refl
+
+module _ (names : List Name) (bytes : List ℕ) (d : Data) (orgs : List spec.NamedOrg) (n : ℕ) (tree : tree_of bytes ≡ Some d) (read : orgs_in d ≡ Ok orgs) (counted : n ≡ length orgs) where
+  pub too_many_orgs : 4096 < n → orgs_of names bytes ≡ Err (TooManyOrgs n)
+  unfolding orgs_of named_orgs_of
+  too_many_orgs h = let t : nat_lt 4096 (length orgs) ≡ true = lt-ltb 4096 (length orgs) (omega arith) in rw (tree, read, t, counted) refl
+
+  pub few_orgs : n ≤ 4096 → orgs_of names bytes ≡ Ok (map (among_nodes names) orgs)
+  unfolding orgs_of named_orgs_of
+  few_orgs h = let f : nat_lt 4096 (length orgs) ≡ false = le-ltb 4096 (length orgs) (omega arith) in rw (tree, read, f) refl
+
+-- each has a mark for each name
+pub all_sized : (names : List Name) (orgs : List spec.NamedOrg) → All (λ org. length org.members ≡ length names) (map (among_nodes names) orgs)
+all_sized names orgs = All-map (λ (org : spec.Org). length org.members ≡ length names) (among_nodes names) orgs (λ k d h. length-marks names (get_or orgs k d).validators)
 
 -- ---- one element
 
