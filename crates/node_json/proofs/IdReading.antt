@@ -1,18 +1,20 @@
 -- Lists of ids: the members of each, one after another.
-use Rattle.std.proofs.Common.{◌≡◌, ℕ, zero, suc, ◌+◌, ◌<◌, ◌≤◌, ◌==◌, ◌||◌, Bool, true, false, List, [], ◌∷◌, ◌++◌, length, map, take, drop, get_or, slice_index_or, Option, Some, None, unwrap_or, Result, Ok, Err, refl, sym, ap, ◌∙◌, arith, ext_get_or, add-one, take-suc}
+use Rattle.std.proofs.Common.{◌≡◌, ℕ, zero, suc, ◌+◌, ◌<◌, ◌≤◌, ◌==◌, ◌||◌, Bool, true, false, List, [], ◌∷◌, ◌++◌, length, map, take, drop, get_or, Option, Some, None, unwrap_or, ok_or, option_copied, Result, Ok, Err, IfOk, IfErr, Bor, inl, inr, refl, sym, ap, ◌∙◌, arith, ext_get_or, take_all}
+use Rattle.std.proofs.Math.Bool.{or-false, or-true}
 use Rattle.std.specs.List.{slice_split, list_any}
-use Rattle.std.specs.Str.{bytes_eq}
-use Rattle.std.proofs.lemmas.Bool.{eqb-true}
-use Rattle.std.proofs.lemmas.List.{take_all, drop_all, drop_more}
+use Rattle.std.proofs.lemmas.Bool.{cases_Bool, cases_lt, eqb-true, eq-eqb, both_ways, false_from_ne_true}
+use Rattle.std.proofs.lemmas.List.{drop_all, drop_more}
 use Rattle.std.proofs.lemmas.List.Folds.{list_any_more}
 use Rattle.std.proofs.lemmas.List.Splits.{length-slice_split}
 use Rattle.std.proofs.lemmas.List.Sums.{count_by-le-length}
-use Rattle.fbas_model.specs.Names.{Name, place_of}
-use Rattle.fbas_model.specs.Nodes.{Nodes, Table, members, ∅}
+use Rattle.fbas_model.specs.Names.{Name, is_key, place_of}
+use Rattle.fbas_model.specs.Nodes.{Nodes, Table, members, ∅, only, ◌∪◌}
 use Rattle.fbas_model.specs.Restriction.{table_from}
 use Rattle.name_set.specs.Lists.{items_of, node_at, unless_fault, unless_faulty}
 use Rattle.name_set.specs.declared.lists.NameFault.{NameFault}
+use Rattle.name_set.specs.declared.lists.NameFault.TheVariants.{Unknown}
 use Rattle.node_json.specs.Organisations.{Org, ids_of, members_under, members_of, ids_read}
+use Rattle.node_json.proofs.OrgPlaces.{known-place, unknown-place}
 
 -- ---- tables
 
@@ -92,3 +94,52 @@ pub read_all : (text : List ℕ) (orgs : List Org) (n : ℕ) (t : Table) (i : �
 read_all text orgs n t i h all known size each =
     let past : length (parts text) ≤ i = omega arith in
     read-parts text orgs n h ∙ known ∙ rw (drop_all i (parts text) past) refl ∙ ap Ok (sym (table-is n t (members_of orgs (parts text)) size (λ v less. each v less ∙ ap (λ ids. members_of orgs ids v) (take_all i (parts text) past))))
+
+-- ---- one item
+
+node_at-key : (names : List Name) (k : ℕ) (id : Name) → (length id == 0) ≡ false → is_key id ≡ true → node_at names k id ≡ ok_or (place_of names id) (Unknown k)
+node_at-key names k [] h key = absurd cc
+node_at-key names k (b ∷ bytes) h key = rw key refl
+
+module _ (orgs : List Org) (k : ℕ) (id : Name) (h : (length id == 0) ≡ false) (key : is_key id ≡ true) where
+  pub item-fault : (r : Option (Bor Table)) → option_copied r ≡ members_under orgs id → IfErr (ok_or r (Unknown k)) (λ e. node_at (ids_of orgs) k id ≡ Err e)
+  item-fault None e = node_at-key (ids_of orgs) k id h key ∙ rw (unknown-place orgs id (sym e)) refl
+  item-fault (Some s) e = tt
+
+  pub item-known : (r : Option (Bor Table)) → option_copied r ≡ members_under orgs id → IfOk (ok_or r (Unknown k)) (λ s. (at : ℕ) × (node_at (ids_of orgs) k id ≡ Ok at))
+  item-known None e = tt
+  item-known (Some s) e = let at = known-place orgs id s.now (sym e) in (at.0, node_at-key (ids_of orgs) k id h key ∙ rw at.1 refl)
+
+-- ---- the other set's nodes, one after another
+
+module _ (initial others : Table) (v : ℕ) where
+  -- what is added below v
+  abbrev pub Added : Table → Type 0
+  Added t = (k : ℕ) → k < v → members t k ≡ (members initial k || members others k)
+
+  abbrev pub Kept : Table → Type 0
+  Kept t = (k : ℕ) → v ≤ k → members t k ≡ members initial k
+
+module _ (initial others : Table) (v : ℕ) (old : Table) (done : Added initial others v old) (ahead : Kept initial others v old) where
+  pub added-in : (new : Table) → members new ≡ members old ∪ only v → members others v ≡ true → Added initial others (v + 1) new
+  added-in new put is k h = ap (λ (s : Nodes). s k) put ∙ elim (cases_Bool (k == v)) [
+    | inl here ↦ let e : k ≡ v = eqb-true k v here in rw (here, e, is, or-true (members old v), or-true (members initial v)) refl
+    | inr there ↦ let below : k < v = apart k h there in rw (there, or-false (members old k)) (done k below)
+  ]
+    where
+      apart : (k : ℕ) → k < v + 1 → (k == v) ≡ false → k < v
+      apart k h there = elim (cases_lt k v) [
+        | inl less ↦ less
+        | inr more ↦ absurd (both_ways (k == v) there (eq-eqb k v (omega arith)))
+      ]
+
+  pub kept-in : (new : Table) → members new ≡ members old ∪ only v → Kept initial others (v + 1) new
+  kept-in new put k h =
+      let there : (k == v) ≡ false = false_from_ne_true (k == v) (λ e. absurd (let same = eqb-true k v e in omega arith)) in
+      ap (λ (s : Nodes). s k) put ∙ rw (there, or-false (members old k)) (ahead k (omega arith))
+
+  pub added-out : members others v ≡ false → Added initial others (v + 1) old
+  added-out is k h = elim (cases_lt k v) [
+    | inl less ↦ done k less
+    | inr more ↦ let e : k ≡ v = omega arith in rw (e, is, or-false (members initial v)) (ahead v (omega arith))
+  ]

@@ -1,5 +1,5 @@
 -- The index of organisations: which place it finds for an id.
-use Rattle.std.proofs.Common.{◌≡◌, ℕ, suc, ◌+◌, ◌<◌, ◌||◌, Bool, true, false, cond, nat_lt, not, List, [], ◌∷◌, ◌++◌, length, map, take, get_or, Option, Some, None, option_map, option_and_then, slice_get, position, Ordering, Less, Equal, Greater, inl, inr, refl, sym, ap, ap₂, ◌∙◌, arith, length-take, get_or-take}
+use Rattle.std.proofs.Common.{◌≡◌, ℕ, ◌+◌, ◌<◌, ◌≤◌, ◌||◌, All, Bool, true, false, cond, nat_lt, not, List, [], ◌∷◌, ◌++◌, length, map, take, get_or, Option, Some, None, option_map, option_and_then, slice_get, position, Ordering, Less, Equal, Greater, inl, inr, refl, sym, ap, ap₂, ◌∙◌, arith, length-take, get_or-take}
 use Rattle.std.proofs.lemmas.Bool.{cases_Bool, cases_lt, both_ways, false_from_ne_true, lt-ltb, ltb-true}
 use Rattle.std.proofs.lemmas.Cmp.{nat_list_eq_equiv}
 use Rattle.std.proofs.lemmas.Iterator.Adapters.{position_from-zero}
@@ -8,7 +8,7 @@ use Rattle.std.proofs.lemmas.List.Folds.{Any-from_list_any, find_at}
 use Rattle.std.proofs.lemmas.List.Quantifiers.{position-Some}
 use Rattle.std.proofs.lemmas.Map.Keys.{IsDistinct-push, apart_from_distinct}
 use Rattle.std.proofs.lemmas.Map.Text.{is_eq-slice_cmp}
-use Rattle.std.proofs.lemmas.Option.{slice_get_past}
+use Rattle.std.proofs.lemmas.Option.{slice_get_past, slice_get_cases}
 use Rattle.std.specs.BTreeMap.{insert_entry, is_at}
 use Rattle.std.specs.List.{IsDistinct, list_any, position_from, position_or_len}
 use Rattle.std.specs.Map.{lookup}
@@ -16,6 +16,7 @@ use Rattle.std.specs.Option.{option_or}
 use Rattle.std.specs.Ordering.{is_eq, match_ordering}
 use Rattle.std.specs.Str.{bytes_eq}
 use Rattle.fbas_model.specs.Names.{Name, name_cmp, place_of}
+use Rattle.fbas_model.specs.Nodes.{Table}
 use Rattle.node_json.specs.NamesInOrder.{is_among}
 use Rattle.node_json.specs.Organisations.{Org, ids_of, members_under}
 use Rattle.node_json.specs.OrgsView.{AreIndexed}
@@ -157,3 +158,42 @@ under-at orgs id at e = under-place orgs id ∙ rw e refl
 
 pub under-none : (orgs : List Org) (id : Name) → place_of (ids_of orgs) id ≡ None → members_under orgs id ≡ None
 under-none orgs id e = under-place orgs id ∙ rw e refl
+
+-- ---- whether an id is known
+
+none_not_some : (o : Option Table) (x : Table) → o ≡ None → o ≡ Some x → ⊥
+none_not_some o x e f = cc
+
+-- an id that an organisation has is at a place
+pub known-place : (orgs : List Org) (id : Name) (s : Table) → members_under orgs id ≡ Some s → (at : ℕ) × (place_of (ids_of orgs) id ≡ Some at)
+known-place orgs id s e = by_place (place_of (ids_of orgs) id) refl
+  where
+    by_place : (o : Option ℕ) → place_of (ids_of orgs) id ≡ o → (at : ℕ) × (place_of (ids_of orgs) id ≡ Some at)
+    by_place (Some at) h = (at, h)
+    by_place None h = absurd (none_not_some (members_under orgs id) s (under-none orgs id h) e)
+
+-- one that none has is at no place
+pub unknown-place : (orgs : List Org) (id : Name) → members_under orgs id ≡ None → place_of (ids_of orgs) id ≡ None
+unknown-place orgs id e = by_place (place_of (ids_of orgs) id) refl
+  where
+    by_place : (o : Option ℕ) → place_of (ids_of orgs) id ≡ o → place_of (ids_of orgs) id ≡ None
+    by_place None h = h
+    by_place (Some at) h = elim (slice_get_cases orgs at).1 [
+      | inl found ↦ absurd (none_not_some (members_under orgs id) found.0.members e (under-at orgs id at h ∙ ap (option_map (λ o. o.members)) found.2))
+      | inr past ↦ absurd (let within = place-within orgs id at h in let beyond = past.0 in omega arith)
+    ]
+
+-- what is under an id has the length that all have
+pub under-sized : (orgs : List Org) (n : ℕ) (id : Name) (s : Table) → All (λ org. length org.members ≡ n) orgs → members_under orgs id ≡ Some s → length s ≡ n
+under-sized orgs n id s all e =
+    let at = known-place orgs id s e in
+    elim (slice_get_cases orgs at.0).1 [
+      | inl found ↦
+          let same : Some found.0.members ≡ Some s = sym (under-at orgs id at.0 at.1 ∙ ap (option_map (λ o. o.members)) found.2) ∙ e in
+          let sized : length (get_or orgs at.0 found.0).members ≡ n = all at.0 found.0 found.1 in
+          ap length (sym (some_is found.0.members s same)) ∙ ap (λ o. length o.members) (sym found.3) ∙ sized
+      | inr past ↦ absurd (let within = place-within orgs id at.0 at.1 in let beyond = past.0 in omega arith)
+    ]
+  where
+    some_is : (a b : Table) → Some a ≡ Some b → a ≡ b
+    some_is a b e = cc
