@@ -37,9 +37,9 @@ module _ (names : List Name) (orgs : List NamedOrg) (i : ℕ) (org : NamedOrg) (
       let org_id : (org_view one).id ≡ org.id.now = ap (λ o. o.id) made in
       let at : org.id.now ≡ get_or (named_ids orgs) i org.id.now = ap (λ o. o.id.now) is ∙ sym (get_or-map (λ (o : NamedOrg). o.id.now) orgs i org org.id.now h) in
       let new : is_among (org_view one).id (ids_of (orgs_view list)) ≡ false =
-          ap₂ is_among org_id (ap ids_of so_far ∙ ids-taken names orgs i) ∙ fresh (named_ids orgs) i org.id.now apart (let n = length-map orgs (λ (o : NamedOrg). o.id.now) in omega arith) at
+      ap₂ is_among org_id (ap ids_of so_far ∙ ids-taken names orgs i) ∙ fresh (named_ids orgs) i org.id.now apart (let n = length-map orgs (λ (o : NamedOrg). o.id.now) in omega arith) at
       in
       let places : i ≡ length (orgs_view list) =
-          sym (ap length so_far ∙ length-map (named_orgs_view (take i orgs)) (among_nodes names) ∙ length-map (take i orgs) named_org_view ∙ (let n = length-take i orgs in omega arith))
+      sym (ap length so_far ∙ length-map (named_orgs_view (take i orgs)) (among_nodes names) ∙ length-map (take i orgs) named_org_view ∙ (let n = length-take i orgs in omega arith))
       in
       rw view_grown (indexed-more (orgs_view list) (org_view one) (found text es) (found text more) all new (λ id. ap (λ x. found text x id) put ∙ found-insert text es key i id ∙ ap₂ (λ t n. cond (bytes_eq t id) (Some n) (found text es id)) (key_is ∙ sym org_id) places))

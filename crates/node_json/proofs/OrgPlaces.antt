@@ -1,5 +1,5 @@
 -- The index of organisations: which place it finds for an id.
-use Rattle.std.proofs.Common.{◌≡◌, ℕ, ◌+◌, ◌<◌, ◌≤◌, ◌||◌, All, Bool, true, false, cond, nat_lt, not, List, [], ◌∷◌, ◌++◌, length, map, take, get_or, Option, Some, None, option_map, option_and_then, slice_get, position, Ordering, Less, Equal, Greater, inl, inr, refl, sym, ap, ap₂, ◌∙◌, arith, length-take, get_or-take}
+use Rattle.std.proofs.Common.{◌≡◌, ℕ, zero, suc, ◌+◌, ◌<◌, ◌≤◌, ◌||◌, All, Contains, Bool, true, false, cond, nat_lt, not, List, [], ◌∷◌, ◌++◌, length, map, take, get_or, Option, Some, None, option_map, option_and_then, slice_get, position, Ordering, Less, Equal, Greater, inl, inr, refl, sym, ap, ap₂, ◌∙◌, arith, length-take, get_or-take}
 use Rattle.std.proofs.lemmas.Bool.{cases_Bool, cases_lt, both_ways, false_from_ne_true, lt-ltb, ltb-true}
 use Rattle.std.proofs.lemmas.Cmp.{nat_list_eq_equiv}
 use Rattle.std.proofs.lemmas.Iterator.Adapters.{position_from-zero}
@@ -9,6 +9,7 @@ use Rattle.std.proofs.lemmas.List.Quantifiers.{position-Some}
 use Rattle.std.proofs.lemmas.Map.Keys.{IsDistinct-push, apart_from_distinct}
 use Rattle.std.proofs.lemmas.Map.Text.{is_eq-slice_cmp}
 use Rattle.std.proofs.lemmas.Option.{slice_get_past, slice_get_cases}
+use Rattle.std.proofs.lemmas.Slice.Eq.{bytes_eq-Decides}
 use Rattle.std.specs.BTreeMap.{insert_entry, is_at}
 use Rattle.std.specs.List.{IsDistinct, list_any, position_from, position_or_len}
 use Rattle.std.specs.Map.{lookup}
@@ -18,7 +19,7 @@ use Rattle.std.specs.Str.{bytes_eq}
 use Rattle.fbas_model.specs.Names.{Name, name_cmp, place_of}
 use Rattle.fbas_model.specs.Nodes.{Table}
 use Rattle.node_json.specs.NamesInOrder.{is_among}
-use Rattle.node_json.specs.Organisations.{Org, ids_of, members_under}
+use Rattle.node_json.specs.Organisations.{Org, HasNone, ids_of, members_under}
 use Rattle.node_json.specs.OrgsView.{AreIndexed}
 
 flipped : (a b : Name) → bytes_eq a b ≡ bytes_eq b a
@@ -197,3 +198,33 @@ under-sized orgs n id s all e =
   where
     some_is : (a b : Table) → Some a ≡ Some b → a ≡ b
     some_is a b e = cc
+
+-- ---- what is found is there
+
+first-is : (o : Org) (os : List Org) (org : Org) → org ≡ o → Contains (o ∷ os) org
+first-is o os org e = (0, omega arith, sym e)
+
+later-is : (o : Org) (os : List Org) (org : Org) → Contains os org → Contains (o ∷ os) org
+later-is o os org (k, h, at) = (suc k, omega arith, at)
+
+pub under-there : (orgs : List Org) (id : Name) (s : Table) → members_under orgs id ≡ Some s → Contains orgs (record { id = id; members = s })
+under-there [] id s e = absurd (none_not_some None s refl e)
+under-there (o ∷ os) id s e = elim (cases_Bool (bytes_eq o.id id)) [
+  | inl here ↦
+      let same : o.members ≡ s = (let f = rw here at e in cc) in
+      first-is o os (record { id = id; members = s }) (ap₂ (λ i m. record { id = i; members = m }) (sym ((bytes_eq-Decides o.id id).0 here)) (sym same))
+  | inr there ↦ later-is o os (record { id = id; members = s }) (under-there os id s (rw there at e))
+]
+
+here-is : (o : Org) (os : List Org) (id : Name) → bytes_eq o.id id ≡ true → members_under (o ∷ os) id ≡ Some o.members
+here-is o os id here = rw here refl
+
+pub under-missing : (orgs : List Org) (id : Name) → members_under orgs id ≡ None → HasNone orgs id
+under-missing [] id e org (k, h, at) same = absurd (omega arith)
+under-missing (o ∷ os) id e org (zero, h, at) same =
+    let here : bytes_eq o.id id ≡ true = (bytes_eq-Decides o.id id).1 (ap (λ o. o.id) at ∙ same) in
+    absurd (none_not_some (members_under (o ∷ os) id) o.members e (here-is o os id here))
+under-missing (o ∷ os) id e org (suc k, h, at) same = elim (cases_Bool (bytes_eq o.id id)) [
+  | inl here ↦ absurd (none_not_some (members_under (o ∷ os) id) o.members e (here-is o os id here))
+  | inr there ↦ under-missing os id (rw there at e) org (k, omega arith, at) same
+]

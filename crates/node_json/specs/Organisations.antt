@@ -1,5 +1,5 @@
 -- Organisations: what the bytes of a file of them say, and the nodes that a list of their ids stands for.
-use Rattle.std.specs.Prelude.{ℕ, ◌+◌, List, [], ◌∷◌, ◌++◌, length, map, not, Option, option_and_then, option_map, unwrap_or, ok_or, Result, Ok, Err, codes, nat_lt, if◌then◌else◌}
+use Rattle.std.specs.Prelude.{◌≡◌, ℕ, ◌+◌, List, [], ◌∷◌, ◌++◌, length, map, not, Option, option_and_then, option_map, unwrap_or, Contains, ok_or, Result, Ok, Err, codes, nat_lt, if◌then◌else◌}
 use Rattle.std.specs.List.{find, list_any}
 use Rattle.std.specs.Str.{bytes_eq}
 use Rattle.serde_json.specs.Data.{Data, Items, no_items, item}
@@ -76,6 +76,10 @@ ids_of orgs = map (λ org. org.id) orgs
 -- the members of the organisation that has the id, if one has it
 abbrev pub members_under : List Org → Name → Option Table
 members_under orgs id = option_map (λ org. org.members) (find (λ org. bytes_eq org.id id) orgs)
+
+-- no organisation has the id
+abbrev pub HasNone : List Org → Name → Type 0
+HasNone orgs id = (org : Org) → Contains orgs org → org.id ≡ id → ⊥
 
 -- the nodes that are members of an organisation whose id is listed
 abbrev pub members_of : List Org → List Name → Nodes

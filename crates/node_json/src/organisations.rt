@@ -1,10 +1,10 @@
 // Organisations, as nodes of a system.
 
-ghost use Rattle.std.specs.Prelude.{◌≡◌, ◌⊎◌, [], Ok, Err, All, length, map, IfOk, IfErr, option_copied};
+ghost use Rattle.std.specs.Prelude.{◌≡◌, ◌⊎◌, [], Ok, Err, All, length, map, Contains, IfOk, IfErr, MatchOption, option_copied};
 ghost use Rattle.std.specs.List.{IsDistinct};
 ghost use Rattle.std.specs.Str.{bytes_eq};
 ghost use Rattle.name_set.specs.Lists.{marks};
-ghost use Rattle.node_json.specs.Organisations.{among_nodes, ids_of, members_under, named_orgs_of, orgs_of};
+ghost use Rattle.node_json.specs.Organisations.{HasNone, among_nodes, ids_of, members_under, orgs_of};
 ghost use Rattle.node_json.specs.OrgsView.{named_org_view, named_orgs_view, named_ids, org_view};
 ghost use Rattle.node_json.specs.View.{names_view};
 
@@ -61,7 +61,10 @@ impl Orgs {
 
     /// The members of the organisation of the id, or none where no organisation has it: O(log n) comparisons.
     pub fn members(&self, id: &[u8]) -> Option<&NodeSet>
-        ensures { option_copied result ≡ members_under self.now id.now }
+        ensures value { option_copied result ≡ members_under self.now id.now }
+        // They are those of the one organisation that has the id.
+        ensures cases { MatchOption result (HasNone self.now id.now) (λ s. Contains self.now (record { id = id.now; members = s.now })) }
+        ensures apart { IsDistinct bytes_eq (ids_of self.now) }
     {
         let at = *self.places.get(id)?;
         Some(&self.list[at].members)
