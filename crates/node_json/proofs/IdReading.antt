@@ -1,7 +1,7 @@
 -- Lists of ids: the members of each, one after another.
-use Rattle.std.proofs.Common.{◌≡◌, ℕ, zero, suc, ◌+◌, ◌<◌, ◌≤◌, ◌==◌, ◌||◌, Bool, true, false, List, [], ◌∷◌, ◌++◌, length, map, take, drop, get_or, Option, Some, None, unwrap_or, ok_or, option_copied, Result, Ok, Err, IfOk, IfErr, Bor, inl, inr, refl, sym, ap, ◌∙◌, arith, ext_get_or, take_all}
+use Rattle.std.proofs.Common.{◌≡◌, ℕ, zero, suc, ◌+◌, ◌<◌, ◌≤◌, ◌==◌, ◌||◌, true, false, List, [], ◌∷◌, length, take, drop, get_or, Option, Some, None, unwrap_or, ok_or, option_copied, Result, Ok, Err, IfOk, IfErr, Bor, inl, inr, refl, sym, ap, ◌∙◌, arith, ext_get_or, take_all}
 use Rattle.std.proofs.Math.Bool.{or-false, or-true}
-use Rattle.std.specs.List.{slice_split, list_any}
+use Rattle.std.specs.List.{slice_split}
 use Rattle.std.proofs.lemmas.Bool.{cases_Bool, cases_lt, eqb-true, eq-eqb, both_ways, false_from_ne_true}
 use Rattle.std.proofs.lemmas.List.{drop_all, drop_more}
 use Rattle.std.proofs.lemmas.List.Folds.{list_any_more}

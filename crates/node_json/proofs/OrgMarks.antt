@@ -1,5 +1,5 @@
 -- The marks of the names in a list, one after another.
-use Rattle.std.proofs.Common.{◌≡◌, ℕ, ◌+◌, ◌<◌, ◌==◌, ◌||◌, Bool, true, false, List, [], ◌∷◌, ◌++◌, length, map, take, get_or, slice_get, slice_index_or, Some, Contains, inl, inr, refl, sym, ap, ap₂, subst, ◌∙◌, arith, ext_get_or, add-one, take-suc, Bor}
+use Rattle.std.proofs.Common.{◌≡◌, ℕ, ◌+◌, ◌<◌, ◌==◌, ◌||◌, Bool, false, List, [], ◌∷◌, ◌++◌, length, take, get_or, slice_get, slice_index_or, Some, Contains, inl, inr, refl, sym, ap, subst, ◌∙◌, arith, ext_get_or, add-one, take-suc, Bor}
 use Rattle.std.proofs.Math.Bool.{or-false}
 use Rattle.std.proofs.lemmas.Bool.{cases_Bool, eqb-true, eq-eqb, both_ways, false_from_ne_true}
 use Rattle.std.proofs.lemmas.List.{get_or-map, get_or_default, length-map, map-append}

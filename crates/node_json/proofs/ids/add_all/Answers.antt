@@ -1,4 +1,4 @@
-use Rattle.std.proofs.Common.{◌≡◌, ◌+◌, sym, ◌∙◌, arith}
+use Rattle.std.proofs.Common.{sym, ◌∙◌, arith}
 use Rattle.node_json.proofs.IdReading.{added-in, kept-in, added-out}
 use Rattle.node_json.proofs.ids.add_all.Goals as goal
 use Rattle.node_json.proofs.ids.add_all.Goals.{then-has, else-has}

@@ -1,4 +1,4 @@
-use Rattle.std.proofs.Common.{◌≡◌, sym, ◌∙◌, rules}
+use Rattle.std.proofs.Common.{sym, ◌∙◌, rules}
 use Rattle.node_json.proofs.IdReading.{item-fault, item-known}
 use Rattle.node_json.proofs.ids.members_at.Goals as goal
 

@@ -1,6 +1,4 @@
-use Rattle.std.proofs.Common.{◌≡◌, ◌<◌, length, Ok, Err, [], true, false, not, arith, rules, refl, sym, ap, ◌∙◌, inl, inr}
-use Rattle.std.specs.List.{IsDistinct}
-use Rattle.std.specs.Str.{bytes_eq}
+use Rattle.std.proofs.Common.{◌≡◌, Ok, Err, true, false, not, arith, rules, refl, sym, ◌∙◌, inl, inr}
 use Rattle.serde_json.specs.View.{view, items_view}
 use Rattle.node_json.specs.declared.named_orgs.NamedOrg.{NamedOrg}
 use Rattle.node_json.specs.declared.faults.OrgFault.TheVariants.{DuplicateOrg}

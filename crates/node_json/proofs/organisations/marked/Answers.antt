@@ -1,4 +1,4 @@
-use Rattle.std.proofs.Common.{◌≡◌, ◌<◌, ◌+◌, ◌++◌, ◌∷◌, [], length, take, map, get_or, arith, sym, ◌∙◌, ap}
+use Rattle.std.proofs.Common.{◌≡◌, ◌+◌, ◌++◌, ◌∷◌, [], length, take, arith, ◌∙◌}
 use Rattle.node_json.specs.View.{names_view}
 use Rattle.node_json.proofs.OrgMarks.{marks-none, marked, dropped, names-more}
 use Rattle.node_json.proofs.organisations.marked.Goals as goal

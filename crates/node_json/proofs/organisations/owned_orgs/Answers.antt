@@ -1,4 +1,4 @@
-use Rattle.std.proofs.Common.{◌≡◌, ◌<◌, length, Vec, ℕ, Global, arith, refl, sym, ◌∙◌, ap}
+use Rattle.std.proofs.Common.{◌<◌, length, Vec, ℕ, Global, arith, refl}
 use Rattle.node_json.proofs.OrgPlaces.{indexed-none}
 use Rattle.node_json.proofs.OrgOwned.{owned_more, index_more}
 use Rattle.node_json.proofs.organisations.owned_orgs.Goals as goal

@@ -1,4 +1,4 @@
-use Rattle.std.proofs.Common.{◌≡◌, length, List, Ok, Err, All, map, inl, inr, rules, refl, sym, ap, subst, ◌∙◌, arith}
+use Rattle.std.proofs.Common.{◌≡◌, length, Ok, Err, map, inl, inr, rules, sym, ap, ◌∙◌, arith}
 use Rattle.std.proofs.lemmas.List.{length-map}
 use Rattle.serde_json.specs.View.{view}
 use Rattle.node_json.specs.Organisations.{among_nodes}
