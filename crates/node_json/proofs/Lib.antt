@@ -13,3 +13,4 @@ pub mod OrgPlaces
 pub mod OrgMarks
 pub mod OrgOwned
 pub mod IdReading
+pub mod OrgSamples

@@ -59,7 +59,7 @@ impl Orgs {
         }
     }
 
-    /// The members of the organisation of the id, or none where no organisation has it: O(log n) comparisons.
+    /// The members of the organisation of the id, or none where no organisation has it: O(log m) comparisons, where there are m.
     pub fn members(&self, id: &[u8]) -> Option<&NodeSet>
         ensures value { option_copied result ≡ members_under self.now id.now }
         // They are those of the one organisation that has the id.
