@@ -8,3 +8,9 @@ pub mod Soundness
 pub mod Limits
 pub mod Samples
 pub mod Laws
+pub mod OrgReading
+pub mod OrgPlaces
+pub mod OrgMarks
+pub mod OrgOwned
+pub mod IdReading
+pub mod OrgSamples

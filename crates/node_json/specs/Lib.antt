@@ -5,3 +5,5 @@ pub mod View
 pub mod Configuration
 pub mod Sound
 pub mod SystemOf
+pub mod Organisations
+pub mod OrgsView

@@ -14,17 +14,17 @@ use Rattle.node_json.specs.declared.faults.ConfigFault.TheVariants.{NotJson, Not
 -- ---- results, one after another
 
 -- goes on with what was read, up to the first fault
-abbrev pub and_then : {A B : Type 0} → (A → Result B ConfigFault) → Result A ConfigFault → Result B ConfigFault
+abbrev pub and_then : {A B E : Type 0} → (A → Result B E) → Result A E → Result B E
 and_then f (Ok a) = f a
 and_then f (Err e) = Err e
 
 -- the function of what was read
-abbrev pub after : {A B : Type 0} → (A → B) → Result A ConfigFault → Result B ConfigFault
+abbrev pub after : {A B E : Type 0} → (A → B) → Result A E → Result B E
 after f (Ok a) = Ok (f a)
 after f (Err e) = Err e
 
 -- the result where the test passes, or else the fault
-abbrev pub unless : {A : Type 0} → ConfigFault → Bool → Result A ConfigFault → Result A ConfigFault
+abbrev pub unless : {A E : Type 0} → E → Bool → Result A E → Result A E
 unless e true r = r
 unless e false r = Err e
 

@@ -1,4 +1,4 @@
-// What a configuration may be refused for.
+// What a configuration, or a file of organisations, may be refused for.
 
 ghost use Rattle.std.specs.Prelude.{◌≡◌};
 ghost use Rattle.node_json.specs.declared.faults.ConfigFault.TheVariants.{Memory};
@@ -71,5 +71,50 @@ impl<T: Drop> From<AllocFailed<T>> for ConfigFault {
 
     fn from(_e: AllocFailed<T>) -> ConfigFault {
         ConfigFault::Memory
+    }
+}
+
+/// Why the bytes are no organisations: the first fault. Elements of the array are counted from 0.
+#[derive(Clone, Copy, Debug, PartialEq, Eq, Error)]
+pub enum OrgFault {
+    /// The bytes are no JSON text.
+    #[error("not-json")]
+    NotJson,
+    /// The text is no array.
+    #[error("not-orgs")]
+    NotOrgs,
+    /// An element is no object, or its `id` is missing or no key, or its `validators` are no array of keys.
+    #[error("bad-org {0}")]
+    BadOrg(u64),
+    /// An element has the `id` of an earlier one.
+    #[error("duplicate-org {0}")]
+    DuplicateOrg(u64),
+    /// There are this many organisations, more than 4,096.
+    #[error("too-many-orgs {0}")]
+    TooManyOrgs(u64),
+    /// There was too little memory.
+    #[error("out of memory")]
+    Memory,
+}
+
+impl From<AllocError> for OrgFault {
+    ghost use Rattle.node_json.specs.declared.faults.OrgFault.TheVariants.{Memory};
+    ghost use Rattle.std.specs.Prelude.{◌≡◌};
+
+    ghost from_gives = { λ _ e. e ≡ Memory };
+
+    fn from(_e: AllocError) -> OrgFault {
+        OrgFault::Memory
+    }
+}
+
+impl<T: Drop> From<AllocFailed<T>> for OrgFault {
+    ghost use Rattle.node_json.specs.declared.faults.OrgFault.TheVariants.{Memory};
+    ghost use Rattle.std.specs.Prelude.{◌≡◌};
+
+    ghost from_gives = { λ _ e. e ≡ Memory };
+
+    fn from(_e: AllocFailed<T>) -> OrgFault {
+        OrgFault::Memory
     }
 }

@@ -1,15 +1,22 @@
-// The reader of configurations.
+// The readers of configurations and of organisations.
 #![tactic(auto)]
 
 mod faults;
+mod ids;
 mod keys;
+mod named_orgs;
 mod names;
 mod nodes;
+mod organisations;
 mod quorum_sets;
 mod system;
 
-pub use faults::{ConfigFault, SetFault};
+pub use faults::{ConfigFault, OrgFault, SetFault};
+pub use ids::read_ids;
+pub use organisations::{Orgs, read_orgs};
 pub use system::read_config;
 
+#[cfg(test)]
+mod org_tests;
 #[cfg(test)]
 mod tests;

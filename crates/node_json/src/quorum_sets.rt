@@ -36,7 +36,7 @@ fn read_threshold(value: &Value) -> Option<u64>
 }
 
 // The keys of the member `validators`, which may be missing.
-fn read_validators(alloc: Global, value: &Value) -> Result<Option<Vec<&str>>, AllocError>
+pub(crate) fn read_validators(alloc: Global, value: &Value) -> Result<Option<Vec<&str>>, AllocError>
     ensures { IfOk result (λ keys. option_map (λ v. names_view v.items) keys ≡ validators_of (view value.now)) }
 {
     match member(value, "validators") {
