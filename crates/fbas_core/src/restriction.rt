@@ -63,7 +63,7 @@ impl System {
         ensures { IfOk result (λ names. map (λ name. name.items) names.items ≡ kept_of kept.now self.now.names) }
     {
         let mut names = Vec::with_capacity(alloc, kept.count() as usize)?;
-        for v in 0..self.len() {
+        for v in 0..self.names.len() {
             if kept.has(v) {
                 names.push(Vec::from_slice(alloc, self.names.name(v))?)?;
             }
@@ -83,7 +83,7 @@ impl System {
         ensures { IfOk result (λ sets. sets.items ≡ restricted_sets kept.now self.now.sets) }
     {
         let mut sets = Vec::with_capacity(alloc, kept.count() as usize)?;
-        for v in 0..self.len() {
+        for v in 0..self.names.len() {
             if kept.has(v) {
                 sets.push(match self.quorum_set(v) {
                     Some(quorum_set) => Some(renumber(alloc, quorum_set, ranks)?),
