@@ -20,7 +20,7 @@ reach-requires c =
     subst (λ (n : ℕ). IsBelow n c.in-Some-quorum_set.quorum_set.now) (sym c.loop-node.invariant.same_n) below
 
 pub loop-node-preserved-in-Continue-branch-4 : goal.loop-node-preserved-in-Continue-branch-4
-loop-node-preserved-in-Continue-branch-4 c = 
+loop-node-preserved-in-Continue-branch-4 c =
     closing_next c.args.self.now.sets c.args.v c.loop-node.reached c.loop-node.waiting.items c.pop.new.self.items c.in-Some.node c.loop-node.invariant c.in-Some.ensures.items c.in-Some-quorum_set.quorum_set.now c.reach.new.reached c.reach.new.waiting.items c.in-Some-quorum_set.ensures.set c.in_ok-reach.ensures
 
 pub returns-clause-table : goal.returns-clause-table
