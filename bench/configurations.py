@@ -30,7 +30,10 @@ def short_key(number):
 
 
 def dense(nodes, entries, name):
-    """Each node lists so many others that there are this many entries in all, in inner quorum sets of 50."""
+    """Each node lists so many others that there are this many entries in all, in inner quorum sets of 50.
+
+    Each lists those after it, round and round, so that the trust closure of each is all.
+    """
     names = [name(v) for v in range(nodes)]
     share = entries // nodes
     extra = entries - share * nodes
@@ -54,7 +57,10 @@ def dense(nodes, entries, name):
 
 
 def chain(nodes, name, step):
-    """Node v needs node v + step, so that one node without a slice takes all others with it."""
+    """Node v needs node v + step, so that one node without a slice takes all others with it.
+
+    The trust closure of the node at the other end is the whole chain, reached node by node.
+    """
     out = []
     for v in range(nodes):
         after = v + step

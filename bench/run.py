@@ -24,19 +24,21 @@ def least(words):
     return best
 
 
-def first_name(path):
-    out = subprocess.run(["jq", "-r", ".[0].publicKey", path], stdout=subprocess.PIPE, check=True)
+def name_at(path, place):
+    out = subprocess.run(["jq", "-r", ".[%d].publicKey" % place, path], stdout=subprocess.PIPE, check=True)
     return out.stdout.decode().strip()
 
 
 def main():
     folder = sys.argv[1] if len(sys.argv) > 1 else "/tmp/gemzulat-bench"
     subprocess.run([os.path.join(TOP, "bench", "configurations.py"), folder], check=True)
-    print("| file | bytes | show | jq -c length | greatest | blocks | available | vblocks |")
-    print("|---|---|---|---|---|---|---|---|")
+    print("| file | bytes | show | jq -c length | greatest | blocks | available | vblocks | closure |")
+    print("|---|---|---|---|---|---|---|---|---|")
     for name in ["half", "whole", "long-keys", "chain-up", "chain-down"]:
         path = os.path.join(folder, name + ".json")
-        node = first_name(path)
+        node = name_at(path, 0)
+        # The node from which all others are reached: in a chain, one by one.
+        begin = name_at(path, -1) if name == "chain-down" else node
         rows = [
             least([PROGRAM, "show", path]),
             least(["jq", "-c", "length", path]),
@@ -44,6 +46,7 @@ def main():
             least([PROGRAM, "blocks", path, "--set", node]),
             least([PROGRAM, "available", path, "--set", node]),
             least([PROGRAM, "vblocks", path, "--node", node, "--set", node]),
+            least([PROGRAM, "closure", path, "--node", begin]),
         ]
         print("| %s | %d | %s |" % (name, os.path.getsize(path), " | ".join("%.3f s" % r for r in rows)))
     print("largest memory of a child: %d MB" % (resource.getrusage(resource.RUSAGE_CHILDREN).ru_maxrss // 1024))

@@ -1,1 +1,5 @@
 pub mod Sums
+pub mod Entries
+pub mod Reached
+pub mod Closing
+pub mod Cutting

@@ -8,7 +8,7 @@ ghost use Rattle.fbas_model.specs.Restriction.{kept as kept_of, renumbered, rest
 ghost use Rattle.fbas_core.specs.Ranks.{AreRanks};
 
 use crate::System;
-use name_set::{Names, NodeSet};
+use name_set::NodeSet;
 use quorum_set::QuorumSet;
 use std::alloc::{AllocError, Global};
 
@@ -57,20 +57,6 @@ fn renumber(alloc: Global, quorum_set: &QuorumSet, ranks: &[u32]) -> Result<Quor
 }
 
 impl System {
-    /// The names of the kept nodes.
-    fn kept_names(&self, alloc: Global, kept: &NodeSet) -> Result<Vec<Vec<u8>>, AllocError>
-        requires { length kept.now ≡ length self.now.sets }
-        ensures { IfOk result (λ names. map (λ name. name.items) names.items ≡ kept_of kept.now self.now.names) }
-    {
-        let mut names = Vec::with_capacity(alloc, kept.count() as usize)?;
-        for v in 0..self.len() {
-            if kept.has(v) {
-                names.push(Vec::from_slice(alloc, self.names.name(v))?)?;
-            }
-        }
-        Ok(names)
-    }
-
     /// The quorum sets of the kept nodes, by the ranks of the nodes in them.
     fn kept_sets(
         &self,
@@ -83,7 +69,7 @@ impl System {
         ensures { IfOk result (λ sets. sets.items ≡ restricted_sets kept.now self.now.sets) }
     {
         let mut sets = Vec::with_capacity(alloc, kept.count() as usize)?;
-        for v in 0..self.len() {
+        for v in 0..self.names.len() {
             if kept.has(v) {
                 sets.push(match self.quorum_set(v) {
                     Some(quorum_set) => Some(renumber(alloc, quorum_set, ranks)?),
@@ -97,8 +83,8 @@ impl System {
     /// The system restricted to a closed set of its nodes: their names, in the same order, each with the quorum set that it
     /// has here or none.
     ///
-    /// A node's number there is how many kept nodes come before it. Linear in the nodes and entries, and costs O(k log k)
-    /// comparisons for the k names that are kept.
+    /// A node's number there is how many kept nodes come before it. Linear in the nodes, the bytes of the names that are kept
+    /// and the entries of their quorum sets.
     pub fn restrict(&self, alloc: Global, kept: &NodeSet) -> Result<System, AllocError>
         requires same_n { length kept.now ≡ length self.now.sets }
         requires closed { IsClosed self.now.sets (members kept.now) }
@@ -115,7 +101,7 @@ impl System {
     {
         let ranks = ranks(alloc, kept, self.len())?;
         let sets = self.kept_sets(alloc, kept, &ranks)?;
-        let names = Names::of(self.kept_names(alloc, kept)?)?;
+        let names = self.names.kept(alloc, kept)?;
         Ok(System::of(names, sets))
     }
 

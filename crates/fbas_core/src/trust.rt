@@ -54,7 +54,7 @@ impl System {
         ensures least { IfOk result (λ t. IsClosure self.now.sets v (members t)) }
         ensures same_n { IfOk result (λ t. length t ≡ length self.now.sets) }
     {
-        let n = self.len();
+        let n = self.names.len();
         let mut reached = NodeSet::new(alloc, n)?;
         let mut waiting = Vec::with_capacity(alloc, n as usize)?;
         reached.put(v);

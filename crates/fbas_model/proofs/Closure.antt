@@ -155,9 +155,9 @@ closure_of-closure f v low below =
         | inr m ↦ absurd (omega (arith, some_member start v here, size_le_length last, length-iterate f (length f) start n))
       ];
       least = λ other v_in closed. iterate_within f (length f) start other closed (λ x at.
-      let lowx : x < length f = subst (λ (k : ℕ). x < k) n (member_lt start x at) in
-      let same : 0 + x ≡ v = eqb-true (0 + x) v (sym (members-table_from 0 (length f) (only v) x lowx) ∙ at) in
-      subst (λ (y : ℕ). y ∈ other) (sym same ∙ zero-add x) v_in);
+          let lowx : x < length f = subst (λ (k : ℕ). x < k) n (member_lt start x at) in
+          let same : 0 + x ≡ v = eqb-true (0 + x) v (sym (members-table_from 0 (length f) (only v) x lowx) ∙ at) in
+          subst (λ (y : ℕ). y ∈ other) (sym same ∙ zero-add x) v_in);
     }
 
 -- two closures have the same members

@@ -15,6 +15,15 @@ length-kept (m ∷ ms) [] e = absurd (omega arith)
 length-kept (true ∷ ms) (x ∷ xs) e = omega (arith, size-cons true ms, length-kept ms xs (omega arith))
 length-kept (false ∷ ms) (x ∷ xs) e = omega (arith, size-cons false ms, length-kept ms xs (omega arith))
 
+-- what is kept of the items before v is as long as its rank
+pub length-kept-take : {A : Type 0} (t : Table) (xs : List A) (v : ℕ) → length t ≡ length xs → length (kept (take v t) xs) ≡ rank t v
+length-kept-take [] xs zero e = refl
+length-kept-take [] xs (suc v) e = refl
+length-kept-take (m ∷ ms) [] v e = absurd (omega arith)
+length-kept-take (m ∷ ms) (x ∷ xs) zero e = refl
+length-kept-take (true ∷ ms) (x ∷ xs) (suc v) e = omega (arith, size-cons true (take v ms), length-kept-take ms xs v (omega arith))
+length-kept-take (false ∷ ms) (x ∷ xs) (suc v) e = omega (arith, size-cons false (take v ms), length-kept-take ms xs v (omega arith))
+
 pub kept_le : {A : Type 0} (t : Table) (xs : List A) → length (kept t xs) ≤ length xs
 kept_le [] xs = omega arith
 kept_le (m ∷ ms) [] = omega arith

@@ -74,8 +74,7 @@ one_side t b w v e h = ap₂ (λ (x y : Bool). x || y) (raised_at t w v h) (sym 
 pub slice-restricted : (t b : Table) (f : Fbas) (w : Nodes) (v : ℕ) → length t ≡ length f → length b ≡ length f → IsClosed f (members t) → v ∈ members t → HasSliceWithin (restricted_sets t f) (members (kept t b)) (rank t v) w ↔ HasSliceWithin f (members b) v (raised t w)
 slice-restricted t b f w v e g closed here =
     let part = restricted_sets t f in
-    let same = one_side t b w v (g ∙ sym e) here in
-    (
+    let same = one_side t b w v (g ∙ sym e) here in (
       λ h.
           let set = set_of t f v h.1.0 here h.1.1 in
           let law = choice-renumbered t (raised t w ∪ members b) (w ∪ members (kept t b)) set.0 (λ x at. one_side t b w x (g ∙ sym e) (closed v set.0 here set.1 x at)) in
@@ -94,8 +93,7 @@ pub quorum-restricted : (t b : Table) (f : Fbas) (w : Nodes) → length t ≡ le
 quorum-restricted t b f w e g closed within =
     let part = restricted_sets t f in
     let n = length-restricted_sets t f e in
-    let low : (y : ℕ) → y ∈ w → y < size t = λ y at. subst (λ (k : ℕ). y < k) n (ltb-true y (length part) (within y at)) in
-    (
+    let low : (y : ℕ) → y ∈ w → y < size t = λ y at. subst (λ (k : ℕ). y < k) n (ltb-true y (length part) (within y at)) in (
       λ q. record {
         inhabited =
             let r = ranked t q.inhabited.0 (low q.inhabited.0 q.inhabited.1) in
@@ -135,8 +133,7 @@ pub raised-onto : (t : Table) (f : Fbas) (u : Nodes) → length t ≡ length f �
 raised-onto t f u e within =
     let b = table_from 0 (length t) u in
     let w = members (kept t b) in
-    let n = length-table_from 0 (length t) u in
-    (
+    let n = length-table_from 0 (length t) u in (
       w,
       λ y at. lt-ltb y (length (restricted_sets t f)) (subst (λ (k : ℕ). y < k) (length-kept t b (sym n) ∙ sym (length-restricted_sets t f e)) (member_lt (kept t b) y at)),
       fun_ext (λ v. elim (cases_Bool (members t v)) [

@@ -1,3 +1,4 @@
 mod NameLists
 mod Places
 pub mod ListLaws
+mod KeptNames

@@ -2,8 +2,10 @@
 
 ghost use Rattle.std.specs.Prelude.{◌≡◌, ℕ, ◌<◌, ◌^◌, length, map, vec_len, IfOk, IfSome, slice_get, MatchOption, Contains};
 ghost use Rattle.fbas_model.specs.Names.{AreNamesOf, place_of};
+ghost use Rattle.fbas_model.specs.Restriction.{kept as kept_of};
 
-use std::alloc::AllocError;
+use crate::NodeSet;
+use std::alloc::{AllocError, Global};
 use std::cmp::Ordering;
 use std::marker::Model;
 
@@ -33,6 +35,20 @@ impl Names {
     {
         list.sort_unstable();
         list.dedup();
+        Ok(Names { list })
+    }
+
+    /// The names at the places in the set, in the same order: O(n), and a copy of each of them.
+    pub fn kept(&self, alloc: Global, kept: &NodeSet) -> Result<Names, AllocError>
+        requires { length kept.now ≡ length self.now }
+        ensures { IfOk result (λ names. names ≡ kept_of kept.now self.now) }
+    {
+        let mut list = Vec::with_capacity(alloc, kept.count() as usize)?;
+        for at in 0..self.list.len() as u32 {
+            if kept.has(at) {
+                list.push(Vec::from_slice(alloc, self.name(at))?)?;
+            }
+        }
         Ok(Names { list })
     }
 
