@@ -12,6 +12,8 @@ use Rattle.node_json.specs.declared.faults.SetFault.{SetFault}
 use Rattle.node_json.specs.declared.faults.SetFault.TheVariants.{Shape, Threshold, Validators, Inner}
 use Rattle.node_json.specs.declared.faults.ConfigFault.{ConfigFault}
 use Rattle.node_json.specs.declared.faults.ConfigFault.TheVariants.{NotJson, NotNodes, NotNode, BadKey, Duplicate, TooDeep, BadQuorumSet, TooManyNodes, TooManyEntries, Memory}
+use Rattle.node_json.specs.declared.faults.OrgFault.{OrgFault}
+use Rattle.node_json.specs.declared.faults.OrgFault.TheVariants.{NotJson as NoTree, NotOrgs, BadOrg, DuplicateOrg, TooManyOrgs, Memory as NoOrgs}
 use Rattle.certificate_file.specs.declared.faults.CertError.{CertError}
 use Rattle.certificate_file.specs.declared.faults.CertError.TheVariants.{BadLine, LineTooLong, TooManyLines, Digest, UnknownNode, NotQuorum, Overlap, Truncated, Trailing, Read, Memory as NoMemory}
 use Rattle.certificate_file.specs.declared.places.Accepted.{Accepted}
@@ -51,7 +53,7 @@ name_at names v = unwrap_or (slice_get names v) []
 -- ---- refusals
 
 abbrev pub usage : Text
-usage = codes "usage: quorum_cli COMMAND\nshow CONFIG\ngreatest CONFIG [COMMON]\navailable CONFIG --set NAMES\nblocks CONFIG --set NAMES [COMMON]\nvblocks CONFIG --node NAME --set NAMES\ncheck CONFIG CERT\nCOMMON: --from NAME --faulty NAMES --orgs ORGS --faulty-orgs IDS\n"
+usage = codes "usage: quorum_cli COMMAND\nshow CONFIG\nclosure CONFIG --node NAME\ngreatest CONFIG [COMMON]\navailable CONFIG --set NAMES [--from NAME]\nblocks CONFIG --set NAMES [COMMON]\nvblocks CONFIG --node NAME --set NAMES\ncheck CONFIG CERT\nCOMMON: --from NAME --faulty NAMES --orgs ORGS --faulty-orgs IDS\n"
 
 abbrev pub same_path : Text
 same_path = codes "usage same-path\n"
@@ -92,6 +94,21 @@ config_too_long = codes "config too-long\n"
 abbrev pub config_refused : ConfigFault → Text
 config_refused fault = line (config_fault fault)
 
+-- a want of memory is no refusal of the bytes, and is not printed
+abbrev pub orgs_fault : OrgFault → Text
+orgs_fault NoTree = codes "orgs not-json"
+orgs_fault NotOrgs = codes "orgs not-orgs"
+orgs_fault (BadOrg i) = numbered (codes "orgs bad-org") i
+orgs_fault (DuplicateOrg i) = numbered (codes "orgs duplicate-org") i
+orgs_fault (TooManyOrgs n) = numbered (codes "orgs too-many-orgs") n
+orgs_fault NoOrgs = []
+
+abbrev pub orgs_too_long : Text
+orgs_too_long = codes "orgs too-long\n"
+
+abbrev pub orgs_refused : OrgFault → Text
+orgs_refused fault = line (orgs_fault fault)
+
 -- a failed read and a want of memory are no refusals of the bytes, and are not printed
 abbrev pub cert_fault : List Name → CertError → Text
 cert_fault names (BadLine l) = numbered (codes "refused bad-line") l
@@ -114,13 +131,21 @@ cert_refused names fault = line (cert_fault names fault)
 abbrev pub accepted_kind : Answer → Text
 accepted_kind (Pair p) = codes "accepted pair\n"
 
+-- a word, and behind it the name of a node where there is one
+abbrev pub word_if_any : Text → List Name → Option ℕ → Text
+word_if_any word names None = word
+word_if_any word names (Some v) = worded word (name_at names v)
+
 -- the kind, and lines 3 and 4 of the certificate
 abbrev pub accepted : List Name → Accepted → Text
-accepted names a = accepted_kind a.answer ++ (codes "from\n" ++ line (list (codes "faulty") names a.header.faulty))
+accepted names a = accepted_kind a.answer ++ (line (word_if_any (codes "from") names a.header.from) ++ line (list (codes "faulty") names a.header.faulty))
 
 -- a line of its own, and the list of a set's names behind a word
 abbrev pub with_list : Text → Text → List Name → Table → Text
 with_list head word names set = head ++ line (list word names set)
+
+abbrev pub closure : List Name → Table → Text
+closure names set = with_list [] (codes "closure") names set
 
 abbrev pub greatest : List Name → Table → Text
 greatest names quorum = with_list [] (codes "greatest") names quorum

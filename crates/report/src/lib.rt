@@ -6,5 +6,5 @@ mod refusals;
 mod words;
 
 pub use findings::shown;
-pub use refusals::{cert_refused, config_refused, names_refused};
+pub use refusals::{cert_refused, config_refused, names_refused, orgs_refused};
 pub use words::{accepted, with_list};

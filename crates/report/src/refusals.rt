@@ -1,11 +1,11 @@
 // Why a file is refused.
 ghost use Rattle.std.specs.Prelude.{◌≡◌, ◌<◌, ◌++◌, ◌∷◌, [], length, OnOk, IfOk};
-ghost use Rattle.report.specs.Lines.{numbered, worded, config_fault, config_refused as spec_config_refused, cert_fault, cert_refused as spec_cert_refused, names_fault, names_refused as spec_names_refused, set_fault};
+ghost use Rattle.report.specs.Lines.{numbered, worded, config_fault, config_refused as spec_config_refused, orgs_fault, orgs_refused as spec_orgs_refused, cert_fault, cert_refused as spec_cert_refused, names_fault, names_refused as spec_names_refused, set_fault};
 
 use crate::words::{name_at, push_behind, push_number};
 use certificate_file::CertError;
 use name_set::{NameFault, Names};
-use node_json::{ConfigFault, SetFault};
+use node_json::{ConfigFault, OrgFault, SetFault};
 use std::alloc::{AllocError, Global};
 
 // A word and a number.
@@ -58,6 +58,28 @@ pub fn config_refused(alloc: Global, fault: ConfigFault) -> Result<Vec<u8>, Allo
     ensures { IfOk result (λ text. text.items ≡ spec_config_refused fault) }
 {
     let mut text = config_words(alloc, fault)?;
+    text.push(b'\n')?;
+    Ok(text)
+}
+
+fn orgs_words(alloc: Global, fault: OrgFault) -> Result<Vec<u8>, AllocError>
+    ensures { IfOk result (λ text. text.items ≡ orgs_fault fault) }
+{
+    match fault {
+        OrgFault::NotJson => Vec::from_slice(alloc, b"orgs not-json"),
+        OrgFault::NotOrgs => Vec::from_slice(alloc, b"orgs not-orgs"),
+        OrgFault::BadOrg(at) => numbered_word(alloc, "orgs bad-org", at),
+        OrgFault::DuplicateOrg(at) => numbered_word(alloc, "orgs duplicate-org", at),
+        OrgFault::TooManyOrgs(n) => numbered_word(alloc, "orgs too-many-orgs", n),
+        OrgFault::Memory => Ok(Vec::new(alloc)),
+    }
+}
+
+/// The line for organisations that are refused.
+pub fn orgs_refused(alloc: Global, fault: OrgFault) -> Result<Vec<u8>, AllocError>
+    ensures { IfOk result (λ text. text.items ≡ spec_orgs_refused fault) }
+{
+    let mut text = orgs_words(alloc, fault)?;
     text.push(b'\n')?;
     Ok(text)
 }

@@ -1,6 +1,6 @@
 // Words, numbers and names, one behind another.
 ghost use Rattle.std.specs.Prelude.{◌≡◌, ◌<◌, ◌++◌, ◌∷◌, [], length, decimal, codes, OnOk, IfOk};
-ghost use Rattle.report.specs.Lines.{numbered, worded, list, listed, line, accepted as spec_accepted, accepted_kind, with_list as spec_with_list, counts as spec_counts, name_at as spec_name_at};
+ghost use Rattle.report.specs.Lines.{numbered, worded, list, listed, line, word_if_any, accepted as spec_accepted, accepted_kind, with_list as spec_with_list, counts as spec_counts, name_at as spec_name_at};
 
 use certificate_file::{Accepted, Answer};
 use fbas_core::System;
@@ -79,6 +79,23 @@ pub fn push_list(
     Ok(())
 }
 
+// Adds a line of a word, and behind it the name of a node where there is one.
+fn push_word_if_any(
+    text: &mut Vec<u8>,
+    word: &str,
+    names: &Names,
+    node: Option<u32>,
+) -> Result<(), AllocError>
+    ensures { OnOk result (text.new.items ≡ text.old.items ++ line (word_if_any word.now names.now node)) }
+{
+    push_word(text, word)?;
+    if let Some(node) = node {
+        push_behind(text, name_at(names, node))?;
+    }
+    text.push(b'\n')?;
+    Ok(())
+}
+
 /// The lines of an accepted certificate: its kind, and its lines `from` and `faulty`.
 pub fn accepted(alloc: Global, system: &System, accepted: &Accepted) -> Result<Vec<u8>, AllocError>
     requires { length accepted.now.header.faulty ≡ length system.now.sets }
@@ -91,7 +108,7 @@ pub fn accepted(alloc: Global, system: &System, accepted: &Accepted) -> Result<V
             Answer::Pair(_) => "accepted pair\n",
         },
     )?;
-    push_word(&mut text, "from\n")?;
+    push_word_if_any(&mut text, "from", system.names(), accepted.header.from)?;
     push_list(&mut text, "faulty", system, &accepted.header.faulty)?;
     Ok(text)
 }
