@@ -1,3 +1,6 @@
 pub mod WordLaws
 pub mod ListLaws
 pub mod NumberLaws
+pub mod TextLaws
+pub mod BackLaws
+pub mod DigitLaws

@@ -1,5 +1,5 @@
 -- Lists of numbers, taken one by one.
-use Rattle.std.proofs.Common.{◌≡◌, List, [], ◌∷◌, ◌++◌, Option, Some, None, Result, Ok, Err, refl, sym, ap, append_assoc}
+use Rattle.std.proofs.Common.{◌≡◌, List, [], ◌∷◌, ◌++◌, Some, Result, Ok, Err, refl, sym, ap, append_assoc}
 use Rattle.lrat_text.specs.Words.{Word}
 use Rattle.lrat_text.specs.Lines.{onto_list}
 use Rattle.lrat_text.specs.declared.faults.LineFault.{LineFault}

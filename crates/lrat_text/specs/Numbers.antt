@@ -1,5 +1,5 @@
 -- The numbers of a step line. None of them is 0, which only closes a list.
-use Rattle.std.specs.Prelude.{◌≡◌, ℕ, slice_index, true, List, [], ◌∷◌, Bool, false, ◌&&◌, ◌==◌, nat_le, nat_lt, Option, Some, None, option_map, ℤ, pos, neg_ℤ, if◌then◌else◌}
+use Rattle.std.specs.Prelude.{◌≡◌, ℕ, slice_index, true, [], ◌∷◌, Bool, false, ◌&&◌, ◌==◌, nat_le, nat_lt, Option, Some, None, option_map, ℤ, pos, neg_ℤ, if◌then◌else◌}
 use Rattle.std.specs.List.{list_all}
 use Rattle.std.specs.Char.{is_ascii_digit}
 use Rattle.std.specs.Str.Parse.{digits_value}

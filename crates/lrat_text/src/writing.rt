@@ -1,10 +1,10 @@
 //! Steps to lines.
-ghost use Rattle.std.specs.Prelude.{◌≡◌, ◌≤◌, ◌++◌, List, [], ◌∷◌, drop, length, Ok, None};
+ghost use Rattle.std.specs.Prelude.{◌≡◌, ◌≤◌, ◌++◌, List, [], ◌∷◌, drop, length, Ok, None, All};
 ghost use Rattle.std.specs.Option.{option_to_list};
 ghost use Rattle.std.specs.Iterator.{YieldsFirst, item_count};
 ghost use Rattle.std.specs.Fmt.{decimal, signed_decimal};
 ghost use Rattle.lrat_model.specs.Steps.{step_of};
-ghost use Rattle.lrat_text.specs.Texts.{line_of, HasNumbers};
+ghost use Rattle.lrat_text.specs.Texts.{line_of, HasNumbers, IsLiteral};
 ghost use Rattle.lrat_text.specs.Lines.{step_in};
 ghost use Rattle.lrat_text.specs.Left.{words_left};
 
@@ -21,14 +21,26 @@ pub fn write_step(step: &Step) -> StepBytes<'_>
     ensures read_back { step_in result ≡ Ok (step_of step.now) }
 {
     match step {
-        Step::Add { id, lits, hints } => StepBytes {
-            word: Digits::natural(*id),
-            left: Left::Literals(lits, hints),
-        },
+        Step::Add { id, lits, hints } => {
+            look_at(lits);
+            StepBytes {
+                word: Digits::natural(*id),
+                left: Left::Literals(lits, hints),
+            }
+        }
         Step::Delete { id, ids } => StepBytes {
             word: Digits::natural(*id),
             left: Left::Mark(ids),
         },
+    }
+}
+
+/// Each literal has a variable in range, as a look at it tells.
+fn look_at(lits: &[Lit])
+    ensures { All IsLiteral lits.now }
+{
+    for l in lits {
+        l.variable();
     }
 }
 
@@ -82,7 +94,10 @@ impl<'a> Left<'a> {
     {
         let (word, left) = match *self {
             Left::Literals(lits, hints) => match lits.split_first() {
-                Some((l, lits)) => (Digits::integer(i64::from(l.number())), Left::Literals(lits, hints)),
+                Some((l, lits)) => (
+                    Digits::integer(i64::from(l.number())),
+                    Left::Literals(lits, hints),
+                ),
                 None => (Digits::byte(b'0'), Left::Hints(hints)),
             },
             Left::Hints(hints) => match hints.split_first() {
@@ -112,17 +127,20 @@ struct Digits {
 }
 
 impl Model for Digits {
-    ghost use Rattle.std.specs.Prelude.{ℕ, List, drop};
+    ghost use Rattle.std.specs.Prelude.{ℕ, List, drop, ◌≤◌};
 
     ghost Value = { List ℕ };
 
     ghost view = { λ d. drop d.at d.bytes };
+
+    ghost invariant = { λ d. d.at ≤ 21 };
 }
 
 impl Digits {
     /// The digits of a number.
     fn natural(number: u64) -> Digits
-        ensures { result ≡ decimal number }
+        ensures digits { result ≡ decimal number }
+        ensures short { length result ≤ 20 }
     {
         let mut bytes = [0; WORD];
         let at = write_digits(number, &mut bytes, WORD);
@@ -133,13 +151,21 @@ impl Digits {
     fn integer(number: i64) -> Digits
         ensures { result ≡ signed_decimal number }
     {
-        let mut bytes = [0; WORD];
-        let mut at = write_digits(number.unsigned_abs(), &mut bytes, WORD);
+        let digits = Digits::natural(number.unsigned_abs());
         if number < 0 {
-            at -= 1;
-            bytes[at] = b'-';
+            digits.with_minus()
+        } else {
+            digits
         }
-        Digits { bytes, at }
+    }
+
+    fn with_minus(mut self) -> Digits
+        requires { length self ≤ 20 }
+        ensures { result ≡ 45 ∷ self }
+    {
+        self.at -= 1;
+        self.bytes[self.at] = b'-';
+        self
     }
 
     /// A word of one byte.

@@ -1,4 +1,4 @@
-use Rattle.std.proofs.Common.{rules, sym, ap, ◌∙◌, arith}
+use Rattle.std.proofs.Common.{sym}
 use Rattle.lrat_text.proofs.NumberLaws.{numeral_utf8, parsed_none, parsed_positive}
 use Rattle.lrat_text.proofs.numbers.positive.Goals as goal
 

@@ -1,5 +1,5 @@
-use Rattle.std.proofs.Common.{rules, ◌≡◌, List, ◌∷◌, [], sym, ◌∙◌, arith, length, ◌<◌, not}
-use Rattle.lrat_text.specs.Words.{Word, words_of, is_blank}
+use Rattle.std.proofs.Common.{rules, ◌≡◌, ◌∷◌, [], sym, ◌∙◌, not}
+use Rattle.lrat_text.specs.Words.{words_of, is_blank}
 use Rattle.lrat_text.proofs.WordLaws.{prefix_len-le, next_word, no_word}
 use Rattle.lrat_text.proofs.words.WordsIterator.next.Goals as goal
 
