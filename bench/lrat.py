@@ -2,7 +2,7 @@
 """Times the checker of steps on generated logs: bench/lrat.py [FOLDER] [ADDITIONS].
 
 Builds crates/lrat_bench (with its proofs, some minutes the first time), writes the logs into FOLDER, and prints for each
-the least wall time of three runs and the largest memory of a run.
+the least processor time of three runs (other work on the machine hardly changes that) and the largest memory of a run.
 
 A log's formula has GROUPS groups of clauses. A group has the variables x1 to x10 and y1 to y9 and the clauses
 `x1 x2 y1`, `-y1 x3 y2`, .., `-y8 x10 y9`, `-y9 x1 x2`. Lemma after lemma is the clause `x1 .. x10` of a group, the groups
@@ -12,7 +12,6 @@ of the group or, later, the group's lemma before this one. So each addition has 
 import os
 import subprocess
 import sys
-import time
 
 TOP = os.path.dirname(os.path.dirname(os.path.abspath(__file__)))
 CRATE = os.path.join(TOP, "crates", "lrat_bench")
@@ -62,15 +61,14 @@ def write(path, additions, kept):
 
 
 def run(path, arguments):
-    """The least wall time of three runs, the largest memory in MB, and what was printed."""
+    """The least processor time of three runs, the largest memory in MB, and what was printed."""
     best, most, text = None, 0, b""
     for _ in range(3):
         with open(path, "rb") as log:
-            start = time.monotonic()
             child = subprocess.Popen([PROGRAM] + arguments, stdin=log, stdout=subprocess.PIPE)
             text = child.stdout.read()
             _, status, usage = os.wait4(child.pid, 0)
-            took = time.monotonic() - start
+            took = usage.ru_utime + usage.ru_stime
         if status != 0:
             sys.exit("%s: the program ended with %d" % (path, status))
         best = took if best is None else min(best, took)

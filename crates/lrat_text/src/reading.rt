@@ -1,6 +1,6 @@
 //! Lines to steps.
-ghost use Rattle.std.specs.Prelude.{◌≡◌, ◌⊎◌, IfOk, IfErr, Ok, Err, ◌∷◌};
-ghost use Rattle.lrat_model.specs.Steps.{step_of};
+ghost use Rattle.std.specs.Prelude.{◌≡◌, ◌⊎◌, IfOk, IfErr, OnOk, Ok, Err, ◌∷◌};
+ghost use Rattle.lrat_model.specs.Steps.{ProofStep, step_of};
 ghost use Rattle.lrat_text.specs.Words.{Word, words_of};
 ghost use Rattle.lrat_text.specs.Lines.{is_zero, closed_list, ended, addition, deletion, after_id, step_in};
 
@@ -49,9 +49,7 @@ fn read_addition(alloc: Global, id: u64, words: &mut Words<'_>) -> Result<Step, 
 {
     let lits: Vec<Lit> = closed_list(alloc, words)?;
     let hints: Vec<i64> = closed_list(alloc, words)?;
-    if words.next().is_some() {
-        return Err(LineFault::Extra);
-    }
+    end(words)?;
     Ok(Step::Add { id, lits, hints })
 }
 
@@ -60,9 +58,7 @@ fn read_deletion(alloc: Global, id: u64, words: &mut Words<'_>) -> Result<Step, 
     ensures err { IfErr result (λ fault. (fault ≡ LineFault.Memory) ⊎ (deletion id words.old ≡ Err fault)) }
 {
     let ids: Vec<u64> = closed_list(alloc, words)?;
-    if words.next().is_some() {
-        return Err(LineFault::Extra);
-    }
+    end(words)?;
     Ok(Step::Delete { id, ids })
 }
 
@@ -84,6 +80,17 @@ fn closed_list<T: Number>(alloc: Global, words: &mut Words<'_>) -> Result<Vec<T>
         }
     }
     Err(LineFault::NoZero)
+}
+
+/// The end of the line, after a step.
+fn end(words: &mut Words<'_>) -> Result<(), LineFault>
+    ensures ok { (step : ProofStep) → OnOk result (ended step words.old ≡ Ok step) }
+    ensures err { (step : ProofStep) → IfErr result (λ fault. ended step words.old ≡ Err fault) }
+{
+    match words.next() {
+        Some(_) => Err(LineFault::Extra),
+        None => Ok(()),
+    }
 }
 
 fn is_zero(word: &[u8]) -> bool

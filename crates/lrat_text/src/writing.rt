@@ -93,22 +93,18 @@ impl<'a> Left<'a> {
         ensures done { result ≡ None → words_left self.old ≡ [] }
     {
         let (word, left) = match *self {
-            Left::Literals(lits, hints) => match lits.split_first() {
-                Some((l, lits)) => (
+            Left::Literals([], hints) => (Digits::byte(b'0'), Left::Hints(hints)),
+            Left::Literals([l, lits @ ..], hints) => {
+                (
                     Digits::integer(i64::from(l.number())),
                     Left::Literals(lits, hints),
-                ),
-                None => (Digits::byte(b'0'), Left::Hints(hints)),
-            },
-            Left::Hints(hints) => match hints.split_first() {
-                Some((hint, hints)) => (Digits::integer(*hint), Left::Hints(hints)),
-                None => (Digits::byte(b'0'), Left::Nothing),
-            },
+                )
+            }
+            Left::Hints([]) => (Digits::byte(b'0'), Left::Nothing),
+            Left::Hints([hint, hints @ ..]) => (Digits::integer(*hint), Left::Hints(hints)),
             Left::Mark(ids) => (Digits::byte(b'd'), Left::Ids(ids)),
-            Left::Ids(ids) => match ids.split_first() {
-                Some((id, ids)) => (Digits::natural(*id), Left::Ids(ids)),
-                None => (Digits::byte(b'0'), Left::Nothing),
-            },
+            Left::Ids([]) => (Digits::byte(b'0'), Left::Nothing),
+            Left::Ids([id, ids @ ..]) => (Digits::natural(*id), Left::Ids(ids)),
             Left::Nothing => return None,
         };
         *self = left;
