@@ -10,7 +10,7 @@ use Rattle.lrat_model.specs.Steps.{ProofStep, Addition, Deletion}
 use Rattle.lrat_text.specs.Words.{Word, has_byte, is_blank, words_of}
 use Rattle.lrat_text.specs.Numbers.{id_in, hint_in, literal_in}
 use Rattle.lrat_text.specs.Lines.{closed_list, addition, deletion, after_id, with_id, step_of_words, step_in}
-use Rattle.lrat_text.specs.Texts.{literal_text, line_of, IsId, IsHint, IsLiteral, HasNumbers, HasLiterals}
+use Rattle.lrat_text.specs.Texts.{literal_text, line_of, IsId, IsHint, IsLiteral, HasNumbers, HasLiterals, words_for}
 use Rattle.lrat_text.specs.Left.{spaced}
 use Rattle.lrat_text.proofs.TextLaws.{IsText, IsReadBack, id_back, hint_back, literal_back}
 
@@ -75,20 +75,29 @@ after_back : (id : ℕ) (lits : List Literal) (words : List Word) → AllByRecur
 after_back id [] words all = refl
 after_back id (l ∷ lits) words all = rw all.0.1.not_mark refl
 
-pub step_back : (step : ProofStep) → HasNumbers step → HasLiterals step → step_in (line_of step) ≡ Ok step
-step_back (Addition id lits hints) has ls =
-    let first : IsReadBack id_in decimal id = id_back id has.0 in
+pub words_back : (step : ProofStep) → HasNumbers step → HasLiterals step → step_of_words (words_for step) ≡ Ok step
+words_back (Addition id lits hints) has ls =
     let lits_back : AllByRecursion (IsReadBack literal_in literal_text) lits = each IsLiteral (IsReadBack literal_in literal_text) literal_back lits ls in
     let hints_back : AllByRecursion (IsReadBack hint_in signed_decimal) hints = each IsHint (IsReadBack hint_in signed_decimal) hint_back hints has.1 in
     let tail : List Word = map signed_decimal hints ++ codes "0" ∷ [] in
-    let words : List Word = map literal_text lits ++ codes "0" ∷ tail in
-    let whole : words_of (line_of (Addition id lits hints)) ≡ decimal id ∷ words =
-    words_of-joined (decimal id) words (solid (decimal id) first.1) (solid_texts literal_in literal_text lits (codes "0" ∷ tail) lits_back (solid_zero, solid_texts hint_in signed_decimal hints (codes "0" ∷ []) hints_back (solid_zero, tt))) in
-    ap step_of_words whole ∙ ap (λ (i : Option ℕ). with_id i words) first.0 ∙ after_back id lits tail lits_back ∙ addition_back id lits hints lits_back hints_back
-step_back (Deletion id ids) has ls =
-    let first : IsReadBack id_in decimal id = id_back id has.0 in
-    let ids_back : AllByRecursion (IsReadBack id_in decimal) ids = each IsId (IsReadBack id_in decimal) id_back ids has.1 in
-    let words : List Word = map decimal ids ++ codes "0" ∷ [] in
-    let whole : words_of (line_of (Deletion id ids)) ≡ decimal id ∷ codes "d" ∷ words =
-    words_of-joined (decimal id) (codes "d" ∷ words) (solid (decimal id) first.1) (solid_mark, solid_texts id_in decimal ids (codes "0" ∷ []) ids_back (solid_zero, tt)) in
-    ap step_of_words whole ∙ ap (λ (i : Option ℕ). with_id i (codes "d" ∷ words)) first.0 ∙ deletion_back id ids ids_back
+    ap (λ (i : Option ℕ). with_id i (map literal_text lits ++ codes "0" ∷ tail)) (id_back id has.0).0 ∙ after_back id lits tail lits_back ∙ addition_back id lits hints lits_back hints_back
+words_back (Deletion id ids) has ls =
+    ap (λ (i : Option ℕ). with_id i (codes "d" ∷ (map decimal ids ++ codes "0" ∷ []))) (id_back id has.0).0
+    ∙ deletion_back id ids (each IsId (IsReadBack id_in decimal) id_back ids has.1)
+
+-- the words of a step's line
+words_of-line : (step : ProofStep) → HasNumbers step → HasLiterals step → words_of (line_of step) ≡ words_for step
+words_of-line (Addition id lits hints) has ls =
+    let tail : List Word = map signed_decimal hints ++ codes "0" ∷ [] in
+    words_of-joined (decimal id) (map literal_text lits ++ codes "0" ∷ tail) (solid (decimal id) (id_back id has.0).1)
+    (solid_texts literal_in literal_text lits (codes "0" ∷ tail) (each IsLiteral (IsReadBack literal_in literal_text) literal_back lits ls)
+    (solid_zero, solid_texts hint_in signed_decimal hints (codes "0" ∷ []) (each IsHint (IsReadBack hint_in signed_decimal) hint_back hints has.1) (solid_zero, tt)))
+words_of-line (Deletion id ids) has ls =
+    words_of-joined (decimal id) (codes "d" ∷ (map decimal ids ++ codes "0" ∷ [])) (solid (decimal id) (id_back id has.0).1)
+    (solid_mark, solid_texts id_in decimal ids (codes "0" ∷ []) (each IsId (IsReadBack id_in decimal) id_back ids has.1) (solid_zero, tt))
+
+pub step_back : (step : ProofStep) → HasNumbers step → HasLiterals step → step_in (line_of step) ≡ Ok step
+step_back step has ls = ap step_of_words (words_of-line step has ls) ∙ words_back step has ls
+
+pub line_back : (line : List ℕ) (step : ProofStep) → words_of line ≡ words_for step → HasNumbers step → HasLiterals step → step_in line ≡ Ok step
+line_back line step says has ls = ap step_of_words says ∙ words_back step has ls

@@ -4,3 +4,4 @@ pub mod NumberLaws
 pub mod TextLaws
 pub mod BackLaws
 pub mod DigitLaws
+pub mod SaysLaws

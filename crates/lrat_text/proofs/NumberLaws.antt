@@ -47,7 +47,7 @@ parsed_none most word digits r fault small e same h is =
     let m : digits_value 10 word < 2 ^ 64 → ⊥ = λ s. n ((from_numeral word e).long, s) in
     above (is_numeral word) (digits_value 10 word) most (omega arith)
 
-no_zero : (word : Word) → IsNumber word → digits_value 10 word ≡ 0 → ⊥
+pub no_zero : (word : Word) → IsNumber word → digits_value 10 word ≡ 0 → ⊥
 no_zero word is z =
     let text : decimal (digits_value 10 word) ≡ word = decimal-digits_value own word is.digits is.long (λ h. absurd (let f : 48 < get_or word 0 0 = is.first in omega arith)) (rw z (omega arith)) in
     let first : get_or word 0 0 ≡ 48 = ap (λ w. get_or w 0 0) (sym text ∙ ap decimal z ∙ decimal_digit 0 (omega arith)) in

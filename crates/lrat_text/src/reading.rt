@@ -2,6 +2,7 @@
 ghost use Rattle.std.specs.Prelude.{◌≡◌, ◌⊎◌, IfOk, IfErr, OnOk, Ok, Err, ◌∷◌};
 ghost use Rattle.lrat_model.specs.Steps.{ProofStep, step_of};
 ghost use Rattle.lrat_text.specs.Words.{Word, words_of};
+ghost use Rattle.lrat_text.specs.Texts.{HasNumbers};
 ghost use Rattle.lrat_text.specs.Lines.{is_zero, closed_list, ended, addition, deletion, after_id, step_in};
 
 use crate::faults::LineFault;
@@ -21,6 +22,7 @@ use std::alloc::Global;
 pub fn read_step(alloc: Global, line: &[u8]) -> Result<Step, LineFault>
     ensures ok { IfOk result (λ step. step_in line.now ≡ Ok (step_of step)) }
     ensures err { IfErr result (λ fault. (fault ≡ LineFault.Memory) ⊎ (step_in line.now ≡ Err fault)) }
+    ensures numbers { IfOk result (λ step. HasNumbers (step_of step)) }
 {
     let mut words = Words::of(line);
     let Some(first) = words.next() else {
