@@ -55,9 +55,9 @@ signed_says plus minus most [] a small e = cc
 signed_says {A} plus minus most (c ∷ word) a small e =
     elim (c == 45) as (λ t. (c == 45) ≡ t → cond t (option_map minus (positive_in most word)) (option_map plus (positive_in most (c ∷ word))) ≡ Some a → Signed plus minus most (c ∷ word) a) [
       | true ↦ λ is k. let m : (n : ℕ) × (positive_in most word ≡ Some n) × (a ≡ minus n) = mapped minus (positive_in most word) a k in
-        behind m.0 word m.2 (ap (λ b. b ∷ word) (eqb-true c 45 is)) (positive_says most m.0 word small m.1)
+          behind m.0 word m.2 (ap (λ b. b ∷ word) (eqb-true c 45 is)) (positive_says most m.0 word small m.1)
       | false ↦ λ is k. let m : (n : ℕ) × (positive_in most (c ∷ word) ≡ Some n) × (a ≡ plus n) = mapped plus (positive_in most (c ∷ word)) a k in
-        without m.0 m.2 (positive_says most m.0 (c ∷ word) small m.1)
+          without m.0 m.2 (positive_says most m.0 (c ∷ word) small m.1)
     ] refl e
 
 -- what a number is read from is its text
@@ -120,9 +120,9 @@ IsAfter id words step = (words_for step ≡ decimal id ∷ words) × (IsId id �
 addition_says : (id : ℕ) (words : List Word) (step : ProofStep) → addition id words ≡ Ok step → IsAfter id words step
 addition_says id words step e =
     let first : (l : List Literal × List Word) × (closed_list literal_in words ≡ Ok l) × (and_then (closed_list hint_in l.1) (λ hints. ended (Addition id l.0 hints.0) hints.1) ≡ Ok step) =
-      then_ok (closed_list literal_in words) (λ l. and_then (closed_list hint_in l.1) (λ hints. ended (Addition id l.0 hints.0) hints.1)) step e in
+    then_ok (closed_list literal_in words) (λ l. and_then (closed_list hint_in l.1) (λ hints. ended (Addition id l.0 hints.0) hints.1)) step e in
     let second : (h : List ℤ × List Word) × (closed_list hint_in first.0.1 ≡ Ok h) × (ended (Addition id first.0.0 h.0) h.1 ≡ Ok step) =
-      then_ok (closed_list hint_in first.0.1) (λ hints. ended (Addition id first.0.0 hints.0) hints.1) step first.2 in
+    then_ok (closed_list hint_in first.0.1) (λ hints. ended (Addition id first.0.0 hints.0) hints.1) step first.2 in
     let over : (second.0.1 ≡ []) × (Addition id first.0.0 second.0.0 ≡ step) = ended_ok (Addition id first.0.0 second.0.0) step second.0.1 second.2 in
     let lits : (words ≡ map literal_text first.0.0 ++ codes "0" ∷ first.0.1) × AllByRecursion IsLiteral first.0.0 = list_says literal_in literal_text IsLiteral literal_said words first.0 first.1 in
     let hints : (first.0.1 ≡ map signed_decimal second.0.0 ++ codes "0" ∷ second.0.1) × AllByRecursion IsHint second.0.0 = list_says hint_in signed_decimal IsHint hint_said first.0.1 second.0 second.1 in
@@ -132,7 +132,7 @@ addition_says id words step e =
 deletion_says : (id : ℕ) (words : List Word) (step : ProofStep) → deletion id words ≡ Ok step → IsAfter id (codes "d" ∷ words) step
 deletion_says id words step e =
     let first : (l : List ℕ × List Word) × (closed_list id_in words ≡ Ok l) × (ended (Deletion id l.0) l.1 ≡ Ok step) =
-      then_ok (closed_list id_in words) (λ l. ended (Deletion id l.0) l.1) step e in
+    then_ok (closed_list id_in words) (λ l. ended (Deletion id l.0) l.1) step e in
     let over : (first.0.1 ≡ []) × (Deletion id first.0.0 ≡ step) = ended_ok (Deletion id first.0.0) step first.0.1 first.2 in
     let ids : (words ≡ map decimal first.0.0 ++ codes "0" ∷ first.0.1) × AllByRecursion IsId first.0.0 = list_says id_in decimal IsId id_said words first.0 first.1 in
     subst (IsAfter id (codes "d" ∷ words)) over.1
