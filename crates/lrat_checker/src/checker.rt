@@ -259,6 +259,31 @@ mod tests {
         Ok(())
     }
 
+    // The lemma -1 again and again, each from the one before, which is then deleted: 500 of both, and the empty lemma.
+    #[test]
+    fn a_thousand_steps(rt: HostRuntime) -> Result<(), Fail> {
+        let alloc = rt.alloc();
+        let mut checker = checker(alloc)?;
+        let first = addition(alloc, 17, &[-1], &[7, 6, 3, 4, 2])?;
+        let answer = checker.step(&first);
+        assert_eq!(rt; shown(alloc, answer)?.as_str(), "Going");
+        for id in 18..518_u32 {
+            let step = addition(alloc, u64::from(id), &[-1], &[i64::from(id) - 1])?;
+            let answer = checker.step(&step);
+            assert_eq!(rt; shown(alloc, answer)?.as_str(), "Going", "{id}");
+            let deletion = Step::Delete {
+                id: u64::from(id),
+                ids: Vec::from_slice(alloc, &[u64::from(id) - 1])?,
+            };
+            let answer = checker.step(&deletion);
+            assert_eq!(rt; shown(alloc, answer)?.as_str(), "Going", "{id}");
+        }
+        let last = addition(alloc, 518, &[], &[517, 1, 10, 8])?;
+        let answer = checker.step(&last);
+        assert_eq!(rt; shown(alloc, answer)?.as_str(), "Refuted");
+        Ok(())
+    }
+
     #[test]
     fn deleted_and_covered(rt: HostRuntime) -> Result<(), Fail> {
         let alloc = rt.alloc();

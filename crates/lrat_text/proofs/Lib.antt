@@ -1,0 +1,7 @@
+pub mod WordLaws
+pub mod ListLaws
+pub mod NumberLaws
+pub mod TextLaws
+pub mod BackLaws
+pub mod DigitLaws
+pub mod SaysLaws

@@ -1,0 +1,56 @@
+//! Logs of steps.
+ghost use Rattle.std.specs.Prelude.{◌≡◌, [], ◌∷◌, ◌++◌, length, map, option_map, slice_get, OnOk, OnErr};
+ghost use Rattle.lrat_model.specs.Steps.{step_of};
+
+use lrat_model::Step;
+use std::alloc::{AllocError, Global};
+use std::marker::Model;
+
+/// The steps of a proof in order.
+#[derive(Drop)]
+pub struct Log {
+    steps: Vec<Step>,
+}
+
+impl Model for Log {
+    ghost use Rattle.std.specs.Prelude.{List, map};
+    ghost use Rattle.lrat_model.specs.Steps.{ProofStep, step_of};
+
+    ghost Value = { List ProofStep };
+
+    ghost view = { λ log. map step_of log.steps.items };
+}
+
+impl Log {
+    /// No step. Takes no memory.
+    pub fn new(alloc: Global) -> Log
+        ensures { result ≡ [] }
+    {
+        Log {
+            steps: Vec::new(alloc),
+        }
+    }
+
+    /// Adds a step behind the others. Where memory runs out the log is as it was. O(1), amortised.
+    pub fn push(&mut self, step: Step) -> Result<(), AllocError>
+        ensures pushed { OnOk result (self.new ≡ self.old ++ step_of step ∷ []) }
+        ensures unchanged { OnErr result (self.new ≡ self.old) }
+    {
+        self.steps.push(step)?;
+        Ok(())
+    }
+
+    /// The number of steps: O(1).
+    pub fn len(&self) -> usize
+        ensures { result ≡ length self.now }
+    {
+        self.steps.len()
+    }
+
+    /// The steps in order: O(1).
+    pub fn as_slice(&self) -> &[Step]
+        ensures { map step_of result.now ≡ self.now }
+    {
+        &self.steps
+    }
+}
