@@ -1,8 +1,8 @@
 -- A closure grows: what is reached lies in each closed set with the node, until nothing waits and it is closed itself.
-use Rattle.std.proofs.Common.{◌≡◌, ℕ, ◌+◌, ◌<◌, ◌≤◌, Bool, true, false, not, ◌&&◌, ◌||◌, ◌==◌, List, [], ◌∷◌, ◌++◌, length, refl, sym, ◌∙◌, ap, subst, arith, Some, None, slice_get, inl, inr}
+use Rattle.std.proofs.Common.{◌≡◌, ℕ, ◌<◌, Bool, true, false, not, ◌&&◌, ◌||◌, ◌==◌, List, [], ◌∷◌, ◌++◌, length, refl, sym, ◌∙◌, ap, subst, Some, None, slice_get, inl, inr}
 use Rattle.std.proofs.lemmas.Bool.{cases_Bool, both_ways, false≢true, or_cases, or_left, or_right, and_parts, and_from, not-true, not_from_false, eq-eqb, eqb-true}
 use Rattle.std.proofs.lemmas.List.Folds.{list_any-append}
-use Rattle.fbas_model.specs.Nodes.{Nodes, ◌∈◌, ◌⊆◌, Table, members, size, ∅, only, ◌∪◌, ◌∖◌}
+use Rattle.fbas_model.specs.Nodes.{Nodes, ◌∈◌, ◌⊆◌, Table, members, ∅, only, ◌∪◌, ◌∖◌}
 use Rattle.fbas_model.specs.Trees.{QuorumSet}
 use Rattle.fbas_model.specs.QuorumSets.{mentioned}
 use Rattle.fbas_model.specs.Fbas.{Fbas, HasQuorumSet, IsClosed, IsClosure}

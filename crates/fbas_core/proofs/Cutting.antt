@@ -1,12 +1,12 @@
 -- A set is cut to the kept nodes, one node after another.
-use Rattle.std.proofs.Common.{◌≡◌, ℕ, zero, suc, ◌+◌, ◌<◌, ◌≤◌, Bool, true, false, ◌||◌, ◌==◌, List, [], ◌∷◌, ◌++◌, length, take, refl, sym, ◌∙◌, ap, subst, arith, Some, slice_get, take_all}
+use Rattle.std.proofs.Common.{◌≡◌, ℕ, zero, suc, ◌+◌, ◌<◌, ◌≤◌, Bool, true, false, ◌||◌, ◌==◌, [], ◌∷◌, ◌++◌, length, take, refl, sym, ◌∙◌, ap, arith, Some, slice_get, take_all}
 use Rattle.std.proofs.lemmas.Option.{slice_get-get_or}
 use mathlib.Core.Path.{fun_ext}
-use Rattle.fbas_model.specs.Nodes.{Nodes, Table, members, size, ∅, only, ◌∪◌}
+use Rattle.fbas_model.specs.Nodes.{Nodes, Table, members, size, only, ◌∪◌}
 use Rattle.fbas_model.specs.Restriction.{kept, rank}
-use Rattle.fbas_model.proofs.Sizes.{not_first, not_last, one_down, or-false}
+use Rattle.fbas_model.proofs.Sizes.{not_first, not_last, one_down}
 use Rattle.fbas_model.proofs.Kept.{length-kept, length-kept-take, rank_more_yes, rank_more_no, kept_more_yes, kept_more_no}
-use Rattle.fbas_model.proofs.Tables.{table_ext}
+use Rattle.fbas_model.proofs.Tables.{table_ext, or-false}
 
 -- the nodes before v are cut; at is the rank of v
 pub record Cutting (t s part : Table) (at v : ℕ) : Type 0 where
@@ -25,13 +25,10 @@ push_no (x ∷ xs) (suc v) = push_no xs v
 push_yes : (xs : Table) (v : ℕ) → members (xs ++ true ∷ []) v ≡ (members xs v || (v == length xs))
 push_yes [] zero = refl
 push_yes [] (suc v) = sym (not_first v)
-push_yes (x ∷ xs) zero = sym (ap (λ (b : Bool). x || b) (not_last (length xs)) ∙ or-false x)
+push_yes (x ∷ xs) zero = sym (ap (λ (b : Bool). x || b) (not_last (length xs)) ∙ sym (or-false x))
 push_yes (x ∷ xs) (suc v) = push_yes xs v ∙ ap (λ (b : Bool). members xs v || b) (sym (one_down v (length xs)))
 
 -- ---- one node more
-
-pub cutting_first : (t s part : Table) → length part ≡ size t → members part ≡ ∅ → Cutting t s part 0 0
-cutting_first t s part n empty = record { size = n; now = refl; cut = empty }
 
 module _ (t s part : Table) (at v : ℕ) (same_n : length t ≡ length s) (low : v < length t) (c : Cutting t s part at v) where
   mark : (b : Bool) → members s v ≡ b → slice_get s v ≡ Some b

@@ -1,12 +1,12 @@
 -- A quorum set's two lists, its validators and its inner quorum sets.
-use Rattle.std.proofs.Common.{◌≡◌, ℕ, zero, suc, ◌+◌, ◌<◌, ◌≤◌, arith, true, false, Bool, ◌||◌, ◌==◌, List, [], ◌∷◌, length, map, refl, sym, ◌∙◌, ap, subst, slice_index_or}
+use Rattle.std.proofs.Common.{◌≡◌, ℕ, zero, suc, ◌<◌, ◌≤◌, arith, true, false, Bool, ◌||◌, ◌==◌, List, [], ◌∷◌, length, map, refl, sym, ◌∙◌, ap, subst, slice_index_or}
 use Rattle.std.specs.Prelude.{All, slice_index}
 use Rattle.std.specs.List.{list_any}
 use Rattle.std.proofs.lemmas.List.Elements.{All-nil, All-cons, All-head, All-tail}
 use Rattle.fbas_model.specs.Nodes.{Nodes, Table}
-use Rattle.fbas_model.specs.Trees.{QuorumSet, quorum_set, Entries, none, node, inner}
+use Rattle.fbas_model.specs.Trees.{QuorumSet, node, inner}
 use Rattle.fbas_model.specs.QuorumSets.{IsBelow, AreBelow, weight, weight_of, mentioned, mentioned_by}
-use Rattle.fbas_model.specs.Restriction.{rank, renumbered, renumbered_all}
+use Rattle.fbas_model.specs.Restriction.{renumbered, renumbered_all}
 use Rattle.quorum_set.specs.Views.{inner_entries, entries_of, among}
 use Rattle.fbas_core.specs.Ranks.{AreRanks}
 
@@ -39,7 +39,7 @@ lighter (w ∷ ws) qs i q h e = lighter ws qs i q h e
 
 -- ---- the nodes in it
 
-or-assoc : (a b c : Bool) → ((a || b) || c) ≡ (a || (b || c))
+pub or-assoc : (a b c : Bool) → ((a || b) || c) ≡ (a || (b || c))
 or-assoc true b c = refl
 or-assoc false b c = refl
 

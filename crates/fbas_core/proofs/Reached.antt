@@ -1,25 +1,14 @@
 -- Nodes are reached one by one, list by list, and quorum set by quorum set.
-use Rattle.std.proofs.Common.{◌≡◌, ℕ, ◌+◌, ◌<◌, Bool, true, false, not, ◌&&◌, ◌||◌, ◌==◌, List, [], ◌∷◌, ◌++◌, length, take, refl, sym, ◌∙◌, ap, ap₂, subst, arith, length-append, slice_index_or, inl, inr}
+use Rattle.std.proofs.Common.{◌≡◌, ℕ, ◌+◌, ◌<◌, Bool, true, false, not, ◌&&◌, ◌||◌, ◌==◌, List, [], ◌∷◌, ◌++◌, length, take, refl, sym, ◌∙◌, ap, ap₂, subst, arith, length-append, slice_index_or}
 use Rattle.std.specs.List.{list_any}
-use Rattle.std.proofs.lemmas.Bool.{cases_Bool, eqb-true}
+use Rattle.std.proofs.lemmas.Bool.{eqb-true}
 use Rattle.std.proofs.lemmas.List.Folds.{list_any_more, list_any-append}
 use mathlib.Core.Path.{fun_ext}
-use Rattle.fbas_model.specs.Nodes.{Nodes, Table, members, size, ∅, only, ◌∪◌, ◌∖◌}
+use Rattle.fbas_model.specs.Nodes.{Nodes, Table, members, only, ◌∪◌, ◌∖◌}
 use Rattle.fbas_model.proofs.Sizes.{size_put}
 use Rattle.quorum_set.specs.Views.{among}
 use Rattle.fbas_core.specs.Reaching.{Reaches}
-
-or-assoc : (a b c : Bool) → ((a || b) || c) ≡ (a || (b || c))
-or-assoc true b c = refl
-or-assoc false b c = refl
-
-or-false : (a : Bool) → (a || false) ≡ a
-or-false true = refl
-or-false false = refl
-
-and-false : (a : Bool) → (a && false) ≡ false
-and-false true = refl
-and-false false = refl
+use Rattle.fbas_core.proofs.Entries.{or-assoc}
 
 both : (w a b m : Bool) → ((w || (a && not m)) || (b && not (m || a))) ≡ (w || ((a || b) && not m))
 both true a b m = refl
@@ -31,14 +20,6 @@ both false false true true = refl
 both false false true false = refl
 both false false false true = refl
 both false false false false = refl
-
-pub reaches_none : (t : Table) (ws : List ℕ) → Reaches ∅ t t ws ws
-reaches_none t ws = record {
-  same_n = refl;
-  reached = fun_ext (λ v. sym (or-false (members t v)));
-  waits = fun_ext (λ v. sym (or-false (among ws v)));
-  each_once = refl;
-}
 
 -- the nodes of two sets, one after the other
 pub reaches_both : (a b : Nodes) (before now after : Table) (ws xs ys : List ℕ) → Reaches a before now ws xs → Reaches b now after xs ys → Reaches (a ∪ b) before after ws ys

@@ -1,9 +1,9 @@
 -- What is left of a list at the marked places, and the places that the items have there.
-use Rattle.std.proofs.Common.{◌≡◌, ℕ, zero, suc, ◌+◌, ◌<◌, ◌≤◌, Bool, true, false, List, [], ◌∷◌, ◌++◌, length, take, map, refl, sym, ◌∙◌, ap, arith, add-one, cond, Option, Some, None, slice_get, slice_index_or}
+use Rattle.std.proofs.Common.{◌≡◌, ℕ, zero, suc, ◌+◌, ◌<◌, ◌≤◌, Bool, true, false, List, [], ◌∷◌, ◌++◌, length, take, map, refl, ◌∙◌, ap, arith, add-one, cond, Some, slice_get}
 use Rattle.std.specs.Prelude.{All}
 use Rattle.std.proofs.lemmas.Bool.{false≢true}
 use Rattle.std.proofs.lemmas.List.Elements.{All-nil, All-cons, All-head, All-tail}
-use Rattle.fbas_model.specs.Nodes.{Nodes, Table, members, size}
+use Rattle.fbas_model.specs.Nodes.{Table, members, size}
 use Rattle.fbas_model.specs.Restriction.{kept, rank}
 use Rattle.fbas_model.proofs.Sizes.{size-cons}
 
@@ -52,13 +52,6 @@ rank_more_yes t v h e = rw add-one (rank_more t v h ∙ ap {B = ℕ} (λ (b : Bo
 
 pub rank_more_no : (t : Table) (v : ℕ) → v < length t → members t v ≡ false → rank t (v + 1) ≡ rank t v
 rank_more_no t v h e = let more = rank_more t v h ∙ ap {B = ℕ} (λ (b : Bool). rank t v + cond b 1 0) e in rw add-one (omega (arith, more))
-
-pub rank_le : (t : Table) (v : ℕ) → rank t v ≤ v
-rank_le [] zero = omega arith
-rank_le [] (suc v) = omega arith
-rank_le (m ∷ ms) zero = omega arith
-rank_le (true ∷ ms) (suc v) = omega (arith, rank-cons true ms v, rank_le ms v)
-rank_le (false ∷ ms) (suc v) = omega (arith, rank-cons false ms v, rank_le ms v)
 
 -- each number below their size is the rank of a marked place
 abbrev pub HasRanked : Table → ℕ → Type 0

@@ -1,16 +1,16 @@
 -- A system that is restricted to a closed set of its nodes is a system within the same limits.
-use Rattle.std.proofs.Common.{◌≡◌, ℕ, ◌+◌, ◌<◌, ◌≤◌, ◌==◌, true, false, List, [], ◌∷◌, length, map, refl, sym, ◌∙◌, ap, ap₂, subst, arith, Option, Some, None, slice_get}
-use Rattle.std.specs.Prelude.{All, IfSome, IsTrue, option_map, max}
+use Rattle.std.proofs.Common.{◌≡◌, ℕ, ◌+◌, ◌≤◌, ◌==◌, true, false, List, [], ◌∷◌, length, map, refl, sym, ◌∙◌, ap, ap₂, subst, arith, Option, Some, None}
+use Rattle.std.specs.Prelude.{IfSome, IsTrue, option_map, max}
 use Rattle.std.proofs.lemmas.Bool.{or_left, or_right, eq-eqb}
 use Rattle.std.proofs.lemmas.List.{length-map}
 use Rattle.std.proofs.lemmas.Option.{slice_get_within, get_or_from_slice_get}
-use Rattle.fbas_model.specs.Nodes.{Nodes, ◌⊆◌, Table, members, size}
+use Rattle.fbas_model.specs.Nodes.{◌⊆◌, Table, members, size}
 use Rattle.fbas_model.specs.Trees.{QuorumSet, quorum_set, Entries, none, node, inner}
 use Rattle.fbas_model.specs.QuorumSets.{mentioned, mentioned_by, IsBelow, AreBelow, depth, depth_of, all_entries, all_entries_of}
 use Rattle.fbas_model.specs.Names.{Name, is_key}
 use Rattle.fbas_model.specs.Fbas.{Fbas, IsClosed}
 use Rattle.fbas_model.specs.Systems.{entries_in, IsWithin, IsSystem}
-use Rattle.fbas_model.specs.Restriction.{kept, rank, renumbered, renumbered_all, restricted_sets}
+use Rattle.fbas_model.specs.Restriction.{kept, renumbered, renumbered_all, restricted_sets}
 use Rattle.fbas_model.proofs.Kept.{length-kept, kept_le, rank_lt, All-kept, kept_all}
 
 mutual

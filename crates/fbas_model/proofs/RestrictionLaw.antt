@@ -1,10 +1,10 @@
 -- The quorums of a system that is restricted to a closed set are the quorums of the whole system that lie in that set.
-use Rattle.std.proofs.Common.{◌≡◌, ℕ, ◌+◌, ◌<◌, ◌≤◌, ◌==◌, ◌↔◌, ◌⊎◌, inl, inr, Bool, true, false, not, ◌&&◌, ◌||◌, cond, List, length, map, refl, sym, ◌∙◌, ap, ap₂, subst, arith, leb, Option, Some, None, slice_get, zero-add}
+use Rattle.std.proofs.Common.{◌≡◌, ℕ, ◌+◌, ◌<◌, ◌==◌, ◌↔◌, inl, inr, Bool, true, false, not, ◌&&◌, ◌||◌, cond, length, map, refl, sym, ◌∙◌, ap, ap₂, subst, arith, leb, Option, Some, None, slice_get, zero-add}
 use Rattle.std.specs.Prelude.{option_map}
-use Rattle.std.proofs.lemmas.Bool.{cases_Bool, both_ways, or_left, or_right, eq-eqb, eqb-true, and_parts, and_from, lt-ltb, ltb-true, not-true, not_from_false}
+use Rattle.std.proofs.lemmas.Bool.{cases_Bool, both_ways, or_left, or_right, eq-eqb, and_parts, and_from, lt-ltb, ltb-true}
 use Rattle.std.proofs.lemmas.Option.{slice_get-map, slice_get-get_or, get_or_from_slice_get}
 use mathlib.Core.Path.{fun_ext}
-use Rattle.fbas_model.specs.Nodes.{Nodes, ◌∈◌, ◌⊆◌, ◌∪◌, ◌∖◌, Table, members, size}
+use Rattle.fbas_model.specs.Nodes.{Nodes, ◌∈◌, ◌⊆◌, ◌∪◌, Table, members, size}
 use Rattle.fbas_model.specs.Trees.{QuorumSet, quorum_set, Entries, none, node, inner}
 use Rattle.fbas_model.specs.QuorumSets.{HasChoiceWithin, mentioned, mentioned_by}
 use Rattle.fbas_model.specs.Counting.{is_satisfied, count_met}

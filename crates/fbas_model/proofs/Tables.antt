@@ -22,11 +22,11 @@ members-replicate (suc n) (suc v) = members-replicate n v
 pub table_none : (t : Table) (n : ℕ) → length t ≡ n → members t ≡ ∅ → t ≡ replicate n false
 table_none t n e none = table_ext t (replicate n false) (e ∙ sym (length-replicate n false)) (λ v. ap (λ (s : Nodes). s v) none ∙ sym (members-replicate n v))
 
-or-true : (m : Bool) → true ≡ (m || true)
+pub or-true : (m : Bool) → true ≡ (m || true)
 or-true true = refl
 or-true false = refl
 
-or-false : (m : Bool) → m ≡ (m || false)
+pub or-false : (m : Bool) → m ≡ (m || false)
 or-false true = refl
 or-false false = refl
 

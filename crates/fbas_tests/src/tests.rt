@@ -75,56 +75,69 @@ fn closure_of_name(alloc: Global, system: &System, name: &str) -> Result<NodeSet
     }
 }
 
+// Whether the trust closure of the node is the list.
+fn closure_is(alloc: Global, text: &str, name: &str, members: &str) -> Result<bool, Fail> {
+    let system = read_config(alloc, text.as_bytes())?;
+    let closure = closure_of_name(alloc, &system, name)?;
+    let want = set_of(alloc, &system, members)?;
+    Ok(closure.same(&want))
+}
+
+// The system restricted to the trust closure of the node, and the list cut to it.
+fn part_of(alloc: Global, text: &str, name: &str, list: &str) -> Result<(System, NodeSet), Fail>
+    ensures { IfOk result (λ r. length r.1 ≡ length r.0.sets) }
+{
+    let system = read_config(alloc, text.as_bytes())?;
+    let kept = closure_of_name(alloc, &system, name)?;
+    let set = set_of(alloc, &system, list)?;
+    Ok((
+        system.restrict(alloc, &kept)?,
+        system.cut(alloc, &set, &kept)?,
+    ))
+}
+
+// Whether the list is a quorum without the faulty nodes.
+fn is_quorum(alloc: Global, system: &System, list: &str, faulty: &NodeSet) -> Result<bool, Fail>
+    requires { length faulty.now ≡ length system.now.sets }
+{
+    Ok(system.is_quorum(&set_of(alloc, system, list)?, faulty))
+}
+
 #[test]
-fn closures_hold_what_is_mentioned(rt: HostRuntime) -> Result<(), Fail> {
+fn a_closure_leaves_out_who_is_not_mentioned(rt: HostRuntime) -> Result<(), Fail> {
     let alloc = rt.alloc();
-    for (text, name, members) in [
-        (TWO_PAIRS, "a", "a,b"),
-        (TWO_PAIRS, "d", "c,d"),
-        (TWO_PAIRS, "bb", "bb"),
-        (CHAIN, "e", "a,b,c,d,e"),
-        (CHAIN, "c", "a,b,c"),
-        (CHAIN, "b", "a,b"),
-        (CHAIN, "a", "a"),
-    ] {
-        let system = read_config(alloc, text.as_bytes())?;
-        let closure = closure_of_name(alloc, &system, name)?;
-        let want = set_of(alloc, &system, members)?;
-        assert!(rt; closure.same(&want), "{name}");
-    }
+    assert!(rt; closure_is(alloc, TWO_PAIRS, "a", "a,b")?);
+    assert!(rt; closure_is(alloc, TWO_PAIRS, "d", "c,d")?);
+    assert!(rt; closure_is(alloc, TWO_PAIRS, "bb", "bb")?);
     Ok(())
 }
 
 #[test]
-fn a_pair_alone_keeps_its_names_and_quorums(rt: HostRuntime) -> Result<(), Fail> {
+fn a_closure_goes_through_bad_thresholds(rt: HostRuntime) -> Result<(), Fail> {
     let alloc = rt.alloc();
-    let system = read_config(alloc, TWO_PAIRS.as_bytes())?;
-    let kept = closure_of_name(alloc, &system, "c")?;
-    let part = system.restrict(alloc, &kept)?;
-    let faulty = system.cut(alloc, &set_of(alloc, &system, "b,d")?, &kept)?;
+    assert!(rt; closure_is(alloc, CHAIN, "e", "a,b,c,d,e")?);
+    assert!(rt; closure_is(alloc, CHAIN, "b", "a,b")?);
+    assert!(rt; closure_is(alloc, CHAIN, "a", "a")?);
+    Ok(())
+}
+
+#[test]
+fn a_pair_alone_keeps_its_quorums(rt: HostRuntime) -> Result<(), Fail> {
+    let alloc = rt.alloc();
+    let (part, faulty) = part_of(alloc, TWO_PAIRS, "c", "b,d")?;
     assert!(rt; faulty.same(&set_of(alloc, &part, "d")?));
-    assert_eq!(rt; part.names().len(), 2);
-    assert_eq!(rt; part.names().name(0), "c".as_bytes());
-    assert_eq!(rt; part.names().name(1), "d".as_bytes());
-    assert_eq!(rt; (part.entries(), part.unset()), (4, 0));
-    let nobody = set_of(alloc, &part, "")?;
-    assert!(rt; part.is_quorum(&set_of(alloc, &part, "c,d")?, &nobody));
-    assert!(rt; !part.is_quorum(&set_of(alloc, &part, "c")?, &nobody));
-    assert!(rt; part.is_quorum(&set_of(alloc, &part, "c")?, &faulty));
+    assert!(rt; is_quorum(alloc, &part, "c", &faulty)?);
+    assert!(rt; !is_quorum(alloc, &part, "c", &set_of(alloc, &part, "")?)?);
     Ok(())
 }
 
 #[test]
 fn a_chain_is_cut_behind_a_node(rt: HostRuntime) -> Result<(), Fail> {
     let alloc = rt.alloc();
-    let system = read_config(alloc, CHAIN.as_bytes())?;
-    let kept = closure_of_name(alloc, &system, "c")?;
-    let part = system.restrict(alloc, &kept)?;
+    let (part, faulty) = part_of(alloc, CHAIN, "c", "b,e")?;
+    assert!(rt; faulty.same(&set_of(alloc, &part, "b")?));
+    assert_eq!(rt; (part.entries(), part.unset()), (3, 1));
     assert_eq!(rt; part.names().len(), 3);
     assert_eq!(rt; part.names().name(2), "c".as_bytes());
-    assert_eq!(rt; (part.entries(), part.unset()), (3, 1));
-    assert!(rt; closure_of_name(alloc, &part, "b")?.same(&set_of(alloc, &part, "a,b")?));
-    let nobody = set_of(alloc, &part, "")?;
-    assert!(rt; !part.is_quorum(&set_of(alloc, &part, "a,b,c")?, &nobody));
     Ok(())
 }

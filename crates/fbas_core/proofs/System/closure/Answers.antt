@@ -1,4 +1,4 @@
-use Rattle.std.proofs.Common.{ℕ, List, [], ◌∷◌, ◌++◌, ◌≡◌, ◌<◌, length, refl, sym, ◌∙◌, ap, subst, arith, rules}
+use Rattle.std.proofs.Common.{ℕ, List, [], ◌∷◌, ◌++◌, length, sym, ◌∙◌, ap, subst, rules}
 use Rattle.std.proofs.lemmas.List.{nil_from_length}
 use Rattle.fbas_model.specs.QuorumSets.{IsBelow}
 use Rattle.fbas_model.specs.Systems.{System as Whole, IsSystem}

@@ -1,4 +1,4 @@
-use Rattle.std.proofs.Common.{ℕ, ◌+◌, ◌-◌, length}
+use Rattle.std.proofs.Common.{◌+◌, ◌-◌, length}
 use Rattle.fbas_model.specs.Nodes.{size}
 use Rattle.fbas_core.proofs.Closing.{Closing}
 use Rattle.fbas_core.proofs.System.closure.Given as goal

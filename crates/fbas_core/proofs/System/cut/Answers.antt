@@ -1,5 +1,5 @@
 use Rattle.std.proofs.Common.{◌≡◌, ◌<◌, length, sym, ◌∙◌, arith}
-use Rattle.fbas_core.proofs.Cutting.{Cutting, cutting_yes, cutting_no, cutting_out, cutting_last}
+use Rattle.fbas_core.proofs.Cutting.{cutting_yes, cutting_no, cutting_out, cutting_last}
 use Rattle.fbas_core.proofs.System.cut.Goals as goal
 use Rattle.fbas_core.proofs.System.cut.Goals.{then-has, then-has-2, else-has-2, else-has}
 

@@ -1,4 +1,4 @@
-use Rattle.std.proofs.Common.{◌≡◌, ◌<◌, length, arith, ◌∙◌, ap, Some, None}
+use Rattle.std.proofs.Common.{◌≡◌, ◌<◌, length, arith, ◌∙◌, ap, Some}
 use Rattle.fbas_model.proofs.Slices.{at_place}
 use Rattle.fbas_model.specs.QuorumSets.{all_entries}
 use Rattle.fbas_core.proofs.Sums.{entries_at, entries_within}

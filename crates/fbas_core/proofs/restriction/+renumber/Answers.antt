@@ -1,7 +1,6 @@
-use Rattle.std.proofs.Common.{ℕ, List, length, ◌≡◌, ◌<◌, map, take, sym, refl, subst, ap, ap₂, arith, ◌∙◌, take_all}
+use Rattle.std.proofs.Common.{length, ◌≡◌, ◌<◌, map, sym, ap, ap₂, arith, ◌∙◌, take_all}
 use Rattle.std.specs.Prelude.{slice_index}
-use Rattle.fbas_model.specs.Nodes.{Table}
-use Rattle.fbas_model.specs.Trees.{QuorumSet, quorum_set}
+use Rattle.fbas_model.specs.Trees.{quorum_set}
 use Rattle.fbas_model.specs.QuorumSets.{IsBelow}
 use Rattle.fbas_model.specs.Restriction.{renumbered}
 use Rattle.quorum_set.specs.Views.{entries_of}

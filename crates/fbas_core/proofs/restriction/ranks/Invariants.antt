@@ -1,4 +1,4 @@
-use Rattle.std.proofs.Common.{◌≡◌, ◌≤◌, ℕ, ◌<◌, length}
+use Rattle.std.proofs.Common.{◌≡◌, ℕ, ◌<◌, length}
 use Rattle.std.specs.Prelude.{List, slice_index}
 use Rattle.fbas_model.specs.Nodes.{Table}
 use Rattle.fbas_model.specs.Restriction.{rank}

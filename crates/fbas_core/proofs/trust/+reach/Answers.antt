@@ -1,4 +1,4 @@
-use Rattle.std.proofs.Common.{ℕ, List, length, ◌≡◌, ◌<◌, ◌||◌, Bool, sym, subst, ap, arith, ◌∙◌, take_all}
+use Rattle.std.proofs.Common.{ℕ, List, length, ◌<◌, sym, subst, arith, ◌∙◌, take_all}
 use Rattle.fbas_model.specs.Nodes.{◌∪◌}
 use Rattle.fbas_model.specs.Trees.{QuorumSet}
 use Rattle.fbas_model.specs.QuorumSets.{IsBelow, mentioned, mentioned_by}
