@@ -1,1 +1,2 @@
 pub mod YesLaws
+pub mod Unions

@@ -1,5 +1,5 @@
 -- What the program answers, by its words and the files that they name.
-use Rattle.std.specs.Prelude.{◌≡◌, ℕ, nat_le, List, length, Bool, true, false, IsTrue, Option, Some, None, Result, Ok, Err, if◌then◌else◌, map, string_bytes, String}
+use Rattle.std.specs.Prelude.{◌≡◌, ℕ, nat_le, List, [], length, Bool, true, false, IsTrue, Option, Some, None, Result, Ok, Err, if◌then◌else◌, map, string_bytes, String}
 use Rattle.std.specs.declared.alloc.Global.{Global}
 use Rattle.sha2.specs.Sha256.{sha256}
 use Rattle.desk_io.specs.State.{Files}
@@ -8,20 +8,23 @@ use Rattle.fbas_model.specs.Systems.{System}
 use Rattle.cli_words.specs.Order.{Ordered}
 use Rattle.cli_words.specs.Words.{order_of}
 use Rattle.cli_words.specs.declared.orders.Command.{Command}
-use Rattle.cli_words.specs.declared.orders.Command.TheVariants.{Show, Greatest, Available, Blocks, Vblocks, Check}
+use Rattle.cli_words.specs.declared.orders.Command.TheVariants.{Check}
 use Rattle.cli_words.specs.declared.orders.OrderFault.{OrderFault}
 use Rattle.cli_words.specs.declared.orders.OrderFault.TheVariants.{Words, SamePath, Memory}
 use Rattle.node_json.specs.Configuration.{system_of}
 use Rattle.node_json.specs.declared.faults.ConfigFault.{ConfigFault}
+use Rattle.node_json.specs.Organisations.{Org, orgs_of}
+use Rattle.node_json.specs.declared.faults.OrgFault.{OrgFault}
 use Rattle.certificate_file.specs.Acceptance.{checked}
 use Rattle.certificate_file.specs.declared.places.Accepted.{Accepted}
 use Rattle.certificate_file.specs.declared.faults.CertError.{CertError}
-use Rattle.report.specs.Lines.{usage, same_path, config_too_long, config_refused, cert_refused, accepted}
+use Rattle.report.specs.Lines.{usage, same_path, config_too_long, config_refused, orgs_too_long, orgs_refused, cert_refused, accepted}
 use Rattle.quorum_cli.specs.declared.status.Status.TheVariants.{Yes, Usage, ConfigRefused, CertRefused}
 use Rattle.quorum_cli.specs.Status.{is_answer}
 use Rattle.quorum_cli.specs.declared.reply.Reply.{Reply as Answer}
-use Rattle.quorum_cli.specs.Questions.{question_of, Answers, FitsQuestion}
+use Rattle.quorum_cli.specs.Questions.{question_of, part_of, Answers, FitsQuestion}
 use Rattle.quorum_cli.specs.declared.question.Question.{Question}
+use Rattle.quorum_cli.specs.declared.question.Inquiry.{Inquiry}
 use Rattle.quorum_cli.specs.declared.reading.Outcome.{Outcome}
 use Rattle.quorum_cli.specs.declared.reading.Outcome.TheVariants.{Told, Asked}
 
@@ -31,6 +34,10 @@ words_of words = map string_bytes words
 -- the most bytes of a configuration that are read
 abbrev pub max_file : ℕ
 max_file = 16777216
+
+abbrev pub or_orgs_refused : Result (List Org) OrgFault → Result (List Org) Answer
+or_orgs_refused (Ok orgs) = Ok orgs
+or_orgs_refused (Err e) = Err (record { status = ConfigRefused; text = orgs_refused e })
 
 -- a certificate is accepted, or its first fault is named
 abbrev pub checked_answer : List Name → Result Accepted CertError → Answer
@@ -42,18 +49,35 @@ abbrev pub check_outcome : System → List ℕ → Option (List ℕ) → Option 
 check_outcome f config None = None
 check_outcome f config (Some cert) = Some (Told (checked_answer f.names (checked f (sha256 config) cert)))
 
-abbrev pub asked : System → Result Question Answer → Outcome
-asked f (Ok question) = Asked f question
+-- the organisations of a file's bytes, or why it is refused
+abbrev pub orgs_answer : List Name → List ℕ → Result (List Org) Answer
+orgs_answer names bytes = if nat_le (length bytes) max_file then or_orgs_refused (orgs_of names bytes)
+    else Err (record { status = ConfigRefused; text = orgs_too_long })
+
+-- those of a file; nothing where it is missing
+abbrev pub orgs_held : List Name → Option (List ℕ) → Option (Result (List Org) Answer)
+orgs_held names None = None
+orgs_held names (Some bytes) = Some (orgs_answer names bytes)
+
+-- those of the file that the order names, or none where it names no file
+abbrev pub orgs_given : List Name → Files → Option (List ℕ) → Option (Result (List Org) Answer)
+orgs_given names files None = Some (Ok [])
+orgs_given names files (Some path) = orgs_held names (files path)
+
+abbrev pub asked : System → Result Inquiry Answer → Outcome
+asked f (Ok inquiry) = Asked (part_of f inquiry.closure) inquiry.question
 asked f (Err refusal) = Told refusal
+
+-- what a command asks, once the organisations were read
+abbrev pub ask_outcome : Command → Ordered → System → Option (Result (List Org) Answer) → Option Outcome
+ask_outcome c o f None = None
+ask_outcome c o f (Some (Err refusal)) = Some (Told refusal)
+ask_outcome c o f (Some (Ok orgs)) = Some (asked f (question_of c f orgs o))
 
 -- what comes of a command over a configuration that was read; nothing where another file that it reads is missing
 abbrev pub command_outcome : Command → Ordered → System → List ℕ → Files → Option Outcome
-command_outcome Show o f config files = Some (asked f (question_of Show f.names o))
-command_outcome Greatest o f config files = Some (asked f (question_of Greatest f.names o))
-command_outcome Available o f config files = Some (asked f (question_of Available f.names o))
-command_outcome Blocks o f config files = Some (asked f (question_of Blocks f.names o))
-command_outcome Vblocks o f config files = Some (asked f (question_of Vblocks f.names o))
 command_outcome Check o f config files = check_outcome f config (files o.cert)
+command_outcome command o f config files = ask_outcome command o f (orgs_given f.names files o.orgs)
 
 abbrev pub system_outcome : Ordered → List ℕ → Files → Result System ConfigFault → Option Outcome
 system_outcome o config files (Err e) = Some (Told (record { status = ConfigRefused; text = config_refused e }))
@@ -101,9 +125,3 @@ FitsOutcome (Asked f question) = FitsQuestion (length f.sets) question
 abbrev pub IsTold : Outcome → Type 0
 IsTold (Told a) = Unit {0}
 IsTold (Asked f question) = ⊥
-
--- whether names on the command line are read for the command
-abbrev pub takes_names : Command → Bool
-takes_names Show = false
-takes_names Check = false
-takes_names command = true

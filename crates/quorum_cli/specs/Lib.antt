@@ -3,3 +3,4 @@ pub mod Questions
 pub mod Answers
 pub mod Printing
 pub mod Meaning
+pub mod Organisations

@@ -1,28 +1,34 @@
 -- What an order asks of a system, and what answers it.
-use Rattle.std.specs.Prelude.{◌≡◌, ◌⊎◌, ◌<◌, ℕ, List, [], length, Option, unwrap_or, Result, Ok, Err, codes, ◌++◌}
+use Rattle.std.specs.Prelude.{◌≡◌, ◌⊎◌, ◌<◌, ℕ, List, [], length, Option, Some, None, unwrap_or, Result, Ok, Err, codes, ◌++◌}
 use Rattle.fbas_model.specs.Nodes.{Table, members}
 use Rattle.fbas_model.specs.Names.{Name}
 use Rattle.fbas_model.specs.Systems.{System}
-use Rattle.fbas_model.specs.Fbas.{all_nodes, IsGreatestQuorum, Available, AreUnmet, MeetsQuorums, BlocksNode}
-use Rattle.fbas_model.specs.Nodes.{◌∖◌}
+use Rattle.fbas_model.specs.Fbas.{all_nodes, IsClosed, IsClosure, IsGreatestQuorum, Available, AreUnmet, MeetsQuorums, BlocksNode}
+use Rattle.fbas_model.specs.Nodes.{◌∖◌, ◌∪◌}
+use Rattle.fbas_model.specs.Restriction.{closure_of, kept, restricted, table_from}
 use Rattle.name_set.specs.Lists.{names_read, name_read}
 use Rattle.name_set.specs.declared.lists.NameFault.{NameFault}
+use Rattle.node_json.specs.Organisations.{Org, ids_read}
 use Rattle.cli_words.specs.Order.{Ordered}
 use Rattle.cli_words.specs.declared.orders.Command.{Command}
 use Rattle.cli_words.specs.declared.orders.Command.TheVariants as command
-use Rattle.report.specs.Lines.{Text, names_refused, greatest, unavailable, not_blocking, shown}
+use Rattle.report.specs.Lines.{Text, names_refused, closure as printed_closure, greatest, unavailable, not_blocking, shown}
 use Rattle.quorum_cli.specs.declared.status.Status.TheVariants.{Yes, No, Usage}
 use Rattle.quorum_cli.specs.declared.reply.Reply.{Reply as Answer}
 use Rattle.quorum_cli.specs.declared.question.Question.{Question}
-use Rattle.quorum_cli.specs.declared.question.Question.TheVariants.{Show, Greatest, Available as AvailableWithout, Blocks, Vblocks}
-use Rattle.quorum_cli.specs.declared.question.Refusal.{Refusal}
-use Rattle.quorum_cli.specs.declared.question.Refusal.TheVariants.{Names, Memory}
+use Rattle.quorum_cli.specs.declared.question.Question.TheVariants.{Show, Closure, Greatest, Available as AvailableWithout, Blocks, Vblocks}
+use Rattle.quorum_cli.specs.declared.question.Inquiry.{Inquiry}
+use Rattle.quorum_cli.specs.declared.refusal.Refusal.{Refusal}
+use Rattle.quorum_cli.specs.declared.refusal.Refusal.TheVariants.{Names, Memory}
 
 -- ---- what is asked
 
 abbrev pub and_then : {A B : Type 0} → (A → Result B Answer) → Result A Answer → Result B Answer
 and_then f (Ok a) = f a
 and_then f (Err e) = Err e
+
+abbrev pub after : {A B : Type 0} → (A → B) → Result A Answer → Result B Answer
+after f r = and_then (λ a. Ok (f a)) r
 
 abbrev pub names_refusal : Text → NameFault → Answer
 names_refusal option fault = record { status = Usage; text = names_refused option fault }
@@ -39,16 +45,51 @@ set_named names option list = or_refused option (names_read (unwrap_or list []) 
 abbrev pub node_named : List Name → Text → Option Text → Result ℕ Answer
 node_named names option name = or_refused option (name_read (unwrap_or name []) names)
 
--- what the order asks, its names read in the order of the options `--node`, `--faulty`, `--set`
-abbrev pub question_of : Command → List Name → Ordered → Result Question Answer
-question_of command.Show names o = Ok Show
-question_of command.Check names o = Ok Show
-question_of command.Greatest names o = and_then (λ faulty. Ok (Greatest faulty)) (set_named names (codes "--faulty") o.faulty)
-question_of command.Available names o = and_then (λ set. Ok (AvailableWithout set)) (set_named names (codes "--set") o.set)
-question_of command.Blocks names o =
-    and_then (λ faulty. and_then (λ set. Ok (Blocks set faulty)) (set_named names (codes "--set") o.set)) (set_named names (codes "--faulty") o.faulty)
-question_of command.Vblocks names o =
-    and_then (λ node. and_then (λ set. Ok (Vblocks node set)) (set_named names (codes "--set") o.set)) (node_named names (codes "--node") o.node)
+-- the set that an option's list of organisations stands for: an option that is not given is the empty list
+abbrev pub orgs_named : ℕ → List Org → Text → Option Text → Result Table Answer
+orgs_named n orgs option list = or_refused option (ids_read (unwrap_or list []) orgs n)
+
+-- the nodes of both sets
+abbrev pub union : Table → Table → Table
+union s t = table_from 0 (length s) (members s ∪ members t)
+
+-- the faulty nodes: those of both lists
+abbrev pub faulty_named : System → List Org → Ordered → Result Table Answer
+faulty_named f orgs o =
+    and_then (λ named. after (union named) (orgs_named (length f.sets) orgs (codes "--faulty-orgs") o.faulty_orgs)) (set_named f.names (codes "--faulty") o.faulty)
+
+-- the trust closure of the node that `--from` names, or none where the option is not given
+abbrev pub closure_named : System → Option Text → Result (Option Table) Answer
+closure_named f None = Ok None
+closure_named f (Some name) = after (λ v. Some (closure_of f.sets v)) (node_named f.names (codes "--from") (Some name))
+
+-- the system restricted to a trust closure, or the whole system
+abbrev pub part_of : System → Option Table → System
+part_of f None = f
+part_of f (Some closure) = restricted closure f
+
+-- the nodes of a set that are in the part, by their numbers there
+abbrev pub cut_to : Option Table → Table → Table
+cut_to None set = set
+cut_to (Some closure) set = kept closure set
+
+-- a question about the part
+abbrev pub about : Option Table → Question → Inquiry
+about closure question = record { closure = closure; question = question }
+
+-- what the order asks, its names read in the order of the options `--node`, `--from`, `--faulty`, `--faulty-orgs`, `--set`
+abbrev pub question_of : Command → System → List Org → Ordered → Result Inquiry Answer
+question_of command.Show f orgs o = Ok (about None Show)
+question_of command.Check f orgs o = Ok (about None Show)
+question_of command.Closure f orgs o = after (λ node. about None (Closure node)) (node_named f.names (codes "--node") o.node)
+question_of command.Greatest f orgs o =
+    and_then (λ closure. after (λ faulty. about closure (Greatest (cut_to closure faulty))) (faulty_named f orgs o)) (closure_named f o.from)
+question_of command.Available f orgs o =
+    and_then (λ closure. after (λ set. about closure (AvailableWithout (cut_to closure set))) (set_named f.names (codes "--set") o.set)) (closure_named f o.from)
+question_of command.Blocks f orgs o =
+    and_then (λ closure. and_then (λ faulty. after (λ set. about closure (Blocks (cut_to closure set) (cut_to closure faulty))) (set_named f.names (codes "--set") o.set)) (faulty_named f orgs o)) (closure_named f o.from)
+question_of command.Vblocks f orgs o =
+    and_then (λ node. after (λ set. about None (Vblocks node set)) (set_named f.names (codes "--set") o.set)) (node_named f.names (codes "--node") o.node)
 
 -- the refusal is that of the result, or memory is wanting
 abbrev pub Refuses : {A : Type 0} → Refusal → Result A Answer → Type 0
@@ -68,10 +109,20 @@ IsUsage (Names a) = a.status ≡ Usage
 -- each set has a mark for each of n nodes, and each node is one of them
 abbrev pub FitsQuestion : ℕ → Question → Type 0
 FitsQuestion n Show = Unit {0}
+FitsQuestion n (Closure v) = v < n
 FitsQuestion n (Greatest b) = length b ≡ n
 FitsQuestion n (AvailableWithout s) = length s ≡ n
 FitsQuestion n (Blocks s b) = (length s ≡ n) × (length b ≡ n)
 FitsQuestion n (Vblocks v s) = (v < n) × (length s ≡ n)
+
+-- a trust closure has a mark for each node, and is closed
+abbrev pub FitsClosure : System → Option Table → Type 0
+FitsClosure f None = Unit {0}
+FitsClosure f (Some closure) = (length closure ≡ length f.sets) × IsClosed f.sets (members closure)
+
+-- the question fits the part that it is about
+abbrev pub FitsInquiry : System → Inquiry → Type 0
+FitsInquiry f i = FitsClosure f i.closure × FitsQuestion (length (part_of f i.closure).sets) i.question
 
 -- ---- what answers it
 
@@ -80,6 +131,13 @@ says text a = a ≡ record { status = Yes; text = text }
 
 abbrev pub denies : Text → Answer → Type 0
 denies text a = a ≡ record { status = No; text = text }
+
+-- the least closed set with the node in it is printed
+pub record AnswersClosure (f : System) (v : ℕ) (a : Answer) : Type 0 where
+  pub closure : Table
+  pub places : length closure ≡ length f.sets
+  pub is : IsClosure f.sets v (members closure)
+  pub said : says (printed_closure f.names closure) a
 
 -- the greatest quorum is printed, once b is deleted
 pub record AnswersGreatest (f : System) (b : Table) (a : Answer) : Type 0 where
@@ -121,6 +179,7 @@ AnswersVblocks f v s a = (BlocksNode f.sets v (members s) × says (codes "vblock
 -- the answer to a question about a system
 abbrev pub Answers : System → Question → Answer → Type 0
 Answers f Show a = says (shown f) a
+Answers f (Closure v) a = AnswersClosure f v a
 Answers f (Greatest b) a = AnswersGreatest f b a
 Answers f (AvailableWithout s) a = SaysAvailable f s a ⊎ SaysUnavailable f s a
 Answers f (Blocks s b) a = SaysBlocks f s b a ⊎ SaysNotBlocks f s b a

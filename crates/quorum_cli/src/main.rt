@@ -2,8 +2,11 @@
 #![tactic(auto)]
 
 mod files;
+mod names;
+mod parts;
 mod question;
 mod reading;
+mod refusal;
 mod reply;
 mod run;
 mod solving;

@@ -1,20 +1,24 @@
 // What is asked of a system.
-ghost use Rattle.std.specs.Prelude.{◌≡◌, ◌<◌, IfOk, IfErr, Ok, Err, length, option_map, string_bytes};
+ghost use Rattle.std.specs.Prelude.{◌≡◌, None, [], All, IfOk, IfErr, Ok, length};
 ghost use Rattle.cli_words.specs.Order.{order_view};
-ghost use Rattle.quorum_cli.specs.Questions.{names_refusal, set_named as set_by_option, node_named as node_by_option, question_of, Refuses, IsRefusal, IsUsage, FitsQuestion};
+ghost use Rattle.quorum_cli.specs.Questions.{question_of, Refuses, IsUsage, FitsInquiry};
 
-use crate::reply::Reply;
-use crate::status::Status;
+use crate::names::{faulty_named, node_named, set_named};
+use crate::parts::{closure_named, cut_to};
+use crate::refusal::Refusal;
 use cli_words::{Command, Order};
 use fbas_core::System;
-use name_set::{NameFault, NodeSet, read_name, read_names};
-use std::alloc::{AllocError, Global};
+use name_set::NodeSet;
+use node_json::Orgs;
+use std::alloc::Global;
 
 /// A question about a system, with the sets of nodes that it speaks of.
 #[derive(Drop)]
 pub enum Question {
     /// How large it is, and what is odd in its quorum sets.
     Show,
+    /// The trust closure of this node.
+    Closure(u32),
     /// Its greatest quorum once these nodes are deleted.
     Greatest(NodeSet),
     /// Whether it is available without these nodes.
@@ -25,107 +29,134 @@ pub enum Question {
     Vblocks(u32, NodeSet),
 }
 
-/// Why there is no question.
+/// A question, and the trust closure that it is about: none where it is about the whole system.
 #[derive(Drop)]
-pub enum Refusal {
-    /// A name or a list of names is refused, with this answer.
-    Names(Reply),
-    Memory,
+pub struct Inquiry {
+    pub closure: Option<NodeSet>,
+    pub question: Question,
 }
 
-impl From<AllocError> for Refusal {
-    ghost use Rattle.std.specs.Prelude.{◌≡◌};
-    ghost use Rattle.quorum_cli.specs.declared.question.Refusal.TheVariants.{Memory};
-
-    ghost from_gives = { λ _ e. e ≡ Memory };
-
-    fn from(_: AllocError) -> Refusal {
-        Refusal::Memory
-    }
-}
-
-// The refusal of the names behind an option.
-fn refuse_names(alloc: Global, option: &str, fault: NameFault) -> Refusal
-    ensures refused { IsRefusal result (names_refusal option.now fault) }
-    ensures usage { IsUsage result }
+// A question about the whole system.
+fn of_the_whole(question: Question) -> Inquiry
+    ensures { result ≡ record { closure = None; question = question } }
 {
-    match report::names_refused(alloc, option, fault) {
-        Ok(text) => Refusal::Names(Reply::new(Status::Usage, text)),
-        Err(_) => Refusal::Memory,
+    Inquiry {
+        closure: None,
+        question,
     }
 }
 
-// The set that an option's list names, empty where the option is not given.
-fn set_named(
+// The order `closure`.
+fn closure_asked(
     alloc: Global,
+    order: &Order,
     system: &System,
-    option: &str,
-    list: &Option<String>,
-) -> Result<NodeSet, Refusal>
-    ensures ok { IfOk result (λ s. set_by_option system.now.names option.now (option_map string_bytes list.now) ≡ Ok s) }
-    ensures err { IfErr result (λ r. Refuses r (set_by_option system.now.names option.now (option_map string_bytes list.now))) }
+) -> Result<Inquiry, Refusal>
+    ensures ok { IfOk result (λ i. question_of Command.Closure system.now [] (order_view order.now) ≡ Ok i) }
+    ensures err { IfErr result (λ r. Refuses r (question_of Command.Closure system.now [] (order_view order.now))) }
     ensures usage { IfErr result IsUsage }
-    ensures fits { IfOk result (λ s. length s ≡ length system.now.sets) }
+    ensures fits { IfOk result (FitsInquiry system.now) }
 {
-    let list = match list {
-        Some(list) => list.as_str(),
-        None => "",
-    };
-    match read_names(alloc, list.as_bytes(), system.names()) {
-        Ok(set) => Ok(set),
-        Err(NameFault::Memory) => Err(Refusal::Memory),
-        Err(fault) => Err(refuse_names(alloc, option, fault)),
-    }
+    let node = node_named(alloc, system, "--node", &order.node)?;
+    Ok(of_the_whole(Question::Closure(node)))
 }
 
-// The node that an option names.
-fn node_named(
+// The order `greatest`.
+fn greatest_asked(
     alloc: Global,
+    order: &Order,
     system: &System,
-    option: &str,
-    name: &Option<String>,
-) -> Result<u32, Refusal>
-    ensures ok { IfOk result (λ v. node_by_option system.now.names option.now (option_map string_bytes name.now) ≡ Ok v) }
-    ensures err { IfErr result (λ r. Refuses r (node_by_option system.now.names option.now (option_map string_bytes name.now))) }
+    orgs: &Orgs,
+) -> Result<Inquiry, Refusal>
+    requires { All (λ org. length org.members ≡ length system.now.names) orgs.now }
+    ensures ok { IfOk result (λ i. question_of Command.Greatest system.now orgs.now (order_view order.now) ≡ Ok i) }
+    ensures err { IfErr result (λ r. Refuses r (question_of Command.Greatest system.now orgs.now (order_view order.now))) }
     ensures usage { IfErr result IsUsage }
-    ensures below { IfOk result (λ v. v < length system.now.sets) }
+    ensures fits { IfOk result (FitsInquiry system.now) }
 {
-    let name = match name {
-        Some(name) => name.as_str(),
-        None => "",
-    };
-    match read_name(name.as_bytes(), system.names()) {
-        Ok(node) => Ok(node),
-        Err(fault) => Err(refuse_names(alloc, option, fault)),
-    }
+    let closure = closure_named(alloc, system, &order.from)?;
+    let named = faulty_named(alloc, system, orgs, order)?;
+    let faulty = cut_to(alloc, system, &closure, named)?;
+    let question = Question::Greatest(faulty);
+    Ok(Inquiry { closure, question })
 }
 
-/// What an order asks of a system. The names are read in the order of the options `--node`, `--faulty`, `--set`.
-pub fn question_asked(alloc: Global, order: &Order, system: &System) -> Result<Question, Refusal>
-    ensures ok { IfOk result (λ q. question_of order.now.command system.now.names (order_view order.now) ≡ Ok q) }
-    ensures err { IfErr result (λ r. Refuses r (question_of order.now.command system.now.names (order_view order.now))) }
+// The order `available`.
+fn available_asked(
+    alloc: Global,
+    order: &Order,
+    system: &System,
+) -> Result<Inquiry, Refusal>
+    ensures ok { IfOk result (λ i. question_of Command.Available system.now [] (order_view order.now) ≡ Ok i) }
+    ensures err { IfErr result (λ r. Refuses r (question_of Command.Available system.now [] (order_view order.now))) }
     ensures usage { IfErr result IsUsage }
-    ensures fits { IfOk result (FitsQuestion (length system.now.sets)) }
+    ensures fits { IfOk result (FitsInquiry system.now) }
+{
+    let closure = closure_named(alloc, system, &order.from)?;
+    let named = set_named(alloc, system, "--set", &order.set)?;
+    let set = cut_to(alloc, system, &closure, named)?;
+    let question = Question::Available(set);
+    Ok(Inquiry { closure, question })
+}
+
+// The order `blocks`.
+fn blocks_asked(
+    alloc: Global,
+    order: &Order,
+    system: &System,
+    orgs: &Orgs,
+) -> Result<Inquiry, Refusal>
+    requires { All (λ org. length org.members ≡ length system.now.names) orgs.now }
+    ensures ok { IfOk result (λ i. question_of Command.Blocks system.now orgs.now (order_view order.now) ≡ Ok i) }
+    ensures err { IfErr result (λ r. Refuses r (question_of Command.Blocks system.now orgs.now (order_view order.now))) }
+    ensures usage { IfErr result IsUsage }
+    ensures fits { IfOk result (FitsInquiry system.now) }
+{
+    let closure = closure_named(alloc, system, &order.from)?;
+    let named_faulty = faulty_named(alloc, system, orgs, order)?;
+    let named = set_named(alloc, system, "--set", &order.set)?;
+    let faulty = cut_to(alloc, system, &closure, named_faulty)?;
+    let set = cut_to(alloc, system, &closure, named)?;
+    let question = Question::Blocks(set, faulty);
+    Ok(Inquiry { closure, question })
+}
+
+// The order `vblocks`.
+fn vblocks_asked(
+    alloc: Global,
+    order: &Order,
+    system: &System,
+) -> Result<Inquiry, Refusal>
+    ensures ok { IfOk result (λ i. question_of Command.Vblocks system.now [] (order_view order.now) ≡ Ok i) }
+    ensures err { IfErr result (λ r. Refuses r (question_of Command.Vblocks system.now [] (order_view order.now))) }
+    ensures usage { IfErr result IsUsage }
+    ensures fits { IfOk result (FitsInquiry system.now) }
+{
+    let node = node_named(alloc, system, "--node", &order.node)?;
+    let set = set_named(alloc, system, "--set", &order.set)?;
+    Ok(of_the_whole(Question::Vblocks(node, set)))
+}
+
+/// What an order asks of a system. The names are read in the order of the options `--node`, `--from`, `--faulty`,
+/// `--faulty-orgs`, `--set`.
+pub fn question_asked(
+    alloc: Global,
+    order: &Order,
+    system: &System,
+    orgs: &Orgs,
+) -> Result<Inquiry, Refusal>
+    requires { All (λ org. length org.members ≡ length system.now.names) orgs.now }
+    ensures ok { IfOk result (λ i. question_of order.now.command system.now orgs.now (order_view order.now) ≡ Ok i) }
+    ensures err { IfErr result (λ r. Refuses r (question_of order.now.command system.now orgs.now (order_view order.now))) }
+    ensures usage { IfErr result IsUsage }
+    ensures fits { IfOk result (FitsInquiry system.now) }
 {
     match order.command {
-        Command::Show | Command::Check => Ok(Question::Show),
-        Command::Greatest => {
-            let faulty = set_named(alloc, system, "--faulty", &order.faulty)?;
-            Ok(Question::Greatest(faulty))
-        }
-        Command::Available => {
-            let set = set_named(alloc, system, "--set", &order.set)?;
-            Ok(Question::Available(set))
-        }
-        Command::Blocks => {
-            let faulty = set_named(alloc, system, "--faulty", &order.faulty)?;
-            let set = set_named(alloc, system, "--set", &order.set)?;
-            Ok(Question::Blocks(set, faulty))
-        }
-        Command::Vblocks => {
-            let node = node_named(alloc, system, "--node", &order.node)?;
-            let set = set_named(alloc, system, "--set", &order.set)?;
-            Ok(Question::Vblocks(node, set))
-        }
+        Command::Show | Command::Check => Ok(of_the_whole(Question::Show)),
+        Command::Closure => closure_asked(alloc, order, system),
+        Command::Greatest => greatest_asked(alloc, order, system, orgs),
+        Command::Available => available_asked(alloc, order, system),
+        Command::Blocks => blocks_asked(alloc, order, system, orgs),
+        Command::Vblocks => vblocks_asked(alloc, order, system),
     }
 }

@@ -1,5 +1,5 @@
 // What comes of the words: an answer, or a question about a system.
-ghost use Rattle.std.specs.Prelude.{◌≡◌, Some, None, Ok, Err, IsTrue, IfOk, IfErr, IsOk, IsErr, IsErrOf, length};
+ghost use Rattle.std.specs.Prelude.{◌≡◌, ◌≤◌, All, Some, None, Ok, Err, IsTrue, IfOk, IfErr, IsOk, IsErr, IsErrOf, length, option_map, string_bytes};
 ghost use Rattle.sha2.specs.Sha256.{sha256};
 ghost use Rattle.desk_io.specs.State.{OnlyReads, left_of};
 ghost use Rattle.desk_io.specs.Faults.{ReadFails};
@@ -7,14 +7,17 @@ ghost use Rattle.cli_words.specs.Order.{order_view};
 ghost use Rattle.cli_words.specs.Words.{order_of};
 ghost use Rattle.node_json.specs.Configuration.{system_of};
 ghost use Rattle.certificate_file.specs.Acceptance.{checked};
-ghost use Rattle.report.specs.Lines.{config_refused};
-ghost use Rattle.quorum_cli.specs.Answers.{words_of, outcome_of, order_outcome, system_outcome, command_outcome, check_outcome, asked, checked_answer, refused_words, FitsOutcome, IsTold, takes_names};
+ghost use Rattle.report.specs.Lines.{config_refused, orgs_refused};
+ghost use Rattle.quorum_cli.specs.Answers.{words_of, outcome_of, order_outcome, system_outcome, command_outcome, check_outcome, ask_outcome, orgs_answer, orgs_given, asked, checked_answer, refused_words, max_file, FitsOutcome, IsTold};
 ghost use Rattle.quorum_cli.specs.Meaning.{Shows, HasCert, HasAccepted, NamesFiles, NamesAccepted, YesMeans, IsCheck, IsToldUsage};
 ghost use Rattle.quorum_cli.specs.Questions.{question_of};
+ghost use Rattle.quorum_cli.specs.Organisations.{orgs_view, FitsOrgs};
 ghost use Rattle.quorum_cli.specs.Status.{is_answer};
 
 use crate::files::read_file;
-use crate::question::{Question, Refusal, question_asked};
+use crate::parts::part_of;
+use crate::question::{Inquiry, Question, question_asked};
+use crate::refusal::Refusal;
 use crate::reply::Reply;
 use crate::status::Status;
 use crate::stop::Stop;
@@ -23,7 +26,7 @@ use cli_words::{Command, Order, OrderFault};
 use desk_io::{Desk, Which};
 use digest_text::digest;
 use fbas_core::System;
-use node_json::{ConfigFault, read_config};
+use node_json::{ConfigFault, OrgFault, Orgs, read_config, read_orgs};
 use std::alloc::Global;
 
 /// What comes of the words: an answer, or a question about a system.
@@ -31,6 +34,13 @@ use std::alloc::Global;
 pub enum Outcome {
     Told(Reply),
     Asked(System, Question),
+}
+
+// The organisations that were read, or the answer that refuses them.
+#[derive(Drop)]
+enum GivenOrgs {
+    Read(Orgs),
+    Refused(Reply),
 }
 
 fn reply_with(alloc: Global, status: Status, text: &str) -> Result<Reply, Stop>
@@ -50,7 +60,7 @@ fn refuse_words(alloc: Global, fault: OrderFault) -> Result<Reply, Stop>
         OrderFault::Words => reply_with(
             alloc,
             Status::Usage,
-            "usage: quorum_cli COMMAND\nshow CONFIG\ngreatest CONFIG [COMMON]\navailable CONFIG --set NAMES\nblocks CONFIG --set NAMES [COMMON]\nvblocks CONFIG --node NAME --set NAMES\ncheck CONFIG CERT\nCOMMON: --from NAME --faulty NAMES --orgs ORGS --faulty-orgs IDS\n",
+            "usage: quorum_cli COMMAND\nshow CONFIG\nclosure CONFIG --node NAME\ngreatest CONFIG [COMMON]\navailable CONFIG --set NAMES [--from NAME]\nblocks CONFIG --set NAMES [COMMON]\nvblocks CONFIG --node NAME --set NAMES\ncheck CONFIG CERT\nCOMMON: --from NAME --faulty NAMES --orgs ORGS --faulty-orgs IDS\n",
         ),
         OrderFault::SamePath => reply_with(alloc, Status::Usage, "usage same-path\n"),
         OrderFault::Memory => Err(Stop::Memory),
@@ -137,17 +147,97 @@ fn check<D: Desk>(
     check_begun(alloc, system, config, desk)
 }
 
-// What an order that reads no further file asks of a system.
-fn ask(alloc: Global, order: &Order, system: System) -> Result<Outcome, Stop>
-    ensures outcome { IfOk result (λ o. asked system (question_of order.now.command system.names (order_view order.now)) ≡ o) }
+// The answer to organisations that are refused.
+fn refuse_orgs(alloc: Global, fault: OrgFault) -> Result<Reply, Stop>
+    ensures ok { IfOk result (λ a. a ≡ record { status = Status.ConfigRefused; text = orgs_refused fault }) }
+    ensures memory { IfErr result (λ e. e ≡ Stop.Memory) }
+{
+    let text = report::orgs_refused(alloc, fault)?;
+    Ok(Reply::new(Status::ConfigRefused, text))
+}
+
+// The organisations of a file's bytes, or why they are refused.
+fn orgs_in(alloc: Global, system: &System, bytes: &[u8]) -> Result<GivenOrgs, Stop>
+    requires { length bytes.now ≤ max_file }
+    ensures ok { IfOk result (λ o. orgs_answer system.now.names bytes.now ≡ orgs_view o) }
+    ensures fits { IfOk result (FitsOrgs (length system.now.names)) }
+    ensures memory { IfErr result (λ e. e ≡ Stop.Memory) }
+{
+    match read_orgs(alloc, bytes, system) {
+        Ok(orgs) => Ok(GivenOrgs::Read(orgs)),
+        Err(OrgFault::Memory) => Err(Stop::Memory),
+        Err(fault) => Ok(GivenOrgs::Refused(refuse_orgs(alloc, fault)?)),
+    }
+}
+
+// The organisations of the file that an order names, none where it names no file, or why they are refused.
+fn orgs_for<D: Desk>(
+    alloc: Global,
+    system: &System,
+    desk: &mut D,
+    path: &Option<String>,
+) -> Result<GivenOrgs, Stop>
+    ensures ok { IfOk result (λ o. IsTrue D.tells →
+        orgs_given system.now.names (D.state desk.old).files (option_map string_bytes path.now) ≡ Some (orgs_view o)) }
+    ensures fits { IfOk result (FitsOrgs (length system.now.names)) }
+    ensures missing { IsErrOf result Stop.Read → IsTrue D.tells → IsTrue (D.state desk.old).plain
+        → orgs_given system.now.names (D.state desk.old).files (option_map string_bytes path.now) ≡ None }
+    ensures reads { IsTrue D.tells → OnlyReads (D.state desk.old) (D.state desk.new) }
+    ensures faults { ReadFails (D.faults desk.old) (D.faults desk.new) (IsErrOf result Stop.Read) }
+{
+    let Some(path) = path else {
+        return Ok(GivenOrgs::Read(Orgs::none(alloc)));
+    };
+    match read_file(alloc, desk, Which::Orgs, path)? {
+        Some(bytes) => orgs_in(alloc, system, &bytes),
+        None => Ok(GivenOrgs::Refused(reply_with(alloc, Status::ConfigRefused, "orgs too-long\n")?)),
+    }
+}
+
+// What an order asks of a part of the system, once the organisations were read.
+fn ask_about(
+    alloc: Global,
+    order: &Order,
+    system: System,
+    orgs: &Orgs,
+) -> Result<Outcome, Stop>
+    requires { All (λ org. length org.members ≡ length system.names) orgs.now }
+    ensures outcome { IfOk result (λ o. asked system (question_of order.now.command system orgs.now (order_view order.now)) ≡ o) }
     ensures fits { IfOk result FitsOutcome }
     ensures unaccepted { IfOk result (YesMeans ⊥) }
     ensures memory { IfErr result (λ e. e ≡ Stop.Memory) }
 {
-    match question_asked(alloc, order, &system) {
-        Ok(question) => Ok(Outcome::Asked(system, question)),
+    match question_asked(alloc, order, &system, orgs) {
+        Ok(Inquiry { closure, question }) => {
+            let part = part_of(alloc, system, &closure)?;
+            Ok(Outcome::Asked(part, question))
+        }
         Err(Refusal::Names(reply)) => Ok(Outcome::Told(reply)),
         Err(Refusal::Memory) => Err(Stop::Memory),
+    }
+}
+
+// What an order asks over a configuration that was read.
+fn ask<D: Desk>(
+    alloc: Global,
+    order: &Order,
+    system: System,
+    desk: &mut D,
+) -> Result<Outcome, Stop>
+    ensures outcome { IfOk result (λ o. IsTrue D.tells →
+        ask_outcome order.now.command (order_view order.now) system
+            (orgs_given system.names (D.state desk.old).files (order_view order.now).orgs) ≡ Some o) }
+    ensures fits { IfOk result FitsOutcome }
+    ensures unaccepted { IfOk result (YesMeans ⊥) }
+    ensures missing { IsErrOf result Stop.Read → IsTrue D.tells → IsTrue (D.state desk.old).plain
+        → ask_outcome order.now.command (order_view order.now) system
+            (orgs_given system.names (D.state desk.old).files (order_view order.now).orgs) ≡ None }
+    ensures reads { IsTrue D.tells → OnlyReads (D.state desk.old) (D.state desk.new) }
+    ensures faults { ReadFails (D.faults desk.old) (D.faults desk.new) (IsErrOf result Stop.Read) }
+{
+    match orgs_for(alloc, &system, desk, &order.orgs)? {
+        GivenOrgs::Read(orgs) => ask_about(alloc, order, system, &orgs),
+        GivenOrgs::Refused(reply) => Ok(Outcome::Told(reply)),
     }
 }
 
@@ -175,7 +265,7 @@ fn command<D: Desk>(
             let reply = check(alloc, &system, config, desk, &order.cert)?;
             Ok(Outcome::Told(reply))
         }
-        _ => ask(alloc, order, system),
+        _ => ask(alloc, order, system, desk),
     }
 }
 

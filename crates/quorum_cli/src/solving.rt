@@ -1,6 +1,6 @@
 // The answer to a question.
 ghost use Rattle.std.specs.Prelude.{◌≡◌, ◌⊎◌, ◌<◌, IfOk, length};
-ghost use Rattle.quorum_cli.specs.Questions.{Answers, FitsQuestion, AnswersGreatest, SaysAvailable, SaysUnavailable, SaysBlocks, SaysNotBlocks, AnswersVblocks, says};
+ghost use Rattle.quorum_cli.specs.Questions.{Answers, FitsQuestion, AnswersClosure, AnswersGreatest, SaysAvailable, SaysUnavailable, SaysBlocks, SaysNotBlocks, AnswersVblocks, says};
 ghost use Rattle.report.specs.Lines.{shown};
 
 use crate::question::Question;
@@ -20,6 +20,15 @@ fn show(alloc: Global, system: &System) -> Result<Reply, AllocError>
     ensures { IfOk result (says (shown system.now)) }
 {
     Ok(Reply::new(Status::Yes, report::shown(alloc, system)?))
+}
+
+fn closure(alloc: Global, system: &System, node: u32) -> Result<Reply, AllocError>
+    requires { node < length system.now.sets }
+    ensures { IfOk result (AnswersClosure system.now node) }
+{
+    let closure = system.closure(alloc, node)?;
+    let text = report::with_list(alloc, "", "closure", system, &closure)?;
+    Ok(Reply::new(Status::Yes, text))
 }
 
 fn greatest(alloc: Global, system: &System, faulty: &NodeSet) -> Result<Reply, AllocError>
@@ -81,6 +90,7 @@ pub fn solve(alloc: Global, system: &System, question: &Question) -> Result<Repl
 {
     match question {
         Question::Show => show(alloc, system),
+        Question::Closure(node) => closure(alloc, system, *node),
         Question::Greatest(faulty) => greatest(alloc, system, faulty),
         Question::Available(set) => available(alloc, system, set),
         Question::Blocks(set, faulty) => blocks(alloc, system, set, faulty),

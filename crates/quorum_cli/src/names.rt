@@ -1,0 +1,116 @@
+// The nodes that the options name.
+ghost use Rattle.std.specs.Prelude.{◌≡◌, ◌<◌, All, IfOk, IfErr, Ok, length, option_map, string_bytes};
+ghost use Rattle.cli_words.specs.Order.{order_view};
+ghost use Rattle.quorum_cli.specs.Questions.{set_named as set_by_option, node_named as node_by_option, orgs_named as orgs_by_option, union, faulty_named as faulty_by_options, Refuses, IsUsage};
+
+use crate::refusal::{Refusal, refuse_names};
+use cli_words::Order;
+use fbas_core::System;
+use name_set::{NameFault, NodeSet, read_name, read_names};
+use node_json::{Orgs, read_ids};
+use std::alloc::{AllocError, Global};
+
+/// The set that an option's list names, empty where the option is not given.
+pub fn set_named(
+    alloc: Global,
+    system: &System,
+    option: &str,
+    list: &Option<String>,
+) -> Result<NodeSet, Refusal>
+    ensures ok { IfOk result (λ s. set_by_option system.now.names option.now (option_map string_bytes list.now) ≡ Ok s) }
+    ensures err { IfErr result (λ r. Refuses r (set_by_option system.now.names option.now (option_map string_bytes list.now))) }
+    ensures usage { IfErr result IsUsage }
+    ensures fits { IfOk result (λ s. length s ≡ length system.now.sets) }
+{
+    let list = match list {
+        Some(list) => list.as_str(),
+        None => "",
+    };
+    match read_names(alloc, list.as_bytes(), system.names()) {
+        Ok(set) => Ok(set),
+        Err(NameFault::Memory) => Err(Refusal::Memory),
+        Err(fault) => Err(refuse_names(alloc, option, fault)),
+    }
+}
+
+/// The node that an option names.
+pub fn node_named(
+    alloc: Global,
+    system: &System,
+    option: &str,
+    name: &Option<String>,
+) -> Result<u32, Refusal>
+    ensures ok { IfOk result (λ v. node_by_option system.now.names option.now (option_map string_bytes name.now) ≡ Ok v) }
+    ensures err { IfErr result (λ r. Refuses r (node_by_option system.now.names option.now (option_map string_bytes name.now))) }
+    ensures usage { IfErr result IsUsage }
+    ensures below { IfOk result (λ v. v < length system.now.sets) }
+{
+    let name = match name {
+        Some(name) => name.as_str(),
+        None => "",
+    };
+    match read_name(name.as_bytes(), system.names()) {
+        Ok(node) => Ok(node),
+        Err(fault) => Err(refuse_names(alloc, option, fault)),
+    }
+}
+
+// The set that an option's list of organisations stands for, empty where the option is not given.
+fn orgs_named(
+    alloc: Global,
+    orgs: &Orgs,
+    n: u32,
+    option: &str,
+    list: &Option<String>,
+) -> Result<NodeSet, Refusal>
+    requires { All (λ org. length org.members ≡ n) orgs.now }
+    ensures ok { IfOk result (λ s. orgs_by_option n orgs.now option.now (option_map string_bytes list.now) ≡ Ok s) }
+    ensures err { IfErr result (λ r. Refuses r (orgs_by_option n orgs.now option.now (option_map string_bytes list.now))) }
+    ensures usage { IfErr result IsUsage }
+    ensures fits { IfOk result (λ s. length s ≡ n) }
+{
+    let list = match list {
+        Some(list) => list.as_str(),
+        None => "",
+    };
+    match read_ids(alloc, list.as_bytes(), orgs, n) {
+        Ok(set) => Ok(set),
+        Err(NameFault::Memory) => Err(Refusal::Memory),
+        Err(fault) => Err(refuse_names(alloc, option, fault)),
+    }
+}
+
+// The nodes of both sets: all nodes but those that are in neither.
+fn union(alloc: Global, s: &NodeSet, t: &NodeSet, n: u32) -> Result<NodeSet, AllocError>
+    requires same_s { length s.now ≡ n }
+    requires same_t { length t.now ≡ n }
+    ensures { IfOk result (λ u. u ≡ union s.now t.now) }
+{
+    let mut neither = NodeSet::new(alloc, n)?;
+    neither.fill();
+    neither.minus(s);
+    neither.minus(t);
+    let mut nodes = NodeSet::new(alloc, n)?;
+    nodes.fill();
+    nodes.minus(&neither);
+    Ok(nodes)
+}
+
+/// The faulty nodes: those that `--faulty` names, and the members of the organisations that `--faulty-orgs` names.
+pub fn faulty_named(
+    alloc: Global,
+    system: &System,
+    orgs: &Orgs,
+    order: &Order,
+) -> Result<NodeSet, Refusal>
+    requires { All (λ org. length org.members ≡ length system.now.names) orgs.now }
+    ensures ok { IfOk result (λ s. faulty_by_options system.now orgs.now (order_view order.now) ≡ Ok s) }
+    ensures err { IfErr result (λ r. Refuses r (faulty_by_options system.now orgs.now (order_view order.now))) }
+    ensures usage { IfErr result IsUsage }
+    ensures fits { IfOk result (λ s. length s ≡ length system.now.sets) }
+{
+    let n = system.len();
+    let named = set_named(alloc, system, "--faulty", &order.faulty)?;
+    let members = orgs_named(alloc, orgs, n, "--faulty-orgs", &order.faulty_orgs)?;
+    Ok(union(alloc, &named, &members, n)?)
+}

@@ -1,0 +1,60 @@
+// The part of a system that is asked about: the whole, or the trust closure of a node.
+ghost use Rattle.std.specs.Prelude.{◌≡◌, IfOk, IfErr, Ok, length, option_map, string_bytes};
+ghost use Rattle.quorum_cli.specs.Questions.{closure_named, part_of as spec_part_of, cut_to, Refuses, IsUsage, FitsClosure};
+
+use crate::names::node_named;
+use crate::refusal::Refusal;
+use fbas_core::System;
+use name_set::NodeSet;
+use std::alloc::{AllocError, Global};
+
+/// The trust closure of the node that `--from` names, or none where the option is not given.
+pub fn closure_named(
+    alloc: Global,
+    system: &System,
+    from: &Option<String>,
+) -> Result<Option<NodeSet>, Refusal>
+    ensures ok { IfOk result (λ c. closure_named system.now (option_map string_bytes from.now) ≡ Ok c) }
+    ensures err { IfErr result (λ r. Refuses r (closure_named system.now (option_map string_bytes from.now))) }
+    ensures usage { IfErr result IsUsage }
+    ensures fits { IfOk result (FitsClosure system.now) }
+{
+    if from.is_none() {
+        return Ok(None);
+    }
+    let node = node_named(alloc, system, "--from", from)?;
+    Ok(Some(system.closure(alloc, node)?))
+}
+
+/// The nodes of a set that are in the part, by their numbers there.
+pub fn cut_to(
+    alloc: Global,
+    system: &System,
+    closure: &Option<NodeSet>,
+    set: NodeSet,
+) -> Result<NodeSet, AllocError>
+    requires fits { FitsClosure system.now closure.now }
+    requires same_n { length set ≡ length system.now.sets }
+    ensures cut { IfOk result (λ s. s ≡ cut_to closure.now set) }
+    ensures places { IfOk result (λ s. length s ≡ length (spec_part_of system.now closure.now).sets) }
+{
+    match closure {
+        Some(closure) => system.cut(alloc, &set, closure),
+        None => Ok(set),
+    }
+}
+
+/// The system restricted to a trust closure, or the whole system.
+pub fn part_of(
+    alloc: Global,
+    system: System,
+    closure: &Option<NodeSet>,
+) -> Result<System, AllocError>
+    requires { FitsClosure system closure.now }
+    ensures { IfOk result (λ part. part ≡ spec_part_of system closure.now) }
+{
+    match closure {
+        Some(closure) => system.restrict(alloc, closure),
+        None => Ok(system),
+    }
+}
