@@ -1,0 +1,17 @@
+pub mod Fixpoint
+pub mod Plans
+pub mod Alike
+pub mod Fixpoints
+pub mod Quiet
+pub mod Trails
+pub mod Walks
+pub mod Tops
+pub mod Logs
+pub mod Jumps
+pub mod Sats
+pub mod Learnt
+pub mod LogFits
+pub mod States
+pub mod Readies
+pub mod Values
+pub mod Exits

@@ -1,0 +1,6 @@
+pub mod Fixpoint
+pub mod Trail
+pub mod Scans
+pub mod Log
+pub mod Search
+pub mod Values

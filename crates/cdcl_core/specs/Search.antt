@@ -1,0 +1,46 @@
+-- What a conflict teaches, and where the search goes on.
+use Rattle.std.specs.Prelude.{◌≡◌, ℕ, ◌+◌, ◌<◌, ◌≤◌, true, List, [], ℤ, length, take, slice_index, All, ◌^◌}
+use Rattle.lrat_model.specs.Literal.{Literal, negated, has}
+use Rattle.lrat_model.specs.Clauses.{Held, with_clause, clause_at}
+use Rattle.lrat_model.specs.Steps.{ProofStep}
+use Rattle.cdcl_core.specs.Trail.{IsTrail, IsVariable, InRange}
+use Rattle.cdcl_core.specs.Log.{given_below, last_id, held_after, IsDistinct, LogFits}
+use Rattle.lrat_model.specs.Propagation.{Follows, Closes}
+use Rattle.cdcl_core.specs.Fixpoint.{IsFixpoint}
+use Rattle.lrat_model.specs.Lemmas.{IsUseful}
+
+-- the trail before each decision is a fixpoint
+abbrev pub IsClosed : Held → List Literal → List ℕ → Type 0
+IsClosed held trues reasons = (place : ℕ) → place < length trues → slice_index reasons place ≡ 0 → IsFixpoint held (take place trues)
+
+-- the lemma follows, tells something, negates literals of the trail, and holds where the trail goes back to the place
+pub record IsLearntClause (held : Held) (trues : List Literal) (reasons : List ℕ) (lits : List Literal) (hints : List ℤ) (jump : ℕ) : Type 0 where
+  pub follows : Follows held lits hints
+  pub useful : 0 < length lits → IsUseful held lits
+  pub unclosed : 0 < length lits → Closes held → ⊥
+  pub negates : (m : Literal) → has lits m ≡ true → has trues (negated m) ≡ true
+  pub distinct : IsDistinct lits
+  pub few_hints : length hints ≤ length trues + 1
+  pub closed : (id : ℕ) → IsClosed (with_clause held id lits) (take jump trues) (take jump reasons)
+
+-- the trail has only the first n variables, and at most n literals
+abbrev pub OnVariables : ℕ → List Literal → Type 0
+OnVariables n trues = ((m : Literal) → has trues m ≡ true → IsVariable n m) × (length trues ≤ n)
+
+-- the clauses held are those given and logged, and the id is the next one
+abbrev pub Stands : Held → List ProofStep → Held → ℕ → Type 0
+Stands given log held id = (id ≡ last_id (given_below given id) log + 1) × ((k : ℕ) → clause_at held k ≡ clause_at (held_after (given_below given id) log) k)
+
+-- where a search stands: a trail over the first n variables, a fixpoint before each decision
+pub record IsState (n : ℕ) (held : Held) (trues : List Literal) (reasons : List ℕ) : Type 0 where
+  pub trail : IsTrail held trues reasons
+  pub closed : IsClosed held trues reasons
+  pub range : (m : Literal) → has trues m ≡ true → IsVariable n m
+  pub small : All (λ r. r < 2 ^ 63) reasons
+
+-- the clauses held are those given and logged, all ids are at most the last, and the log fits
+pub record IsReady (n last : ℕ) (given held : Held) (log : List ProofStep) : Type 0 where
+  pub stands : Stands given log held (last + 1)
+  pub below : All (λ e. e.0 ≤ last) given
+  pub range : InRange n held
+  pub fits : LogFits n given [] log
