@@ -10,8 +10,9 @@ pub mod Logs
 pub mod Jumps
 pub mod Sats
 pub mod Learnt
-pub mod LogFits
+pub mod LearntLemmas
 pub mod States
-pub mod Readies
+pub mod Pushes
+pub mod Searches
+pub mod Stores
 pub mod Values
-pub mod Exits

@@ -1,41 +1,31 @@
--- A log that fits, with one step more, and with a clause given after it.
-use Rattle.std.proofs.Common.{◌≡◌, ℕ, ◌≤◌, cond, List, [], ◌∷◌, ◌++◌, sym, ap, ◌∙◌, subst, append-nil, append_assoc}
-use Rattle.std.specs.Prelude.{ℤ, nat_lt}
-use Rattle.std.proofs.lemmas.Bool.{le-ltb}
-use Rattle.std.proofs.lemmas.List.Elements.{filter-append}
+-- A log with one lemma more, and what lemmas keep.
+use Rattle.std.proofs.Common.{◌≡◌, ℕ, true, false, cond, List, [], ◌∷◌, ◌++◌, refl, ap, ◌∙◌, subst, Some, None, ℤ}
+use Rattle.std.specs.Prelude.{◌==◌}
+use Rattle.lrat_model.specs.Clauses.{Held, clause_at, with_clause}
 use Rattle.lrat_model.specs.Literal.{Literal}
-use Rattle.lrat_model.specs.Clauses.{Held}
-use Rattle.lrat_model.specs.Steps.{ProofStep, Addition, Deletion}
-use Rattle.cdcl_core.specs.Log.{held_after, given_below, last_id, LemmaFits, LogFits}
+use Rattle.lrat_model.specs.Steps.{ProofStep, Addition, Deletion, Database, step_fault, after_step}
+use Rattle.lrat_model.specs.Runs.{Run}
+use Rattle.cdcl_core.specs.Log.{IsLemma, AreLemmas}
 
--- what an addition has to fit
-abbrev pub Fits : ℕ → Held → List ProofStep → ℕ → List Literal → List ℤ → Type 0
-Fits vars given before id clause hints = LemmaFits vars (held_after (given_below given id) before) (last_id (given_below given id) before) id clause hints
+pub run_push : (vars : ℕ) (old middle : Database) (steps : List ProofStep) (step : ProofStep) → Run vars old steps middle → step_fault vars middle step ≡ None → Run vars old (steps ++ step ∷ []) (after_step middle step)
+run_push vars old middle [] step run taken = subst (λ (d : Database). (step_fault vars d step ≡ None) × (after_step middle step ≡ after_step d step)) run (taken, refl)
+run_push vars old middle (s ∷ steps) step run taken = (run.0, run_push vars (after_step old s) middle steps step run.1 taken)
 
-pub LogFits-push : (vars : ℕ) (given : Held) (before steps : List ProofStep) (id : ℕ) (lits : List Literal) (hints : List ℤ) → LogFits vars given before steps → Fits vars given (before ++ steps) id lits hints → LogFits vars given before (steps ++ Addition id lits hints ∷ [])
-LogFits-push vars given before [] id lits hints fits new = (subst (λ (b : List ProofStep). Fits vars given b id lits hints) (append-nil before) new, tt)
-LogFits-push vars given before (Addition k ls hs ∷ steps) id lits hints fits new = (
-  fits.0,
-  LogFits-push vars given (before ++ Addition k ls hs ∷ []) steps id lits hints fits.1
-      (subst (λ (b : List ProofStep). Fits vars given b id lits hints) (sym (append_assoc before (Addition k ls hs ∷ []) steps)) new),
-)
-LogFits-push vars given before (Deletion k ids ∷ steps) id lits hints fits new = absurd fits
+pub lemmas_push : (vars : ℕ) (old middle : Database) (steps : List ProofStep) (id : ℕ) (lits : List Literal) (hints : List ℤ) → Run vars old steps middle → AreLemmas vars old steps → IsLemma vars middle id lits hints → AreLemmas vars old (steps ++ Addition id lits hints ∷ [])
+lemmas_push vars old middle [] id lits hints run lemmas new = (subst (λ (d : Database). IsLemma vars d id lits hints) run new, tt)
+lemmas_push vars old middle (Addition k ls hs ∷ steps) id lits hints run lemmas new = (lemmas.0, lemmas_push vars (after_step old (Addition k ls hs)) middle steps id lits hints run.1 lemmas.1 new)
+lemmas_push vars old middle (Deletion k ids ∷ steps) id lits hints run lemmas new = absurd lemmas
 
--- each addition's id is at most this
-abbrev pub IdsUpTo : ℕ → List ProofStep → Type 0
-IdsUpTo top [] = Unit {0}
-IdsUpTo top (Addition id lits hints ∷ steps) = (id ≤ top) × IdsUpTo top steps
-IdsUpTo top (Deletion id ids ∷ steps) = IdsUpTo top steps
+clause_at-more : (held : Held) (id : ℕ) (lits : List Literal) (k : ℕ) (clause : List Literal) → clause_at held k ≡ Some clause → clause_at (with_clause held id lits) k ≡ Some clause
+clause_at-more [] id lits k clause at = cc
+clause_at-more (e ∷ held) id lits k clause at =
+    elim (e.0 == k) as (λ b. cond b (Some e.1) (clause_at held k) ≡ Some clause → cond b (Some e.1) (clause_at (with_clause held id lits) k) ≡ Some clause) [
+      | true ↦ λ is. is
+      | false ↦ λ is. clause_at-more held id lits k clause is
+    ] at
 
-given_below-push : (given : Held) (id : ℕ) (clause : List Literal) (k : ℕ) → k ≤ id → given_below (given ++ (id, clause) ∷ []) k ≡ given_below given k
-given_below-push given id clause k less =
-    filter-append (λ (e : ℕ × List Literal). nat_lt e.0 k) given ((id, clause) ∷ [])
-    ∙ ap (λ b. given_below given k ++ cond b ((id, clause) ∷ []) []) (le-ltb id k less) ∙ append-nil (given_below given k)
-
-pub LogFits-give : (vars : ℕ) (given : Held) (before steps : List ProofStep) (id : ℕ) (clause : List Literal) → IdsUpTo id steps → LogFits vars given before steps → LogFits vars (given ++ (id, clause) ∷ []) before steps
-LogFits-give vars given before [] id clause upto fits = tt
-LogFits-give vars given before (Addition k ls hs ∷ steps) id clause upto fits = (
-  subst (λ (g : Held). LemmaFits vars (held_after g before) (last_id g before) k ls hs) (sym (given_below-push given id clause k upto.0)) fits.0,
-  LogFits-give vars given (before ++ Addition k ls hs ∷ []) steps id clause upto.1 fits.1,
-)
-LogFits-give vars given before (Deletion k ids ∷ steps) id clause upto fits = absurd fits
+-- lemmas take no clause away
+pub lemmas_keep : (vars : ℕ) (old new : Database) (steps : List ProofStep) → Run vars old steps new → AreLemmas vars old steps → (k : ℕ) (clause : List Literal) → clause_at old.held k ≡ Some clause → clause_at new.held k ≡ Some clause
+lemmas_keep vars old new [] run lemmas k clause at = ap (λ (d : Database). clause_at d.held k) run ∙ at
+lemmas_keep vars old new (Addition id ls hs ∷ steps) run lemmas k clause at = lemmas_keep vars (after_step old (Addition id ls hs)) new steps run.1 lemmas.1 k clause (clause_at-more old.held id ls k clause at)
+lemmas_keep vars old new (Deletion id ids ∷ steps) run lemmas k clause at = absurd lemmas

@@ -1,10 +1,13 @@
 -- What a conflict teaches, and where the search goes on.
-use Rattle.std.specs.Prelude.{◌≡◌, ℕ, ◌+◌, ◌<◌, ◌≤◌, true, List, [], ℤ, length, take, slice_index, All, ◌^◌}
+use Rattle.std.specs.Prelude.{◌≡◌, ℕ, ◌+◌, ◌<◌, ◌≤◌, true, List, [], ℤ, length, take, ◌++◌, slice_index, All, ◌^◌}
 use Rattle.lrat_model.specs.Literal.{Literal, negated, has}
 use Rattle.lrat_model.specs.Clauses.{Held, with_clause, clause_at}
-use Rattle.lrat_model.specs.Steps.{ProofStep}
-use Rattle.cdcl_core.specs.Trail.{IsTrail, IsVariable, InRange}
-use Rattle.cdcl_core.specs.Log.{given_below, last_id, held_after, IsDistinct, LogFits}
+use Rattle.lrat_model.specs.Steps.{ProofStep, Database}
+use Rattle.lrat_model.specs.Runs.{Run}
+use Rattle.lrat_model.specs.Entries.{held_of}
+use Rattle.std.specs.Global.{Vec}
+use Rattle.cdcl_core.specs.Trail.{IsTrail, IsVariable}
+use Rattle.cdcl_core.specs.Log.{IsDistinct, AreLemmas, units}
 use Rattle.lrat_model.specs.Propagation.{Follows, Closes}
 use Rattle.cdcl_core.specs.Fixpoint.{IsFixpoint}
 use Rattle.lrat_model.specs.Lemmas.{IsUseful}
@@ -27,10 +30,6 @@ pub record IsLearntClause (held : Held) (trues : List Literal) (reasons : List �
 abbrev pub OnVariables : ℕ → List Literal → Type 0
 OnVariables n trues = ((m : Literal) → has trues m ≡ true → IsVariable n m) × (length trues ≤ n)
 
--- the clauses held are those given and logged, and the id is the next one
-abbrev pub Stands : Held → List ProofStep → Held → ℕ → Type 0
-Stands given log held id = (id ≡ last_id (given_below given id) log + 1) × ((k : ℕ) → clause_at held k ≡ clause_at (held_after (given_below given id) log) k)
-
 -- where a search stands: a trail over the first n variables, a fixpoint before each decision
 pub record IsState (n : ℕ) (held : Held) (trues : List Literal) (reasons : List ℕ) : Type 0 where
   pub trail : IsTrail held trues reasons
@@ -38,9 +37,13 @@ pub record IsState (n : ℕ) (held : Held) (trues : List Literal) (reasons : Lis
   pub range : (m : Literal) → has trues m ≡ true → IsVariable n m
   pub small : All (λ r. r < 2 ^ 63) reasons
 
--- the clauses held are those given and logged, all ids are at most the last, and the log fits
-pub record IsReady (n last : ℕ) (given held : Held) (log : List ProofStep) : Type 0 where
-  pub stands : Stands given log held (last + 1)
-  pub below : All (λ e. e.0 ≤ last) given
-  pub range : InRange n held
-  pub fits : LogFits n given [] log
+-- the clauses held, as a program's list of them, and the last id
+abbrev pub database_of : List (ℕ × Vec Literal) → ℕ → Database
+database_of clauses last = record { held = held_of clauses; last = last }
+
+-- how a search went on: the steps that it logged lead from the one database to the other, each is a lemma, and they take these units
+pub record Searched (vars : ℕ) (old new : Database) (log now : List ProofStep) (taken : ℕ) (steps : List ProofStep) : Type 0 where
+  pub log_is : now ≡ log ++ steps
+  pub run : Run vars old steps new
+  pub lemmas : AreLemmas vars old steps
+  pub units_are : units steps ≡ taken

@@ -2,11 +2,13 @@
 #![tactic(auto)]
 
 mod analysis;
+mod budget;
 mod propagation;
 mod run;
 mod search;
+mod solver;
 
-pub use analysis::{LearntClause, analyse};
+pub use budget::Budget;
 pub use lrat_model::{Lit, Step};
 pub use run::Verdict;
-pub use search::{Settled, decide, learn, settle};
+pub use solver::Solver;

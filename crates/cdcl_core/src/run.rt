@@ -1,12 +1,12 @@
 //! The search: to an assignment, the empty lemma, or the end of a budget.
-ghost use Rattle.std.specs.Prelude.{◌≡◌, ℕ, ◌^◌, ◌<◌, ◌≤◌, ◌+◌, ◌-◌, ◌++◌, [], Ok, List, IsErr, OnOk, ◌==◌, All, AllPairs, length};
-ghost use Rattle.lrat_model.specs.Clauses.{Held, Satisfies};
+ghost use Rattle.std.specs.Prelude.{◌≡◌, ◌≢◌, ℕ, ◌^◌, ◌<◌, ◌≤◌, ◌+◌, ◌-◌, ◌++◌, [], Ok, List, IsErr, OnOk, ◌==◌, All, AllPairs, length};
+ghost use Rattle.lrat_model.specs.Clauses.{Satisfies};
 ghost use Rattle.lrat_model.specs.Entries.{held_of};
 ghost use Rattle.lrat_model.specs.Lemmas.{IsDue};
 ghost use Rattle.lrat_model.specs.Propagation.{Closes};
 ghost use Rattle.lrat_model.specs.Steps.{ProofStep};
-ghost use Rattle.cdcl_core.specs.Log.{LogFits, HasNoEmptyLemma, EndsEmpty, steps_of, units};
-ghost use Rattle.cdcl_core.specs.Search.{IsReady};
+ghost use Rattle.cdcl_core.specs.Log.{HasNoEmptyLemma, EndsEmpty, steps_of};
+ghost use Rattle.cdcl_core.specs.Search.{Searched, database_of};
 ghost use Rattle.cdcl_core.specs.Trail.{InRange};
 ghost use Rattle.cdcl_core.specs.Values.{value_of};
 
@@ -41,15 +41,18 @@ pub fn run(
     requires ids { All (λ e. (0 < e.0) × (e.0 ≤ last.old)) clauses.old.items }
     requires range { InRange vars (held_of clauses.old.items) }
     requires open { HasNoEmptyLemma (steps_of log.old.items) }
-    ensures rise { OnOk result (AllPairs (λ e f. e.0 < f.0) clauses.new.items) }
-    ensures ids { OnOk result (All (λ e. (0 < e.0) × (e.0 ≤ last.new)) clauses.new.items) }
-    ensures ready { (given : Held) → IsReady vars last.old given (held_of clauses.old.items) (steps_of log.old.items) → OnOk result (IsReady vars last.new given (held_of clauses.new.items) (steps_of log.new.items)) }
-    ensures fits { (given : Held) → IsReady vars last.old given (held_of clauses.old.items) (steps_of log.old.items) → LogFits vars given [] (steps_of log.new.items) }
-    ensures goes_on { (left.new ≤ left.old) × ((steps : List ProofStep) × (steps_of log.new.items ≡ steps_of log.old.items ++ steps) × (units steps ≡ left.old - left.new)) }
-    ensures sat { result ≡ Ok Verdict.Sat → (length values.new.items ≡ vars) × Satisfies (value_of values.new.items) (held_of clauses.new.items) × HasNoEmptyLemma (steps_of log.new.items) }
+    ensures rise { AllPairs (λ e f. e.0 < f.0) clauses.new.items }
+    ensures ids { All (λ e. (0 < e.0) × (e.0 ≤ last.new)) clauses.new.items }
+    ensures range { InRange vars (held_of clauses.new.items) }
+    ensures goes_on { (steps : List ProofStep) × Searched vars (database_of clauses.old.items last.old) (database_of clauses.new.items last.new) (steps_of log.old.items) (steps_of log.new.items) (left.old - left.new) steps }
+    ensures left { left.new ≤ left.old }
+    ensures room { result ≢ Ok Verdict.Unsat → last.new + left.new ≡ last.old + left.old }
+    ensures room_of_unsat { last.new + left.new ≤ last.old + left.old + 1 }
+    ensures sat { result ≡ Ok Verdict.Sat → Satisfies (value_of values.new.items) (held_of clauses.new.items) }
+    ensures valued { length values.old.items ≡ vars → length values.new.items ≡ vars }
     ensures unsat { result ≡ Ok Verdict.Unsat → EndsEmpty (steps_of log.new.items) }
-    ensures spent { result ≡ Ok Verdict.Spent → (left.new ≡ 0) × (Closes (held_of clauses.new.items) → ⊥) × IsDue (held_of clauses.new.items) × HasNoEmptyLemma (steps_of log.new.items) }
-    ensures memory { IsErr result → HasNoEmptyLemma (steps_of log.new.items) }
+    ensures spent { result ≡ Ok Verdict.Spent → (left.new ≡ 0) × (Closes (held_of clauses.new.items) → ⊥) × IsDue (held_of clauses.new.items) }
+    ensures open { result ≢ Ok Verdict.Unsat → HasNoEmptyLemma (steps_of log.new.items) }
 {
     let mut trail = Vec::new(alloc);
     let mut reasons = Vec::new(alloc);

@@ -5,7 +5,7 @@ ghost use Rattle.cdcl_core.specs.Fixpoint.{IsFixpoint};
 ghost use Rattle.lrat_model.specs.Entries.{held_of};
 ghost use Rattle.cdcl_core.specs.Trail.{IsTrail, IsVariable, InRange, open_count};
 ghost use Rattle.cdcl_core.specs.Scans.{Finds};
-ghost use Rattle.cdcl_core.specs.Search.{IsLearntClause, IsReady, IsState};
+ghost use Rattle.cdcl_core.specs.Search.{IsLearntClause, IsState};
 ghost use Rattle.lrat_model.specs.Steps.{Addition};
 ghost use Rattle.cdcl_core.specs.Log.{steps_of};
 ghost use Rattle.cdcl_core.specs.Values.{value_of};
@@ -99,7 +99,8 @@ pub fn values_of(alloc: Global, trail: &[Lit], vars: u32) -> Result<Vec<bool>, A
     Ok(values)
 }
 
-/// Takes a learnt clause: holds the lemma, logs it, and goes back on the trail.
+/// Takes a learnt clause: holds the lemma, logs it, and goes back on the trail. Where memory runs out no
+/// clause is held more, and no step logged.
 pub fn learn(
     alloc: Global,
     id: u64,
@@ -120,15 +121,15 @@ pub fn learn(
     ensures state { OnOk result ((n : ℕ) → IsState n (held_of clauses.old.items) trail.old.items reasons.old.items → IsState n (with_clause (held_of clauses.old.items) id lits.items) trail.new.items reasons.new.items) }
     ensures log { OnOk result (steps_of log.new.items ≡ steps_of log.old.items ++ Addition id lits.items hints.items ∷ []) }
     ensures ids { All (λ e. 0 < e.0) clauses.old.items → 0 < id → OnOk result (All (λ e. (0 < e.0) × (e.0 ≤ id)) clauses.new.items) }
-    ensures ready { OnOk result ((n last : ℕ) (given : Held) → id ≡ last + 1 → IsState n (held_of clauses.old.items) trail.old.items reasons.old.items → IsReady n last given (held_of clauses.old.items) (steps_of log.old.items) → IsReady n id given (held_of clauses.new.items) (steps_of log.new.items)) }
     ensures range { OnOk result ((n : ℕ) → IsState n (held_of clauses.old.items) trail.old.items reasons.old.items → InRange n (held_of clauses.old.items) → InRange n (held_of clauses.new.items)) }
-    ensures err { OnErr result (log.new.items ≡ log.old.items) }
+    ensures unchanged { OnErr result ((clauses.new.items ≡ clauses.old.items) × (log.new.items ≡ log.old.items)) }
 {
     let mut held = Vec::new(alloc);
     held.extend_from_slice(&lits)?;
+    log.reserve(1)?;
+    clauses.push((id, held))?;
+    log.push(Step::Add { id, lits, hints }).unwrap();
     trail.truncate(jump);
     reasons.truncate(jump);
-    clauses.push((id, held))?;
-    log.push(Step::Add { id, lits, hints })?;
     Ok(())
 }

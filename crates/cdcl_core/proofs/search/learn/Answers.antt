@@ -1,17 +1,16 @@
-use Rattle.std.proofs.Common.{ℕ, ◌≡◌, ◌≤◌, ◌<◌, ◌++◌, ◌∷◌, [], List, sym, ap, ◌∙◌, subst}
+use Rattle.std.proofs.Common.{ℕ, ◌≡◌, ◌≤◌, ◌<◌, ◌++◌, ◌∷◌, [], List, sym, ap, ◌∙◌, subst, arith}
 use Rattle.lrat_model.specs.Steps.{ProofStep, Addition}
 use Rattle.lrat_model.specs.Entries.{held_of}
-use Rattle.cdcl_core.specs.Log.{LogFits, steps_of}
-use Rattle.cdcl_core.proofs.States.{state_back, state_on_variables}
-use Rattle.cdcl_core.proofs.LogFits.{learnt_clause_fits}
+use Rattle.cdcl_core.specs.Log.{steps_of}
+use Rattle.cdcl_core.proofs.States.{state_back}
+use Rattle.lrat_model.specs.declared.step.Step.{Step}
 use Rattle.lrat_model.specs.declared.step.Step.TheVariants.{Add}
-use Rattle.cdcl_core.proofs.Readies.{steps_push, in_range_after, held_push, ready_at, negates_in_range, ids_push}
-use Rattle.cdcl_core.specs.Search.{IsReady, Stands}
+use Rattle.cdcl_core.proofs.Pushes.{steps_push, in_range_after, held_push, negates_in_range, ids_push}
 use Rattle.cdcl_core.specs.Trail.{InRange}
 use Rattle.lrat_model.specs.Clauses.{Held, with_clause}
 use Rattle.lrat_model.specs.Literal.{Literal}
 use Rattle.std.specs.Global.{Vec}
-use Rattle.std.specs.Prelude.{All}
+use Rattle.std.specs.Prelude.{All, is_ok, if◌then◌else◌}
 use Rattle.cdcl_core.proofs.search.learn.Goals as goal
 
 pub returns-clause-state : goal.returns-clause-state
@@ -19,29 +18,19 @@ returns-clause-state c =
     λ n state.
     rw (c.truncate.ensures.items, c.truncate-2.ensures.items) (state_back n (held_of c.args.clauses.now.items) c.args.trail.now.items c.args.reasons.now.items state c.args.jump c.args.id c.args.lits.items (c.requires.learnt.closed c.args.id))
 
-pub returns-clause-ready : goal.returns-clause-ready
-returns-clause-ready c =
-    λ n last given is state ready.
-    let held = held_of c.args.clauses.now.items in
-    let log = steps_of c.args.log.now.items in
-    let new = log ++ Addition c.args.id c.args.lits.items c.args.hints.items ∷ [] in
-    let fits : LogFits n given [] new = learnt_clause_fits held c.args.trail.now.items c.args.reasons.now.items c.args.lits.items c.args.hints.items c.args.jump c.requires.trail c.requires.learnt n given log c.args.id
-    (subst (λ k. Stands given log held k) (sym is) ready.stands) (state_on_variables n held c.args.trail.now.items c.args.reasons.now.items state) ready.fits in
-    let own = negates_in_range n c.args.trail.now.items c.args.lits.items state.range c.requires.learnt.negates in
-    let copied : c.extend_from_slice.new.self.items ≡ c.args.lits.items = c.in_ok-extend_from_slice.ensures.items ∙ ap (λ (ls : List Literal). ls ++ c.deref.result.now) c.new-held.ensures.items ∙ c.deref.ensures.value in
-    let held_is = ap (λ (es : List (ℕ × Vec Literal)). held_of es) c.in_ok-push.ensures.items ∙ held_push c.args.clauses.now.items c.args.id c.extend_from_slice.new.self c.args.lits.items copied in
-    subst (λ (h : Held). IsReady n c.args.id given h (steps_of c.push-2.new.self.items)) (sym held_is)
-    (subst (λ (steps : List ProofStep). IsReady n c.args.id given (with_clause held c.args.id c.args.lits.items) steps) (sym (steps_push c.args.log.now.items c.push-2.new.self.items (Add c.args.id c.args.lits c.args.hints) c.in_ok-push-2.ensures.items))
-    (ready_at n last c.args.id given held log is ready c.args.lits.items c.args.hints.items own fits))
-
 pub returns-clause-ids : goal.returns-clause-ids
 returns-clause-ids c =
     λ some above.
     subst (λ (es : List (ℕ × Vec Literal)). All (λ e. (0 < e.0) × (e.0 ≤ c.args.id)) es) (sym c.in_ok-push.ensures.items)
     (ids_push c.args.clauses.now.items c.args.id c.extend_from_slice.new.self some above c.requires.next)
 
+pub unwrap-requires : goal.unwrap-requires
+unwrap-requires c = c.push-2.ensures.succeeds (omega (arith, c.in_ok-reserve.ensures.ok))
+
 pub returns-clause-log : goal.returns-clause-log
-returns-clause-log c = steps_push c.args.log.now.items c.push-2.new.self.items (Add c.args.id c.args.lits c.args.hints) c.in_ok-push-2.ensures.items
+returns-clause-log c =
+    let pushed : c.push-2.new.self.items ≡ c.reserve.new.self.items ++ Add c.args.id c.args.lits c.args.hints ∷ [] = c.push-2.ensures.items ∙ ap (λ r. if is_ok r then c.reserve.new.self.items ++ Add c.args.id c.args.lits c.args.hints ∷ [] else c.reserve.new.self.items) c.unwrap.ensures in
+    steps_push c.args.log.now.items c.push-2.new.self.items (Add c.args.id c.args.lits c.args.hints) (pushed ∙ ap (λ (ls : List Step). ls ++ Add c.args.id c.args.lits c.args.hints ∷ []) c.reserve.ensures.items)
 
 pub returns-clause-range : goal.returns-clause-range
 returns-clause-range c =
