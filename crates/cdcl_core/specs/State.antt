@@ -1,5 +1,6 @@
 -- What the fields of a solver show.
 use Rattle.std.specs.Prelude.{◌≡◌, ◌<◌, ◌≤◌, ◌^◌, true, false, length, All, AllPairs}
+use Rattle.lrat_model.specs.Clauses.{IsUnsatisfiable}
 use Rattle.lrat_model.specs.Entries.{held_of}
 use Rattle.cdcl_core.specs.declared.solver.Solver.TheInside.{Inside}
 use Rattle.cdcl_core.specs.Log.{steps_of, HasNoEmptyLemma, EndsEmpty}
@@ -17,12 +18,13 @@ shown s = record {
   is_broken = s.is_broken;
 }
 
--- what is true of each solver: the clauses stand under rising ids, each variable has a value, and the log has the empty lemma where it refutes
+-- what is true of each solver: the clauses stand under rising ids, each variable has a value, and the log has the empty lemma where they are refuted
 pub record IsSound (s : Inside) : Type 0 where
   pub few : s.vars < 2 ^ 31
   pub rise : AllPairs (λ e f. e.0 < f.0) s.clauses.items
   pub ids : All (λ e. (0 < e.0) × (e.0 ≤ s.last)) s.clauses.items
   pub range : InRange s.vars (held_of s.clauses.items)
   pub valued : length s.values.items ≡ s.vars
+  pub refuting : s.is_refuted ≡ true → IsUnsatisfiable (held_of s.clauses.items)
   pub refuted : s.is_refuted ≡ true → EndsEmpty (steps_of s.log.items)
   pub unrefuted : s.is_refuted ≡ false → HasNoEmptyLemma (steps_of s.log.items)

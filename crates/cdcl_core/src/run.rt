@@ -1,6 +1,6 @@
 //! The search: to an assignment, the empty lemma, or the end of a budget.
 ghost use Rattle.std.specs.Prelude.{◌≡◌, ◌≢◌, ℕ, ◌^◌, ◌<◌, ◌≤◌, ◌+◌, ◌-◌, ◌++◌, [], Ok, List, IsErr, OnOk, ◌==◌, All, AllPairs, length};
-ghost use Rattle.lrat_model.specs.Clauses.{Satisfies};
+ghost use Rattle.lrat_model.specs.Clauses.{IsUnsatisfiable, Satisfies};
 ghost use Rattle.lrat_model.specs.Entries.{held_of};
 ghost use Rattle.lrat_model.specs.Lemmas.{IsDue};
 ghost use Rattle.lrat_model.specs.Propagation.{Closes};
@@ -51,6 +51,7 @@ pub fn run(
     ensures sat { result ≡ Ok Verdict.Sat → Satisfies (value_of values.new.items) (held_of clauses.new.items) }
     ensures valued { length values.old.items ≡ vars → length values.new.items ≡ vars }
     ensures unsat { result ≡ Ok Verdict.Unsat → EndsEmpty (steps_of log.new.items) }
+    ensures refutes { result ≡ Ok Verdict.Unsat → IsUnsatisfiable (held_of clauses.old.items) }
     ensures spent { result ≡ Ok Verdict.Spent → (left.new ≡ 0) × (Closes (held_of clauses.new.items) → ⊥) × IsDue (held_of clauses.new.items) }
     ensures open { result ≢ Ok Verdict.Unsat → HasNoEmptyLemma (steps_of log.new.items) }
 {

@@ -1,7 +1,7 @@
 //! The solver.
-ghost use Rattle.std.specs.Prelude.{◌≡◌, ◌≢◌, ℕ, ◌+◌, ◌<◌, ◌≤◌, ◌^◌, ◌++◌, [], ◌∷◌, true, false, Ok, Some, IsErr, IfOk, OnOk, OnErr, List, All, AllPairs};
+ghost use Rattle.std.specs.Prelude.{◌≡◌, ◌≢◌, ℕ, ◌+◌, ◌<◌, ◌≤◌, ◌^◌, ◌++◌, [], ◌∷◌, true, false, Ok, Some, IsErr, is_err, Bool, IfOk, OnOk, OnErr, List, All, AllPairs};
 ghost use Rattle.lrat_model.specs.Literal.{Literal, variable_of};
-ghost use Rattle.lrat_model.specs.Clauses.{clause_at, with_clause, Satisfies};
+ghost use Rattle.lrat_model.specs.Clauses.{clause_at, with_clause, IsUnsatisfiable, Satisfies};
 ghost use Rattle.lrat_model.specs.Entries.{held_of};
 ghost use Rattle.lrat_model.specs.Lemmas.{IsDue};
 ghost use Rattle.lrat_model.specs.Propagation.{Closes};
@@ -51,6 +51,7 @@ impl Solver {
         ensures vars { IfOk result (λ solver. solver.vars ≡ vars) }
         ensures database { IfOk result (λ solver. solver.database ≡ store.now) }
         ensures log { IfOk result (λ solver. solver.log ≡ []) }
+        ensures whole { IfOk result (λ solver. solver.is_broken ≡ false) }
     {
         let clauses = copy_of_store(alloc, store)?;
         let values = vec![in alloc; false; vars as usize]?;
@@ -77,7 +78,7 @@ impl Solver {
         ensures log { self.new.log ≡ self.old.log }
         ensures vars { self.new.vars ≡ self.old.vars }
         ensures values { self.new.values ≡ self.old.values }
-        ensures breaks { OnErr result (self.new.is_broken ≡ true) }
+        ensures breaks { self.new.is_broken ≡ is_err result }
         ensures broken { self.old.is_broken ≡ true → IsErr result }
     {
         if self.is_broken {
@@ -113,14 +114,16 @@ impl Solver {
         ensures room_of_unsat { self.new.database.last + budget.new ≤ self.old.database.last + budget.old + 1 }
         ensures sat { result ≡ Ok Verdict.Sat → Satisfies (assignment self.new) self.new.database.held }
         ensures unsat { result ≡ Ok Verdict.Unsat → EndsEmpty self.new.log }
+        ensures refutes { result ≡ Ok Verdict.Unsat → IsUnsatisfiable self.old.database.held }
         ensures open { IfOk result (λ verdict. verdict ≢ Verdict.Unsat → HasNoEmptyLemma self.new.log) }
         ensures still_open { OnErr result (HasNoEmptyLemma self.old.log → HasNoEmptyLemma self.new.log) }
         ensures spent { result ≡ Ok Verdict.Spent → budget.new ≡ 0 }
         ensures unclosed { result ≡ Ok Verdict.Spent → Closes self.new.database.held → ⊥ }
         ensures due { result ≡ Ok Verdict.Spent → IsDue self.new.database.held }
+        ensures implied { (v : ℕ → Bool) → Satisfies v self.old.database.held → Satisfies v self.new.database.held }
         ensures kept { (id : ℕ) (clause : List Literal) → clause_at self.old.database.held id ≡ Some clause → clause_at self.new.database.held id ≡ Some clause }
         ensures vars { self.new.vars ≡ self.old.vars }
-        ensures breaks { OnErr result (self.new.is_broken ≡ true) }
+        ensures breaks { self.new.is_broken ≡ is_err result }
         ensures broken { self.old.is_broken ≡ true → IsErr result }
     {
         if self.is_broken {

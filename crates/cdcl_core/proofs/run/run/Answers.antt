@@ -13,6 +13,7 @@ use Rattle.cdcl_core.proofs.Quiet.{id_found}
 use Rattle.cdcl_core.proofs.Sats.{fixpoint_satisfies}
 use Rattle.cdcl_core.proofs.Pushes.{no_empty-push, refuted_where_empty}
 use Rattle.cdcl_core.proofs.LearntLemmas.{learnt_clause_consistent}
+use Rattle.cdcl_core.proofs.Logs.{run_satisfies, follows_nothing}
 use Rattle.cdcl_core.proofs.Searches.{searched_more}
 use Rattle.cdcl_core.proofs.run.run.Goals as goal
 
@@ -67,6 +68,20 @@ returns-then-is_empty-clause-unsat c =
       refuted_where_empty lits.items none,
       c.lemmas.invariant.4,
     )
+
+pub returns-then-is_empty-clause-refutes : goal.returns-then-is_empty-clause-refutes
+returns-then-is_empty-clause-refutes c =
+    λ _ v satisfies.
+    let held = held_of c.lemmas.clauses.items in
+    let trues = c.settle.new.trail.items in
+    let reasons = c.settle.new.reasons.items in
+    let lits = c.in_ok-lits-in-Conflict.field-0.lits in
+    let hints = c.in_ok-lits-in-Conflict.field-0.hints in
+    let learnt : IsLearntClause held trues reasons lits.items hints.items c.in_ok-lits-in-Conflict.field-0.jump = rw (c.deref-in-Conflict.ensures.value, c.deref-in-Conflict-2.ensures.value, c.deref-in-Conflict-3.ensures.value) at c.in_ok-lits-in-Conflict.ensures in
+    let none : (length lits.items == 0) ≡ true = sym (rw c.deref-in-Conflict-4.ensures.value at c.is_empty.ensures) ∙ c.if-is_empty.true in
+    let searched = c.lemmas.invariant.8 in
+    follows_nothing held lits.items hints.items none learnt.follows v
+    (run_satisfies c.args.vars (database_of c.args.clauses.now.items c.args.last.now) (database_of c.lemmas.clauses.items c.lemmas.last) searched.0 searched.1.run v satisfies)
 
 pub returns-then-left-eq0-clause-spent : goal.returns-then-left-eq0-clause-spent
 returns-then-left-eq0-clause-spent c =

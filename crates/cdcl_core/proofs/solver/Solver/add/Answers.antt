@@ -1,11 +1,12 @@
 use Rattle.std.proofs.Common.{◌≡◌, ◌<◌, ◌≤◌, ◌+◌, ℕ, sym, subst, List, arith, ap}
 use Rattle.std.specs.Prelude.{All}
-use Rattle.lrat_model.specs.Clauses.{Held}
+use Rattle.lrat_model.specs.Clauses.{Held, with_clause, IsUnsatisfiable}
 use Rattle.lrat_model.specs.Literal.{variable_of}
 use Rattle.lrat_model.specs.Entries.{held_of}
 use Rattle.cdcl_core.specs.Solving.{Solving}
 use Rattle.cdcl_core.specs.Trail.{InRange}
 use Rattle.cdcl_core.proofs.Stores.{clause_in_range}
+use Rattle.cdcl_core.proofs.Logs.{clause_at-more, unsatisfiable_more}
 use Rattle.cdcl_core.proofs.Pushes.{in_range_after}
 use Rattle.cdcl_core.proofs.solver.Solver.add.Goals as goal
 
@@ -23,6 +24,8 @@ invariant_of-self c =
       ids = c.in-Ok.ensures.ids (λ i d inside. (inv.ids i d inside).0) below (omega arith);
       range = subst (λ (h : Held). InRange s.vars h) (sym c.in-Ok.ensures.held) (in_range_after s.vars (held_of s.clauses.items) id lits inv.range (clause_in_range s.vars lits range c.in-Ok.ensures.positive));
       valued = inv.valued;
+      refuting = λ is. subst (λ (h : Held). IsUnsatisfiable h) (sym c.in-Ok.ensures.held)
+          (unsatisfiable_more (held_of s.clauses.items) (with_clause (held_of s.clauses.items) id lits) (clause_at-more (held_of s.clauses.items) id lits) (inv.refuting is));
       refuted = inv.refuted;
       unrefuted = inv.unrefuted;
     }

@@ -15,6 +15,7 @@ invariant_of-result c =
       ids = rw c.last.ensures.value c.in_ok-clauses.ensures.ids;
       range = subst (λ (h : Held). InRange c.args.vars h) (sym c.in_ok-clauses.ensures.held) (held_in_range c.args.vars held c.requires.range c.in_ok-clauses.ensures.positive);
       valued = omega (arith, c.in_ok-values.ensures.len, c.in_ok-values.values.ok.0);
+      refuting = λ is. cc;
       refuted = λ is. cc;
       unrefuted = λ _. subst (λ (ls : List Step). HasNoEmptyLemma (steps_of ls)) (sym c.new.ensures.items) (λ k d inside. absurd (omega arith));
     }
