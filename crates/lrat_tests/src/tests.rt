@@ -1,3 +1,6 @@
+ghost use Rattle.std.specs.Prelude.{◌≡◌, true, ◌≤◌, ◌<◌, ◌^◌, IfOk};
+ghost use Rattle.lrat_checker.specs.Ranges.{AreInRange, IsInRange};
+
 use cdcl_core::{Budget, Solver, Verdict};
 use clause_store::Store;
 use lrat_checker::Checker;
@@ -51,20 +54,34 @@ fn lits(alloc: Global, numbers: &[i32]) -> Result<Vec<Lit>, AllocError> {
     Ok(lits)
 }
 
-fn store(alloc: Global, clauses: &[&[i32]], vars: u64) -> Result<Store, AllocError> {
+fn are_in_range(lits: &[Lit], vars: u64) -> bool
+    ensures { result ≡ true → IsInRange vars lits.now }
+{
+    lits.iter().all(|l| l.variable() as u64 <= vars)
+}
+
+// The clauses, under the ids from 1 on.
+fn store(alloc: Global, clauses: &[&[i32]], vars: u64) -> Result<Store, AllocError>
+    ensures range { IfOk result (λ store. AreInRange vars store.held) }
+    ensures few { IfOk result (λ store. store.last ≤ 100) }
+{
     let mut store = Store::new(alloc);
     for numbers in clauses {
         let clause = lits(alloc, numbers)?;
         let last = store.last();
-        if last < 100 && clause.iter().all(|l| l.variable() as u64 <= vars) {
-            store.push(last + 1, &clause)?;
+        if last >= 100 || !are_in_range(&clause, vars) {
+            continue;
         }
+        store.push(last + 1, &clause)?;
     }
     Ok(store)
 }
 
 // Whether the checker takes each step of the log, and the empty lemma last.
-fn is_refutation(alloc: Global, store: Store, vars: u64, solver: &Solver) -> Result<bool, Fail> {
+fn is_refutation(alloc: Global, store: Store, vars: u64, solver: &Solver) -> Result<bool, Fail>
+    requires small { vars < 2 ^ 31 }
+    requires range { AreInRange vars store.held }
+{
     let mut checker = Checker::start(alloc, store, vars)?;
     let mut progress = Progress::Going;
     for step in solver.log() {
@@ -100,6 +117,26 @@ fn empty_clauses_are_refuted_at_no_cost(rt: HostRuntime) -> Result<(), Fail> {
     let text = format!(in alloc; "{:?}", solver.log())?;
     assert_eq!(rt; text.as_str(), "[Add { id: 3, lits: [], hints: [1] }]");
     assert!(rt; is_refutation(alloc, store, 0, &solver)?);
+    Ok(())
+}
+
+// A clause that is given later is held from then on, after a refutation too.
+#[test]
+fn clauses_added_until_none_satisfies(rt: HostRuntime) -> Result<(), Fail> {
+    let alloc = rt.alloc();
+    let store = store(alloc, &[&[1, 2]], 2)?;
+    let mut solver = Solver::start(alloc, &store, 2)?;
+    let mut budget = Budget::of(100);
+    assert_eq!(rt; solver.add(&[Lit::negative(1)])?, 2);
+    assert_eq!(rt; solver.solve(&mut budget)?, Verdict::Sat);
+    assert_eq!(rt; (solver.model(1), solver.model(2)), (false, true));
+    assert_eq!(rt; solver.add(&[Lit::negative(2)])?, 3);
+    assert_eq!(rt; solver.solve(&mut budget)?, Verdict::Unsat);
+    assert_eq!(rt; budget.left(), 100);
+    assert_eq!(rt; solver.log().len(), 1);
+    assert_eq!(rt; solver.add(&[Lit::positive(1)])?, 5);
+    assert_eq!(rt; solver.solve(&mut budget)?, Verdict::Unsat);
+    assert_eq!(rt; solver.log().len(), 1);
     Ok(())
 }
 
