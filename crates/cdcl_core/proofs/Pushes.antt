@@ -1,5 +1,5 @@
 -- One lemma more: what is held, the log, and its units.
-use Rattle.std.proofs.Common.{length, ◌≡◌, false, get_or, length-append, ℕ, ◌+◌, ◌<◌, ◌≤◌, max, true, false, cond, List, [], ◌∷◌, ◌++◌, ⊎_elim, refl, sym, ap, ◌∙◌, subst, Option, Some, None, arith, map, fold, append_assoc, ℤ}
+use Rattle.std.proofs.Common.{length, ◌≡◌, false, get_or, length-append, ℕ, ◌+◌, ◌<◌, ◌≤◌, true, false, cond, List, [], ◌∷◌, ◌++◌, ⊎_elim, refl, sym, ap, ◌∙◌, subst, arith, ℤ}
 use Rattle.std.specs.Prelude.{All, ◌==◌}
 use Rattle.std.specs.Global.{Vec}
 use Rattle.std.proofs.lemmas.List.{map-append}
@@ -9,7 +9,7 @@ use Rattle.std.proofs.Math.ListN.{get_or-append}
 use Rattle.std.proofs.Math.Seq.{get_or-append_seam}
 use Rattle.std.proofs.lemmas.List.Elements.{All-append, All-cons, All-nil}
 use Rattle.lrat_model.specs.Literal.{Literal, Plus, Minus, negated, has}
-use Rattle.lrat_model.specs.Clauses.{Held, with_clause, clause_at, without}
+use Rattle.lrat_model.specs.Clauses.{Held, with_clause}
 use Rattle.lrat_model.specs.Steps.{ProofStep, Addition, Deletion, step_of, progress_of, progress_at}
 use Rattle.lrat_model.specs.declared.step.Progress.TheVariants.{Going, Refuted}
 use Rattle.lrat_model.proofs.Runs.{clause_at-with_clause}

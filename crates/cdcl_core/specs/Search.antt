@@ -1,7 +1,7 @@
 -- What a conflict teaches, and where the search goes on.
-use Rattle.std.specs.Prelude.{◌≡◌, ℕ, ◌+◌, ◌<◌, ◌≤◌, true, List, [], ℤ, length, take, ◌++◌, slice_index, All, ◌^◌}
+use Rattle.std.specs.Prelude.{◌≡◌, ℕ, ◌+◌, ◌<◌, ◌≤◌, true, List, ℤ, length, take, ◌++◌, slice_index, All, ◌^◌}
 use Rattle.lrat_model.specs.Literal.{Literal, negated, has}
-use Rattle.lrat_model.specs.Clauses.{Held, with_clause, clause_at}
+use Rattle.lrat_model.specs.Clauses.{Held, with_clause}
 use Rattle.lrat_model.specs.Steps.{ProofStep, Database}
 use Rattle.lrat_model.specs.Runs.{Run}
 use Rattle.lrat_model.specs.Entries.{held_of}

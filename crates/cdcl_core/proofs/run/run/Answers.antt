@@ -1,12 +1,11 @@
-use Rattle.std.proofs.Common.{ℕ, ◌≡◌, ◌≤◌, ◌<◌, ◌+◌, ◌-◌, ◌^◌, ◌++◌, ◌∷◌, [], true, false, length, List, sym, ap, ◌∙◌, subst, arith, append_assoc, refl, rules}
+use Rattle.std.proofs.Common.{ℕ, ◌≡◌, ◌≤◌, ◌<◌, ◌+◌, ◌-◌, ◌^◌, ◌∷◌, [], true, false, length, List, sym, ◌∙◌, subst, arith, refl}
 use Rattle.std.specs.Prelude.{All, ◌==◌}
 use Rattle.std.proofs.lemmas.Bool.{true≢false}
 use Rattle.lrat_model.specs.Literal.{Literal}
-use Rattle.lrat_model.specs.Clauses.{Held, with_clause}
-use Rattle.lrat_model.specs.Steps.{ProofStep, Addition, Database}
+use Rattle.lrat_model.specs.Steps.{ProofStep, Addition}
 use Rattle.lrat_model.specs.Entries.{held_of}
 use Rattle.cdcl_core.specs.Scans.{Finds}
-use Rattle.cdcl_core.specs.Search.{IsLearntClause, IsState, Searched, database_of}
+use Rattle.cdcl_core.specs.Search.{IsLearntClause, IsState, database_of}
 use Rattle.cdcl_core.specs.Log.{HasNoEmptyLemma, steps_of}
 use Rattle.cdcl_core.specs.declared.propagation.Scan.TheVariants.{False}
 use Rattle.cdcl_core.proofs.Quiet.{id_found}

@@ -1,13 +1,11 @@
 use Rattle.std.proofs.Common.{ℕ, ◌≡◌, ◌≤◌, ◌<◌, ◌++◌, ◌∷◌, [], List, sym, ap, ◌∙◌, subst, arith}
-use Rattle.lrat_model.specs.Steps.{ProofStep, Addition}
 use Rattle.lrat_model.specs.Entries.{held_of}
-use Rattle.cdcl_core.specs.Log.{steps_of}
 use Rattle.cdcl_core.proofs.States.{state_back}
 use Rattle.lrat_model.specs.declared.step.Step.{Step}
 use Rattle.lrat_model.specs.declared.step.Step.TheVariants.{Add}
 use Rattle.cdcl_core.proofs.Pushes.{steps_push, in_range_after, held_push, negates_in_range, ids_push}
 use Rattle.cdcl_core.specs.Trail.{InRange}
-use Rattle.lrat_model.specs.Clauses.{Held, with_clause}
+use Rattle.lrat_model.specs.Clauses.{Held}
 use Rattle.lrat_model.specs.Literal.{Literal}
 use Rattle.std.specs.Global.{Vec}
 use Rattle.std.specs.Prelude.{All, is_ok, if◌then◌else◌}

@@ -1,4 +1,4 @@
-use Rattle.std.proofs.Common.{◌≡◌, ◌<◌, ◌≤◌, ◌+◌, ℕ, sym, subst, List, arith, ap}
+use Rattle.std.proofs.Common.{◌<◌, ◌≤◌, ◌+◌, sym, subst, arith}
 use Rattle.std.specs.Prelude.{All}
 use Rattle.lrat_model.specs.Clauses.{Held, with_clause, IsUnsatisfiable}
 use Rattle.lrat_model.specs.Literal.{variable_of}

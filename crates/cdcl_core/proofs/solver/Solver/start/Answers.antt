@@ -1,4 +1,4 @@
-use Rattle.std.proofs.Common.{◌≡◌, sym, subst, List, arith}
+use Rattle.std.proofs.Common.{sym, subst, List, arith}
 use Rattle.lrat_model.specs.Clauses.{Held}
 use Rattle.lrat_model.specs.declared.step.Step.{Step}
 use Rattle.cdcl_core.specs.Log.{HasNoEmptyLemma, steps_of}
