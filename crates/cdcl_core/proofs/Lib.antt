@@ -15,3 +15,6 @@ pub mod States
 pub mod Readies
 pub mod Values
 pub mod Exits
+pub mod MarkLaws
+pub mod Bare
+pub mod WalkSteps

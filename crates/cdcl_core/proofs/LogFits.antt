@@ -17,10 +17,7 @@ use Rattle.cdcl_core.specs.Search.{IsLearntClause, Stands, OnVariables}
 use Rattle.cdcl_core.specs.Log.{held_after, given_below, last_id, LogFits}
 use Rattle.cdcl_core.proofs.Logs.{LogFits-push}
 use Rattle.cdcl_core.proofs.Jumps.{not_so}
-
-variable_of-negated : (l : Literal) → variable_of (negated l) ≡ variable_of l
-variable_of-negated (Plus x) = refl
-variable_of-negated (Minus x) = refl
+use Rattle.cdcl_core.proofs.Walks.{variable_of-negated}
 
 -- literals in range, none with its negation, have no fault
 pub literal_fault-none : (n : ℕ) (before lits : List Literal) → ((m : Literal) → has lits m ≡ true → variable_of m ≤ n)

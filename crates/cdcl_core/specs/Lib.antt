@@ -4,3 +4,4 @@ pub mod Scans
 pub mod Log
 pub mod Search
 pub mod Values
+pub mod Marks

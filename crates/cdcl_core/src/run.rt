@@ -61,7 +61,7 @@ pub fn run(
             }
             Settled::Conflict(conflict) => {
                 let LearntClause { lits, hints, jump } = analyse(
-                    alloc, clauses, &trail, &reasons, conflict,
+                    alloc, clauses, &trail, &reasons, vars, conflict,
                 )?;
                 if is_empty(&lits) {
                     learn(

@@ -33,10 +33,8 @@ returns-in-Full-clause-sat c =
 pub analyse-requires-clause-small : goal.analyse-requires-clause-small
 analyse-requires-clause-small c =
     let finds : Finds (held_of c.lemmas.clauses.items) c.settle.new.trail.items (False c.in-Conflict.conflict) = rw c.deref.ensures.value at c.in_ok-settle.ensures.conflict c.in-Conflict.conflict (cc c.in-Conflict.is) in
-    let ids = id_found (λ k. (0 < k) × (k ≤ c.lemmas.last)) c.lemmas.clauses.items c.lemmas.invariant.2 c.in-Conflict.conflict finds.0 finds.1 in (
-      omega (arith, ids.1, c.lemmas.invariant.0),
-      subst (λ (rs : List ℕ). All (λ r. r < 2 ^ 63) rs) (sym c.deref-in-Conflict-3.ensures.value) c.in_ok-settle.ensures.state.small,
-    )
+    let ids = id_found (λ k. (0 < k) × (k ≤ c.lemmas.last)) c.lemmas.clauses.items c.lemmas.invariant.2 c.in-Conflict.conflict finds.0 finds.1 in
+    omega (arith, ids.1, c.lemmas.invariant.0)
 
 pub returns-then-is_empty-clause-ready : goal.returns-then-is_empty-clause-ready
 returns-then-is_empty-clause-ready c =
