@@ -1,7 +1,8 @@
 -- What holds of each entry holds of each clause that is found.
-use Rattle.std.proofs.Common.{refl, ◌≡◌, ℕ, ◌<◌, true, false, cond, List, [], ◌∷◌, sym, ap, ◌∙◌, subst, Some, arith, length, get_or}
+use Rattle.std.proofs.Common.{refl, ◌≡◌, ℕ, ◌<◌, true, false, cond, List, [], ◌∷◌, sym, ap, ◌∙◌, subst, Some, None, ⊎_elim, ◌≤◌, ◌≢◌, Option, arith, length, get_or}
 use Rattle.std.specs.Prelude.{◌==◌, All, AllPairs, suc, zero}
-use Rattle.std.proofs.lemmas.Bool.{eqb-true, eq-eqb, ne_eqb}
+use Rattle.std.specs.List.Sorted.{IsNonDecreasingBy}
+use Rattle.std.proofs.lemmas.Bool.{eqb-true, eq-eqb, ne_eqb, cases_eq}
 use Rattle.std.specs.Global.{Vec}
 use Rattle.std.proofs.lemmas.List.Elements.{All-head, All-tail}
 use Rattle.lrat_model.specs.Literal.{Literal}
@@ -40,3 +41,15 @@ clause_at-entry (f ∷ clauses) (suc i) e rise within is =
     let other_id : (f.0 == e.0) ≡ false = ne_eqb f.0 e.0 (λ same_id. absurd (omega arith)) in
     ap (λ b. cond b (Some f.1.items) (clause_at (held_of clauses) e.0)) other_id
     ∙ clause_at-entry clauses i e (λ a b d less inside. rise (suc a) (suc b) d (omega arith) (omega arith)) (omega arith) is
+
+pub ids_do_not_fall : (entries : List (ℕ × Vec Literal)) → Rise entries → IsNonDecreasingBy (λ e. e.0) entries
+ids_do_not_fall entries up = λ i j d le within.
+    ⊎_elim (λ same. (let is : (get_or entries i d).0 ≡ (get_or entries j d).0 = ap (λ k. (get_or entries k d).0) same in omega (arith, is)))
+    (λ differ. (let lt : i < j = omega arith in let rises : (get_or entries i d).0 < (get_or entries j d).0 = up i j d lt within in omega (arith, rises))) (cases_eq i j)
+
+-- an id that no entry has
+pub clause_at-none : (entries : List (ℕ × Vec Literal)) (id : ℕ) → All (λ e. e.0 ≢ id) entries → clause_at (held_of entries) id ≡ None
+clause_at-none [] id none = refl
+clause_at-none (e ∷ entries) id none =
+    let differs : (e.0 == id) ≡ false = ne_eqb e.0 id (All-head (λ (x : ℕ × Vec Literal). x.0 ≢ id) e entries none) in
+    ap (λ b. cond b (Some e.1.items) (clause_at (held_of entries) id)) differs ∙ clause_at-none entries id (All-tail (λ (x : ℕ × Vec Literal). x.0 ≢ id) e entries none)

@@ -34,6 +34,7 @@ pub fn analyse(
     conflict: u64,
 ) -> Result<LearntClause, AllocError>
     requires few { vars < 2 ^ 31 }
+    requires rise { AllPairs (λ e f. e.0 < f.0) clauses.now }
     requires range { InRange vars (held_of clauses.now) }
     requires state { IsState vars (held_of clauses.now) trail.now reasons.now }
     requires conflict { Finds (held_of clauses.now) trail.now (Scan.False conflict) }
@@ -44,9 +45,7 @@ pub fn analyse(
     let first = next_decision(reasons, 0);
     let last = last_decision(reasons);
     let mut marks = no_marks(alloc, vars)?;
-    let clause = literals_of(clauses, conflict);
-    mark(clause, &mut marks);
-    let mut lowest = lowest_place(clause, &places, last, trail.len());
+    let mut lowest = visit(clauses, conflict, &places, last, trail.len(), &mut marks);
     let mut lits = Vec::new(alloc);
     let mut hints = Vec::new(alloc);
     hints.push(conflict as i64)?;
@@ -70,9 +69,7 @@ pub fn analyse(
         }
         let reason = reasons[place];
         hints.push(reason as i64)?;
-        let clause = literals_of(clauses, reason);
-        mark(clause, &mut marks);
-        lowest = lowest_place(clause, &places, last, lowest);
+        lowest = visit(clauses, reason, &places, last, lowest, &mut marks);
     }
     lits.reverse();
     hints.reverse();
@@ -137,8 +134,30 @@ fn last_decision(reasons: &[u64]) -> usize
     reasons.len()
 }
 
+/// Marks the variables of the clause under an id, and gives the least of a bound and their places from the
+/// floor on.
+fn visit(
+    clauses: &[(u64, Vec<Lit>)],
+    id: u64,
+    places: &[usize],
+    floor: usize,
+    bound: usize,
+    marks: &mut [bool],
+) -> usize
+    requires rise { AllPairs (λ e f. e.0 < f.0) clauses.now }
+    requires held { (clause : List Literal) × (clause_at (held_of clauses.now) id ≡ Some clause) }
+    requires range { (clause : List Literal) (l : Literal) → clause_at (held_of clauses.now) id ≡ Some clause → has clause l ≡ true → (variable_of l < length marks.old) × (variable_of l < length places.now) }
+    ensures marks { (clause : List Literal) → clause_at (held_of clauses.now) id ≡ Some clause → Marks marks.old clause marks.new }
+    ensures lowest { (clause : List Literal) → clause_at (held_of clauses.now) id ≡ Some clause → IsLowest places.now floor bound clause result }
+{
+    let clause = literals_of(clauses, id);
+    mark(clause, marks);
+    lowest_place(clause, places, floor, bound)
+}
+
 /// The literals of the clause under an id.
 fn literals_of(clauses: &[(u64, Vec<Lit>)], id: u64) -> &[Lit]
+    requires { AllPairs (λ e f. e.0 < f.0) clauses.now }
     ensures { (clause : List Literal) → clause_at (held_of clauses.now) id ≡ Some clause → result.now ≡ clause }
 {
     match find(clauses, id) {

@@ -24,16 +24,13 @@ loop-place-init c =
     let finds = c.requires.conflict in
     let clause = finds.0 in
     let marks = c.in_ok-marks.marks in
-    let clause_is = c.literals_of-clause.ensures clause finds.1 in
-    let begun : Marks marks.items clause c.mark.new.marks = subst (λ ls. Marks marks.items ls c.mark.new.marks) clause_is (subst (λ ms. Marks ms c.literals_of-clause.result.now c.mark.new.marks) c.deref_mut.ensures.value c.mark.ensures) in
-    let low : IsLowest c.in_ok-places.places.items last.result (length trail) clause c.lowest_place-lowest.result =
-    subst (λ ls. IsLowest c.in_ok-places.places.items last.result (length trail) ls c.lowest_place-lowest.result) clause_is
-    (subst (λ ps. IsLowest ps last.result (length trail) c.literals_of-clause.result.now c.lowest_place-lowest.result) c.deref.ensures.value c.lowest_place-lowest.ensures) in
+    let begun : Marks marks.items clause c.visit-lowest.new.marks = subst (λ ms. Marks ms clause c.visit-lowest.new.marks) c.deref_mut.ensures.value (c.visit-lowest.ensures.marks clause finds.1) in
+    let low : IsLowest c.in_ok-places.places.items last.result (length trail) clause c.visit-lowest.result = subst (λ ps. IsLowest ps last.result (length trail) clause c.visit-lowest.result) c.deref.ensures.value (c.visit-lowest.ensures.lowest clause finds.1) in
     let hints_are = c.in_ok-push.ensures.items ∙ ap (λ hs. hs ++ to_z w64 c.args.conflict ∷ []) c.new-hints.ensures.items ∙ ap (λ z. z ∷ []) (to_z_pos w64 c.args.conflict c.requires.small) in (
       [],
       clause,
-      rw (written_back marks.len c.mark.new.marks marks.items (begun.long ∙ sym marks.ok.0), c.new-lits.ensures.items)
-          (walk_begins held trail reasons state.trail state.closed (c.args.vars + 1) c.args.conflict last.result (λ less. last.ensures.decision (omega (arith, less, state.trail.long))) (omega (arith, last.ensures.bound, state.trail.long)) marks.items c.mark.new.marks c.lowest_place-lowest.result c.in_ok-places.places.items clause c.push.new.self.items
+      rw (written_back marks.len c.visit-lowest.new.marks marks.items (begun.long ∙ sym marks.ok.0), c.new-lits.ensures.items)
+          (walk_begins held trail reasons state.trail state.closed (c.args.vars + 1) c.args.conflict last.result (λ less. last.ensures.decision (omega (arith, less, state.trail.long))) (omega (arith, last.ensures.bound, state.trail.long)) marks.items c.visit-lowest.new.marks c.visit-lowest.result c.in_ok-places.places.items clause c.push.new.self.items
           finds.1 finds.2 c.in_ok-marks.ensures.length c.in_ok-marks.ensures.none begun c.in_ok-places.ensures.1 low hints_are),
     )
 
@@ -90,8 +87,8 @@ loop-place-preserved-then-is_between c =
           l.place l.lowest l.above l.marks.items l.lits.items l.hints.items w.0 w.1 w.2 (omega arith) t c.index-trail-place.is (omega (arith, inside, state.trail.long)) (omega (arith, between)) c.above_with-above.result (rw c.deref-then-is_between.ensures.value at c.above_with-above.ensures)),
     )
 
-pub mark-requires-in-loop-place : goal.mark-requires-in-loop-place
-mark-requires-in-loop-place c =
+pub visit-lowest-requires-in-loop-place-clause-held : goal.visit-lowest-requires-in-loop-place-clause-held
+visit-lowest-requires-in-loop-place-clause-held c =
     let held = held_of c.args.clauses.now in
     let trail = c.args.trail.now in
     let reasons = c.args.reasons.now in
@@ -103,28 +100,13 @@ mark-requires-in-loop-place c =
     let marked = marked_from l.marks.items c.variable.result t c.index.result.now c.variable.ensures.value c.index.ensures c.if-not-index.false (omega (arith, w.2.long, (state.range t (has-at trail (l.place - 1) t (omega (arith, w.2.within)) c.index-trail-place.is)).1)) in
     let cause = cause_of held trail reasons state.trail state.closed (c.args.vars + 1) c.args.conflict last.result (λ less. last.ensures.decision (omega (arith, less, state.trail.long))) (omega (arith, last.ensures.bound, state.trail.long))
     l.place l.lowest l.above l.marks.items l.lits.items l.hints.items w.0 w.1 w.2 (omega arith) t c.index-trail-place.is c.next_decision-first.result c.next_decision-first.ensures.none last.ensures.none marked c.if-place-lowest.false c.if-is_between.ensures in
-    let cause_is = c.literals_of-clause-in-loop-place.ensures cause.0 cause.1 in
-    λ m h.
-    let in_range = c.requires.range (slice_index reasons (l.place - 1)) cause.0 cause.1 m (subst (λ ls. has ls m ≡ true) cause_is h) in
-    omega (arith, in_range.1, w.2.long, ap length c.deref_mut-in-loop-place.ensures.value)
+    (cause.0, cause.1)
 
-pub lowest_place-lowest-requires-in-loop-place : goal.lowest_place-lowest-requires-in-loop-place
-lowest_place-lowest-requires-in-loop-place c =
-    let held = held_of c.args.clauses.now in
-    let trail = c.args.trail.now in
-    let reasons = c.args.reasons.now in
-    let state = c.requires.state in
-    let last = c.last_decision-last in
-    let t = c.index-trail-place.result in
-    let l = c.loop-place in
-    let w = l.invariant in
-    let marked = marked_from l.marks.items c.variable.result t c.index.result.now c.variable.ensures.value c.index.ensures c.if-not-index.false (omega (arith, w.2.long, (state.range t (has-at trail (l.place - 1) t (omega (arith, w.2.within)) c.index-trail-place.is)).1)) in
-    let cause = cause_of held trail reasons state.trail state.closed (c.args.vars + 1) c.args.conflict last.result (λ less. last.ensures.decision (omega (arith, less, state.trail.long))) (omega (arith, last.ensures.bound, state.trail.long))
-    l.place l.lowest l.above l.marks.items l.lits.items l.hints.items w.0 w.1 w.2 (omega arith) t c.index-trail-place.is c.next_decision-first.result c.next_decision-first.ensures.none last.ensures.none marked c.if-place-lowest.false c.if-is_between.ensures in
-    let cause_is = c.literals_of-clause-in-loop-place.ensures cause.0 cause.1 in
-    λ m h.
-    let in_range = c.requires.range (slice_index reasons (l.place - 1)) cause.0 cause.1 m (subst (λ ls. has ls m ≡ true) cause_is h) in
-    omega (arith, in_range.1, c.in_ok-places.ensures.0, ap length c.deref-in-loop-place.ensures.value)
+pub visit-lowest-requires-in-loop-place-clause-range : goal.visit-lowest-requires-in-loop-place-clause-range
+visit-lowest-requires-in-loop-place-clause-range c =
+    λ clause m at h.
+    let in_range = c.requires.range (slice_index c.args.reasons.now (c.loop-place.place - 1)) clause at m h in
+    (omega (arith, in_range.1, c.loop-place.invariant.2.long, ap length c.deref_mut-in-loop-place.ensures.value), omega (arith, in_range.1, c.in_ok-places.ensures.0, ap length c.deref-in-loop-place.ensures.value))
 
 pub loop-place-preserved : goal.loop-place-preserved
 loop-place-preserved c =
@@ -139,15 +121,12 @@ loop-place-preserved c =
     let marked = marked_from l.marks.items c.variable.result t c.index.result.now c.variable.ensures.value c.index.ensures c.if-not-index.false (omega (arith, w.2.long, (state.range t (has-at trail (l.place - 1) t (omega (arith, w.2.within)) c.index-trail-place.is)).1)) in
     let cause = cause_of held trail reasons state.trail state.closed (c.args.vars + 1) c.args.conflict last.result (λ less. last.ensures.decision (omega (arith, less, state.trail.long))) (omega (arith, last.ensures.bound, state.trail.long))
     l.place l.lowest l.above l.marks.items l.lits.items l.hints.items w.0 w.1 w.2 (omega arith) t c.index-trail-place.is c.next_decision-first.result c.next_decision-first.ensures.none last.ensures.none marked c.if-place-lowest.false c.if-is_between.ensures in
-    let cause_is = c.literals_of-clause-in-loop-place.ensures cause.0 cause.1 in
     let reason = slice_index reasons (l.place - 1) in
-    let now = c.mark-in-loop-place.new.marks in
-    let lowest = c.lowest_place-lowest-in-loop-place.result in
+    let now = c.visit-lowest-in-loop-place.new.marks in
+    let lowest = c.visit-lowest-in-loop-place.result in
     let places = c.in_ok-places.places.items in
-    let more : Marks l.marks.items cause.0 now = subst (λ ls. Marks l.marks.items ls now) cause_is (subst (λ ms. Marks ms c.literals_of-clause-in-loop-place.result.now now) c.deref_mut-in-loop-place.ensures.value c.mark-in-loop-place.ensures) in
-    let low : IsLowest places last.result l.lowest cause.0 lowest =
-    subst (λ ls. IsLowest places last.result l.lowest ls lowest) cause_is
-    (subst (λ ps. IsLowest ps last.result l.lowest c.literals_of-clause-in-loop-place.result.now lowest) c.deref-in-loop-place.ensures.value c.lowest_place-lowest-in-loop-place.ensures) in
+    let more : Marks l.marks.items cause.0 now = subst (λ ms. Marks ms cause.0 now) c.deref_mut-in-loop-place.ensures.value (c.visit-lowest-in-loop-place.ensures.marks cause.0 cause.1) in
+    let low : IsLowest places last.result l.lowest cause.0 lowest = subst (λ ps. IsLowest ps last.result l.lowest cause.0 lowest) c.deref-in-loop-place.ensures.value (c.visit-lowest-in-loop-place.ensures.lowest cause.0 cause.1) in
     let small : reason < 2 ^ 63 = state.small (l.place - 1) 0 (omega (arith, w.2.within, state.trail.long)) in
     let hints_are = c.in_ok-push-4.ensures.items ∙ ap (λ z. l.hints.items ++ z ∷ []) (to_z_pos w64 reason small) in (
       Derive t reason cause.0 ∷ w.0,
