@@ -18,3 +18,4 @@ pub mod Exits
 pub mod MarkLaws
 pub mod Bare
 pub mod WalkSteps
+pub mod Opens

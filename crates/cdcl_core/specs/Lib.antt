@@ -5,3 +5,4 @@ pub mod Log
 pub mod Search
 pub mod Values
 pub mod Marks
+pub mod Order

@@ -12,13 +12,14 @@ use crate::propagation::{Scan, find};
 use lrat_model::Lit;
 use std::alloc::{AllocError, Global};
 
-/// A clause that follows, the hints that show it, in trail order, and the length of the trail to which
-/// the search goes back.
+/// A clause that follows, the hints that show it, in trail order, the length of the trail to which the
+/// search goes back, and the variables that were seen on the way.
 #[derive(Drop)]
 pub struct LearntClause {
     pub lits: Vec<Lit>,
     pub hints: Vec<i64>,
     pub jump: usize,
+    pub seen: Vec<bool>,
 }
 
 /// Learns from a clause that is false: walks back over the trail to the first unique implication point of
@@ -74,11 +75,11 @@ pub fn analyse(
     lits.reverse();
     hints.reverse();
     let jump = next_decision(reasons, above);
-    Ok(LearntClause { lits, hints, jump })
+    Ok(LearntClause { lits, hints, jump, seen: marks })
 }
 
 /// No variable is marked.
-fn no_marks(alloc: Global, vars: u32) -> Result<Vec<bool>, AllocError>
+pub fn no_marks(alloc: Global, vars: u32) -> Result<Vec<bool>, AllocError>
     requires { vars < 2 ^ 31 }
     ensures length { IfOk result (λ v. length v.items ≡ vars + 1) }
     ensures none { IfOk result (λ v. (l : Literal) → is_marked v.items l ≡ false) }
@@ -167,7 +168,7 @@ fn literals_of(clauses: &[(u64, Vec<Lit>)], id: u64) -> &[Lit]
 }
 
 /// Marks the variables of a clause.
-fn mark(clause: &[Lit], marks: &mut [bool])
+pub fn mark(clause: &[Lit], marks: &mut [bool])
     requires { (l : Literal) → has clause.now l ≡ true → variable_of l < length marks.old }
     ensures { Marks marks.old clause.now marks.new }
 {
@@ -203,4 +204,35 @@ fn above_with(kept: &[Lit], above: usize, after: usize) -> usize
     ensures { result ≡ (if length kept.now == 1 then after else above) }
 {
     if kept.len() == 1 { after } else { above }
+}
+
+#[cfg(test)]
+mod tests {
+    use super::*;
+    use std::test::Fail;
+
+    fn lits(alloc: Global, numbers: &[i32]) -> Result<Vec<Lit>, AllocError> {
+        let mut lits = Vec::new(alloc);
+        for number in numbers {
+            if *number != 0 && *number != i32::MIN {
+                lits.push(Lit::of(*number))?;
+            }
+        }
+        Ok(lits)
+    }
+
+    // Two levels below, and one whose decision is not the implication point.
+    #[test]
+    fn first_implication_point(rt: HostRuntime) -> Result<(), Fail> {
+        let alloc = rt.alloc();
+        let given: [&[i32]; 6] = [&[7], &[-1, 2], &[-2, -5, 3], &[-7, -2, -6, 4], &[-3, -4], &[8, -8]];
+        let mut clauses = Vec::new(alloc);
+        for (i, clause) in given.iter().enumerate() {
+            clauses.push((i as u64 + 1, lits(alloc, clause)?))?;
+        }
+        let trail = lits(alloc, &[7, 5, 6, 1, 2, 3, 4])?;
+        let learnt = analyse(alloc, &clauses, &trail, &[1, 0, 0, 0, 2, 3, 4], 8, 5)?;
+        assert_eq!(rt; format!(in alloc; "{:?} {:?} {}", learnt.lits, learnt.hints, learnt.jump)?.as_str(), "[Lit(-5), Lit(-6), Lit(-2)] [1, 3, 4, 5] 3");
+        Ok(())
+    }
 }

@@ -2,11 +2,10 @@
 #![tactic(auto)]
 
 mod analysis;
+mod order;
 mod propagation;
 mod run;
 mod search;
 
-pub use analysis::{LearntClause, analyse};
 pub use lrat_model::{Lit, Step};
 pub use run::Verdict;
-pub use search::{Settled, decide, learn, settle};

@@ -53,7 +53,7 @@ returns-then-is_empty-clause-goes_on c =
     let inv = c.lemmas.invariant in
     let lits = c.in_ok-lits-in-Conflict.field-0.lits in
     let hints = c.in_ok-lits-in-Conflict.field-0.hints in
-    let none : (length lits.items == 0) ≡ true = sym (rw c.deref-in-Conflict-4.ensures.value at c.is_empty.ensures) ∙ c.if-is_empty.true in
+    let none : (length lits.items == 0) ≡ true = sym (rw c.deref-in-Conflict-6.ensures.value at c.is_empty.ensures) ∙ c.if-is_empty.true in
     let step = Addition (c.lemmas.last + 1) lits.items hints.items in
     let count = units-empty inv.8.0 (c.lemmas.last + 1) lits.items hints.items none in (
       inv.7,
@@ -68,7 +68,7 @@ pub returns-then-is_empty-clause-unsat : goal.returns-then-is_empty-clause-unsat
 returns-then-is_empty-clause-unsat c =
     λ _.
     let lits = c.in_ok-lits-in-Conflict.field-0.lits in
-    let none : (length lits.items == 0) ≡ true = sym (rw c.deref-in-Conflict-4.ensures.value at c.is_empty.ensures) ∙ c.if-is_empty.true in (
+    let none : (length lits.items == 0) ≡ true = sym (rw c.deref-in-Conflict-6.ensures.value at c.is_empty.ensures) ∙ c.if-is_empty.true in (
       steps_of c.lemmas.log.items,
       Addition (c.lemmas.last + 1) lits.items c.in_ok-lits-in-Conflict.field-0.hints.items,
       c.in_ok-learn-in-Conflict.ensures.log,
@@ -86,7 +86,7 @@ returns-then-left-eq0-clause-spent c =
     let lits = c.in_ok-lits-in-Conflict.field-0.lits in
     let hints = c.in_ok-lits-in-Conflict.field-0.hints in
     let learnt : IsLearntClause held trues reasons lits.items hints.items c.in_ok-lits-in-Conflict.field-0.jump = rw (c.deref-in-Conflict.ensures.value, c.deref-in-Conflict-2.ensures.value, c.deref-in-Conflict-3.ensures.value) at c.in_ok-lits-in-Conflict.ensures in
-    let other : (length lits.items == 0) ≡ false = sym (rw c.deref-in-Conflict-4.ensures.value at c.is_empty.ensures) ∙ c.if-is_empty.false in
+    let other : (length lits.items == 0) ≡ false = sym (rw c.deref-in-Conflict-6.ensures.value at c.is_empty.ensures) ∙ c.if-is_empty.false in
     let some : 0 < length lits.items = some_there lits.items other in (
       c.if-left-eq0.true,
       learnt.unclosed some,
@@ -102,7 +102,7 @@ lemmas-preserved c =
     let step = Addition (c.lemmas.last + 1) lits.items hints.items in
     let learnt = c.in_ok-learn-in-Conflict-2.ensures in
     let state = rw c.deref.ensures.value at c.in_ok-settle.ensures.state in
-    let other : (length lits.items == 0) ≡ false = sym (rw c.deref-in-Conflict-4.ensures.value at c.is_empty.ensures) ∙ c.if-is_empty.false in
+    let other : (length lits.items == 0) ≡ false = sym (rw c.deref-in-Conflict-6.ensures.value at c.is_empty.ensures) ∙ c.if-is_empty.false in
     let some : 0 < length lits.items = some_there lits.items other in
     let count = units-lemma inv.8.0 (c.lemmas.last + 1) lits.items hints.items other in (
       omega (arith, inv.0),
@@ -118,4 +118,5 @@ lemmas-preserved c =
         learnt.log ∙ ap (λ (ls : List ProofStep). ls ++ step ∷ []) inv.8.1 ∙ append_assoc (steps_of c.args.log.now.items) inv.8.0 (step ∷ []),
         omega (arith, count, inv.8.2, inv.7),
       ),
+      c.save_phases.ensures ∙ c.raise.ensures ∙ inv.9,
     )

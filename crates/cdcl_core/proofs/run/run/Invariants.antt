@@ -19,6 +19,7 @@ invariant-lemmas l =
     × HasNoEmptyLemma (steps_of l.log.items)
     × (l.left ≤ l.initial.left)
     × ((steps : List ProofStep) × (steps_of l.log.items ≡ steps_of l.initial.log.items ++ steps) × (units steps ≡ l.initial.left - l.left))
+    × (l.order ≡ l.vars)
 
 abbrev pub decreases-lemmas : goal.decreases-lemmas
 decreases-lemmas l = l.left
