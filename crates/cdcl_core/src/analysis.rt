@@ -59,7 +59,8 @@ pub fn analyse(
             continue;
         }
         if place == lowest {
-            lits.push(t.negated())?;
+            let asserting = t.negated();
+            lits.push(asserting)?;
             place = last;
             continue;
         }
@@ -75,7 +76,12 @@ pub fn analyse(
     lits.reverse();
     hints.reverse();
     let jump = next_decision(reasons, above);
-    Ok(LearntClause { lits, hints, jump, seen: marks })
+    Ok(LearntClause {
+        lits,
+        hints,
+        jump,
+        seen: marks,
+    })
 }
 
 /// No variable is marked.
@@ -225,14 +231,24 @@ mod tests {
     #[test]
     fn first_implication_point(rt: HostRuntime) -> Result<(), Fail> {
         let alloc = rt.alloc();
-        let given: [&[i32]; 6] = [&[7], &[-1, 2], &[-2, -5, 3], &[-7, -2, -6, 4], &[-3, -4], &[8, -8]];
+        let given: [&[i32]; 6] = [
+            &[7],
+            &[-1, 2],
+            &[-2, -5, 3],
+            &[-7, -2, -6, 4],
+            &[-3, -4],
+            &[8, -8],
+        ];
         let mut clauses = Vec::new(alloc);
         for (i, clause) in given.iter().enumerate() {
             clauses.push((i as u64 + 1, lits(alloc, clause)?))?;
         }
         let trail = lits(alloc, &[7, 5, 6, 1, 2, 3, 4])?;
         let learnt = analyse(alloc, &clauses, &trail, &[1, 0, 0, 0, 2, 3, 4], 8, 5)?;
-        assert_eq!(rt; format!(in alloc; "{:?} {:?} {}", learnt.lits, learnt.hints, learnt.jump)?.as_str(), "[Lit(-5), Lit(-6), Lit(-2)] [1, 3, 4, 5] 3");
+        assert_eq!(rt;
+            format!(in alloc; "{:?} {:?} {}", learnt.lits, learnt.hints, learnt.jump)?.as_str(),
+            "[Lit(-5), Lit(-6), Lit(-2)] [1, 3, 4, 5] 3"
+        );
         Ok(())
     }
 }

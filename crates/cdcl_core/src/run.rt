@@ -62,9 +62,12 @@ pub fn run(
                 return Ok(Verdict::Sat);
             }
             Settled::Conflict(conflict) => {
-                let LearntClause { lits, hints, jump, seen } = analyse(
-                    alloc, clauses, &trail, &reasons, vars, conflict,
-                )?;
+                let LearntClause {
+                    lits,
+                    hints,
+                    jump,
+                    seen,
+                } = analyse(alloc, clauses, &trail, &reasons, vars, conflict)?;
                 order.raise(&seen);
                 order.save_phases(&trail);
                 if is_empty(&lits) {

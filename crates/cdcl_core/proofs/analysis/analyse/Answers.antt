@@ -63,7 +63,7 @@ loop-place-preserved-then-place-lowest c =
     let w = l.invariant in (
       Keep t ∷ w.0,
       w.1,
-      rw (c.in_ok-push-2.ensures.items, c.negated.ensures) (walk_first held trail reasons state.trail state.closed (c.args.vars + 1) c.args.conflict last.result (λ less. last.ensures.decision (omega (arith, less, state.trail.long))) (omega (arith, last.ensures.bound, state.trail.long))
+      rw (c.in_ok-push-2.ensures.items, c.negated-asserting.ensures) (walk_first held trail reasons state.trail state.closed (c.args.vars + 1) c.args.conflict last.result (λ less. last.ensures.decision (omega (arith, less, state.trail.long))) (omega (arith, last.ensures.bound, state.trail.long))
           l.place l.lowest l.above l.marks.items l.lits.items l.hints.items w.0 w.1 w.2 (omega arith) t c.index-trail-place.is c.if-place-lowest.true),
     )
 
@@ -83,7 +83,7 @@ loop-place-preserved-then-is_between c =
     let inside = last.ensures.found first.result (omega (arith, between, w.2.within, state.trail.long)) (first.ensures.decision (omega (arith, between, w.2.within, state.trail.long))) in (
       Keep t ∷ w.0,
       w.1,
-      rw (c.in_ok-push-3.ensures.items, c.negated-then-is_between.ensures) (walk_keeps held trail reasons state.trail state.closed (c.args.vars + 1) c.args.conflict last.result (λ less. last.ensures.decision (omega (arith, less, state.trail.long))) (omega (arith, last.ensures.bound, state.trail.long))
+      rw (c.in_ok-push-3.ensures.items, c.negated.ensures) (walk_keeps held trail reasons state.trail state.closed (c.args.vars + 1) c.args.conflict last.result (λ less. last.ensures.decision (omega (arith, less, state.trail.long))) (omega (arith, last.ensures.bound, state.trail.long))
           l.place l.lowest l.above l.marks.items l.lits.items l.hints.items w.0 w.1 w.2 (omega arith) t c.index-trail-place.is (omega (arith, inside, state.trail.long)) (omega (arith, between)) c.above_with-above.result (rw c.deref-then-is_between.ensures.value at c.above_with-above.ensures)),
     )
 
