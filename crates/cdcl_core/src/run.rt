@@ -10,7 +10,7 @@ ghost use Rattle.cdcl_core.specs.Search.{IsReady};
 ghost use Rattle.cdcl_core.specs.Trail.{InRange};
 ghost use Rattle.cdcl_core.specs.Values.{value_of};
 
-use crate::analysis::{LearntClause, analyse};
+use crate::analysis::analyse;
 use crate::order::Order;
 use crate::search::{Settled, learn, settle, values_of};
 use lrat_model::{Lit, Step};
@@ -62,21 +62,14 @@ pub fn run(
                 return Ok(Verdict::Sat);
             }
             Settled::Conflict(conflict) => {
-                let LearntClause {
-                    lits,
-                    hints,
-                    jump,
-                    seen,
-                } = analyse(alloc, clauses, &trail, &reasons, vars, conflict)?;
-                order.raise(&seen);
+                let learnt = analyse(alloc, clauses, &trail, &reasons, vars, conflict)?;
+                order.raise(&learnt.seen);
                 order.save_phases(&trail);
-                if is_empty(&lits) {
+                if is_empty(&learnt.lits) {
                     learn(
                         alloc,
                         *last + 1,
-                        lits,
-                        hints,
-                        jump,
+                        learnt,
                         clauses,
                         log,
                         &mut trail,
@@ -91,9 +84,7 @@ pub fn run(
                 learn(
                     alloc,
                     *last + 1,
-                    lits,
-                    hints,
-                    jump,
+                    learnt,
                     clauses,
                     log,
                     &mut trail,

@@ -10,7 +10,7 @@ ghost use Rattle.lrat_model.specs.Steps.{Addition};
 ghost use Rattle.cdcl_core.specs.Log.{steps_of};
 ghost use Rattle.cdcl_core.specs.Values.{value_of};
 
-use crate::analysis::{mark, no_marks};
+use crate::analysis::{LearntClause, mark, no_marks};
 use crate::order::Order;
 use crate::propagation::{Propagated, Scan, has, propagate};
 use lrat_model::{Lit, Step};
@@ -118,27 +118,31 @@ pub fn values_of(alloc: Global, trail: &[Lit], vars: u32) -> Result<Vec<bool>, A
 pub fn learn(
     alloc: Global,
     id: u64,
-    lits: Vec<Lit>,
-    hints: Vec<i64>,
-    jump: usize,
+    learnt: LearntClause,
     clauses: &mut Vec<(u64, Vec<Lit>)>,
     log: &mut Vec<Step>,
     trail: &mut Vec<Lit>,
     reasons: &mut Vec<u64>,
 ) -> Result<(), AllocError>
     requires trail { IsTrail (held_of clauses.old.items) trail.old.items reasons.old.items }
-    requires learnt { IsLearntClause (held_of clauses.old.items) trail.old.items reasons.old.items lits.items hints.items jump }
+    requires follows { IsLearntClause (held_of clauses.old.items) trail.old.items reasons.old.items learnt.lits.items learnt.hints.items learnt.jump }
     requires rise { AllPairs (λ e f. e.0 < f.0) clauses.old.items }
     requires next { All (λ e. e.0 < id) clauses.old.items }
-    ensures held { OnOk result (held_of clauses.new.items ≡ with_clause (held_of clauses.old.items) id lits.items) }
+    ensures held { OnOk result (held_of clauses.new.items ≡ with_clause (held_of clauses.old.items) id learnt.lits.items) }
     ensures rise { OnOk result (AllPairs (λ e f. e.0 < f.0) clauses.new.items) }
-    ensures state { OnOk result ((n : ℕ) → IsState n (held_of clauses.old.items) trail.old.items reasons.old.items → IsState n (with_clause (held_of clauses.old.items) id lits.items) trail.new.items reasons.new.items) }
-    ensures log { OnOk result (steps_of log.new.items ≡ steps_of log.old.items ++ Addition id lits.items hints.items ∷ []) }
+    ensures state { OnOk result ((n : ℕ) → IsState n (held_of clauses.old.items) trail.old.items reasons.old.items → IsState n (with_clause (held_of clauses.old.items) id learnt.lits.items) trail.new.items reasons.new.items) }
+    ensures log { OnOk result (steps_of log.new.items ≡ steps_of log.old.items ++ Addition id learnt.lits.items learnt.hints.items ∷ []) }
     ensures ids { All (λ e. 0 < e.0) clauses.old.items → 0 < id → OnOk result (All (λ e. (0 < e.0) × (e.0 ≤ id)) clauses.new.items) }
     ensures ready { OnOk result ((n last : ℕ) (given : Held) → id ≡ last + 1 → IsState n (held_of clauses.old.items) trail.old.items reasons.old.items → IsReady n last given (held_of clauses.old.items) (steps_of log.old.items) → IsReady n id given (held_of clauses.new.items) (steps_of log.new.items)) }
     ensures range { OnOk result ((n : ℕ) → IsState n (held_of clauses.old.items) trail.old.items reasons.old.items → InRange n (held_of clauses.old.items) → InRange n (held_of clauses.new.items)) }
     ensures err { OnErr result (log.new.items ≡ log.old.items) }
 {
+    let LearntClause {
+        lits,
+        hints,
+        jump,
+        ..
+    } = learnt;
     let mut held = Vec::new(alloc);
     held.extend_from_slice(&lits)?;
     trail.truncate(jump);

@@ -51,8 +51,8 @@ returns-then-is_empty-clause-fits c =
 pub returns-then-is_empty-clause-goes_on : goal.returns-then-is_empty-clause-goes_on
 returns-then-is_empty-clause-goes_on c =
     let inv = c.lemmas.invariant in
-    let lits = c.in_ok-lits-in-Conflict.field-0.lits in
-    let hints = c.in_ok-lits-in-Conflict.field-0.hints in
+    let lits = c.in_ok-learnt-in-Conflict.learnt.lits in
+    let hints = c.in_ok-learnt-in-Conflict.learnt.hints in
     let none : (length lits.items == 0) ≡ true = sym (rw c.deref-in-Conflict-6.ensures.value at c.is_empty.ensures) ∙ c.if-is_empty.true in
     let step = Addition (c.lemmas.last + 1) lits.items hints.items in
     let count = units-empty inv.8.0 (c.lemmas.last + 1) lits.items hints.items none in (
@@ -67,10 +67,10 @@ returns-then-is_empty-clause-goes_on c =
 pub returns-then-is_empty-clause-unsat : goal.returns-then-is_empty-clause-unsat
 returns-then-is_empty-clause-unsat c =
     λ _.
-    let lits = c.in_ok-lits-in-Conflict.field-0.lits in
+    let lits = c.in_ok-learnt-in-Conflict.learnt.lits in
     let none : (length lits.items == 0) ≡ true = sym (rw c.deref-in-Conflict-6.ensures.value at c.is_empty.ensures) ∙ c.if-is_empty.true in (
       steps_of c.lemmas.log.items,
-      Addition (c.lemmas.last + 1) lits.items c.in_ok-lits-in-Conflict.field-0.hints.items,
+      Addition (c.lemmas.last + 1) lits.items c.in_ok-learnt-in-Conflict.learnt.hints.items,
       c.in_ok-learn-in-Conflict.ensures.log,
       none,
       c.lemmas.invariant.6,
@@ -83,22 +83,22 @@ returns-then-left-eq0-clause-spent c =
     let trues = c.settle.new.trail.items in
     let reasons = c.settle.new.reasons.items in
     let state : IsState c.args.vars held trues reasons = rw c.deref.ensures.value at c.in_ok-settle.ensures.state in
-    let lits = c.in_ok-lits-in-Conflict.field-0.lits in
-    let hints = c.in_ok-lits-in-Conflict.field-0.hints in
-    let learnt : IsLearntClause held trues reasons lits.items hints.items c.in_ok-lits-in-Conflict.field-0.jump = rw (c.deref-in-Conflict.ensures.value, c.deref-in-Conflict-2.ensures.value, c.deref-in-Conflict-3.ensures.value) at c.in_ok-lits-in-Conflict.ensures in
+    let lits = c.in_ok-learnt-in-Conflict.learnt.lits in
+    let hints = c.in_ok-learnt-in-Conflict.learnt.hints in
+    let learnt : IsLearntClause held trues reasons lits.items hints.items c.in_ok-learnt-in-Conflict.learnt.jump = rw (c.deref-in-Conflict.ensures.value, c.deref-in-Conflict-2.ensures.value, c.deref-in-Conflict-3.ensures.value) at c.in_ok-learnt-in-Conflict.ensures in
     let other : (length lits.items == 0) ≡ false = sym (rw c.deref-in-Conflict-6.ensures.value at c.is_empty.ensures) ∙ c.if-is_empty.false in
     let some : 0 < length lits.items = some_there lits.items other in (
       c.if-left-eq0.true,
       learnt.unclosed some,
-      (lits.items, hints.items, some, learnt_clause_consistent held trues reasons lits.items hints.items c.in_ok-lits-in-Conflict.field-0.jump state.trail learnt, learnt.follows, learnt.useful some),
+      (lits.items, hints.items, some, learnt_clause_consistent held trues reasons lits.items hints.items c.in_ok-learnt-in-Conflict.learnt.jump state.trail learnt, learnt.follows, learnt.useful some),
       c.lemmas.invariant.6,
     )
 
 pub lemmas-preserved : goal.lemmas-preserved
 lemmas-preserved c =
     let inv = c.lemmas.invariant in
-    let lits = c.in_ok-lits-in-Conflict.field-0.lits in
-    let hints = c.in_ok-lits-in-Conflict.field-0.hints in
+    let lits = c.in_ok-learnt-in-Conflict.learnt.lits in
+    let hints = c.in_ok-learnt-in-Conflict.learnt.hints in
     let step = Addition (c.lemmas.last + 1) lits.items hints.items in
     let learnt = c.in_ok-learn-in-Conflict-2.ensures in
     let state = rw c.deref.ensures.value at c.in_ok-settle.ensures.state in

@@ -17,22 +17,22 @@ use Rattle.cdcl_core.proofs.search.learn.Goals as goal
 pub returns-clause-state : goal.returns-clause-state
 returns-clause-state c =
     λ n state.
-    rw (c.truncate.ensures.items, c.truncate-2.ensures.items) (state_back n (held_of c.args.clauses.now.items) c.args.trail.now.items c.args.reasons.now.items state c.args.jump c.args.id c.args.lits.items (c.requires.learnt.closed c.args.id))
+    rw (c.truncate.ensures.items, c.truncate-2.ensures.items) (state_back n (held_of c.args.clauses.now.items) c.args.trail.now.items c.args.reasons.now.items state c.args.learnt.jump c.args.id c.args.learnt.lits.items (c.requires.follows.closed c.args.id))
 
 pub returns-clause-ready : goal.returns-clause-ready
 returns-clause-ready c =
     λ n last given is state ready.
     let held = held_of c.args.clauses.now.items in
     let log = steps_of c.args.log.now.items in
-    let new = log ++ Addition c.args.id c.args.lits.items c.args.hints.items ∷ [] in
-    let fits : LogFits n given [] new = learnt_clause_fits held c.args.trail.now.items c.args.reasons.now.items c.args.lits.items c.args.hints.items c.args.jump c.requires.trail c.requires.learnt n given log c.args.id
+    let new = log ++ Addition c.args.id c.args.learnt.lits.items c.args.learnt.hints.items ∷ [] in
+    let fits : LogFits n given [] new = learnt_clause_fits held c.args.trail.now.items c.args.reasons.now.items c.args.learnt.lits.items c.args.learnt.hints.items c.args.learnt.jump c.requires.trail c.requires.follows n given log c.args.id
     (subst (λ k. Stands given log held k) (sym is) ready.stands) (state_on_variables n held c.args.trail.now.items c.args.reasons.now.items state) ready.fits in
-    let own = negates_in_range n c.args.trail.now.items c.args.lits.items state.range c.requires.learnt.negates in
-    let copied : c.extend_from_slice.new.self.items ≡ c.args.lits.items = c.in_ok-extend_from_slice.ensures.items ∙ ap (λ (ls : List Literal). ls ++ c.deref.result.now) c.new-held.ensures.items ∙ c.deref.ensures.value in
-    let held_is = ap (λ (es : List (ℕ × Vec Literal)). held_of es) c.in_ok-push.ensures.items ∙ held_push c.args.clauses.now.items c.args.id c.extend_from_slice.new.self c.args.lits.items copied in
+    let own = negates_in_range n c.args.trail.now.items c.args.learnt.lits.items state.range c.requires.follows.negates in
+    let copied : c.extend_from_slice.new.self.items ≡ c.args.learnt.lits.items = c.in_ok-extend_from_slice.ensures.items ∙ ap (λ (ls : List Literal). ls ++ c.deref.result.now) c.new-held.ensures.items ∙ c.deref.ensures.value in
+    let held_is = ap (λ (es : List (ℕ × Vec Literal)). held_of es) c.in_ok-push.ensures.items ∙ held_push c.args.clauses.now.items c.args.id c.extend_from_slice.new.self c.args.learnt.lits.items copied in
     subst (λ (h : Held). IsReady n c.args.id given h (steps_of c.push-2.new.self.items)) (sym held_is)
-    (subst (λ (steps : List ProofStep). IsReady n c.args.id given (with_clause held c.args.id c.args.lits.items) steps) (sym (steps_push c.args.log.now.items c.push-2.new.self.items (Add c.args.id c.args.lits c.args.hints) c.in_ok-push-2.ensures.items))
-    (ready_at n last c.args.id given held log is ready c.args.lits.items c.args.hints.items own fits))
+    (subst (λ (steps : List ProofStep). IsReady n c.args.id given (with_clause held c.args.id c.args.learnt.lits.items) steps) (sym (steps_push c.args.log.now.items c.push-2.new.self.items (Add c.args.id c.args.learnt.lits c.args.learnt.hints) c.in_ok-push-2.ensures.items))
+    (ready_at n last c.args.id given held log is ready c.args.learnt.lits.items c.args.learnt.hints.items own fits))
 
 pub returns-clause-ids : goal.returns-clause-ids
 returns-clause-ids c =
@@ -41,12 +41,12 @@ returns-clause-ids c =
     (ids_push c.args.clauses.now.items c.args.id c.extend_from_slice.new.self some above c.requires.next)
 
 pub returns-clause-log : goal.returns-clause-log
-returns-clause-log c = steps_push c.args.log.now.items c.push-2.new.self.items (Add c.args.id c.args.lits c.args.hints) c.in_ok-push-2.ensures.items
+returns-clause-log c = steps_push c.args.log.now.items c.push-2.new.self.items (Add c.args.id c.args.learnt.lits c.args.learnt.hints) c.in_ok-push-2.ensures.items
 
 pub returns-clause-range : goal.returns-clause-range
 returns-clause-range c =
     λ n state range.
-    let own = negates_in_range n c.args.trail.now.items c.args.lits.items state.range c.requires.learnt.negates in
-    let copied : c.extend_from_slice.new.self.items ≡ c.args.lits.items = c.in_ok-extend_from_slice.ensures.items ∙ ap (λ (ls : List Literal). ls ++ c.deref.result.now) c.new-held.ensures.items ∙ c.deref.ensures.value in
-    let held_is = ap (λ (es : List (ℕ × Vec Literal)). held_of es) c.in_ok-push.ensures.items ∙ held_push c.args.clauses.now.items c.args.id c.extend_from_slice.new.self c.args.lits.items copied in
-    subst (λ (h : Held). InRange n h) (sym held_is) (in_range_after n (held_of c.args.clauses.now.items) c.args.id c.args.lits.items range own)
+    let own = negates_in_range n c.args.trail.now.items c.args.learnt.lits.items state.range c.requires.follows.negates in
+    let copied : c.extend_from_slice.new.self.items ≡ c.args.learnt.lits.items = c.in_ok-extend_from_slice.ensures.items ∙ ap (λ (ls : List Literal). ls ++ c.deref.result.now) c.new-held.ensures.items ∙ c.deref.ensures.value in
+    let held_is = ap (λ (es : List (ℕ × Vec Literal)). held_of es) c.in_ok-push.ensures.items ∙ held_push c.args.clauses.now.items c.args.id c.extend_from_slice.new.self c.args.learnt.lits.items copied in
+    subst (λ (h : Held). InRange n h) (sym held_is) (in_range_after n (held_of c.args.clauses.now.items) c.args.id c.args.learnt.lits.items range own)
