@@ -2,7 +2,7 @@
 use Rattle.std.proofs.Common.{◌≡◌, ℕ, ◌+◌, ◌≤◌, true, false, cond, List, [], ◌∷◌, ◌++◌, ⊎_elim, inl, inr, refl, sym, ap, ◌∙◌, subst, Option, Some, None, arith, map, ℤ, pos, negsuc}
 use Rattle.std.specs.Option.{option_or}
 use Rattle.std.proofs.lemmas.Bool.{true≢false, le-ltb, lt-leb}
-use Rattle.lrat_model.specs.Literal.{Literal, Plus, Minus, variable_of, negated, has, IsConsistent}
+use Rattle.lrat_model.specs.Literal.{Literal, variable_of, negated, has, IsConsistent}
 use Rattle.lrat_model.specs.Clauses.{Held, clause_at}
 use Rattle.lrat_model.specs.Propagation.{Conflict, Stops, Leaves, after_finding, take_hint, and_then, propagate, Follows}
 use Rattle.lrat_model.specs.Steps.{literal_fault, outcome_fault, addition_fault}

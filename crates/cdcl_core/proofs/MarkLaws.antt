@@ -1,14 +1,12 @@
 -- Marks, places and the least of them, with one literal more.
-use Rattle.std.proofs.Common.{◌≡◌, ◌≢◌, ℕ, zero, suc, ◌+◌, ◌<◌, ◌≤◌, Bool, true, false, List, [], ◌∷◌, ◌++◌, ⊎_elim, inl, inr, refl, sym, ap, ◌∙◌, subst, arith, length, get_or, take, set, length-append, length-take}
-use Rattle.std.specs.Prelude.{◌⊎◌, ◌==◌, slice_index, AllPairs}
+use Rattle.std.proofs.Common.{◌≡◌, ◌≢◌, ℕ, ◌+◌, ◌<◌, ◌≤◌, Bool, true, false, List, [], ◌∷◌, ◌++◌, ⊎_elim, inl, inr, refl, sym, ap, ◌∙◌, subst, arith, length, get_or, take, set, length-take}
+use Rattle.std.specs.Prelude.{◌⊎◌, ◌==◌, AllPairs}
 use Rattle.std.proofs.lemmas.Bool.{eqb-true, eqb-false, false≢true, true≢false, cases_lt}
 use Rattle.std.proofs.lemmas.List.{get_or-set_same, get_or-set_other, length-set, get_or-take, get_or_default}
-use Rattle.std.proofs.Math.ListN.{get_or-append}
-use Rattle.std.proofs.Math.Seq.{get_or-append_seam}
 use Rattle.lrat_model.specs.Literal.{Literal, Plus, Minus, variable_of, negated, has}
 use Rattle.lrat_model.specs.Clauses.{Held}
 use Rattle.lrat_model.proofs.Literals.{has-cons, has-first, has-rest}
-use Rattle.cdcl_core.specs.Marks.{is_marked, Marks, place_of, ArePlaces, IsLowest}
+use Rattle.cdcl_core.specs.Marks.{is_marked, Marks, place_of, IsLowest}
 use Rattle.cdcl_core.specs.Trail.{IsTrail}
 use Rattle.cdcl_core.proofs.Alike.{has-push}
 use Rattle.cdcl_core.proofs.Walks.{has-at}

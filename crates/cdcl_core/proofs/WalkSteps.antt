@@ -1,5 +1,5 @@
 -- A walk back over the trail, step by step.
-use Rattle.std.proofs.Common.{◌≡◌, ◌≢◌, ℕ, zero, suc, ◌+◌, ◌-◌, ◌<◌, ◌≤◌, Bool, true, false, cond, List, [], ◌∷◌, ◌++◌, ⊎_elim, inl, inr, refl, sym, ap, ◌∙◌, subst, Some, arith, length, get_or, take, drop, map, reverse, length-append}
+use Rattle.std.proofs.Common.{◌≡◌, ◌≢◌, ℕ, ◌+◌, ◌-◌, ◌<◌, ◌≤◌, Bool, true, false, cond, List, [], ◌∷◌, ◌++◌, ⊎_elim, inl, refl, sym, ap, ◌∙◌, subst, Some, arith, length, get_or, take, drop, map, reverse, length-append}
 use Rattle.std.specs.Prelude.{◌⊎◌, ◌==◌, ℤ, pos, slice_index, if◌then◌else◌}
 use Rattle.std.proofs.lemmas.Bool.{false≢true, true≢false, cases_lt}
 use Rattle.std.proofs.lemmas.Grind.{reverse_onto}
@@ -11,7 +11,6 @@ use Rattle.lrat_model.specs.Propagation.{Conflict, propagate, status}
 use Rattle.lrat_model.specs.declared.step.ClauseStatus.TheVariants.{Falsified}
 use Rattle.lrat_model.proofs.Literals.{has-filter, has-filter_from}
 use Rattle.cdcl_core.specs.Fixpoint.{IsFixpoint}
-use Rattle.cdcl_core.specs.Log.{IsDistinct}
 use Rattle.cdcl_core.specs.Marks.{is_marked, Marks, ArePlaces, IsLowest}
 use Rattle.cdcl_core.specs.Search.{IsClosed, IsLearntClause}
 use Rattle.cdcl_core.specs.Trail.{IsTrail, IsForced}
@@ -21,7 +20,7 @@ use Rattle.cdcl_core.proofs.Jumps.{not_so, take_mono}
 use Rattle.cdcl_core.proofs.Learnt.{IsAbove, IsJump, above_lower, above_keep, jump_keep, jump_other, jump_closed, kept_on_trail}
 use Rattle.cdcl_core.proofs.Plans.{Item, Keep, Derive, IsPlan, kept, hints_of, plan_leads, plan_wider, plan_follows}
 use Rattle.cdcl_core.proofs.Tops.{IsTopped, topped_lower, topped_first, topped_keep, topped_useful, topped_unclosed, below, take_within}
-use Rattle.cdcl_core.proofs.Walks.{waiting, plan_start, walk_skip, walk_keep, walk_derive, has-at}
+use Rattle.cdcl_core.proofs.Walks.{waiting, plan_start, walk_skip, walk_keep, walk_derive}
 
 -- where a walk stands: what is derived and kept so far, with the marked literals below the place, leads to the conflict
 pub record IsWalk (held : Held) (trail : List Literal) (room id last place lowest above : ℕ) (marks : List Bool) (lits : List Literal) (hints : List ℤ) (items : List Item) (clause : List Literal) : Type 0 where

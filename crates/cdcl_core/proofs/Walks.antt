@@ -1,5 +1,5 @@
 -- A walk down the trail puts a plan together: what is marked and not passed yet comes before it.
-use Rattle.std.proofs.Common.{◌≡◌, ℕ, ◌+◌, ◌<◌, Bool, true, false, not, cond, List, [], ◌∷◌, ◌++◌, ⊎_elim, inl, inr, refl, sym, ap, ◌∙◌, subst, Some, arith, length, get_or, take, map, filter}
+use Rattle.std.proofs.Common.{◌≡◌, ℕ, ◌+◌, ◌<◌, Bool, true, false, not, cond, List, [], ◌∷◌, ◌++◌, ⊎_elim, inl, inr, refl, sym, ap, ◌∙◌, subst, Some, arith, length, get_or, take, filter}
 use Rattle.std.proofs.lemmas.Bool.{false≢true, not_from_false}
 use Rattle.lrat_model.specs.Literal.{Literal, Plus, Minus, variable_of, negated, same, has}
 use Rattle.cdcl_core.specs.Marks.{is_marked, Marks}
@@ -7,11 +7,11 @@ use Rattle.lrat_model.specs.Clauses.{Held, clause_at}
 use Rattle.cdcl_core.specs.Fixpoint.{Within}
 use Rattle.lrat_model.proofs.Literals.{has-cons, has-first, has-rest, has-filter, has-filter_from}
 use Rattle.cdcl_core.proofs.Alike.{has-push}
-use Rattle.cdcl_core.proofs.Plans.{Item, Keep, Derive, IsPlan, IsForced, kept, hints_of, HasNoContradiction, plan_wider, plan_follows}
-use Rattle.std.specs.Prelude.{ℤ, pos, zero, suc, ◌-◌, ◌≤◌}
+use Rattle.cdcl_core.proofs.Plans.{Item, Keep, Derive, IsPlan, IsForced, plan_wider}
+use Rattle.std.specs.Prelude.{zero, suc, ◌-◌, ◌≤◌}
 use Rattle.std.proofs.lemmas.List.{take_more}
 use Rattle.std.specs.List.{list_all}
-use Rattle.lrat_model.specs.Propagation.{not_false, status_of, status, Follows}
+use Rattle.lrat_model.specs.Propagation.{not_false, status_of, status}
 use Rattle.lrat_model.specs.declared.step.ClauseStatus.TheVariants.{Falsified, Forces, Unresolved}
 
 -- the marked ones among the first literals of the trail

@@ -1,12 +1,10 @@
-use Rattle.std.proofs.Common.{◌≡◌, ◌≢◌, ℕ, ◌<◌, ◌≤◌, ◌-◌, ◌+◌, ◌^◌, ◌++◌, ◌∷◌, [], List, Bool, true, false, refl, map, take, drop, length, sym, ap, ◌∙◌, subst, arith, pos, w64, to_z, Some, get_or, ⊎_elim}
+use Rattle.std.proofs.Common.{◌≡◌, ◌<◌, ◌-◌, ◌+◌, ◌^◌, ◌++◌, ◌∷◌, [], length, sym, ap, ◌∙◌, subst, arith, w64, to_z}
 use Rattle.std.proofs.lemmas.Int.{to_z_pos}
 use Rattle.std.specs.Prelude.{slice_index}
 use Rattle.lrat_model.specs.Entries.{held_of}
-use Rattle.lrat_model.specs.Literal.{Literal, variable_of, negated, has}
-use Rattle.cdcl_core.specs.Marks.{is_marked, Marks, ArePlaces, IsLowest}
-use Rattle.cdcl_core.specs.Trail.{IsForced}
+use Rattle.cdcl_core.specs.Marks.{Marks, IsLowest}
 use Rattle.cdcl_core.proofs.MarkLaws.{each_variable_once}
-use Rattle.cdcl_core.proofs.Plans.{Item, Keep, Derive}
+use Rattle.cdcl_core.proofs.Plans.{Keep, Derive}
 use Rattle.cdcl_core.proofs.Walks.{has-at}
 use Rattle.cdcl_core.proofs.WalkSteps.{IsWalk, walk_begins, walk_passes, walk_first, walk_keeps, walk_derives, walk_ends, cause_of, marked_from, unmarked_from, written_back}
 use Rattle.cdcl_core.proofs.analysis.analyse.Goals as goal
