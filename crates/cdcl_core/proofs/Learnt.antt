@@ -1,4 +1,4 @@
--- What the walk down the trail adds to a learnt: distinct literals, few hints, and the place to go back to.
+-- What the walk down the trail adds to a learnt clause: distinct literals, few hints, and the place to go back to.
 use Rattle.std.proofs.Common.{cond, ◌≡◌, ◌≢◌, ℕ, zero, suc, ◌+◌, ◌-◌, ◌<◌, ◌≤◌, true, false, List, [], ◌∷◌, ⊎_elim, inl, inr, refl, sym, ap, ◌∙◌, subst, Some, arith, length, get_or, take, map, length-take}
 use Rattle.std.proofs.lemmas.List.{get_or-take}
 use Rattle.std.proofs.lemmas.Bool.{eqb-true, eqb-false, false≢true, true≢false, cases_lt}

@@ -1,4 +1,4 @@
--- A learnt fits the log.
+-- A learnt clause fits the log.
 use Rattle.std.proofs.Common.{◌≡◌, ℕ, ◌+◌, ◌≤◌, true, false, cond, List, [], ◌∷◌, ◌++◌, ⊎_elim, inl, inr, refl, sym, ap, ◌∙◌, subst, Option, Some, None, arith, map, ℤ, pos, negsuc}
 use Rattle.std.specs.Option.{option_or}
 use Rattle.std.proofs.lemmas.Bool.{true≢false, le-ltb, lt-leb}
