@@ -1,7 +1,7 @@
--- What the walk down the trail adds to a learnt: distinct literals, few hints, and the place to go back to.
+-- What the walk down the trail adds to a learnt clause: distinct literals, few hints, and the place to go back to.
 use Rattle.std.proofs.Common.{cond, ◌≡◌, ◌≢◌, ℕ, zero, suc, ◌+◌, ◌-◌, ◌<◌, ◌≤◌, true, false, List, [], ◌∷◌, ⊎_elim, inl, inr, refl, sym, ap, ◌∙◌, subst, Some, arith, length, get_or, take, map, length-take}
 use Rattle.std.proofs.lemmas.List.{get_or-take}
-use Rattle.std.proofs.lemmas.Bool.{eqb-true, eqb-false, false≢true, true≢false}
+use Rattle.std.proofs.lemmas.Bool.{eqb-true, eqb-false, false≢true, true≢false, cases_lt}
 use Rattle.std.specs.Prelude.{◌⊎◌, slice_index, ◌==◌, if◌then◌else◌}
 use Rattle.lrat_model.specs.Literal.{Literal, negated, same, has}
 use Rattle.lrat_model.specs.Clauses.{Held, with_clause, clause_at}
@@ -51,27 +51,27 @@ above_keep held trues reasons trail p t lits some within is above =
           (has-cons (negated t) m lits h),
     )
 
--- where the search goes back to: the start, or just after the second highest decision of the lemma
+-- how far down decisions stay: none, or those up to the second highest literal of the lemma
 abbrev pub IsJump : List Literal → List Literal → ℕ → Type 0
 IsJump trues lits jump =
     ((length lits ≤ 1) × (jump ≡ 0))
     ⊎ ((q : ℕ) × (r : ℕ) × (t : Literal) × (u : Literal) × (r < q) × (q < length trues) × (t ≡ get_or trues q t) × (u ≡ get_or trues r u) × (has lits (negated t) ≡ true) × (has lits (negated u) ≡ true) × (jump ≡ r + 1))
 
-jump_other : (trues lits : List Literal) (l : Literal) (jump : ℕ) → length lits ≢ 1 → IsJump trues lits jump → IsJump trues (l ∷ lits) jump
+pub jump_other : (trues lits : List Literal) (l : Literal) (jump : ℕ) → length lits ≢ 1 → IsJump trues lits jump → IsJump trues (l ∷ lits) jump
 jump_other trues [] l jump other at = ⊎_elim (λ start. inl (omega arith, start.1)) (λ second. absurd (false≢true second.8)) at
 jump_other trues (x ∷ xs) l jump other at =
     ⊎_elim (λ start. absurd (other (omega (arith, start.0))))
     (λ s. inr (s.0, s.1, s.2, s.3, s.4, s.5, s.6, s.7, has-rest l (negated s.2) (x ∷ xs) s.8, has-rest l (negated s.3) (x ∷ xs) s.9, s.10)) at
 
-pub jump_second : (trues : List Literal) (reasons : List ℕ) (p : ℕ) (t : Literal) (lits : List Literal) → 0 < p → p ≤ length trues → t ≡ get_or trues (p - 1) t → length lits ≡ 1 → IsTopped trues reasons p lits → IsJump trues (negated t ∷ lits) (p - 1 + 1)
-jump_second trues reasons p t lits some within is one topped =
+pub jump_second : (trues : List Literal) (last p : ℕ) (t : Literal) (lits : List Literal) → 0 < p → p ≤ length trues → t ≡ get_or trues (p - 1) t → length lits ≡ 1 → IsTopped trues last p lits → IsJump trues (negated t ∷ lits) (p - 1 + 1)
+jump_second trues last p t lits some within is one topped =
     ⊎_elim (λ none. absurd (omega (arith, one, ap length none)))
-    (λ top. inr (top.0, p - 1, top.1, t, omega (arith, top.2), top.3, top.5, is, has-rest (negated t) (negated top.1) lits top.6, has-first (negated t) lits, refl)) topped
+    (λ top. inr (top.0, p - 1, top.1, t, omega (arith, top.2, top.3), top.4, top.5, is, has-rest (negated t) (negated top.1) lits top.6, has-first (negated t) lits, refl)) topped
 
-pub jump_keep : (trues : List Literal) (reasons : List ℕ) (p : ℕ) (t : Literal) (lits : List Literal) (jump : ℕ) → 0 < p → p ≤ length trues → t ≡ get_or trues (p - 1) t → IsTopped trues reasons p lits → IsJump trues lits jump → IsJump trues (negated t ∷ lits) (if length lits == 1 then p - 1 + 1 else jump)
-jump_keep trues reasons p t lits jump some within is topped at =
+pub jump_keep : (trues : List Literal) (last p : ℕ) (t : Literal) (lits : List Literal) (jump : ℕ) → 0 < p → p ≤ length trues → t ≡ get_or trues (p - 1) t → IsTopped trues last p lits → IsJump trues lits jump → IsJump trues (negated t ∷ lits) (if length lits == 1 then p - 1 + 1 else jump)
+jump_keep trues last p t lits jump some within is topped at =
     elim (length lits == 1) as (λ b. (length lits == 1) ≡ b → IsJump trues (negated t ∷ lits) (cond b (p - 1 + 1) jump)) [
-      | true ↦ λ one. jump_second trues reasons p t lits some within is (eqb-true (length lits) 1 one) topped
+      | true ↦ λ one. jump_second trues last p t lits some within is (eqb-true (length lits) 1 one) topped
       | false ↦ λ other. jump_other trues lits (negated t) jump (eqb-false (length lits) 1 other) at
     ] refl
 
@@ -84,13 +84,17 @@ take_take (suc p) (suc q) (x ∷ xs) less = ap (λ ls. x ∷ ls) (take_take p q 
 inside_take : (q : ℕ) (trues : List Literal) (p : ℕ) → p < length (take q trues) → (p < q) × (p < length trues)
 inside_take q trues p less = (omega (arith, length-take q trues), omega (arith, length-take q trues))
 
-pub jump_closed : (held : Held) (trues : List Literal) (reasons : List ℕ) → IsTrail held trues reasons → IsClosed held trues reasons → (lits : List Literal) (jump : ℕ) → IsJump trues lits jump → (id : ℕ) → IsClosed (with_clause held id lits) (take jump trues) (take jump reasons)
-jump_closed held trues reasons trail closed lits jump at id place within decided =
+-- the trail is cut before a decision that stands above those that stay
+pub jump_closed : (held : Held) (trues : List Literal) (reasons : List ℕ) → IsTrail held trues reasons → IsClosed held trues reasons → (lits : List Literal) (above jump : ℕ) → IsJump trues lits above → ((p : ℕ) → above ≤ p → p < jump → slice_index reasons p ≢ 0)
+    → (id : ℕ) → IsClosed (with_clause held id lits) (take jump trues) (take jump reasons)
+jump_closed held trues reasons trail closed lits above jump at none id place within decided =
     let inside : (place < jump) × (place < length trues) = inside_take jump trues place within in
-    ⊎_elim (λ start. absurd (omega (arith, start.1, inside.0)))
+    let decision : slice_index reasons place ≡ 0 = sym (get_or-take jump reasons place 0 inside.0) ∙ decided in
+    let stays : place < above = ⊎_elim (λ less. less) (λ more. absurd (none place more inside.0 decision)) (cases_lt place above) in
+    ⊎_elim (λ start. absurd (omega (arith, start.1, stays)))
     (λ s. subst (λ ls. IsFixpoint (with_clause held id lits) ls) (sym (take_take place jump trues (omega (arith, inside.0))))
-    (fixpoint_after_jump held trues reasons trail id lits s.0 s.1 s.2 s.3 s.4 s.5 s.6 s.7 s.8 s.9 place (omega (arith, inside.0, s.10))
-    (closed place inside.1 (sym (get_or-take jump reasons place 0 inside.0) ∙ decided)))) at
+    (fixpoint_after_jump held trues reasons trail id lits s.0 s.1 s.2 s.3 s.4 s.5 s.6 s.7 s.8 s.9 place (omega (arith, stays, s.10))
+    (closed place inside.1 decision))) at
 
 -- the literals of the lemma negate the trail
 pub kept_on_trail : (held : Held) (trail conflict before : List Literal) (items : List Item) → IsPlan held trail conflict before items → (m : Literal) → has (map negated (kept items)) m ≡ true → has trail (negated m) ≡ true

@@ -2,7 +2,7 @@
 use Rattle.std.proofs.Common.{◌≡◌, ℕ, ◌+◌, ◌≤◌, true, false, cond, List, [], ◌∷◌, ◌++◌, ⊎_elim, refl, sym, ap, ◌∙◌, subst, Option, Some, None, arith, map, ℤ}
 use Rattle.std.specs.Option.{option_or}
 use Rattle.std.proofs.lemmas.Bool.{true≢false, le-ltb, lt-leb}
-use Rattle.lrat_model.specs.Literal.{Literal, Plus, Minus, variable_of, negated, has, IsConsistent}
+use Rattle.lrat_model.specs.Literal.{Literal, variable_of, negated, has, IsConsistent}
 use Rattle.lrat_model.specs.Clauses.{Held}
 use Rattle.lrat_model.specs.Propagation.{propagate, Follows}
 use Rattle.lrat_model.specs.Steps.{literal_fault, outcome_fault, addition_fault}
@@ -14,10 +14,7 @@ use Rattle.cdcl_core.specs.Trail.{IsTrail}
 use Rattle.cdcl_core.specs.Search.{IsLearntClause, OnVariables}
 use Rattle.cdcl_core.specs.Log.{IsLemma}
 use Rattle.cdcl_core.proofs.Jumps.{not_so}
-
-variable_of-negated : (l : Literal) → variable_of (negated l) ≡ variable_of l
-variable_of-negated (Plus x) = refl
-variable_of-negated (Minus x) = refl
+use Rattle.cdcl_core.proofs.Walks.{variable_of-negated}
 
 -- literals in range, none with its negation, have no fault
 pub literal_fault-none : (n : ℕ) (before lits : List Literal) → ((m : Literal) → has lits m ≡ true → variable_of m ≤ n)

@@ -16,3 +16,7 @@ pub mod Pushes
 pub mod Searches
 pub mod Stores
 pub mod Values
+pub mod MarkLaws
+pub mod Bare
+pub mod WalkSteps
+pub mod Opens

@@ -7,3 +7,5 @@ pub mod Values
 pub mod Ranges
 pub mod Solving
 pub mod State
+pub mod Marks
+pub mod Order

@@ -8,6 +8,7 @@ use Rattle.lrat_model.specs.declared.step.ClauseStatus.TheVariants.{Falsified, F
 use Rattle.cdcl_core.specs.declared.propagation.Scan.{Scan}
 use Rattle.cdcl_core.specs.declared.propagation.Scan.TheVariants.{Quiet, False, Forces}
 
+-- nothing to do, a clause that is false, or one that forces a literal that is not true yet
 abbrev pub Finds : Held → List Literal → Scan → Type 0
 Finds held trues Quiet = IsFixpoint held trues
 Finds held trues (False id) = (clause : List Literal) × (clause_at held id ≡ Some clause) × (status trues clause ≡ Falsified)

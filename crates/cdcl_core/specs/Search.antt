@@ -16,7 +16,7 @@ use Rattle.lrat_model.specs.Lemmas.{IsUseful}
 abbrev pub IsClosed : Held → List Literal → List ℕ → Type 0
 IsClosed held trues reasons = (place : ℕ) → place < length trues → slice_index reasons place ≡ 0 → IsFixpoint held (take place trues)
 
--- the lemma follows, tells something, negates literals of the trail, and holds where the trail goes back to the place
+-- the lemma follows by few hints and is useful, its literals are false on the trail, each once, and with it the trail that is kept still has a fixpoint before each decision
 pub record IsLearntClause (held : Held) (trues : List Literal) (reasons : List ℕ) (lits : List Literal) (hints : List ℤ) (jump : ℕ) : Type 0 where
   pub follows : Follows held lits hints
   pub useful : 0 < length lits → IsUseful held lits

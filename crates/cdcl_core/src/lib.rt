@@ -3,6 +3,7 @@
 
 mod analysis;
 mod budget;
+mod order;
 mod propagation;
 mod run;
 mod search;

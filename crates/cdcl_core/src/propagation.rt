@@ -1,5 +1,6 @@
 //! Unit propagation by scanning, to a fixpoint or a false clause.
-ghost use Rattle.std.specs.Prelude.{◌≡◌, ℕ, ◌<◌, ◌≤◌, ◌^◌, List, Ok, ◌++◌, OnOk, All, AllPairs};
+ghost use Rattle.std.specs.Prelude.{◌≡◌, ℕ, ◌<◌, ◌≤◌, ◌^◌, List, Ok, ◌++◌, OnOk, All, AllPairs, length};
+ghost use Rattle.std.specs.List.{AllWithin};
 ghost use Rattle.std.specs.Option.{option_copied};
 ghost use Rattle.lrat_model.specs.Literal.{Literal, has};
 ghost use Rattle.lrat_model.specs.Clauses.{clause_at};
@@ -107,14 +108,29 @@ pub fn propagate(
     }
 }
 
-/// The clause under an id.
-pub fn find(held: &[(u64, Vec<Lit>)], id: u64) -> Option<&[Lit]>
-    ensures { option_copied result ≡ clause_at (held_of held.now) id }
+/// The place of the first clause of a greater id, by binary search.
+fn place_above(clauses: &[(u64, Vec<Lit>)], id: u64) -> usize
+    requires { AllPairs (λ e f. e.0 < f.0) clauses.now }
+    ensures bound { result ≤ length clauses.now }
+    ensures below { AllWithin (λ e. e.0 ≤ id) clauses.now 0 result }
+    ensures above { AllWithin (λ e. id < e.0) clauses.now result (length clauses.now) }
 {
-    for (held_id, clause) in held {
-        if *held_id == id {
-            return Some(clause.as_slice());
-        }
+    clauses.partition_point(|(held_id, _)| *held_id <= id)
+}
+
+/// The clause under an id, in O(log n) of n clauses whose ids rise.
+pub fn find(clauses: &[(u64, Vec<Lit>)], id: u64) -> Option<&[Lit]>
+    requires { AllPairs (λ e f. e.0 < f.0) clauses.now }
+    ensures { option_copied result ≡ clause_at (held_of clauses.now) id }
+{
+    let above = place_above(clauses, id);
+    if above == 0 {
+        return None;
     }
-    None
+    let (held_id, clause) = &clauses[above - 1];
+    if *held_id == id {
+        Some(clause.as_slice())
+    } else {
+        None
+    }
 }

@@ -10,7 +10,8 @@ ghost use Rattle.cdcl_core.specs.Search.{Searched, database_of};
 ghost use Rattle.cdcl_core.specs.Trail.{InRange};
 ghost use Rattle.cdcl_core.specs.Values.{value_of};
 
-use crate::analysis::{LearntClause, analyse};
+use crate::analysis::analyse;
+use crate::order::Order;
 use crate::search::{Settled, learn, settle, values_of};
 use lrat_model::{Lit, Step};
 use std::alloc::{AllocError, Global};
@@ -55,25 +56,24 @@ pub fn run(
     ensures spent { result ≡ Ok Verdict.Spent → (left.new ≡ 0) × (Closes (held_of clauses.new.items) → ⊥) × IsDue (held_of clauses.new.items) }
     ensures open { result ≢ Ok Verdict.Unsat → HasNoEmptyLemma (steps_of log.new.items) }
 {
+    let mut order = Order::new(alloc, vars)?;
     let mut trail = Vec::new(alloc);
     let mut reasons = Vec::new(alloc);
     'lemmas: loop {
-        match settle(clauses, &mut trail, &mut reasons, vars)? {
+        match settle(alloc, clauses, &mut trail, &mut reasons, &order, vars)? {
             Settled::Full => {
                 *values = values_of(alloc, &trail, vars)?;
                 return Ok(Verdict::Sat);
             }
             Settled::Conflict(conflict) => {
-                let LearntClause { lits, hints, jump } = analyse(
-                    alloc, clauses, &trail, &reasons, conflict,
-                )?;
-                if is_empty(&lits) {
+                let learnt = analyse(alloc, clauses, &trail, &reasons, vars, conflict)?;
+                order.raise(&learnt.seen);
+                order.save_phases(&trail);
+                if is_empty(&learnt.lits) {
                     learn(
                         alloc,
                         *last + 1,
-                        lits,
-                        hints,
-                        jump,
+                        learnt,
                         clauses,
                         log,
                         &mut trail,
@@ -88,9 +88,7 @@ pub fn run(
                 learn(
                     alloc,
                     *last + 1,
-                    lits,
-                    hints,
-                    jump,
+                    learnt,
                     clauses,
                     log,
                     &mut trail,

@@ -1,109 +1,149 @@
-use Rattle.std.proofs.Common.{◌≡◌, ◌<◌, ◌-◌, ◌^◌, ◌++◌, ◌∷◌, [], List, true, refl, map, take, length, sym, ap, ◌∙◌, subst, arith, pos, w64, inl, to_z}
-use Rattle.std.proofs.lemmas.Bool.{false≢true}
-use Rattle.lrat_model.specs.Literal.{has, Literal}
+use Rattle.std.proofs.Common.{◌≡◌, ◌<◌, ◌-◌, ◌+◌, ◌^◌, ◌++◌, ◌∷◌, [], length, sym, ap, ◌∙◌, subst, arith, w64, to_z}
 use Rattle.std.proofs.lemmas.Int.{to_z_pos}
-use Rattle.std.proofs.lemmas.List.{take_all}
 use Rattle.std.specs.Prelude.{slice_index}
-use Rattle.lrat_model.specs.Literal.{negated}
-use Rattle.cdcl_core.proofs.Plans.{Keep, Derive, IsPlan, IsForced}
 use Rattle.lrat_model.specs.Entries.{held_of}
-use Rattle.cdcl_core.proofs.Walks.{waiting, plan_start, plan_end, walk_keep, walk_derive}
-use Rattle.cdcl_core.proofs.Tops.{topped_lower, topped_keep, topped_useful, topped_unclosed}
-use Rattle.cdcl_core.specs.Log.{IsDistinct}
-use Rattle.cdcl_core.proofs.Learnt.{IsAbove, IsJump, above_lower, above_keep, jump_keep, jump_closed, kept_on_trail}
+use Rattle.cdcl_core.specs.Marks.{Marks, IsLowest}
+use Rattle.cdcl_core.proofs.MarkLaws.{each_variable_once}
+use Rattle.cdcl_core.proofs.Plans.{Keep, Derive}
+use Rattle.cdcl_core.proofs.Walks.{has-at}
+use Rattle.cdcl_core.proofs.WalkSteps.{IsWalk, walk_begins, walk_passes, walk_first, walk_keeps, walk_derives, walk_ends, cause_of, marked_from, unmarked_from, written_back}
 use Rattle.cdcl_core.proofs.analysis.analyse.Goals as goal
+
+pub places_of-requires-clause-distinct : goal.places_of-requires-clause-distinct
+places_of-requires-clause-distinct c = each_variable_once (held_of c.args.clauses.now) c.args.trail.now c.args.reasons.now c.requires.state.trail
 
 pub loop-place-init : goal.loop-place-init
 loop-place-init c =
     let held = held_of c.args.clauses.now in
-    let trues = c.args.trail.now in
-    let found = c.requires.conflict in
-    let marked = c.in_ok-marked.marked.items in
-    let whole : take (length trues) trues ≡ trues = take_all (length trues) trues (omega arith) in (
-      omega arith,
-      inl c.new-lits.ensures.items,
-      (
-        [],
-        found.0,
-        found.1,
-        subst (λ ls. IsPlan held trues found.0 (waiting marked ls) []) (sym whole) (plan_start held trues found.0 marked found.2 (c.in_ok-marked.ensures found.0 found.1)),
-        c.new-lits.ensures.items,
-        rw (c.in_ok-push.ensures.items, c.new-hints.ensures.items, to_z_pos w64 c.args.conflict c.requires.small.0),
-      ),
-      (
-        subst (λ (ls : List Literal). IsDistinct ls) (sym c.new-lits.ensures.items) (λ i j d less inside. absurd (omega arith)),
-        λ m h. absurd (false≢true (subst (λ (ls : List Literal). has ls m ≡ true) c.new-lits.ensures.items h)),
-      ),
-      omega (arith, ap length (c.in_ok-push.ensures.items ∙ ap (λ hs. hs ++ to_z w64 c.args.conflict ∷ []) c.new-hints.ensures.items)),
-      inl (omega (arith, ap length c.new-lits.ensures.items), refl),
+    let trail = c.args.trail.now in
+    let reasons = c.args.reasons.now in
+    let state = c.requires.state in
+    let last = c.last_decision-last in
+    let finds = c.requires.conflict in
+    let clause = finds.0 in
+    let marks = c.in_ok-marks.marks in
+    let begun : Marks marks.items clause c.visit-lowest.new.marks = subst (λ ms. Marks ms clause c.visit-lowest.new.marks) c.deref_mut.ensures.value (c.visit-lowest.ensures.marks clause finds.1) in
+    let low : IsLowest c.in_ok-places.places.items last.result (length trail) clause c.visit-lowest.result = subst (λ ps. IsLowest ps last.result (length trail) clause c.visit-lowest.result) c.deref.ensures.value (c.visit-lowest.ensures.lowest clause finds.1) in
+    let hints_are = c.in_ok-push.ensures.items ∙ ap (λ hs. hs ++ to_z w64 c.args.conflict ∷ []) c.new-hints.ensures.items ∙ ap (λ z. z ∷ []) (to_z_pos w64 c.args.conflict c.requires.small) in (
+      [],
+      clause,
+      rw (written_back marks.len c.visit-lowest.new.marks marks.items (begun.long ∙ sym marks.ok.0), c.new-lits.ensures.items)
+          (walk_begins held trail reasons state.trail state.closed (c.args.vars + 1) c.args.conflict last.result (λ less. last.ensures.decision (omega (arith, less, state.trail.long))) (omega (arith, last.ensures.bound, state.trail.long)) marks.items c.visit-lowest.new.marks c.visit-lowest.result c.in_ok-places.places.items clause c.push.new.self.items
+          finds.1 finds.2 c.in_ok-marks.ensures.length c.in_ok-marks.ensures.none begun c.in_ok-places.ensures.1 low hints_are),
     )
 
-pub loop-place-preserved-then-reason-eq0 : goal.loop-place-preserved-then-reason-eq0
-loop-place-preserved-then-reason-eq0 c =
+pub loop-place-preserved-then-not-index : goal.loop-place-preserved-then-not-index
+loop-place-preserved-then-not-index c =
     let held = held_of c.args.clauses.now in
-    let trues = c.args.trail.now in
-    let place = c.loop-place.place in
+    let trail = c.args.trail.now in
+    let reasons = c.args.reasons.now in
+    let state = c.requires.state in
+    let last = c.last_decision-last in
     let t = c.index-trail-place.result in
-    let inv = c.loop-place.invariant in
-    let lits_are = c.in_ok-insert.ensures.items ∙ ap (λ x. x ∷ c.loop-place.lits.items) c.negated.ensures in (
-      omega arith,
-      rw (c.in_ok-insert.ensures.items, c.negated.ensures) (topped_keep trues c.args.reasons.now place t c.loop-place.lits.items (omega arith) inv.0 c.index-trail-place.is c.if-reason-eq0.true inv.1),
-      (
-        Keep t ∷ inv.2.0,
-        inv.2.1,
-        inv.2.2,
-        walk_keep held trues inv.2.1 c.loop-place.marked.items place t inv.2.0 (omega arith) inv.0 c.index-trail-place.is inv.2.3,
-        rw (c.in_ok-insert.ensures.items, c.negated.ensures, inv.2.4),
-        inv.2.5,
-      ),
-      subst (λ (ls : List Literal). IsAbove trues (place - 1) ls) (sym lits_are) (above_keep held trues c.args.reasons.now c.requires.trail place t c.loop-place.lits.items (omega arith) inv.0 c.index-trail-place.is inv.3),
-      omega (arith, inv.4),
-      subst (λ (ls : List Literal). IsJump trues ls c.jump_with-jump.result) (sym lits_are) (rw (c.jump_with-jump.ensures, c.deref-then-reason-eq0.ensures.value) (jump_keep trues c.args.reasons.now place t c.loop-place.lits.items c.loop-place.jump (omega arith) inv.0 c.index-trail-place.is inv.1 inv.5)),
+    let l = c.loop-place in
+    let w = l.invariant in (
+      w.0,
+      w.1,
+      walk_passes held trail reasons state.trail state.closed (c.args.vars + 1) c.args.conflict last.result (λ less. last.ensures.decision (omega (arith, less, state.trail.long))) (omega (arith, last.ensures.bound, state.trail.long))
+          l.place l.lowest l.above l.marks.items l.lits.items l.hints.items w.0 w.1 w.2 (omega arith) t c.index-trail-place.is
+          (unmarked_from l.marks.items c.variable.result t c.index.result.now c.variable.ensures.value c.index.ensures c.if-not-index.true),
     )
+
+pub loop-place-preserved-then-place-lowest : goal.loop-place-preserved-then-place-lowest
+loop-place-preserved-then-place-lowest c =
+    let held = held_of c.args.clauses.now in
+    let trail = c.args.trail.now in
+    let reasons = c.args.reasons.now in
+    let state = c.requires.state in
+    let last = c.last_decision-last in
+    let t = c.index-trail-place.result in
+    let l = c.loop-place in
+    let w = l.invariant in (
+      Keep t ∷ w.0,
+      w.1,
+      rw (c.in_ok-push-2.ensures.items, c.negated-asserting.ensures) (walk_first held trail reasons state.trail state.closed (c.args.vars + 1) c.args.conflict last.result (λ less. last.ensures.decision (omega (arith, less, state.trail.long))) (omega (arith, last.ensures.bound, state.trail.long))
+          l.place l.lowest l.above l.marks.items l.lits.items l.hints.items w.0 w.1 w.2 (omega arith) t c.index-trail-place.is c.if-place-lowest.true),
+    )
+
+pub loop-place-preserved-then-is_between : goal.loop-place-preserved-then-is_between
+loop-place-preserved-then-is_between c =
+    let held = held_of c.args.clauses.now in
+    let trail = c.args.trail.now in
+    let reasons = c.args.reasons.now in
+    let state = c.requires.state in
+    let last = c.last_decision-last in
+    let t = c.index-trail-place.result in
+    let l = c.loop-place in
+    let w = l.invariant in
+    let marked = marked_from l.marks.items c.variable.result t c.index.result.now c.variable.ensures.value c.index.ensures c.if-not-index.false (omega (arith, w.2.long, (state.range t (has-at trail (l.place - 1) t (omega (arith, w.2.within)) c.index-trail-place.is)).1)) in
+    let first = c.next_decision-first in
+    let between = c.if-is_between.ensures in
+    let inside = last.ensures.found first.result (omega (arith, between, w.2.within, state.trail.long)) (first.ensures.decision (omega (arith, between, w.2.within, state.trail.long))) in (
+      Keep t ∷ w.0,
+      w.1,
+      rw (c.in_ok-push-3.ensures.items, c.negated.ensures) (walk_keeps held trail reasons state.trail state.closed (c.args.vars + 1) c.args.conflict last.result (λ less. last.ensures.decision (omega (arith, less, state.trail.long))) (omega (arith, last.ensures.bound, state.trail.long))
+          l.place l.lowest l.above l.marks.items l.lits.items l.hints.items w.0 w.1 w.2 (omega arith) t c.index-trail-place.is (omega (arith, inside, state.trail.long)) (omega (arith, between)) c.above_with-above.result (rw c.deref-then-is_between.ensures.value at c.above_with-above.ensures)),
+    )
+
+pub visit-lowest-requires-in-loop-place-clause-held : goal.visit-lowest-requires-in-loop-place-clause-held
+visit-lowest-requires-in-loop-place-clause-held c =
+    let held = held_of c.args.clauses.now in
+    let trail = c.args.trail.now in
+    let reasons = c.args.reasons.now in
+    let state = c.requires.state in
+    let last = c.last_decision-last in
+    let t = c.index-trail-place.result in
+    let l = c.loop-place in
+    let w = l.invariant in
+    let marked = marked_from l.marks.items c.variable.result t c.index.result.now c.variable.ensures.value c.index.ensures c.if-not-index.false (omega (arith, w.2.long, (state.range t (has-at trail (l.place - 1) t (omega (arith, w.2.within)) c.index-trail-place.is)).1)) in
+    let cause = cause_of held trail reasons state.trail state.closed (c.args.vars + 1) c.args.conflict last.result (λ less. last.ensures.decision (omega (arith, less, state.trail.long))) (omega (arith, last.ensures.bound, state.trail.long))
+    l.place l.lowest l.above l.marks.items l.lits.items l.hints.items w.0 w.1 w.2 (omega arith) t c.index-trail-place.is c.next_decision-first.result c.next_decision-first.ensures.none last.ensures.none marked c.if-place-lowest.false c.if-is_between.ensures in
+    (cause.0, cause.1)
+
+pub visit-lowest-requires-in-loop-place-clause-range : goal.visit-lowest-requires-in-loop-place-clause-range
+visit-lowest-requires-in-loop-place-clause-range c =
+    λ clause m at h.
+    let in_range = c.requires.range (slice_index c.args.reasons.now (c.loop-place.place - 1)) clause at m h in
+    (omega (arith, in_range.1, c.loop-place.invariant.2.long, ap length c.deref_mut-in-loop-place.ensures.value), omega (arith, in_range.1, c.in_ok-places.ensures.0, ap length c.deref-in-loop-place.ensures.value))
 
 pub loop-place-preserved : goal.loop-place-preserved
 loop-place-preserved c =
     let held = held_of c.args.clauses.now in
-    let trues = c.args.trail.now in
+    let trail = c.args.trail.now in
     let reasons = c.args.reasons.now in
-    let place = c.loop-place.place in
+    let state = c.requires.state in
+    let last = c.last_decision-last in
     let t = c.index-trail-place.result in
-    let inv = c.loop-place.invariant in
-    let below : place - 1 < length trues = omega arith in
-    let reason = slice_index reasons (place - 1) in
-    let derived = c.requires.trail.derived (place - 1) below c.if-reason-eq0.false in
-    let small : reason < 2 ^ 63 = c.requires.small.1 (place - 1) 0 (omega (arith, c.requires.trail.long)) in
-    let forced : IsForced (take (place - 1) trues) t derived.0 = subst (λ k. IsForced (take (place - 1) trues) k derived.0) (sym c.index-trail-place.is) (derived.2 t) in (
-      omega arith,
-      topped_lower trues reasons place (place - 1) c.loop-place.lits.items (omega arith) inv.1,
-      (
-        Derive t reason derived.0 ∷ inv.2.0,
-        inv.2.1,
-        inv.2.2,
-        walk_derive held trues inv.2.1 c.loop-place.marked.items place t inv.2.0 (omega arith) inv.0 c.index-trail-place.is inv.2.3
-            reason derived.0 c.in_ok-marked-2.marked.items derived.1 forced
-            (c.in_ok-marked-2.ensures derived.0 derived.1 ∙ ap (λ ls. map negated derived.0 ++ ls) c.deref-in-loop-place.ensures.value),
-        inv.2.4,
-        c.in_ok-insert-2.ensures.items ∙ ap (λ z. z ∷ c.loop-place.hints.items) (to_z_pos w64 reason small) ∙ ap (λ hs. pos reason ∷ hs) inv.2.5,
-      ),
-      above_lower trues place (place - 1) c.loop-place.lits.items (omega arith) inv.3,
-      omega (arith, inv.4, ap length c.in_ok-insert-2.ensures.items),
-      inv.5,
+    let l = c.loop-place in
+    let w = l.invariant in
+    let marked = marked_from l.marks.items c.variable.result t c.index.result.now c.variable.ensures.value c.index.ensures c.if-not-index.false (omega (arith, w.2.long, (state.range t (has-at trail (l.place - 1) t (omega (arith, w.2.within)) c.index-trail-place.is)).1)) in
+    let cause = cause_of held trail reasons state.trail state.closed (c.args.vars + 1) c.args.conflict last.result (λ less. last.ensures.decision (omega (arith, less, state.trail.long))) (omega (arith, last.ensures.bound, state.trail.long))
+    l.place l.lowest l.above l.marks.items l.lits.items l.hints.items w.0 w.1 w.2 (omega arith) t c.index-trail-place.is c.next_decision-first.result c.next_decision-first.ensures.none last.ensures.none marked c.if-place-lowest.false c.if-is_between.ensures in
+    let reason = slice_index reasons (l.place - 1) in
+    let now = c.visit-lowest-in-loop-place.new.marks in
+    let lowest = c.visit-lowest-in-loop-place.result in
+    let places = c.in_ok-places.places.items in
+    let more : Marks l.marks.items cause.0 now = subst (λ ms. Marks ms cause.0 now) c.deref_mut-in-loop-place.ensures.value (c.visit-lowest-in-loop-place.ensures.marks cause.0 cause.1) in
+    let low : IsLowest places last.result l.lowest cause.0 lowest = subst (λ ps. IsLowest ps last.result l.lowest cause.0 lowest) c.deref-in-loop-place.ensures.value (c.visit-lowest-in-loop-place.ensures.lowest cause.0 cause.1) in
+    let small : reason < 2 ^ 63 = state.small (l.place - 1) 0 (omega (arith, w.2.within, state.trail.long)) in
+    let hints_are = c.in_ok-push-4.ensures.items ∙ ap (λ z. l.hints.items ++ z ∷ []) (to_z_pos w64 reason small) in (
+      Derive t reason cause.0 ∷ w.0,
+      w.1,
+      rw (written_back l.marks.len now l.marks.items (more.long ∙ sym l.marks.ok.0), hints_are)
+          (walk_derives held trail reasons state.trail state.closed (c.args.vars + 1) c.args.conflict last.result (λ less. last.ensures.decision (omega (arith, less, state.trail.long))) (omega (arith, last.ensures.bound, state.trail.long))
+          l.place l.lowest l.above l.marks.items l.lits.items l.hints.items w.0 w.1 w.2 (omega arith) t c.index-trail-place.is reason cause.0 now lowest places cause.1 cause.2 more c.in_ok-places.ensures.1 low),
     )
 
 pub returns : goal.returns
 returns c =
     let held = held_of c.args.clauses.now in
-    let trues = c.args.trail.now in
-    let inv = c.loop-place.invariant in
-    let at_start : c.loop-place.place ≡ 0 = omega arith in
-    let plan : IsPlan held trues inv.2.1 (waiting c.loop-place.marked.items []) inv.2.0 = subst (λ p. IsPlan held trues inv.2.1 (waiting c.loop-place.marked.items (take p trues)) inv.2.0) at_start inv.2.3 in
-    record {
-      follows = plan_end held trues inv.2.1 c.loop-place.marked.items c.loop-place.lits.items inv.2.0 c.loop-place.hints.items c.args.conflict c.requires.trail.consistent inv.2.2 plan inv.2.4 inv.2.5;
-      useful = topped_useful held trues c.args.reasons.now c.loop-place.lits.items c.requires.trail c.requires.closed (topped_lower trues c.args.reasons.now c.loop-place.place 0 c.loop-place.lits.items (omega arith) inv.1);
-      unclosed = topped_unclosed held trues c.args.reasons.now c.loop-place.lits.items c.requires.closed (topped_lower trues c.args.reasons.now c.loop-place.place 0 c.loop-place.lits.items (omega arith) inv.1);
-      negates = λ m h. kept_on_trail held trues inv.2.1 (waiting c.loop-place.marked.items []) inv.2.0 plan m (subst (λ (ls : List Literal). has ls m ≡ true) inv.2.4 h);
-      distinct = inv.3.0;
-      few_hints = omega (arith, inv.4);
-      closed = jump_closed held trues c.args.reasons.now c.requires.trail c.requires.closed c.loop-place.lits.items c.loop-place.jump inv.5;
-    }
+    let trail = c.args.trail.now in
+    let reasons = c.args.reasons.now in
+    let state = c.requires.state in
+    let last = c.last_decision-last in
+    let l = c.loop-place in
+    let w = l.invariant in
+    let at_start : l.place ≡ 0 = omega arith in
+    let ended = subst (λ p. IsWalk held trail (c.args.vars + 1) c.args.conflict last.result p l.lowest l.above l.marks.items l.lits.items l.hints.items w.0 w.1) at_start w.2 in
+    rw (c.reverse.ensures.items, c.reverse-2.ensures.items) (walk_ends held trail reasons state.trail state.closed (c.args.vars + 1) c.args.conflict last.result (λ less. last.ensures.decision (omega (arith, less, state.trail.long))) (omega (arith, last.ensures.bound, state.trail.long))
+    l.lowest l.above l.marks.items l.lits.items l.hints.items w.0 w.1 ended c.next_decision-jump.result c.next_decision-jump.ensures.none)

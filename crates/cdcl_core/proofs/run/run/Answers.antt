@@ -1,5 +1,5 @@
-use Rattle.std.proofs.Common.{ℕ, ◌≡◌, ◌≤◌, ◌<◌, ◌+◌, ◌-◌, ◌^◌, ◌∷◌, [], true, false, length, List, sym, ◌∙◌, subst, arith, refl}
-use Rattle.std.specs.Prelude.{All, ◌==◌}
+use Rattle.std.proofs.Common.{◌≡◌, ◌≤◌, ◌<◌, ◌+◌, ◌-◌, ◌∷◌, [], true, false, length, List, sym, ◌∙◌, subst, arith, refl}
+use Rattle.std.specs.Prelude.{◌==◌}
 use Rattle.std.proofs.lemmas.Bool.{true≢false}
 use Rattle.lrat_model.specs.Literal.{Literal}
 use Rattle.lrat_model.specs.Steps.{ProofStep, Addition}
@@ -32,10 +32,8 @@ returns-in-Full-clause-sat c =
 pub analyse-requires-clause-small : goal.analyse-requires-clause-small
 analyse-requires-clause-small c =
     let finds : Finds (held_of c.lemmas.clauses.items) c.settle.new.trail.items (False c.in-Conflict.conflict) = rw c.deref.ensures.value at c.in_ok-settle.ensures.conflict c.in-Conflict.conflict (cc c.in-Conflict.is) in
-    let ids = id_found (λ k. (0 < k) × (k ≤ c.lemmas.last)) c.lemmas.clauses.items c.lemmas.invariant.1 c.in-Conflict.conflict finds.0 finds.1 in (
-      omega (arith, ids.1, c.lemmas.invariant.7),
-      subst (λ (rs : List ℕ). All (λ r. r < 2 ^ 63) rs) (sym c.deref-in-Conflict-3.ensures.value) c.in_ok-settle.ensures.state.small,
-    )
+    let ids = id_found (λ k. (0 < k) × (k ≤ c.lemmas.last)) c.lemmas.clauses.items c.lemmas.invariant.1 c.in-Conflict.conflict finds.0 finds.1 in
+    omega (arith, ids.1, c.lemmas.invariant.7)
 
 pub returns-then-is_empty-clause-range : goal.returns-then-is_empty-clause-range
 returns-then-is_empty-clause-range c =
@@ -49,20 +47,20 @@ returns-then-is_empty-clause-goes_on c =
     let trues = c.settle.new.trail.items in
     let reasons = c.settle.new.reasons.items in
     let state : IsState c.args.vars held trues reasons = rw c.deref.ensures.value at c.in_ok-settle.ensures.state in
-    let lits = c.in_ok-lits-in-Conflict.field-0.lits in
-    let hints = c.in_ok-lits-in-Conflict.field-0.hints in
-    let jump = c.in_ok-lits-in-Conflict.field-0.jump in
-    let learnt : IsLearntClause held trues reasons lits.items hints.items jump = rw (c.deref-in-Conflict.ensures.value, c.deref-in-Conflict-2.ensures.value, c.deref-in-Conflict-3.ensures.value) at c.in_ok-lits-in-Conflict.ensures in
-    let none : (length lits.items == 0) ≡ true = sym (rw c.deref-in-Conflict-4.ensures.value at c.is_empty.ensures) ∙ c.if-is_empty.true in
+    let lits = c.in_ok-learnt-in-Conflict.learnt.lits in
+    let hints = c.in_ok-learnt-in-Conflict.learnt.hints in
+    let jump = c.in_ok-learnt-in-Conflict.learnt.jump in
+    let learnt : IsLearntClause held trues reasons lits.items hints.items jump = rw (c.deref-in-Conflict.ensures.value, c.deref-in-Conflict-2.ensures.value, c.deref-in-Conflict-3.ensures.value) at c.in_ok-learnt-in-Conflict.ensures in
+    let none : (length lits.items == 0) ≡ true = sym (rw c.deref-in-Conflict-6.ensures.value at c.is_empty.ensures) ∙ c.if-is_empty.true in
     searched_more c.args.vars (database_of c.args.clauses.now.items c.args.last.now) (steps_of c.args.log.now.items) held c.lemmas.last (steps_of c.lemmas.log.items) trues reasons state lits.items hints.items jump learnt c.args.left.now c.lemmas.left inv.8 (held_of c.learn.new.clauses.items) (steps_of c.learn.new.log.items) c.in_ok-learn-in-Conflict.ensures.held c.in_ok-learn-in-Conflict.ensures.log c.lemmas.left (λ _. refl) (λ some. absurd (true≢false (sym none ∙ some)))
 
 pub returns-then-is_empty-clause-unsat : goal.returns-then-is_empty-clause-unsat
 returns-then-is_empty-clause-unsat c =
     λ _.
-    let lits = c.in_ok-lits-in-Conflict.field-0.lits in
-    let none : (length lits.items == 0) ≡ true = sym (rw c.deref-in-Conflict-4.ensures.value at c.is_empty.ensures) ∙ c.if-is_empty.true in (
+    let lits = c.in_ok-learnt-in-Conflict.learnt.lits in
+    let none : (length lits.items == 0) ≡ true = sym (rw c.deref-in-Conflict-6.ensures.value at c.is_empty.ensures) ∙ c.if-is_empty.true in (
       steps_of c.lemmas.log.items,
-      Addition (c.lemmas.last + 1) lits.items c.in_ok-lits-in-Conflict.field-0.hints.items,
+      Addition (c.lemmas.last + 1) lits.items c.in_ok-learnt-in-Conflict.learnt.hints.items,
       c.in_ok-learn-in-Conflict.ensures.log,
       refuted_where_empty lits.items none,
       c.lemmas.invariant.4,
@@ -74,10 +72,10 @@ returns-then-is_empty-clause-refutes c =
     let held = held_of c.lemmas.clauses.items in
     let trues = c.settle.new.trail.items in
     let reasons = c.settle.new.reasons.items in
-    let lits = c.in_ok-lits-in-Conflict.field-0.lits in
-    let hints = c.in_ok-lits-in-Conflict.field-0.hints in
-    let learnt : IsLearntClause held trues reasons lits.items hints.items c.in_ok-lits-in-Conflict.field-0.jump = rw (c.deref-in-Conflict.ensures.value, c.deref-in-Conflict-2.ensures.value, c.deref-in-Conflict-3.ensures.value) at c.in_ok-lits-in-Conflict.ensures in
-    let none : (length lits.items == 0) ≡ true = sym (rw c.deref-in-Conflict-4.ensures.value at c.is_empty.ensures) ∙ c.if-is_empty.true in
+    let lits = c.in_ok-learnt-in-Conflict.learnt.lits in
+    let hints = c.in_ok-learnt-in-Conflict.learnt.hints in
+    let learnt : IsLearntClause held trues reasons lits.items hints.items c.in_ok-learnt-in-Conflict.learnt.jump = rw (c.deref-in-Conflict.ensures.value, c.deref-in-Conflict-2.ensures.value, c.deref-in-Conflict-3.ensures.value) at c.in_ok-learnt-in-Conflict.ensures in
+    let none : (length lits.items == 0) ≡ true = sym (rw c.deref-in-Conflict-6.ensures.value at c.is_empty.ensures) ∙ c.if-is_empty.true in
     let searched = c.lemmas.invariant.8 in
     follows_nothing held lits.items hints.items none learnt.follows v
     (run_satisfies c.args.vars (database_of c.args.clauses.now.items c.args.last.now) (database_of c.lemmas.clauses.items c.lemmas.last) searched.0 searched.1.run v satisfies)
@@ -89,14 +87,14 @@ returns-then-left-eq0-clause-spent c =
     let trues = c.settle.new.trail.items in
     let reasons = c.settle.new.reasons.items in
     let state : IsState c.args.vars held trues reasons = rw c.deref.ensures.value at c.in_ok-settle.ensures.state in
-    let lits = c.in_ok-lits-in-Conflict.field-0.lits in
-    let hints = c.in_ok-lits-in-Conflict.field-0.hints in
-    let learnt : IsLearntClause held trues reasons lits.items hints.items c.in_ok-lits-in-Conflict.field-0.jump = rw (c.deref-in-Conflict.ensures.value, c.deref-in-Conflict-2.ensures.value, c.deref-in-Conflict-3.ensures.value) at c.in_ok-lits-in-Conflict.ensures in
-    let other : (length lits.items == 0) ≡ false = sym (rw c.deref-in-Conflict-4.ensures.value at c.is_empty.ensures) ∙ c.if-is_empty.false in
+    let lits = c.in_ok-learnt-in-Conflict.learnt.lits in
+    let hints = c.in_ok-learnt-in-Conflict.learnt.hints in
+    let learnt : IsLearntClause held trues reasons lits.items hints.items c.in_ok-learnt-in-Conflict.learnt.jump = rw (c.deref-in-Conflict.ensures.value, c.deref-in-Conflict-2.ensures.value, c.deref-in-Conflict-3.ensures.value) at c.in_ok-learnt-in-Conflict.ensures in
+    let other : (length lits.items == 0) ≡ false = sym (rw c.deref-in-Conflict-6.ensures.value at c.is_empty.ensures) ∙ c.if-is_empty.false in
     let some : 0 < length lits.items = some_there lits.items other in (
       c.if-left-eq0.true,
       learnt.unclosed some,
-      (lits.items, hints.items, some, learnt_clause_consistent held trues reasons lits.items hints.items c.in_ok-lits-in-Conflict.field-0.jump state.trail learnt, learnt.follows, learnt.useful some),
+      (lits.items, hints.items, some, learnt_clause_consistent held trues reasons lits.items hints.items c.in_ok-learnt-in-Conflict.learnt.jump state.trail learnt, learnt.follows, learnt.useful some),
     )
 
 pub lemmas-preserved : goal.lemmas-preserved
@@ -106,12 +104,12 @@ lemmas-preserved c =
     let trues = c.settle.new.trail.items in
     let reasons = c.settle.new.reasons.items in
     let state : IsState c.args.vars held trues reasons = rw c.deref.ensures.value at c.in_ok-settle.ensures.state in
-    let lits = c.in_ok-lits-in-Conflict.field-0.lits in
-    let hints = c.in_ok-lits-in-Conflict.field-0.hints in
-    let jump = c.in_ok-lits-in-Conflict.field-0.jump in
-    let learnt : IsLearntClause held trues reasons lits.items hints.items jump = rw (c.deref-in-Conflict.ensures.value, c.deref-in-Conflict-2.ensures.value, c.deref-in-Conflict-3.ensures.value) at c.in_ok-lits-in-Conflict.ensures in
+    let lits = c.in_ok-learnt-in-Conflict.learnt.lits in
+    let hints = c.in_ok-learnt-in-Conflict.learnt.hints in
+    let jump = c.in_ok-learnt-in-Conflict.learnt.jump in
+    let learnt : IsLearntClause held trues reasons lits.items hints.items jump = rw (c.deref-in-Conflict.ensures.value, c.deref-in-Conflict-2.ensures.value, c.deref-in-Conflict-3.ensures.value) at c.in_ok-learnt-in-Conflict.ensures in
     let done = c.in_ok-learn-in-Conflict-2.ensures in
-    let other : (length lits.items == 0) ≡ false = sym (rw c.deref-in-Conflict-4.ensures.value at c.is_empty.ensures) ∙ c.if-is_empty.false in (
+    let other : (length lits.items == 0) ≡ false = sym (rw c.deref-in-Conflict-6.ensures.value at c.is_empty.ensures) ∙ c.if-is_empty.false in (
       done.rise,
       done.ids (λ i d within. (inv.1 i d within).0) (omega arith),
       done.range c.args.vars state inv.2,
@@ -121,4 +119,5 @@ lemmas-preserved c =
       omega (arith, inv.6),
       omega (arith, inv.7),
       searched_more c.args.vars (database_of c.args.clauses.now.items c.args.last.now) (steps_of c.args.log.now.items) held c.lemmas.last (steps_of c.lemmas.log.items) trues reasons state lits.items hints.items jump learnt c.args.left.now c.lemmas.left inv.8 (held_of c.learn-in-Conflict.new.clauses.items) (steps_of c.learn-in-Conflict.new.log.items) done.held done.log (c.lemmas.left - 1) (λ none. absurd (true≢false (sym none ∙ other))) (λ _. omega (arith, inv.6)),
+      c.save_phases.ensures ∙ c.raise.ensures ∙ inv.9,
     )

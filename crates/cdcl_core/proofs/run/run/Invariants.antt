@@ -18,6 +18,7 @@ invariant-lemmas l =
     × (l.left ≤ l.initial.left)
     × (l.last + l.left ≡ l.initial.last + l.initial.left)
     × ((steps : List ProofStep) × Searched l.vars (database_of l.initial.clauses.items l.initial.last) (database_of l.clauses.items l.last) (steps_of l.initial.log.items) (steps_of l.log.items) (l.initial.left - l.left) steps)
+    × (l.order ≡ l.vars)
 
 abbrev pub decreases-lemmas : goal.decreases-lemmas
 decreases-lemmas l = l.left

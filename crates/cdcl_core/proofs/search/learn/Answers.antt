@@ -14,7 +14,7 @@ use Rattle.cdcl_core.proofs.search.learn.Goals as goal
 pub returns-clause-state : goal.returns-clause-state
 returns-clause-state c =
     λ n state.
-    rw (c.truncate.ensures.items, c.truncate-2.ensures.items) (state_back n (held_of c.args.clauses.now.items) c.args.trail.now.items c.args.reasons.now.items state c.args.jump c.args.id c.args.lits.items (c.requires.learnt.closed c.args.id))
+    rw (c.truncate.ensures.items, c.truncate-2.ensures.items) (state_back n (held_of c.args.clauses.now.items) c.args.trail.now.items c.args.reasons.now.items state c.args.learnt.jump c.args.id c.args.learnt.lits.items (c.requires.follows.closed c.args.id))
 
 pub returns-clause-ids : goal.returns-clause-ids
 returns-clause-ids c =
@@ -27,13 +27,13 @@ unwrap-requires c = c.push-2.ensures.succeeds (omega (arith, c.in_ok-reserve.ens
 
 pub returns-clause-log : goal.returns-clause-log
 returns-clause-log c =
-    let pushed : c.push-2.new.self.items ≡ c.reserve.new.self.items ++ Add c.args.id c.args.lits c.args.hints ∷ [] = c.push-2.ensures.items ∙ ap (λ r. if is_ok r then c.reserve.new.self.items ++ Add c.args.id c.args.lits c.args.hints ∷ [] else c.reserve.new.self.items) c.unwrap.ensures in
-    steps_push c.args.log.now.items c.push-2.new.self.items (Add c.args.id c.args.lits c.args.hints) (pushed ∙ ap (λ (ls : List Step). ls ++ Add c.args.id c.args.lits c.args.hints ∷ []) c.reserve.ensures.items)
+    let pushed : c.push-2.new.self.items ≡ c.reserve.new.self.items ++ Add c.args.id c.args.learnt.lits c.args.learnt.hints ∷ [] = c.push-2.ensures.items ∙ ap (λ r. if is_ok r then c.reserve.new.self.items ++ Add c.args.id c.args.learnt.lits c.args.learnt.hints ∷ [] else c.reserve.new.self.items) c.unwrap.ensures in
+    steps_push c.args.log.now.items c.push-2.new.self.items (Add c.args.id c.args.learnt.lits c.args.learnt.hints) (pushed ∙ ap (λ (ls : List Step). ls ++ Add c.args.id c.args.learnt.lits c.args.learnt.hints ∷ []) c.reserve.ensures.items)
 
 pub returns-clause-range : goal.returns-clause-range
 returns-clause-range c =
     λ n state range.
-    let own = negates_in_range n c.args.trail.now.items c.args.lits.items state.range c.requires.learnt.negates in
-    let copied : c.extend_from_slice.new.self.items ≡ c.args.lits.items = c.in_ok-extend_from_slice.ensures.items ∙ ap (λ (ls : List Literal). ls ++ c.deref.result.now) c.new-held.ensures.items ∙ c.deref.ensures.value in
-    let held_is = ap (λ (es : List (ℕ × Vec Literal)). held_of es) c.in_ok-push.ensures.items ∙ held_push c.args.clauses.now.items c.args.id c.extend_from_slice.new.self c.args.lits.items copied in
-    subst (λ (h : Held). InRange n h) (sym held_is) (in_range_after n (held_of c.args.clauses.now.items) c.args.id c.args.lits.items range own)
+    let own = negates_in_range n c.args.trail.now.items c.args.learnt.lits.items state.range c.requires.follows.negates in
+    let copied : c.extend_from_slice.new.self.items ≡ c.args.learnt.lits.items = c.in_ok-extend_from_slice.ensures.items ∙ ap (λ (ls : List Literal). ls ++ c.deref.result.now) c.new-held.ensures.items ∙ c.deref.ensures.value in
+    let held_is = ap (λ (es : List (ℕ × Vec Literal)). held_of es) c.in_ok-push.ensures.items ∙ held_push c.args.clauses.now.items c.args.id c.extend_from_slice.new.self c.args.learnt.lits.items copied in
+    subst (λ (h : Held). InRange n h) (sym held_is) (in_range_after n (held_of c.args.clauses.now.items) c.args.id c.args.learnt.lits.items range own)
