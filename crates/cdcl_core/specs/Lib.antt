@@ -1,0 +1,11 @@
+pub mod Fixpoint
+pub mod Trail
+pub mod Scans
+pub mod Log
+pub mod Search
+pub mod Values
+pub mod Ranges
+pub mod Solving
+pub mod State
+pub mod Marks
+pub mod Order

@@ -1,0 +1,155 @@
+ghost use Rattle.std.specs.Prelude.{◌≡◌, true, ◌≤◌, ◌<◌, ◌^◌, IfOk};
+ghost use Rattle.lrat_checker.specs.Ranges.{AreInRange, IsInRange};
+
+use cdcl_core::{Budget, Solver, Verdict};
+use clause_store::Store;
+use lrat_checker::Checker;
+use lrat_model::{Lit, Progress};
+use std::alloc::{AllocError, Global};
+use std::test::Fail;
+
+// The formula of two nodes that each need both: its 16 clauses, over 8 variables.
+const TWO_OF_TWO: [&[i32]; 16] = [
+    &[1, 2],
+    &[3, 4],
+    &[-1, -3],
+    &[-2, -4],
+    &[-5, 1],
+    &[-5, 2],
+    &[-1, 5],
+    &[-6, 1],
+    &[-6, 2],
+    &[-2, 6],
+    &[-7, 3],
+    &[-7, 4],
+    &[-3, 7],
+    &[-8, 3],
+    &[-8, 4],
+    &[-4, 8],
+];
+
+// The formula of three nodes that each need two, one of them faulty: two others can part.
+const TWO_OF_THREE: [&[i32]; 12] = [
+    &[1, 2],
+    &[3, 4],
+    &[-1, -3],
+    &[-2, -4],
+    &[-5, 1, 2],
+    &[-1, 5],
+    &[-6, 1, 2],
+    &[-2, 6],
+    &[-7, 3, 4],
+    &[-3, 7],
+    &[-8, 3, 4],
+    &[-4, 8],
+];
+
+fn lits(alloc: Global, numbers: &[i32]) -> Result<Vec<Lit>, AllocError> {
+    let mut lits = Vec::new(alloc);
+    for number in numbers {
+        if *number != 0 && *number != i32::MIN {
+            lits.push(Lit::of(*number))?;
+        }
+    }
+    Ok(lits)
+}
+
+fn are_in_range(lits: &[Lit], vars: u64) -> bool
+    ensures { result ≡ true → IsInRange vars lits.now }
+{
+    lits.iter().all(|l| l.variable() as u64 <= vars)
+}
+
+// The clauses, under the ids from 1 on.
+fn store(alloc: Global, clauses: &[&[i32]], vars: u64) -> Result<Store, AllocError>
+    ensures range { IfOk result (λ store. AreInRange vars store.held) }
+    ensures few { IfOk result (λ store. store.last ≤ 100) }
+{
+    let mut store = Store::new(alloc);
+    for numbers in clauses {
+        let clause = lits(alloc, numbers)?;
+        let last = store.last();
+        if last >= 100 || !are_in_range(&clause, vars) {
+            continue;
+        }
+        store.push(last + 1, &clause)?;
+    }
+    Ok(store)
+}
+
+// Whether the checker takes each step of the log, and the empty lemma last.
+fn is_refutation(alloc: Global, store: Store, vars: u64, solver: &Solver) -> Result<bool, Fail>
+    requires small { vars < 2 ^ 31 }
+    requires range { AreInRange vars store.held }
+{
+    let mut checker = Checker::start(alloc, store, vars)?;
+    let mut progress = Progress::Going;
+    for step in solver.log() {
+        match checker.step(step) {
+            Ok(next) => progress = next,
+            Err(_) => return Ok(false),
+        }
+    }
+    Ok(progress == Progress::Refuted)
+}
+
+#[test]
+fn two_of_two_is_refuted_within_its_budget(rt: HostRuntime) -> Result<(), Fail> {
+    let alloc = rt.alloc();
+    let store = store(alloc, &TWO_OF_TWO, 8)?;
+    let mut solver = Solver::start(alloc, &store, 8)?;
+    let mut none = Budget::of(0);
+    assert_eq!(rt; solver.solve(&mut none)?, Verdict::Spent);
+    assert_eq!(rt; solver.log().len(), 0);
+    let mut budget = Budget::of(6561);
+    assert_eq!(rt; solver.solve(&mut budget)?, Verdict::Unsat);
+    assert!(rt; is_refutation(alloc, store, 8, &solver)?);
+    Ok(())
+}
+
+#[test]
+fn empty_clauses_are_refuted_at_no_cost(rt: HostRuntime) -> Result<(), Fail> {
+    let alloc = rt.alloc();
+    let store = store(alloc, &[&[], &[]], 0)?;
+    let mut solver = Solver::start(alloc, &store, 0)?;
+    let mut budget = Budget::of(0);
+    assert_eq!(rt; solver.solve(&mut budget)?, Verdict::Unsat);
+    let text = format!(in alloc; "{:?}", solver.log())?;
+    assert_eq!(rt; text.as_str(), "[Add { id: 3, lits: [], hints: [1] }]");
+    assert!(rt; is_refutation(alloc, store, 0, &solver)?);
+    Ok(())
+}
+
+// A clause that is given later is held from then on, after a refutation too.
+#[test]
+fn clauses_added_until_none_satisfies(rt: HostRuntime) -> Result<(), Fail> {
+    let alloc = rt.alloc();
+    let store = store(alloc, &[&[1, 2]], 2)?;
+    let mut solver = Solver::start(alloc, &store, 2)?;
+    let mut budget = Budget::of(100);
+    assert_eq!(rt; solver.add(&[Lit::negative(1)])?, 2);
+    assert_eq!(rt; solver.solve(&mut budget)?, Verdict::Sat);
+    assert_eq!(rt; (solver.model(1), solver.model(2)), (false, true));
+    assert_eq!(rt; solver.add(&[Lit::negative(2)])?, 3);
+    assert_eq!(rt; solver.solve(&mut budget)?, Verdict::Unsat);
+    assert_eq!(rt; budget.left(), 100);
+    assert_eq!(rt; solver.log().len(), 1);
+    assert_eq!(rt; solver.add(&[Lit::positive(1)])?, 5);
+    assert_eq!(rt; solver.solve(&mut budget)?, Verdict::Unsat);
+    assert_eq!(rt; solver.log().len(), 1);
+    Ok(())
+}
+
+#[test]
+fn two_of_three_with_one_faulty_part(rt: HostRuntime) -> Result<(), Fail> {
+    let alloc = rt.alloc();
+    let store = store(alloc, &TWO_OF_THREE, 8)?;
+    let mut solver = Solver::start(alloc, &store, 8)?;
+    let mut budget = Budget::of(6561);
+    assert_eq!(rt; solver.solve(&mut budget)?, Verdict::Sat);
+    // One of the two is alone on the one side, the other on the other.
+    assert_eq!(rt; solver.model(1), solver.model(4));
+    assert_eq!(rt; solver.model(2), solver.model(3));
+    assert_eq!(rt; solver.model(1), !solver.model(2));
+    Ok(())
+}
