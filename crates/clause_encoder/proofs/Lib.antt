@@ -1,0 +1,13 @@
+pub mod Bools
+pub mod CounterHolds
+pub mod CounterFills
+pub mod Numbering
+pub mod GateLaws
+pub mod GateFills
+pub mod CircuitLaws
+pub mod CircuitFills
+pub mod Members
+pub mod QuorumLaws
+pub mod FormulaSays
+pub mod FormulaFills
+pub mod FormulaLaw
