@@ -11,3 +11,7 @@ pub mod QuorumLaws
 pub mod FormulaSays
 pub mod FormulaFills
 pub mod FormulaLaw
+pub mod NumberedLaws
+pub mod CounterWriting
+pub mod RepeatLaws
+pub mod MarkLaws

@@ -35,12 +35,16 @@ impl Clauses {
         }
     }
 
-    /// One more clause behind the others: O(literals), amortised.
+    /// One more clause behind the others: O(literals), amortised. Where the ids run out there is no memory for it either.
     pub fn push(&mut self, lits: &[Lit]) -> Result<(), AllocError>
         ensures { OnOk result (self.new ≡ self.old ++ lits.now ∷ []) }
     {
-        let id = self.store.last().checked_add(1).ok_or(AllocError)?;
-        self.store.push(id, lits)
+        let last = self.store.last();
+        if last == u64::MAX {
+            return Err(AllocError);
+        }
+        self.store.push(last + 1, lits)?;
+        Ok(())
     }
 
     /// The store.
