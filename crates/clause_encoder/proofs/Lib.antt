@@ -15,3 +15,4 @@ pub mod NumberedLaws
 pub mod CounterWriting
 pub mod RepeatLaws
 pub mod MarkLaws
+pub mod GateWriting
