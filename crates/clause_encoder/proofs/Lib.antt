@@ -16,3 +16,4 @@ pub mod CounterWriting
 pub mod RepeatLaws
 pub mod MarkLaws
 pub mod GateWriting
+pub mod TableLaws

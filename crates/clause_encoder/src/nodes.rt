@@ -50,8 +50,8 @@ pub fn variables_of(
     Ok(variables)
 }
 
-/// The circuit of a node, which is a member: O(the entries of its quorum set).
-fn member_circuit(
+/// The circuit of a node, where it is a member: O(the entries of its quorum set).
+fn node_circuit(
     alloc: Global,
     system: &System,
     faulty: &NodeSet,
@@ -61,9 +61,12 @@ fn member_circuit(
     requires node { v < length system.now.sets }
     requires faulty { length faulty.now ≡ length system.now.sets }
     requires greatest { length greatest.now ≡ length system.now.sets }
-    ensures circuit { IfOk result (λ c. circuit_view c ≡ circuit_at system.now.sets faulty.now greatest.now v) }
+    ensures circuit { v ∈ members greatest.now → IfOk result (λ c. circuit_view c ≡ circuit_at system.now.sets faulty.now greatest.now v) }
     ensures writable { IfOk result (λ c. IsWritable (length system.now.sets) (circuit_view c)) }
 {
+    if !greatest.has(v) {
+        return Ok(Circuit::Never);
+    }
     match system.quorum_set(v) {
         Some(quorum_set) => circuit_of(alloc, quorum_set, greatest, faulty),
         None => Ok(Circuit::Never),
@@ -85,11 +88,7 @@ pub fn circuits_of(
 {
     let mut circuits = Vec::new(alloc);
     for v in 0..system.len() {
-        circuits.push(if greatest.has(v) {
-            member_circuit(alloc, system, faulty, greatest, v)?
-        } else {
-            Circuit::Never
-        })?;
+        circuits.push(node_circuit(alloc, system, faulty, greatest, v)?)?;
     }
     Ok(circuits)
 }
