@@ -17,3 +17,6 @@ pub mod RepeatLaws
 pub mod MarkLaws
 pub mod GateWriting
 pub mod TableLaws
+pub mod SideWriting
+pub mod AgreeLaws
+pub mod CountLaws
