@@ -20,3 +20,4 @@ pub mod TableLaws
 pub mod SideWriting
 pub mod AgreeLaws
 pub mod CountLaws
+pub mod EncodeLaws
