@@ -44,14 +44,14 @@ mutual
   circuit_range p inside first (at_least k entries) low simple =
       let parts_in = inputs_clauses p first entries in
       let some = gate_variables_some k (length parts_in.variables) simple.0 (omega (arith, inputs_written p first entries, simple.1)) in
-      (omega (arith, (entries_range p inside first entries low simple.2).0), omega (arith, some))
+      (omega (arith, (inputs_range p inside first entries low simple.2).0), omega (arith, some))
 
-  pub entries_range : (p : ℕ → ℕ) (inside : ℕ → Bool) (first : ℕ) (entries : Inputs) → VariablesBelow p inside first → AreOpen inside entries → (first ≤ (inputs_clauses p first entries).next) × Below (inputs_clauses p first entries).next (inputs_clauses p first entries).variables
-  entries_range p inside first end_of_gate low simple = (omega arith, tt)
-  entries_range p inside first (input c rest) low simple =
+  pub inputs_range : (p : ℕ → ℕ) (inside : ℕ → Bool) (first : ℕ) (entries : Inputs) → VariablesBelow p inside first → AreOpen inside entries → (first ≤ (inputs_clauses p first entries).next) × Below (inputs_clauses p first entries).next (inputs_clauses p first entries).variables
+  inputs_range p inside first end_of_gate low simple = (omega arith, tt)
+  inputs_range p inside first (input c rest) low simple =
       let gate = circuit_clauses p first c in
       let here = circuit_range p inside first c low simple.0 in
-      let others = entries_range p inside gate.next rest (λ n is. omega (arith, low n is, here.0)) simple.1 in
+      let others = inputs_range p inside gate.next rest (λ n is. omega (arith, low n is, here.0)) simple.1 in
       (omega (arith, here.0, others.0), (omega (arith, here.1, others.0), others.1))
 
 one_more : (a b : Bool) (m n : ℕ) → a ≡ b → m ≡ n → (if a then 1 else 0) + m ≡ (if b then 1 else 0) + n
@@ -69,8 +69,8 @@ mutual
   }
   circuit_fill v p inside u first (at_least k entries) low reads simple =
       let parts_in = inputs_clauses p first entries in
-      let range = entries_range p inside first entries low simple.2 in
-      let below = entries_fill v p inside u first entries low reads simple.2 in
+      let range = inputs_range p inside first entries low simple.2 in
+      let below = inputs_fill v p inside u first entries low reads simple.2 in
       let own = gate_fill below.filled parts_in.next k parts_in.variables simple.0 (omega (arith, inputs_written p first entries, simple.1)) range.1 in
       let more : parts_in.next ≤ parts_in.next + own_variables k (length parts_in.variables) = omega arith in
       let back : (w : ℕ → Bool) → Agree (parts_in.next + own_variables k (length parts_in.variables)) own.filled w → Agree parts_in.next below.filled w = (λ w agree. agree_through parts_in.next (parts_in.next + own_variables k (length parts_in.variables)) below.filled own.filled w more own.same agree) in
@@ -81,21 +81,21 @@ mutual
         says = λ w agree. own.says w agree ∙ ap (nat_le k) (below.says below.filled (λ y within. refl));
       }
 
-  pub entries_fill : (v : ℕ → Bool) (p : ℕ → ℕ) (inside u : ℕ → Bool) (first : ℕ) (entries : Inputs) → VariablesBelow p inside first → Reads v p inside u → AreOpen inside entries → FilledInputs v first (inputs_clauses p first entries) (count_true u entries)
-  entries_fill v p inside u first end_of_gate low reads simple = record {
+  pub inputs_fill : (v : ℕ → Bool) (p : ℕ → ℕ) (inside u : ℕ → Bool) (first : ℕ) (entries : Inputs) → VariablesBelow p inside first → Reads v p inside u → AreOpen inside entries → FilledInputs v first (inputs_clauses p first entries) (count_true u entries)
+  inputs_fill v p inside u first end_of_gate low reads simple = record {
     filled = v;
     same = λ y below. refl;
     holds = λ w agree. refl;
     says = λ w agree. refl;
   }
-  entries_fill v p inside u first (input c rest) low reads simple =
+  inputs_fill v p inside u first (input c rest) low reads simple =
       let gate = circuit_clauses p first c in
       let range = circuit_range p inside first c low simple.0 in
       let here = circuit_fill v p inside u first c low reads simple.0 in
       let low' : VariablesBelow p inside gate.next = (λ n is. omega (arith, low n is, range.0)) in
       let reads' : Reads here.filled p inside u = (λ n is. sym (here.same (p n) (low n is)) ∙ reads n is) in
-      let others = entries_fill here.filled p inside u gate.next rest low' reads' simple.1 in
-      let range' = entries_range p inside gate.next rest low' simple.1 in
+      let others = inputs_fill here.filled p inside u gate.next rest low' reads' simple.1 in
+      let range' = inputs_range p inside gate.next rest low' simple.1 in
       let back : (w : ℕ → Bool) → Agree (inputs_clauses p gate.next rest).next others.filled w → Agree gate.next here.filled w = (λ w agree. agree_through gate.next (inputs_clauses p gate.next rest).next here.filled others.filled w range'.0 others.same agree) in
       record {
         filled = others.filled;

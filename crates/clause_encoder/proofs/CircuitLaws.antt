@@ -30,12 +30,12 @@ mutual
       let parts_in = inputs_clauses p first entries in
       let parts = true_parts v parts_in.clauses (gate_clauses parts_in.next k parts_in.variables) sat in
       let counted = gate_law v parts_in.next k parts_in.variables simple.0 (omega (arith, inputs_written p first entries, simple.1)) parts.1 on in
-      le-leb k (count_true u entries) (omega (arith, counted, entries_sound v p inside u first entries reads simple.2 parts.0))
+      le-leb k (count_true u entries) (omega (arith, counted, inputs_sound v p inside u first entries reads simple.2 parts.0))
 
-  pub entries_sound : (v : ℕ → Bool) (p : ℕ → ℕ) (inside u : ℕ → Bool) (first : ℕ) (entries : Inputs) → Reads v p inside u → AreOpen inside entries → formula_true v (inputs_clauses p first entries).clauses ≡ true → trues v (inputs_clauses p first entries).variables ≤ count_true u entries
-  entries_sound v p inside u first end_of_gate reads simple sat = omega arith
-  entries_sound v p inside u first (input c rest) reads simple sat =
+  pub inputs_sound : (v : ℕ → Bool) (p : ℕ → ℕ) (inside u : ℕ → Bool) (first : ℕ) (entries : Inputs) → Reads v p inside u → AreOpen inside entries → formula_true v (inputs_clauses p first entries).clauses ≡ true → trues v (inputs_clauses p first entries).variables ≤ count_true u entries
+  inputs_sound v p inside u first end_of_gate reads simple sat = omega arith
+  inputs_sound v p inside u first (input c rest) reads simple sat =
       let gate = circuit_clauses p first c in
       let others = inputs_clauses p gate.next rest in
       let parts = true_parts v gate.clauses others.clauses sat in
-      omega (arith, implied_count (v gate.variable) (circuit_value u c) (λ on. circuit_sound v p inside u first c reads simple.0 parts.0 on), entries_sound v p inside u gate.next rest reads simple.1 parts.1)
+      omega (arith, implied_count (v gate.variable) (circuit_value u c) (λ on. circuit_sound v p inside u first c reads simple.0 parts.0 on), inputs_sound v p inside u gate.next rest reads simple.1 parts.1)

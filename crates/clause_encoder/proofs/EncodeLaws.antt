@@ -7,12 +7,13 @@ use Rattle.fbas_model.specs.Nodes.{Table, members, size, listed_from}
 use Rattle.fbas_model.specs.Restriction.{rank}
 use Rattle.fbas_model.specs.Fbas.{Fbas}
 use Rattle.fbas_model.proofs.Sizes.{member_lt}
+use Rattle.lrat_model.specs.Runs.{formula_database}
 use Rattle.threshold_circuit.specs.declared.Circuit as Rust
 use Rattle.threshold_circuit.specs.Circuits.{Circuit}
 use Rattle.threshold_circuit.specs.Views.{circuit_view}
 use Rattle.clause_encoder.specs.Formula.{Part, side_a, side_b, formula_over, circuit_at, formula, formula_clauses, formula_vars}
 use Rattle.clause_encoder.specs.Written.{variable_in, circuit_in, variables_of, IsWritable}
-use Rattle.clause_encoder.proofs.Members.{Each, each_of, each_map, rank-le, listed-length}
+use Rattle.clause_encoder.proofs.Members.{Each, each_of, each_map, rank-le, size-le, listed-length}
 use Rattle.clause_encoder.proofs.AgreeLaws.{Agree, Alike, formula_agrees}
 use Rattle.clause_encoder.proofs.CountLaws.{writable_at, over_next, formula_is, vars_are, variables_alike}
 
@@ -77,3 +78,26 @@ members_fit g nodes vars more is at = omega (arith, at, ap length is, listed-len
 -- the room for the variables of both sides
 pub first_low : (g : Table) (nodes : List ℕ) (vars more : ℕ) → nodes ≡ listed_from 0 g → vars ≡ 2 * (length nodes + more) → 1 + length nodes + size g < vars + 2
 first_low g nodes vars more is at = omega (arith, at, ap length is, listed-length 0 g)
+
+-- ---- what the code has of a system
+
+-- the members and their circuits
+pub record Prepared (f : Fbas) (b g : Table) (nodes : List ℕ) (circuits : List Rust.Circuit) : Type 0 where
+  pub nodes_are : nodes ≡ listed_from 0 g
+  pub long : length circuits ≡ length g
+  pub same : (v : ℕ) → members g v ≡ true → circuit_in circuits v ≡ circuit_at f b g v
+  pub writable : All (λ c. IsWritable (length g) (circuit_view c)) circuits
+
+pub prepared : (f : Fbas) (b g : Table) (nodes items : List ℕ) (circuits all : List Rust.Circuit) → length g ≡ length f → nodes ≡ items → items ≡ listed_from 0 g → circuits ≡ all → length all ≡ length f → ((v : ℕ) → members g v ≡ true → circuit_in all v ≡ circuit_at f b g v) → All (λ c. IsWritable (length f) (circuit_view c)) all → Prepared f b g nodes circuits
+prepared f b g nodes items circuits all n is are at long same writable = record {
+  nodes_are = is ∙ are;
+  long = ap length at ∙ (long ∙ sym n);
+  same = λ v here. ap (λ (cs : List Rust.Circuit). circuit_in cs v) at ∙ same v here;
+  writable = subst (λ (m : ℕ). All (λ (c : Rust.Circuit). IsWritable m (circuit_view c)) circuits) (sym n) (subst (λ (cs : List Rust.Circuit). All (λ (c : Rust.Circuit). IsWritable (length f) (circuit_view c)) cs) (sym at) writable);
+}
+
+pub few_nodes : (f : Fbas) (b g : Table) (nodes : List ℕ) (circuits : List Rust.Circuit) → Prepared f b g nodes circuits → length g ≤ 4096 → length nodes ≤ 4096
+few_nodes f b g nodes circuits all few = omega (arith, ap length all.nodes_are, listed-length 0 g, size-le g, few)
+
+pub store_is : (f : Fbas) (b g : Table) (nodes : List ℕ) (circuits : List Rust.Circuit) → Prepared f b g nodes circuits → formula_database (formula_over (side_a g) (side_b g) (1 + size g + size g) (circuit_in circuits) nodes).clauses ≡ formula_database (formula_clauses f b g)
+store_is f b g nodes circuits all = ap (λ (part : Part). formula_database part.clauses) (over_circuits f b g nodes circuits all.nodes_are all.writable all.same)

@@ -21,3 +21,4 @@ pub mod SideWriting
 pub mod AgreeLaws
 pub mod CountLaws
 pub mod EncodeLaws
+pub mod RangeLaws

@@ -62,6 +62,11 @@ rank-le [] (suc n) = omega arith
 rank-le (true ∷ t) (suc n) = omega (arith, rank-suc true t n, size-cons true t, rank-le t n)
 rank-le (false ∷ t) (suc n) = omega (arith, rank-suc false t n, size-cons false t, rank-le t n)
 
+pub size-le : (t : Table) → size t ≤ length t
+size-le [] = omega arith
+size-le (true ∷ t) = omega (arith, size-cons true t, size-le t)
+size-le (false ∷ t) = omega (arith, size-cons false t, size-le t)
+
 -- the element at a place
 abbrev pub element : List ℕ → ℕ → ℕ
 element [] k = 0
