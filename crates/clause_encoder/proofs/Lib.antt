@@ -22,3 +22,4 @@ pub mod AgreeLaws
 pub mod CountLaws
 pub mod EncodeLaws
 pub mod RangeLaws
+pub mod ToldLaws
