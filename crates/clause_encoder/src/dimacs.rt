@@ -1,5 +1,5 @@
 //! A formula as DIMACS text.
-ghost use Rattle.std.specs.Prelude.{◌≡◌, ℕ, ◌+◌, ◌<◌, ◌≤◌, ◌∷◌, [], ◌++◌, List, codes, decimal, OnOk, IfOk, length};
+ghost use Rattle.std.specs.Prelude.{◌≡◌, ℕ, ◌+◌, ◌^◌, ◌<◌, ◌≤◌, ◌∷◌, [], ◌++◌, List, codes, decimal, OnOk, IfOk, length};
 ghost use Rattle.fbas_model.specs.Nodes.{listed_from};
 ghost use Rattle.fbas_model.specs.Restriction.{rank};
 ghost use Rattle.lrat_model.specs.Literal.{Literal};
@@ -46,7 +46,7 @@ fn push_side_lines(
     side: &str,
 ) -> Result<(), AllocError>
     requires same_n { length greatest.now ≡ length system.now.names }
-    requires few { first ≤ 4097 }
+    requires few { first ≤ 2 ^ 32 }
     ensures { OnOk result (text.new.items ≡ text.old.items ++ side_lines (λ v. first + rank greatest.now v) side.now system.now.names (listed_from 0 greatest.now)) }
 {
     let mut next = first;
