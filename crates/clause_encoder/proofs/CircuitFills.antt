@@ -1,6 +1,6 @@
 -- Any set of nodes leaves the gates of a circuit a truth that makes their clauses true and says the circuit's value.
-use Rattle.std.proofs.Common.{◌≡◌, ℕ, suc, ◌+◌, ◌≤◌, ◌<◌, ◌==◌, Bool, true, false, nat_le, if◌then◌else◌, List, [], ◌∷◌, length, map, refl, ap, ◌∙◌, sym, arith}
-use Rattle.threshold_circuit.specs.Circuits.{Circuit, Inputs, always, never, leaf, at_least, end_of_gate, input, input_count, IsOpen, AreOpen}
+use Rattle.std.proofs.Common.{◌≡◌, ℕ, suc, ◌+◌, ◌≤◌, ◌<◌, ◌==◌, Bool, true, false, nat_le, if◌then◌else◌, List, [], ◌∷◌, length, refl, ap, ◌∙◌, sym, arith}
+use Rattle.threshold_circuit.specs.Circuits.{Circuit, Inputs, always, never, leaf, at_least, end_of_gate, input, IsOpen, AreOpen}
 use Rattle.lrat_model.specs.Literal.{formula_true}
 use Rattle.threshold_circuit.specs.Gates.{before_row, own_variables}
 use Rattle.clause_encoder.specs.GateClauses.{gate_clauses}

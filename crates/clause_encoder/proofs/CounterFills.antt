@@ -1,5 +1,5 @@
 -- A counter's clauses hold where each cell says what it stands for.
-use Rattle.std.proofs.Common.{◌≡◌, ℕ, zero, suc, ◌+◌, ◌≤◌, min, Bool, true, false, nat_le, if◌then◌else◌, ◌⊎◌, inl, inr, List, [], ◌∷◌, length, map, take, subst, sym, ◌∙◌, add-zero, zero-add, refl, arith}
+use Rattle.std.proofs.Common.{◌≡◌, ℕ, zero, suc, ◌+◌, ◌≤◌, min, Bool, true, false, nat_le, if◌then◌else◌, ◌⊎◌, inl, inr, List, [], ◌∷◌, length, take, subst, sym, ◌∙◌, add-zero, zero-add, refl, arith}
 use Rattle.lrat_model.specs.Literal.{formula_true}
 use Rattle.clause_encoder.specs.Counter.{cell_clauses, row_clauses, counter_clauses}
 use Rattle.std.proofs.lemmas.Bool.{and_from, leb-true, le-leb}

@@ -1,5 +1,5 @@
 -- A counter's cell that is true in an assignment of all its clauses counts true inputs.
-use Rattle.std.proofs.Common.{◌≡◌, ℕ, zero, suc, ◌+◌, ◌≤◌, min, Bool, true, false, nat_le, if◌then◌else◌, ◌⊎◌, inl, inr, List, [], ◌∷◌, ◌++◌, length, map, subst, add-zero, arith}
+use Rattle.std.proofs.Common.{◌≡◌, ℕ, zero, suc, ◌+◌, ◌≤◌, min, Bool, true, false, nat_le, if◌then◌else◌, ◌⊎◌, inl, inr, List, [], ◌∷◌, ◌++◌, length, subst, add-zero, arith}
 use Rattle.lrat_model.specs.Literal.{Plus, Minus, clause_true, formula_true}
 use Rattle.clause_encoder.specs.Counter.{cell_clauses, row_clauses, counter_clauses}
 use Rattle.std.proofs.lemmas.Bool.{and_parts, leb-true}

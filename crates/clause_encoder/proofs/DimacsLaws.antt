@@ -1,9 +1,9 @@
 -- DIMACS text, line by line.
-use Rattle.std.proofs.Common.{◌≡◌, ℕ, zero, suc, ◌+◌, ◌-◌, ◌≤◌, ◌<◌, ◌==◌, Bool, true, false, List, [], ◌∷◌, ◌++◌, length, get_or, drop, append_assoc, Option, Some, None, slice_get, if◌then◌else◌, refl, ap, subst, sym, ◌∙◌, arith}
+use Rattle.std.proofs.Common.{◌≡◌, ℕ, zero, suc, ◌+◌, ◌≤◌, ◌<◌, Bool, true, false, List, [], ◌∷◌, ◌++◌, length, get_or, drop, append_assoc, Option, Some, None, slice_get, if◌then◌else◌, refl, ap, sym, ◌∙◌, arith}
 use Rattle.std.specs.Prelude.{unwrap_or}
 use Rattle.std.proofs.lemmas.Bool.{eq-eqb, ne_eqb}
 use Rattle.std.proofs.lemmas.List.{append-nil, drop_all, drop_more}
-use Rattle.fbas_model.specs.Nodes.{Table, members, size, listed_from}
+use Rattle.fbas_model.specs.Nodes.{Table, members, listed_from}
 use Rattle.fbas_model.specs.Names.{Name}
 use Rattle.fbas_model.specs.Restriction.{rank}
 use Rattle.lrat_model.specs.Literal.{Literal}

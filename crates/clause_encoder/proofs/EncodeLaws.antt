@@ -1,5 +1,5 @@
 -- The tables of the code stand for the numbers of the definition.
-use Rattle.std.proofs.Common.{◌≡◌, ℕ, ◌+◌, ◌-◌, ◌*◌, ◌≤◌, ◌<◌, true, List, [], ◌∷◌, length, get_or, refl, ap, subst, sym, ◌∙◌, arith}
+use Rattle.std.proofs.Common.{◌≡◌, ℕ, ◌+◌, ◌*◌, ◌≤◌, ◌<◌, true, List, [], ◌∷◌, length, get_or, refl, ap, subst, sym, ◌∙◌, arith}
 use Rattle.std.specs.Prelude.{All}
 use Rattle.std.proofs.lemmas.List.{get_or_default}
 use Rattle.std.proofs.lemmas.List.Elements.{All-nil, All-cons}
@@ -13,9 +13,9 @@ use Rattle.threshold_circuit.specs.Circuits.{Circuit}
 use Rattle.threshold_circuit.specs.Views.{circuit_view}
 use Rattle.clause_encoder.specs.Formula.{Part, side_a, side_b, formula_over, circuit_at, formula, formula_clauses, formula_vars}
 use Rattle.clause_encoder.specs.Written.{variable_in, circuit_in, variables_of, IsWritable}
-use Rattle.clause_encoder.proofs.Members.{Each, each_of, each_map, rank-le, size-le, listed-length}
+use Rattle.clause_encoder.proofs.Members.{Each, each_of, rank-le, size-le, listed-length}
 use Rattle.clause_encoder.proofs.AgreeLaws.{Agree, Alike, formula_agrees}
-use Rattle.clause_encoder.proofs.CountLaws.{writable_at, over_next, formula_is, vars_are, variables_alike}
+use Rattle.clause_encoder.proofs.CountLaws.{writable_at, formula_is, vars_are, variables_alike}
 
 each_all : (P : ℕ → Type 0) (xs : List ℕ) → Each P xs → All P xs
 each_all P [] h = All-nil P

@@ -1,12 +1,12 @@
 -- The formula is satisfiable exactly where two quorums share no node.
-use Rattle.std.proofs.Common.{◌≡◌, ℕ, ◌+◌, ◌<◌, ◌↔◌, Bool, true, false, inl, inr, List, [], ◌∷◌, Some, None, refl, ap, subst, sym, ◌∙◌, cond, arith}
-use Rattle.std.proofs.lemmas.Bool.{cases_Bool, and_parts, and_from, false≢true, eqb-true, eq-eqb, ne_eqb}
+use Rattle.std.proofs.Common.{◌≡◌, ℕ, ◌+◌, ◌<◌, ◌↔◌, Bool, true, false, inl, inr, List, [], ◌∷◌, Some, None, refl, ap, subst, sym, ◌∙◌, arith}
+use Rattle.std.proofs.lemmas.Bool.{and_parts, and_from, false≢true, eqb-true, eq-eqb, ne_eqb}
 use Rattle.std.specs.Prelude.{◌==◌, if◌then◌else◌}
-use Rattle.fbas_model.specs.Nodes.{Nodes, Table, members, Meets}
-use Rattle.fbas_model.specs.Fbas.{Fbas, Quorum, Intersects, IsGreatestQuorum, all_nodes}
+use Rattle.fbas_model.specs.Nodes.{Nodes, Table, members}
+use Rattle.fbas_model.specs.Fbas.{Fbas, Intersects, IsGreatestQuorum, all_nodes}
 use Rattle.lrat_model.specs.Literal.{Literal, clause_true, formula_true}
 use Rattle.lrat_model.specs.Clauses.{Held, clause_at, numbered, Satisfies, IsUnsatisfiable}
-use Rattle.clause_encoder.specs.Formula.{side_a, side_b, formula, formula_clauses}
+use Rattle.clause_encoder.specs.Formula.{side_a, side_b, formula_clauses}
 use Rattle.clause_encoder.specs.Meaning.{told, AreDisjointQuorums, Tells}
 use Rattle.clause_encoder.proofs.QuorumLaws.{greatest_from, meets_or_not}
 use Rattle.clause_encoder.proofs.FormulaSays.{formula_says}

@@ -1,5 +1,5 @@
 -- Each clause of the formula is over its variables.
-use Rattle.std.proofs.Common.{◌≡◌, ℕ, zero, suc, ◌+◌, ◌-◌, ◌≤◌, ◌<◌, min, ◌==◌, Bool, true, false, nat_le, not, if◌then◌else◌, List, [], ◌∷◌, ◌++◌, length, map, filter, slice_get, refl, ap, subst, sym, ◌∙◌, arith}
+use Rattle.std.proofs.Common.{◌≡◌, ℕ, zero, suc, ◌+◌, ◌≤◌, ◌<◌, min, ◌==◌, Bool, true, false, nat_le, not, if◌then◌else◌, List, [], ◌∷◌, ◌++◌, length, map, filter, slice_get, refl, subst, arith}
 use Rattle.std.specs.Prelude.{All}
 use Rattle.std.proofs.lemmas.Bool.{leb-true, false≢true}
 use Rattle.std.proofs.lemmas.List.Elements.{All-nil, All-cons}
@@ -16,7 +16,6 @@ use Rattle.clause_encoder.specs.Formula.{side_a, side_b, with_gate, node_clauses
 use Rattle.clause_encoder.specs.Meaning.{AreInRange}
 use Rattle.clause_encoder.proofs.Numbering.{counter_variable_below}
 use Rattle.clause_encoder.proofs.GateFills.{Below}
-use Rattle.clause_encoder.proofs.CircuitLaws.{inputs_written}
 use Rattle.clause_encoder.proofs.CircuitFills.{VariablesBelow, circuit_range, inputs_range}
 use Rattle.clause_encoder.proofs.Members.{Each, each_of, place_at}
 use Rattle.clause_encoder.proofs.QuorumLaws.{IsReady, greatest_from, ready}

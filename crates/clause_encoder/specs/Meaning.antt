@@ -1,8 +1,8 @@
 -- What an assignment of the formula's variables tells.
-use Rattle.std.specs.Prelude.{◌≡◌, ℕ, ◌-◌, ◌≤◌, Bool, true, false, ◌&&◌, List, All, slice_index_or}
+use Rattle.std.specs.Prelude.{◌≡◌, ℕ, ◌-◌, ◌≤◌, Bool, false, ◌&&◌, List, All, slice_index_or}
 use Rattle.fbas_model.specs.Nodes.{Nodes, Table, members, ◌∈◌, Meets}
 use Rattle.fbas_model.specs.Fbas.{Fbas, Quorum}
-use Rattle.lrat_model.specs.Literal.{Literal, variable_of}
+use Rattle.lrat_model.specs.Literal.{variable_of}
 use Rattle.lrat_model.specs.Clauses.{Held, Satisfies}
 use Rattle.clause_encoder.specs.Formula.{side_a, side_b}
 

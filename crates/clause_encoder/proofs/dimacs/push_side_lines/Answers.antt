@@ -1,4 +1,4 @@
-use Rattle.std.proofs.Common.{ℕ, ◌+◌, ◌<◌, length, sym, ◌∙◌, arith}
+use Rattle.std.proofs.Common.{◌+◌, ◌<◌, length, sym, ◌∙◌, arith}
 use Rattle.fbas_model.specs.Restriction.{rank}
 use Rattle.clause_encoder.proofs.Members.{rank-le, size-le}
 use Rattle.clause_encoder.proofs.DimacsLaws.{side_lines_none, side_lines_no, side_lines_yes, side_lines_all}

@@ -1,6 +1,5 @@
-use Rattle.std.proofs.Common.{ℕ, ◌+◌, ◌≡◌, ◌<◌, List, length, ap, subst, sym, ◌∙◌, arith}
+use Rattle.std.proofs.Common.{ℕ, ◌+◌, ◌≡◌, ◌<◌, length, ap, subst, ◌∙◌, arith}
 use Rattle.std.specs.Prelude.{All}
-use Rattle.fbas_model.specs.Nodes.{size}
 use Rattle.lrat_model.specs.Runs.{formula_database}
 use Rattle.threshold_circuit.specs.declared.Circuit.{Circuit}
 use Rattle.threshold_circuit.specs.Views.{circuit_view}
