@@ -4,7 +4,7 @@
 ghost use Rattle.std.specs.Prelude.{◌≡◌, ℕ, ◌<◌, ◌≤◌, ◌↔◌, length, map, IsTrue, IfSome, MatchOption, Contains, slice_get, option_copied, Some, count_by, is_none};
 ghost use Rattle.fbas_model.specs.Nodes.{members, ∅, ◌∖◌};
 ghost use Rattle.fbas_model.specs.Names.{place_of};
-ghost use Rattle.fbas_model.specs.QuorumSets.{all_entries};
+ghost use Rattle.fbas_model.specs.QuorumSets.{all_entries, IsBelow};
 ghost use Rattle.fbas_model.specs.Systems.{System as Whole, IsSystem, entries_in, unset_in};
 ghost use Rattle.fbas_model.specs.Fbas.{HasSliceWithin, Quorum, BlocksNode, all_nodes};
 
@@ -88,6 +88,7 @@ impl System {
         requires { v < length self.now.sets }
         ensures set { slice_get self.now.sets v ≡ Some (option_copied result) }
         ensures small { IfSome result (λ q. all_entries q.now ≤ 1000000) }
+        ensures below { IfSome result (λ q. IsBelow (length self.now.sets) q.now) }
     {
         match &self.sets[v as usize] {
             Some(quorum_set) => Some(quorum_set),

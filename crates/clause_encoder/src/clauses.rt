@@ -1,0 +1,56 @@
+//! Clauses as they are written.
+ghost use Rattle.std.specs.Prelude.{◌≡◌, [], ◌∷◌, ◌++◌, OnOk};
+ghost use Rattle.lrat_model.specs.Runs.{formula_database};
+
+use clause_store::{Lit, Store};
+use std::alloc::{AllocError, Global};
+use std::marker::Model;
+
+/// A store of clauses under the ids from 1 on in order, seen as the list of its clauses.
+#[derive(Drop)]
+pub struct Clauses {
+    store: Store,
+}
+
+impl Model for Clauses {
+    ghost use Rattle.std.specs.Prelude.{List};
+    ghost use Rattle.lrat_model.specs.Literal.{Literal};
+
+    ghost Value = { List (List Literal) };
+
+    ghost use Rattle.clause_encoder.specs.InOrder.{shown, IsInOrder};
+
+    ghost view = { shown };
+
+    ghost invariant = { IsInOrder };
+}
+
+impl Clauses {
+    /// No clause. Takes no memory.
+    pub fn new(alloc: Global) -> Clauses
+        ensures { result ≡ [] }
+    {
+        Clauses {
+            store: Store::new(alloc),
+        }
+    }
+
+    /// One more clause behind the others: O(literals), amortised. Where the ids run out there is no memory for it either.
+    pub fn push(&mut self, lits: &[Lit]) -> Result<(), AllocError>
+        ensures { OnOk result (self.new ≡ self.old ++ lits.now ∷ []) }
+    {
+        let last = self.store.last();
+        if last == u64::MAX {
+            return Err(AllocError);
+        }
+        self.store.push(last + 1, lits)?;
+        Ok(())
+    }
+
+    /// The store.
+    pub fn into_store(self) -> Store
+        ensures { result ≡ formula_database self }
+    {
+        self.store
+    }
+}

@@ -1,0 +1,6 @@
+pub mod Circuits
+pub mod Value
+pub mod Simplified
+pub mod Gates
+pub mod Views
+pub mod Gathering

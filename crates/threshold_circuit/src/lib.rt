@@ -1,0 +1,278 @@
+//! The circuit of a quorum set: which sets of nodes satisfy it, once the faulty nodes count as present and only the nodes
+//! of the greatest quorum may be present beside them.
+#![tactic(auto)]
+
+ghost use Rattle.std.specs.Prelude.{◌≡◌, ℕ, ◌-◌, ◌<◌, ◌≤◌, ◌↔◌, IsTrue, IfOk, All, length, []};
+ghost use Rattle.fbas_model.specs.Nodes.{Nodes, members, ◌⊆◌, ◌∪◌};
+ghost use Rattle.fbas_model.specs.Trees.{QuorumSet as Tree};
+ghost use Rattle.fbas_model.specs.QuorumSets.{HasChoiceWithin, IsBelow, all_entries};
+ghost use Rattle.quorum_set.specs.Views.{entries_of};
+ghost use Rattle.threshold_circuit.specs.Circuits.{NodesBelow, HasThresholds, IsReduced, all_inputs};
+ghost use Rattle.threshold_circuit.specs.Gathering.{joined};
+ghost use Rattle.threshold_circuit.specs.Gates.{gate_variables, own_variables};
+ghost use Rattle.threshold_circuit.specs.Simplified.{simplified, simplified_entries, validator_circuit, always_count, undecided};
+ghost use Rattle.threshold_circuit.specs.Value.{circuit_value};
+ghost use Rattle.threshold_circuit.specs.Views.{circuit_view, inputs_view};
+
+mod gathered;
+
+use gathered::Gathered;
+use name_set::NodeSet;
+use quorum_set::QuorumSet;
+use std::alloc::{AllocError, Global};
+
+/// A circuit over the nodes, without negation.
+#[derive(Debug, Drop)]
+pub enum Circuit {
+    /// True.
+    Always,
+    /// False.
+    Never,
+    /// Whether the node is present.
+    Node(u32),
+    /// Whether at least so many of the entries are true.
+    AtLeast(u64, Vec<Circuit>),
+}
+
+impl Circuit {
+    /// The value where exactly the nodes of the set are present: O(e) for e entries at all depths.
+    pub fn value(&self, set: &NodeSet) -> bool
+        requires { NodesBelow (length set.now) (circuit_view self.now) }
+        ensures value { result ≡ circuit_value (members set.now) (circuit_view self.now) }
+        ensures law { (greatest faulty : Nodes) (q : Tree) → circuit_view self.now ≡ simplified greatest faulty q → members set.now ⊆ greatest → IsTrue result ↔ HasChoiceWithin q (members set.now ∪ faulty) }
+    {
+        match self {
+            Circuit::Always => true,
+            Circuit::Never => false,
+            Circuit::Node(node) => set.has(*node),
+            Circuit::AtLeast(threshold, entries) => {
+                let mut count: u64 = 0;
+                for entry in entries {
+                    if entry.value(set) {
+                        count += 1;
+                    }
+                }
+                *threshold <= count
+            }
+        }
+    }
+
+    /// How many variables its gates have in its clauses: O(e) for e entries at all depths.
+    pub fn gate_vars(&self) -> u64
+        requires thresholds { HasThresholds (circuit_view self.now) }
+        requires few { all_inputs (circuit_view self.now) ≤ 1000000 }
+        ensures { result ≡ gate_variables (circuit_view self.now) }
+    {
+        match self {
+            Circuit::Always => 0,
+            Circuit::Never => 0,
+            Circuit::Node(_) => 0,
+            Circuit::AtLeast(threshold, entries) => {
+                let mut count: u64 = 0;
+                for entry in entries {
+                    count += entry.gate_vars();
+                }
+                count + own_vars(*threshold, entries.len() as u64)
+            }
+        }
+    }
+}
+
+/// How many variables a gate has for itself that wants `k` of `n` inputs.
+fn own_vars(k: u64, n: u64) -> u64
+    requires some { 1 ≤ k }
+    requires within { k ≤ n }
+    requires few { n ≤ 1000000 }
+    ensures { result ≡ own_variables k n }
+{
+    if k == n {
+        1
+    } else if k == 1 {
+        1
+    } else {
+        k * (k + 1) / 2 + (n - k) * k
+    }
+}
+
+/// The circuit of a validator.
+fn validator_circuit(node: u32, greatest: &NodeSet, faulty: &NodeSet) -> Circuit
+    requires greatest { node < length greatest.now }
+    requires faulty { node < length faulty.now }
+    ensures { circuit_view result ≡ validator_circuit (members greatest.now) (members faulty.now) node }
+{
+    if faulty.has(node) {
+        Circuit::Always
+    } else if greatest.has(node) {
+        Circuit::Node(node)
+    } else {
+        Circuit::Never
+    }
+}
+
+/// Adds the circuits of the validators.
+fn with_validators(
+    gathered: Gathered,
+    validators: &[u32],
+    greatest: &NodeSet,
+    faulty: &NodeSet,
+) -> Result<Gathered, AllocError>
+    requires same_n { length greatest.now ≡ length faulty.now }
+    requires below { All (λ v. v < length greatest.now) validators.now }
+    ensures threshold { IfOk result (λ g. g.threshold ≡ gathered.threshold - always_count (simplified_entries (members greatest.now) (members faulty.now) (entries_of validators.now []))) }
+    ensures entries { IfOk result (λ g. inputs_view g.entries.items ≡ joined (inputs_view gathered.entries.items) (undecided (simplified_entries (members greatest.now) (members faulty.now) (entries_of validators.now [])))) }
+{
+    let mut gathered = gathered;
+    for node in validators {
+        gathered = gathered.add(validator_circuit(*node, greatest, faulty))?;
+    }
+    Ok(gathered)
+}
+
+/// The circuit of a quorum set, where the faulty nodes count as present and the other nodes outside the greatest quorum as
+/// absent.
+///
+/// A quorum set whose threshold is 0 or above the number of its entries is `Never`. Entries keep their order, the
+/// validators first. One that is always true lowers the threshold by 1 and goes, one that never is goes. Where the
+/// threshold comes to 0 the circuit is `Always`, where it is above the number of entries left `Never`. O(e) for e entries
+/// at all depths.
+pub fn circuit_of(
+    alloc: Global,
+    set: &QuorumSet,
+    greatest: &NodeSet,
+    faulty: &NodeSet,
+) -> Result<Circuit, AllocError>
+    requires same_n { length greatest.now ≡ length faulty.now }
+    requires below { IsBelow (length greatest.now) set.now }
+    ensures circuit { IfOk result (λ c. circuit_view c ≡ simplified (members greatest.now) (members faulty.now) set.now) }
+    ensures below { IfOk result (λ c. NodesBelow (length greatest.now) (circuit_view c)) }
+    ensures reduced { IfOk result (λ c. IsReduced (members greatest.now) (circuit_view c)) }
+    ensures thresholds { IfOk result (λ c. HasThresholds (circuit_view c)) }
+    ensures few { IfOk result (λ c. all_inputs (circuit_view c) ≤ all_entries set.now) }
+{
+    let count = set.validators.len() as u64 + set.inner.len() as u64;
+    if set.threshold == 0 || set.threshold > count {
+        return Ok(Circuit::Never);
+    }
+    let start = Gathered {
+        threshold: set.threshold,
+        entries: Vec::new(alloc),
+    };
+    let mut gathered = with_validators(start, &set.validators, greatest, faulty)?;
+    for inner in &set.inner {
+        let circuit = circuit_of(alloc, inner, greatest, faulty)?;
+        gathered = gathered.add(circuit)?;
+    }
+    Ok(gathered.circuit())
+}
+
+#[cfg(test)]
+mod tests {
+    use super::*;
+    use std::test::Fail;
+
+    fn of(
+        alloc: Global,
+        threshold: u64,
+        nodes: &[u32],
+        inner: Vec<QuorumSet>,
+    ) -> Result<QuorumSet, AllocError>
+        requires nodes { All (λ w. w < 3) nodes.now }
+        requires inner { All (IsBelow 3) inner.items }
+        ensures { IfOk result (IsBelow 3) }
+    {
+        let validators = Vec::from_slice(alloc, nodes)?;
+        Ok(QuorumSet {
+            threshold,
+            validators,
+            inner,
+        })
+    }
+
+    fn set(alloc: Global, marks: [bool; 3]) -> Result<NodeSet, AllocError>
+        ensures { IfOk result (λ s. length s ≡ 3) }
+    {
+        let mut set = NodeSet::new(alloc, 3)?;
+        for v in 0..3 {
+            if marks[v as usize] {
+                set.put(v);
+            }
+        }
+        Ok(set)
+    }
+
+    /// The circuit, its value on the greatest quorum, and its number of variables.
+    fn shown(
+        alloc: Global,
+        quorum_set: &QuorumSet,
+        greatest: [bool; 3],
+        faulty: [bool; 3],
+    ) -> Result<String, AllocError>
+        requires { IsBelow 3 quorum_set.now }
+    {
+        let greatest = set(alloc, greatest)?;
+        let faulty = set(alloc, faulty)?;
+        let circuit = circuit_of(alloc, quorum_set, &greatest, &faulty)?;
+        format!(in alloc; "{circuit:?} {}", circuit.value(&greatest))
+    }
+
+    #[test]
+    fn circuits_of_small_quorum_sets(rt: HostRuntime) -> Result<(), Fail> {
+        let alloc = rt.alloc();
+        let two_of_three = of(alloc, 2, &[0, 1, 2], Vec::new(alloc))?;
+        let text = shown(
+            alloc,
+            &two_of_three,
+            [false, true, true],
+            [true, false, false],
+        )?;
+        assert_eq!(rt; text.as_str(), "AtLeast(1, [Node(1), Node(2)]) true");
+        let mut inner = Vec::new(alloc);
+        inner.push(of(alloc, 2, &[1, 2], Vec::new(alloc))?)?;
+        let nested = of(alloc, 2, &[0], inner)?;
+        let text = shown(alloc, &nested, [true, false, true], [false, true, false])?;
+        assert_eq!(rt;
+            text.as_str(),
+            "AtLeast(2, [Node(0), AtLeast(1, [Node(2)])]) true"
+        );
+        Ok(())
+    }
+
+    #[test]
+    fn circuits_of_odd_quorum_sets(rt: HostRuntime) -> Result<(), Fail> {
+        let alloc = rt.alloc();
+        let mut inner = Vec::new(alloc);
+        inner.push(of(alloc, 3, &[1, 2], Vec::new(alloc))?)?;
+        let bad_inside = of(alloc, 1, &[0], inner)?;
+        let text = shown(alloc, &bad_inside, [true; 3], [false; 3])?;
+        assert_eq!(rt; text.as_str(), "AtLeast(1, [Node(0)]) true");
+        let twice = of(alloc, 2, &[1, 1], Vec::new(alloc))?;
+        let text = shown(alloc, &twice, [false, true, false], [false; 3])?;
+        assert_eq!(rt; text.as_str(), "AtLeast(2, [Node(1), Node(1)]) true");
+        let text = shown(alloc, &twice, [true, false, false], [false; 3])?;
+        assert_eq!(rt; text.as_str(), "Never false");
+        Ok(())
+    }
+
+    /// The number of variables of a gate over three nodes.
+    fn vars(alloc: Global, threshold: u64) -> Result<u64, AllocError>
+        requires some { 1 ≤ threshold }
+        requires few { threshold ≤ 3 }
+    {
+        let mut entries = Vec::new(alloc);
+        entries.push(Circuit::Node(0))?;
+        entries.push(Circuit::Node(1))?;
+        entries.push(Circuit::Node(2))?;
+        let circuit = Circuit::AtLeast(threshold, entries);
+        Ok(circuit.gate_vars())
+    }
+
+    #[test]
+    fn gates_have_their_numbers_of_variables(rt: HostRuntime) -> Result<(), Fail> {
+        let alloc = rt.alloc();
+        assert_eq!(rt;
+            (vars(alloc, 1)?, vars(alloc, 2)?, vars(alloc, 3)?),
+            (1, 5, 1)
+        );
+        Ok(())
+    }
+}
