@@ -4,7 +4,7 @@ use Rattle.clap.specs.Words.{Text}
 use Rattle.cli_words.proofs.OnLiterals.{words_on_literals}
 use Rattle.cli_words.specs.Order.{Ordered, nothing_for}
 use Rattle.cli_words.specs.Words.{order_of}
-use Rattle.cli_words.specs.declared.orders.Command.TheVariants.{Show, Closure, Greatest, Available, Blocks, Vblocks, Check}
+use Rattle.cli_words.specs.declared.orders.Command.TheVariants.{Show, Closure, Greatest, Available, Blocks, Vblocks, Check, Export}
 use Rattle.cli_words.specs.declared.orders.OrderFault.{OrderFault}
 use Rattle.cli_words.specs.declared.orders.OrderFault.TheVariants.{Words, SamePath}
 
@@ -78,6 +78,10 @@ vblocks = refl
 check : typed (codes "check f c") ≡ Ok (record (nothing_for Check) { config = codes "f"; cert = codes "c" })
 unfolding words_on_literals
 check = refl
+
+export : typed (codes "export f --from a") ≡ Ok (record (nothing_for Export) { config = codes "f"; from = Some (codes "a") })
+unfolding words_on_literals
+export = refl
 
 unknown_command : typed (codes "intersect f c") ≡ Err Words
 unfolding words_on_literals

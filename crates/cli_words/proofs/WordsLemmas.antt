@@ -8,7 +8,7 @@ use Rattle.clap.specs.declared.error.kind.ErrorKind.TheVariants.{OutOfMemory}
 use Rattle.cli_words.specs.Order.{Ordered, has_same_path}
 use Rattle.cli_words.specs.Words.{app_for, is_taken, order_by, order_in, path_checked}
 use Rattle.cli_words.specs.declared.orders.Command.{Command}
-use Rattle.cli_words.specs.declared.orders.Command.TheVariants.{Show, Closure, Greatest, Available, Blocks, Vblocks, Check}
+use Rattle.cli_words.specs.declared.orders.Command.TheVariants.{Show, Closure, Greatest, Available, Blocks, Vblocks, Check, Export}
 use Rattle.cli_words.specs.declared.orders.OrderFault.TheVariants.{Words, SamePath}
 
 -- an error that is not of memory comes only where a kind does
@@ -27,6 +27,7 @@ is_stated Available app e = rw e refl
 is_stated Blocks app e = rw e refl
 is_stated Vblocks app e = rw e refl
 is_stated Check app e = rw e refl
+is_stated Export app e = rw e refl
 
 pub order_by-taken : (k : Command) (words : List Text) (app : App) (rows : List Row) (o : Ordered) → app ≡ app_for k → is_taken app words ≡ true → rows ≡ matches_of app words → o ≡ order_in k rows
     → order_by k words ≡ path_checked o

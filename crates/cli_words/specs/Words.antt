@@ -6,7 +6,7 @@ use Rattle.clap.specs.Walk.{is_empty}
 use Rattle.clap.specs.Simple.{new_shape}
 use Rattle.cli_words.specs.Order.{Ordered, nothing_for, has_same_path}
 use Rattle.cli_words.specs.declared.orders.Command.{Command}
-use Rattle.cli_words.specs.declared.orders.Command.TheVariants.{Show, Closure, Greatest, Available, Blocks, Vblocks, Check}
+use Rattle.cli_words.specs.declared.orders.Command.TheVariants.{Show, Closure, Greatest, Available, Blocks, Vblocks, Check, Export}
 use Rattle.cli_words.specs.declared.orders.OrderFault.{OrderFault}
 use Rattle.cli_words.specs.declared.orders.OrderFault.TheVariants.{Words, SamePath}
 
@@ -46,6 +46,7 @@ app_for Available = app_with (codes "available") (positional (codes "config") �
 app_for Blocks = app_with (codes "blocks") (positional (codes "config") ∷ needed (codes "set") ∷ common_options)
 app_for Vblocks = app_with (codes "vblocks") (positional (codes "config") ∷ needed (codes "node") ∷ needed (codes "set") ∷ [])
 app_for Check = app_with (codes "check") (positional (codes "config") ∷ positional (codes "cert") ∷ [])
+app_for Export = app_with (codes "export") (positional (codes "config") ∷ common_options)
 
 -- clap takes the words: it has no kind of refusal for them
 unfoldable pub is_taken : App → List Text → Bool
@@ -84,6 +85,7 @@ order_in Vblocks rows = record (nothing_for Vblocks) {
   set = first_of (codes "set") rows;
 }
 order_in Check rows = record (nothing_for Check) { config = text_of (codes "config") rows; cert = text_of (codes "cert") rows }
+order_in Export rows = common_in Export rows
 
 -- one path for both files is refused
 abbrev pub path_checked : Ordered → Result Ordered OrderFault
@@ -103,7 +105,8 @@ command_named name = if bytes_eq name (codes "show") then Some Show
     else (if bytes_eq name (codes "available") then Some Available
     else (if bytes_eq name (codes "blocks") then Some Blocks
     else (if bytes_eq name (codes "vblocks") then Some Vblocks
-    else (if bytes_eq name (codes "check") then Some Check else None))))))
+    else (if bytes_eq name (codes "check") then Some Check
+    else (if bytes_eq name (codes "export") then Some Export else None)))))))
 
 -- the order of a command, if there is one
 abbrev pub order_if_any : Option Command → List Text → Result Ordered OrderFault

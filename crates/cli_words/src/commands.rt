@@ -57,6 +57,7 @@ pub fn arguments_of<'a>(alloc: Global, command: Command) -> Result<clap::Command
         Command::Blocks => blocks_arguments(alloc),
         Command::Vblocks => vblocks_arguments(alloc),
         Command::Check => check_arguments(alloc),
+        Command::Export => export_arguments(alloc),
     }
 }
 
@@ -121,6 +122,14 @@ fn check_arguments<'a>(alloc: Global) -> Result<clap::Command<'a>, AllocError>
     clap::Command::new(alloc, "check")
         .arg(positional(alloc, "config"))?
         .arg(positional(alloc, "cert"))
+}
+
+#[tactic(auto, unfolding(crate::specs::Words::app_for))]
+fn export_arguments<'a>(alloc: Global) -> Result<clap::Command<'a>, AllocError>
+    ensures { IfOk result (λ c. app_of c ≡ app_for Command.Export) }
+{
+    let command = clap::Command::new(alloc, "export").arg(positional(alloc, "config"))?;
+    with_common(alloc, command)
 }
 
 // The matches of the words, or their refusal.
@@ -215,6 +224,7 @@ pub fn order_from(
         Command::Blocks => blocks_order(alloc, matches),
         Command::Vblocks => vblocks_order(alloc, matches),
         Command::Check => check_order(alloc, matches),
+        Command::Export => common_order(alloc, Command::Export, matches),
     }
 }
 

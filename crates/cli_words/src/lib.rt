@@ -58,6 +58,9 @@ fn command_named(name: &str) -> Option<Command>
     if name == "check" {
         return Some(Command::Check);
     }
+    if name == "export" {
+        return Some(Command::Export);
+    }
     None
 }
 
@@ -173,6 +176,15 @@ mod tests {
                 Some("a"),
             ),
             ("check f c", Command::Check, "f", "c", None, None, None),
+            (
+                "export f --faulty a",
+                Command::Export,
+                "f",
+                "",
+                None,
+                Some("a"),
+                None,
+            ),
         ] {
             let words = words_of(rt.alloc(), line).expect(&rt, "words");
             let order = order(rt.alloc(), words.as_slice()).expect(&rt, line);

@@ -23,6 +23,8 @@ pub enum Command {
     Vblocks,
     /// `check CONFIG CERT`
     Check,
+    /// `export CONFIG [COMMON]`
+    Export,
 }
 
 /// Why the words give no order.

@@ -69,15 +69,15 @@ asked f (Ok inquiry) = Asked (part_of f inquiry.closure) inquiry.question
 asked f (Err refusal) = Told refusal
 
 -- what a command asks, once the organisations were read
-abbrev pub ask_outcome : Command → Ordered → System → Option (Result (List Org) Answer) → Option Outcome
-ask_outcome c o f None = None
-ask_outcome c o f (Some (Err refusal)) = Some (Told refusal)
-ask_outcome c o f (Some (Ok orgs)) = Some (asked f (question_of c f orgs o))
+abbrev pub ask_outcome : Command → Ordered → System → List ℕ → Option (Result (List Org) Answer) → Option Outcome
+ask_outcome c o f config None = None
+ask_outcome c o f config (Some (Err refusal)) = Some (Told refusal)
+ask_outcome c o f config (Some (Ok orgs)) = Some (asked f (question_of c f config orgs o))
 
 -- what comes of a command over a configuration that was read; nothing where another file that it reads is missing
 abbrev pub command_outcome : Command → Ordered → System → List ℕ → Files → Option Outcome
 command_outcome Check o f config files = check_outcome f config (files o.cert)
-command_outcome command o f config files = ask_outcome command o f (orgs_given f.names files o.orgs)
+command_outcome command o f config files = ask_outcome command o f config (orgs_given f.names files o.orgs)
 
 abbrev pub system_outcome : Ordered → List ℕ → Files → Result System ConfigFault → Option Outcome
 system_outcome o config files (Err e) = Some (Told (record { status = ConfigRefused; text = config_refused e }))

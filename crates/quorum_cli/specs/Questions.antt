@@ -1,5 +1,5 @@
 -- What an order asks of a system, and what answers it.
-use Rattle.std.specs.Prelude.{◌≡◌, ◌⊎◌, ◌<◌, ℕ, List, [], length, Option, Some, None, unwrap_or, Result, Ok, Err, codes, ◌++◌}
+use Rattle.std.specs.Prelude.{◌≡◌, ◌⊎◌, ◌<◌, ℕ, List, [], length, Option, Some, None, unwrap_or, Result, Ok, Err, codes, nat_le, if◌then◌else◌}
 use Rattle.fbas_model.specs.Nodes.{Table, members}
 use Rattle.fbas_model.specs.Names.{Name}
 use Rattle.fbas_model.specs.Systems.{System}
@@ -8,15 +8,18 @@ use Rattle.fbas_model.specs.Nodes.{◌∖◌, ◌∪◌}
 use Rattle.fbas_model.specs.Restriction.{closure_of, kept, restricted, table_from}
 use Rattle.name_set.specs.Lists.{names_read, name_read}
 use Rattle.name_set.specs.declared.lists.NameFault.{NameFault}
+use Rattle.clause_encoder.specs.Formula.{formula_vars, formula_clauses}
+use Rattle.clause_encoder.specs.Dimacs.{dimacs}
+use Rattle.sha2.specs.Sha256.{sha256}
 use Rattle.node_json.specs.Organisations.{Org, ids_read}
 use Rattle.cli_words.specs.Order.{Ordered}
 use Rattle.cli_words.specs.declared.orders.Command.{Command}
 use Rattle.cli_words.specs.declared.orders.Command.TheVariants as command
-use Rattle.report.specs.Lines.{Text, names_refused, closure as printed_closure, greatest, unavailable, not_blocking, shown}
-use Rattle.quorum_cli.specs.declared.status.Status.TheVariants.{Yes, No, Usage}
+use Rattle.report.specs.Lines.{Text, names_refused, closure as printed_closure, export_head, exported, too_large, greatest, unavailable, not_blocking, shown}
+use Rattle.quorum_cli.specs.declared.status.Status.TheVariants.{Yes, No, Usage, TooLarge}
 use Rattle.quorum_cli.specs.declared.reply.Reply.{Reply as Answer}
 use Rattle.quorum_cli.specs.declared.question.Question.{Question}
-use Rattle.quorum_cli.specs.declared.question.Question.TheVariants.{Show, Closure, Greatest, Available as AvailableWithout, Blocks, Vblocks}
+use Rattle.quorum_cli.specs.declared.question.Question.TheVariants.{Show, Closure, Greatest, Available as AvailableWithout, Blocks, Export, Vblocks}
 use Rattle.quorum_cli.specs.declared.question.Inquiry.{Inquiry}
 use Rattle.quorum_cli.specs.declared.refusal.Refusal.{Refusal}
 use Rattle.quorum_cli.specs.declared.refusal.Refusal.TheVariants.{Names, Memory}
@@ -77,18 +80,20 @@ cut_to (Some closure) set = kept closure set
 abbrev pub about : Option Table → Question → Inquiry
 about closure question = record { closure = closure; question = question }
 
--- what the order asks, its names read in the order of the options `--node`, `--from`, `--faulty`, `--faulty-orgs`, `--set`
-abbrev pub question_of : Command → System → List Org → Ordered → Result Inquiry Answer
-question_of command.Show f orgs o = Ok (about None Show)
-question_of command.Check f orgs o = Ok (about None Show)
-question_of command.Closure f orgs o = after (λ node. about None (Closure node)) (node_named f.names (codes "--node") o.node)
-question_of command.Greatest f orgs o =
+-- what the order asks of the system of a configuration's bytes, its names read in the order of the options `--node`, `--from`, `--faulty`, `--faulty-orgs`, `--set`
+abbrev pub question_of : Command → System → List ℕ → List Org → Ordered → Result Inquiry Answer
+question_of command.Show f config orgs o = Ok (about None Show)
+question_of command.Check f config orgs o = Ok (about None Show)
+question_of command.Closure f config orgs o = after (λ node. about None (Closure node)) (node_named f.names (codes "--node") o.node)
+question_of command.Greatest f config orgs o =
     and_then (λ closure. after (λ faulty. about closure (Greatest (cut_to closure faulty))) (faulty_named f orgs o)) (closure_named f o.from)
-question_of command.Available f orgs o =
+question_of command.Available f config orgs o =
     and_then (λ closure. after (λ set. about closure (AvailableWithout (cut_to closure set))) (set_named f.names (codes "--set") o.set)) (closure_named f o.from)
-question_of command.Blocks f orgs o =
+question_of command.Blocks f config orgs o =
     and_then (λ closure. and_then (λ faulty. after (λ set. about closure (Blocks (cut_to closure set) (cut_to closure faulty))) (set_named f.names (codes "--set") o.set)) (faulty_named f orgs o)) (closure_named f o.from)
-question_of command.Vblocks f orgs o =
+question_of command.Export f config orgs o =
+    and_then (λ closure. after (λ faulty. about closure (Export (export_head (sha256 config) o.from) (cut_to closure faulty))) (faulty_named f orgs o)) (closure_named f o.from)
+question_of command.Vblocks f config orgs o =
     and_then (λ node. after (λ set. about None (Vblocks node set)) (set_named f.names (codes "--set") o.set)) (node_named f.names (codes "--node") o.node)
 
 -- the refusal is that of the result, or memory is wanting
@@ -113,6 +118,7 @@ FitsQuestion n (Closure v) = v < n
 FitsQuestion n (Greatest b) = length b ≡ n
 FitsQuestion n (AvailableWithout s) = length s ≡ n
 FitsQuestion n (Blocks s b) = (length s ≡ n) × (length b ≡ n)
+FitsQuestion n (Export head b) = length b ≡ n
 FitsQuestion n (Vblocks v s) = (v < n) × (length s ≡ n)
 
 -- a trust closure has a mark for each node, and is closed
@@ -176,6 +182,21 @@ pub record SaysNotBlocks (f : System) (s b : Table) (a : Answer) : Type 0 where
 abbrev pub AnswersVblocks : System → ℕ → Table → Answer → Type 0
 AnswersVblocks f v s a = (BlocksNode f.sets v (members s) × says (codes "vblocks yes\n") a) ⊎ ((BlocksNode f.sets v (members s) → ⊥) × denies (codes "vblocks no\n") a)
 
+-- the formula that says whether quorums intersect, or that it has too many variables
+abbrev pub export_answer : System → Text → Table → Table → Answer
+export_answer f head b greatest =
+    if nat_le (formula_vars f.sets b greatest) 4000000 then record {
+      status = Yes;
+      text = exported head f.names b (dimacs f.names (record { greatest = greatest; count = formula_vars f.sets b greatest }) (formula_clauses f.sets b greatest));
+    } else record { status = TooLarge; text = too_large (formula_vars f.sets b greatest) }
+
+-- the intersection formula over the greatest quorum is printed, once b is deleted
+pub record AnswersExport (f : System) (head : Text) (b : Table) (a : Answer) : Type 0 where
+  pub greatest : Table
+  pub places : length greatest ≡ length f.sets
+  pub is : IsGreatestQuorum f.sets (members b) (all_nodes f.sets) (members greatest)
+  pub said : a ≡ export_answer f head b greatest
+
 -- the answer to a question about a system
 abbrev pub Answers : System → Question → Answer → Type 0
 Answers f Show a = says (shown f) a
@@ -183,4 +204,5 @@ Answers f (Closure v) a = AnswersClosure f v a
 Answers f (Greatest b) a = AnswersGreatest f b a
 Answers f (AvailableWithout s) a = SaysAvailable f s a ⊎ SaysUnavailable f s a
 Answers f (Blocks s b) a = SaysBlocks f s b a ⊎ SaysNotBlocks f s b a
+Answers f (Export head b) a = AnswersExport f head b a
 Answers f (Vblocks v s) a = AnswersVblocks f v s a

@@ -1,7 +1,7 @@
 -- How the program ends.
 use Rattle.std.specs.Prelude.{ℕ, Bool, true, false}
 use Rattle.quorum_cli.specs.declared.status.Status.{Status}
-use Rattle.quorum_cli.specs.declared.status.Status.TheVariants.{Yes, No, Usage, ConfigRefused, CertRefused, ReadFault, WriteFault, Memory}
+use Rattle.quorum_cli.specs.declared.status.Status.TheVariants.{Yes, No, Usage, ConfigRefused, CertRefused, ReadFault, WriteFault, Memory, TooLarge}
 
 -- the exit status of the process
 abbrev pub code_of : Status → ℕ
@@ -13,6 +13,7 @@ code_of CertRefused = 5
 code_of ReadFault = 6
 code_of WriteFault = 7
 code_of Memory = 8
+code_of TooLarge = 9
 
 -- an answer to the words and the files, and not a failing of the outside or of the memory
 abbrev pub is_answer : Status → Bool

@@ -1,16 +1,20 @@
 // What is asked of a system.
-ghost use Rattle.std.specs.Prelude.{◌≡◌, None, [], All, IfOk, IfErr, Ok, length};
+ghost use Rattle.std.specs.Prelude.{◌≡◌, None, [], All, IfOk, IfErr, Ok, length, option_map, string_bytes};
+ghost use Rattle.sha2.specs.Sha256.{sha256};
+ghost use Rattle.report.specs.Lines.{export_head};
 ghost use Rattle.cli_words.specs.Order.{order_view};
 ghost use Rattle.quorum_cli.specs.Questions.{question_of, Refuses, IsUsage, FitsInquiry};
 
 use crate::names::{faulty_named, node_named, set_named};
 use crate::parts::{closure_named, cut_to};
 use crate::refusal::Refusal;
+use crate::reply::Text;
 use cli_words::{Command, Order};
+use digest_text::digest;
 use fbas_core::System;
 use name_set::NodeSet;
 use node_json::Orgs;
-use std::alloc::Global;
+use std::alloc::{AllocError, Global};
 
 /// A question about a system, with the sets of nodes that it speaks of.
 #[derive(Drop)]
@@ -27,6 +31,8 @@ pub enum Question {
     Blocks(NodeSet, NodeSet),
     /// Whether the nodes meet every slice of this one.
     Vblocks(u32, NodeSet),
+    /// The formula that says whether its quorums intersect once these nodes are deleted, behind these comment lines.
+    Export(Text, NodeSet),
 }
 
 /// A question, and the trust closure that it is about: none where it is about the whole system.
@@ -46,14 +52,21 @@ fn of_the_whole(question: Question) -> Inquiry
     }
 }
 
+// The first comment lines of an exported formula.
+fn head_of(alloc: Global, config: &[u8], from: &Option<String>) -> Result<Text, AllocError>
+    ensures { IfOk result (λ head. head ≡ export_head (sha256 config.now) (option_map string_bytes from.now)) }
+{
+    Ok(Text::of(report::export_head(alloc, &digest(config), from)?))
+}
+
 // The order `closure`.
 fn closure_asked(
     alloc: Global,
     order: &Order,
     system: &System,
 ) -> Result<Inquiry, Refusal>
-    ensures ok { IfOk result (λ i. question_of Command.Closure system.now [] (order_view order.now) ≡ Ok i) }
-    ensures err { IfErr result (λ r. Refuses r (question_of Command.Closure system.now [] (order_view order.now))) }
+    ensures ok { IfOk result (λ i. question_of Command.Closure system.now [] [] (order_view order.now) ≡ Ok i) }
+    ensures err { IfErr result (λ r. Refuses r (question_of Command.Closure system.now [] [] (order_view order.now))) }
     ensures usage { IfErr result IsUsage }
     ensures fits { IfOk result (FitsInquiry system.now) }
 {
@@ -69,8 +82,8 @@ fn greatest_asked(
     orgs: &Orgs,
 ) -> Result<Inquiry, Refusal>
     requires { All (λ org. length org.members ≡ length system.now.names) orgs.now }
-    ensures ok { IfOk result (λ i. question_of Command.Greatest system.now orgs.now (order_view order.now) ≡ Ok i) }
-    ensures err { IfErr result (λ r. Refuses r (question_of Command.Greatest system.now orgs.now (order_view order.now))) }
+    ensures ok { IfOk result (λ i. question_of Command.Greatest system.now [] orgs.now (order_view order.now) ≡ Ok i) }
+    ensures err { IfErr result (λ r. Refuses r (question_of Command.Greatest system.now [] orgs.now (order_view order.now))) }
     ensures usage { IfErr result IsUsage }
     ensures fits { IfOk result (FitsInquiry system.now) }
 {
@@ -87,8 +100,8 @@ fn available_asked(
     order: &Order,
     system: &System,
 ) -> Result<Inquiry, Refusal>
-    ensures ok { IfOk result (λ i. question_of Command.Available system.now [] (order_view order.now) ≡ Ok i) }
-    ensures err { IfErr result (λ r. Refuses r (question_of Command.Available system.now [] (order_view order.now))) }
+    ensures ok { IfOk result (λ i. question_of Command.Available system.now [] [] (order_view order.now) ≡ Ok i) }
+    ensures err { IfErr result (λ r. Refuses r (question_of Command.Available system.now [] [] (order_view order.now))) }
     ensures usage { IfErr result IsUsage }
     ensures fits { IfOk result (FitsInquiry system.now) }
 {
@@ -107,8 +120,8 @@ fn blocks_asked(
     orgs: &Orgs,
 ) -> Result<Inquiry, Refusal>
     requires { All (λ org. length org.members ≡ length system.now.names) orgs.now }
-    ensures ok { IfOk result (λ i. question_of Command.Blocks system.now orgs.now (order_view order.now) ≡ Ok i) }
-    ensures err { IfErr result (λ r. Refuses r (question_of Command.Blocks system.now orgs.now (order_view order.now))) }
+    ensures ok { IfOk result (λ i. question_of Command.Blocks system.now [] orgs.now (order_view order.now) ≡ Ok i) }
+    ensures err { IfErr result (λ r. Refuses r (question_of Command.Blocks system.now [] orgs.now (order_view order.now))) }
     ensures usage { IfErr result IsUsage }
     ensures fits { IfOk result (FitsInquiry system.now) }
 {
@@ -127,8 +140,8 @@ fn vblocks_asked(
     order: &Order,
     system: &System,
 ) -> Result<Inquiry, Refusal>
-    ensures ok { IfOk result (λ i. question_of Command.Vblocks system.now [] (order_view order.now) ≡ Ok i) }
-    ensures err { IfErr result (λ r. Refuses r (question_of Command.Vblocks system.now [] (order_view order.now))) }
+    ensures ok { IfOk result (λ i. question_of Command.Vblocks system.now [] [] (order_view order.now) ≡ Ok i) }
+    ensures err { IfErr result (λ r. Refuses r (question_of Command.Vblocks system.now [] [] (order_view order.now))) }
     ensures usage { IfErr result IsUsage }
     ensures fits { IfOk result (FitsInquiry system.now) }
 {
@@ -137,17 +150,40 @@ fn vblocks_asked(
     Ok(of_the_whole(Question::Vblocks(node, set)))
 }
 
-/// What an order asks of a system. The names are read in the order of the options `--node`, `--from`, `--faulty`,
+// The order `export`, over a configuration.
+fn export_asked(
+    alloc: Global,
+    order: &Order,
+    system: &System,
+    config: &[u8],
+    orgs: &Orgs,
+) -> Result<Inquiry, Refusal>
+    requires { All (λ org. length org.members ≡ length system.now.names) orgs.now }
+    ensures ok { IfOk result (λ i. question_of Command.Export system.now config.now orgs.now (order_view order.now) ≡ Ok i) }
+    ensures err { IfErr result (λ r. Refuses r (question_of Command.Export system.now config.now orgs.now (order_view order.now))) }
+    ensures usage { IfErr result IsUsage }
+    ensures fits { IfOk result (FitsInquiry system.now) }
+{
+    let closure = closure_named(alloc, system, &order.from)?;
+    let named = faulty_named(alloc, system, orgs, order)?;
+    let faulty = cut_to(alloc, system, &closure, named)?;
+    let head = head_of(alloc, config, &order.from)?;
+    let question = Question::Export(head, faulty);
+    Ok(Inquiry { closure, question })
+}
+
+/// What an order asks of the system of a configuration. The names are read in the order of the options `--node`, `--from`, `--faulty`,
 /// `--faulty-orgs`, `--set`.
 pub fn question_asked(
     alloc: Global,
     order: &Order,
     system: &System,
+    config: &[u8],
     orgs: &Orgs,
 ) -> Result<Inquiry, Refusal>
     requires { All (λ org. length org.members ≡ length system.now.names) orgs.now }
-    ensures ok { IfOk result (λ i. question_of order.now.command system.now orgs.now (order_view order.now) ≡ Ok i) }
-    ensures err { IfErr result (λ r. Refuses r (question_of order.now.command system.now orgs.now (order_view order.now))) }
+    ensures ok { IfOk result (λ i. question_of order.now.command system.now config.now orgs.now (order_view order.now) ≡ Ok i) }
+    ensures err { IfErr result (λ r. Refuses r (question_of order.now.command system.now config.now orgs.now (order_view order.now))) }
     ensures usage { IfErr result IsUsage }
     ensures fits { IfOk result (FitsInquiry system.now) }
 {
@@ -158,5 +194,6 @@ pub fn question_asked(
         Command::Available => available_asked(alloc, order, system),
         Command::Blocks => blocks_asked(alloc, order, system, orgs),
         Command::Vblocks => vblocks_asked(alloc, order, system),
+        Command::Export => export_asked(alloc, order, system, config, orgs),
     }
 }

@@ -60,7 +60,7 @@ fn refuse_words(alloc: Global, fault: OrderFault) -> Result<Reply, Stop>
         OrderFault::Words => reply_with(
             alloc,
             Status::Usage,
-            "usage: quorum_cli COMMAND\nshow CONFIG\nclosure CONFIG --node NAME\ngreatest CONFIG [COMMON]\navailable CONFIG --set NAMES [--from NAME]\nblocks CONFIG --set NAMES [COMMON]\nvblocks CONFIG --node NAME --set NAMES\ncheck CONFIG CERT\nCOMMON: --from NAME --faulty NAMES --orgs ORGS --faulty-orgs IDS\n",
+            "usage: quorum_cli COMMAND\nshow CONFIG\nclosure CONFIG --node NAME\ngreatest CONFIG [COMMON]\navailable CONFIG --set NAMES [--from NAME]\nblocks CONFIG --set NAMES [COMMON]\nvblocks CONFIG --node NAME --set NAMES\ncheck CONFIG CERT\nexport CONFIG [COMMON]\nCOMMON: --from NAME --faulty NAMES --orgs ORGS --faulty-orgs IDS\n",
         ),
         OrderFault::SamePath => reply_with(alloc, Status::Usage, "usage same-path\n"),
         OrderFault::Memory => Err(Stop::Memory),
@@ -199,15 +199,16 @@ fn ask_about(
     alloc: Global,
     order: &Order,
     system: System,
+    config: &[u8],
     orgs: &Orgs,
 ) -> Result<Outcome, Stop>
     requires { All (λ org. length org.members ≡ length system.names) orgs.now }
-    ensures outcome { IfOk result (λ o. asked system (question_of order.now.command system orgs.now (order_view order.now)) ≡ o) }
+    ensures outcome { IfOk result (λ o. asked system (question_of order.now.command system config.now orgs.now (order_view order.now)) ≡ o) }
     ensures fits { IfOk result FitsOutcome }
     ensures unaccepted { IfOk result (YesMeans ⊥) }
     ensures memory { IfErr result (λ e. e ≡ Stop.Memory) }
 {
-    match question_asked(alloc, order, &system, orgs) {
+    match question_asked(alloc, order, &system, config, orgs) {
         Ok(Inquiry { closure, question }) => {
             let part = part_of(alloc, system, &closure)?;
             Ok(Outcome::Asked(part, question))
@@ -222,21 +223,22 @@ fn ask<D: Desk>(
     alloc: Global,
     order: &Order,
     system: System,
+    config: &[u8],
     desk: &mut D,
 ) -> Result<Outcome, Stop>
     ensures outcome { IfOk result (λ o. IsTrue D.tells →
-        ask_outcome order.now.command (order_view order.now) system
+        ask_outcome order.now.command (order_view order.now) system config.now
             (orgs_given system.names (D.state desk.old).files (order_view order.now).orgs) ≡ Some o) }
     ensures fits { IfOk result FitsOutcome }
     ensures unaccepted { IfOk result (YesMeans ⊥) }
     ensures missing { IsErrOf result Stop.Read → IsTrue D.tells → IsTrue (D.state desk.old).plain
-        → ask_outcome order.now.command (order_view order.now) system
+        → ask_outcome order.now.command (order_view order.now) system config.now
             (orgs_given system.names (D.state desk.old).files (order_view order.now).orgs) ≡ None }
     ensures reads { IsTrue D.tells → OnlyReads (D.state desk.old) (D.state desk.new) }
     ensures faults { ReadFails (D.faults desk.old) (D.faults desk.new) (IsErrOf result Stop.Read) }
 {
     match orgs_for(alloc, &system, desk, &order.orgs)? {
-        GivenOrgs::Read(orgs) => ask_about(alloc, order, system, &orgs),
+        GivenOrgs::Read(orgs) => ask_about(alloc, order, system, config, &orgs),
         GivenOrgs::Refused(reply) => Ok(Outcome::Told(reply)),
     }
 }
@@ -265,7 +267,7 @@ fn command<D: Desk>(
             let reply = check(alloc, &system, config, desk, &order.cert)?;
             Ok(Outcome::Told(reply))
         }
-        _ => ask(alloc, order, system, desk),
+        _ => ask(alloc, order, system, config, desk),
     }
 }
 

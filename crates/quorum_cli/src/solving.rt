@@ -1,11 +1,18 @@
 // The answer to a question.
-ghost use Rattle.std.specs.Prelude.{◌≡◌, ◌⊎◌, ◌<◌, IfOk, length};
-ghost use Rattle.quorum_cli.specs.Questions.{Answers, FitsQuestion, AnswersClosure, AnswersGreatest, SaysAvailable, SaysUnavailable, SaysBlocks, SaysNotBlocks, AnswersVblocks, says};
-ghost use Rattle.report.specs.Lines.{shown};
+ghost use Rattle.std.specs.Prelude.{◌≡◌, ◌⊎◌, ◌<◌, List, IfOk, length};
+ghost use Rattle.quorum_cli.specs.Questions.{Answers, FitsQuestion, AnswersClosure, AnswersGreatest, SaysAvailable, SaysUnavailable, SaysBlocks, SaysNotBlocks, AnswersVblocks, AnswersExport, export_answer, says};
+ghost use Rattle.fbas_model.specs.Nodes.{members};
+ghost use Rattle.fbas_model.specs.Fbas.{IsGreatestQuorum, all_nodes};
+ghost use Rattle.report.specs.Lines.{shown, exported};
+ghost use Rattle.lrat_model.specs.Literal.{Literal};
+ghost use Rattle.clause_encoder.specs.Dimacs.{dimacs};
+ghost use Rattle.lrat_model.specs.Runs.{formula_database};
 
 use crate::question::Question;
-use crate::reply::Reply;
+use crate::reply::{Reply, Text};
 use crate::status::Status;
+use clause_encoder::{EncodeError, VarMap, encode, write_dimacs};
+use clause_store::Store;
 use fbas_core::System;
 use name_set::NodeSet;
 use std::alloc::{AllocError, Global};
@@ -83,6 +90,64 @@ fn vblocks(alloc: Global, system: &System, node: u32, set: &NodeSet) -> Result<R
     says(alloc, Status::No, "vblocks no\n")
 }
 
+// The answer to a formula that was made.
+fn formula_text(
+    alloc: Global,
+    system: &System,
+    head: &Text,
+    faulty: &NodeSet,
+    store: &Store,
+    map: &VarMap,
+) -> Result<Reply, AllocError>
+    requires same_n { length faulty.now ≡ length system.now.sets }
+    requires places { length map.now.greatest ≡ length system.now.names }
+    ensures { (clauses : List (List Literal)) → store.now ≡ formula_database clauses
+        → IfOk result (says (exported head.now system.now.names faulty.now (dimacs system.now.names map.now clauses))) }
+{
+    let dimacs = write_dimacs(alloc, store, map, system)?;
+    let text = report::exported(alloc, head.bytes(), system, faulty, &dimacs)?;
+    Ok(Reply::new(Status::Yes, text))
+}
+
+// The formula over the greatest quorum, or that it is too large.
+fn formula(
+    alloc: Global,
+    system: &System,
+    head: &Text,
+    faulty: &NodeSet,
+    greatest: &NodeSet,
+) -> Result<Reply, AllocError>
+    requires same_faulty { length faulty.now ≡ length system.now.sets }
+    requires same_n { length greatest.now ≡ length system.now.sets }
+    requires same_names { length greatest.now ≡ length system.now.names }
+    requires greatest { IsGreatestQuorum system.now.sets (members faulty.now) (all_nodes system.now.sets) (members greatest.now) }
+    ensures { IfOk result (λ a. a ≡ export_answer system.now head.now faulty.now greatest.now) }
+{
+    match encode(alloc, system, faulty, greatest) {
+        Ok((store, map)) => formula_text(alloc, system, head, faulty, &store, &map),
+        Err(EncodeError::TooLarge(vars)) => {
+            let text = report::too_large(alloc, vars)?;
+            Ok(Reply::new(Status::TooLarge, text))
+        }
+        Err(EncodeError::Memory) => Err(AllocError),
+    }
+}
+
+fn export(
+    alloc: Global,
+    system: &System,
+    head: &Text,
+    faulty: &NodeSet,
+) -> Result<Reply, AllocError>
+    requires { length faulty.now ≡ length system.now.sets }
+    ensures { IfOk result (AnswersExport system.now head.now faulty.now) }
+{
+    let mut quorum = NodeSet::new(alloc, system.len())?;
+    quorum.fill();
+    greatest_quorum::shrink(system, &mut quorum, faulty);
+    formula(alloc, system, head, faulty, &quorum)
+}
+
 /// The answer to a question about a system.
 pub fn solve(alloc: Global, system: &System, question: &Question) -> Result<Reply, AllocError>
     requires { FitsQuestion (length system.now.sets) question.now }
@@ -94,6 +159,7 @@ pub fn solve(alloc: Global, system: &System, question: &Question) -> Result<Repl
         Question::Greatest(faulty) => greatest(alloc, system, faulty),
         Question::Available(set) => available(alloc, system, set),
         Question::Blocks(set, faulty) => blocks(alloc, system, set, faulty),
+        Question::Export(head, faulty) => export(alloc, system, head, faulty),
         Question::Vblocks(node, set) => vblocks(alloc, system, *node, set),
     }
 }

@@ -21,6 +21,8 @@ pub enum Status {
     WriteFault,
     /// There was not enough memory.
     Memory,
+    /// The formula has too many variables.
+    TooLarge,
 }
 
 impl Status {
@@ -37,6 +39,7 @@ impl Status {
             Status::ReadFault => 6,
             Status::WriteFault => 7,
             Status::Memory => 8,
+            Status::TooLarge => 9,
         }
     }
 }

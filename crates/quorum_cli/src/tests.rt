@@ -34,7 +34,7 @@ const ORGANISATIONS: &str =
     r#"[{"publicKey":"p1","quorumSet":{"threshold":2,"validators":[],"innerQuorumSets":[{"threshold":2,"validators":["p1","p2","p3"]},{"threshold":2,"validators":["q1","q2","q3"]},{"threshold":2,"validators":["r1","r2","r3"]}]}},{"publicKey":"p2","quorumSet":{"threshold":2,"validators":[],"innerQuorumSets":[{"threshold":2,"validators":["p1","p2","p3"]},{"threshold":2,"validators":["q1","q2","q3"]},{"threshold":2,"validators":["r1","r2","r3"]}]}},{"publicKey":"p3","quorumSet":{"threshold":2,"validators":[],"innerQuorumSets":[{"threshold":2,"validators":["p1","p2","p3"]},{"threshold":2,"validators":["q1","q2","q3"]},{"threshold":2,"validators":["r1","r2","r3"]}]}},{"publicKey":"q1","quorumSet":{"threshold":2,"validators":[],"innerQuorumSets":[{"threshold":2,"validators":["p1","p2","p3"]},{"threshold":2,"validators":["q1","q2","q3"]},{"threshold":2,"validators":["r1","r2","r3"]}]}},{"publicKey":"q2","quorumSet":{"threshold":2,"validators":[],"innerQuorumSets":[{"threshold":2,"validators":["p1","p2","p3"]},{"threshold":2,"validators":["q1","q2","q3"]},{"threshold":2,"validators":["r1","r2","r3"]}]}},{"publicKey":"q3","quorumSet":{"threshold":2,"validators":[],"innerQuorumSets":[{"threshold":2,"validators":["p1","p2","p3"]},{"threshold":2,"validators":["q1","q2","q3"]},{"threshold":2,"validators":["r1","r2","r3"]}]}},{"publicKey":"r1","quorumSet":{"threshold":2,"validators":[],"innerQuorumSets":[{"threshold":2,"validators":["p1","p2","p3"]},{"threshold":2,"validators":["q1","q2","q3"]},{"threshold":2,"validators":["r1","r2","r3"]}]}},{"publicKey":"r2","quorumSet":{"threshold":2,"validators":[],"innerQuorumSets":[{"threshold":2,"validators":["p1","p2","p3"]},{"threshold":2,"validators":["q1","q2","q3"]},{"threshold":2,"validators":["r1","r2","r3"]}]}},{"publicKey":"r3","quorumSet":{"threshold":2,"validators":[],"innerQuorumSets":[{"threshold":2,"validators":["p1","p2","p3"]},{"threshold":2,"validators":["q1","q2","q3"]},{"threshold":2,"validators":["r1","r2","r3"]}]}}]"#;
 
 const USAGE: &str =
-    "usage: quorum_cli COMMAND\nshow CONFIG\nclosure CONFIG --node NAME\ngreatest CONFIG [COMMON]\navailable CONFIG --set NAMES [--from NAME]\nblocks CONFIG --set NAMES [COMMON]\nvblocks CONFIG --node NAME --set NAMES\ncheck CONFIG CERT\nCOMMON: --from NAME --faulty NAMES --orgs ORGS --faulty-orgs IDS\n";
+    "usage: quorum_cli COMMAND\nshow CONFIG\nclosure CONFIG --node NAME\ngreatest CONFIG [COMMON]\navailable CONFIG --set NAMES [--from NAME]\nblocks CONFIG --set NAMES [COMMON]\nvblocks CONFIG --node NAME --set NAMES\ncheck CONFIG CERT\nexport CONFIG [COMMON]\nCOMMON: --from NAME --faulty NAMES --orgs ORGS --faulty-orgs IDS\n";
 
 fn files(alloc: Global, config: &[u8], cert: &[u8]) -> Result<Vec<(String, Vec<u8>)>, AllocError> {
     let mut files = Vec::new(alloc);
@@ -116,9 +116,14 @@ fn check_accepts_a_pair_and_names_the_first_fault(rt: HostRuntime) -> Result<(),
             "refused not-quorum 6\n",
         ),
         (
-            "from a\nfaulty\nkind pair\nfirst a b\nsecond b c\nend\n",
+            "from z\nfaulty\nkind pair\nfirst a b\nsecond b c\nend\n",
             Status::CertRefused,
-            "refused bad-line 3\n",
+            "refused unknown-node 3\n",
+        ),
+        (
+            "from a\nfaulty a\nkind pair\nfirst b\nsecond c\nend\n",
+            Status::Yes,
+            "accepted pair\nfrom a\nfaulty a\n",
         ),
         (
             "from\nfaulty b a\nkind pair\nfirst a b\nsecond b c\nend\n",
@@ -417,5 +422,112 @@ fn names_on_the_command_line_are_read_to_their_first_fault(rt: HostRuntime) -> R
         assert_eq!(rt; found, status, "at {line}");
         assert_eq!(rt; out.as_slice(), text.as_bytes(), "at {line}");
     }
+    Ok(())
+}
+
+/// Two pairs of nodes, each of which needs both of its pair.
+const TWO_PAIRS: &str =
+    r#"[{"publicKey":"a","quorumSet":{"threshold":2,"validators":["a","b"]}},{"publicKey":"b","quorumSet":{"threshold":2,"validators":["a","b"]}},{"publicKey":"c","quorumSet":{"threshold":2,"validators":["c","d"]}},{"publicKey":"d","quorumSet":{"threshold":2,"validators":["c","d"]}}]"#;
+
+/// The first two lines of a certificate for them; the digest is that of `sha256sum`.
+const HEAD_OF_PAIRS: &str =
+    "fbas-cert 1\nconfig 889c01eef2922f0e93d94bddea0d564dcdbd54778b99eb026fad3b05c69cdb5f\n";
+
+/// Two nodes, each of which needs both.
+const TWO_OF_TWO: &str =
+    r#"[{"publicKey":"p","quorumSet":{"threshold":2,"validators":["p","q"]}},{"publicKey":"q","quorumSet":{"threshold":2,"validators":["p","q"]}}]"#;
+
+// How a command line ends over a configuration and a file of organisations.
+fn ends_with_orgs(
+    alloc: Global,
+    line: &str,
+    config: &str,
+    orgs: &str,
+) -> Result<(Status, Vec<u8>), AllocError> {
+    let mut files = files(alloc, config.as_bytes(), b"")?;
+    files.push((
+        String::from_str(alloc, "orgs")?,
+        Vec::from_slice(alloc, orgs.as_bytes())?,
+    ))?;
+    let mut desk = MemDesk::new(alloc, files, Vec::new(alloc), 7, 1_000, Vec::new(alloc))?;
+    let status = run(alloc, &words(alloc, line)?, &mut desk);
+    Ok((status, Vec::from_slice(alloc, desk.out())?))
+}
+
+#[test]
+fn questions_are_asked_of_a_trust_closure(rt: HostRuntime) -> Result<(), Fail> {
+    let alloc = rt.alloc();
+    for (line, status, text) in [
+        ("greatest config --from a", Status::Yes, "greatest a b\n"),
+        ("closure config --node a", Status::Yes, "closure a b\n"),
+        ("blocks config --from a --set a,c", Status::Yes, "blocks yes\n"),
+        ("available config --from a --set b", Status::No, "available no\nunmet a\n"),
+        ("greatest config --from a --faulty c", Status::Yes, "greatest a b\n"),
+        ("greatest config --from z", Status::Usage, "usage unknown-name --from 1\n"),
+    ] {
+        let (found, out) = ends(alloc, line, TWO_PAIRS.as_bytes(), b"")?;
+        assert_eq!(rt; found, status, "at {line}");
+        assert_eq!(rt; out.as_slice(), text.as_bytes(), "at {line}");
+    }
+    Ok(())
+}
+
+#[test]
+fn a_certificate_of_a_trust_closure_names_its_nodes_alone(rt: HostRuntime) -> Result<(), Fail> {
+    let alloc = rt.alloc();
+    let mut cert = String::from_str(alloc, HEAD_OF_PAIRS)?;
+    cert.push_str("from a\nfaulty\nkind pair\nfirst a b\nsecond c d\nend\n")?;
+    let (found, out) = checks(alloc, TWO_PAIRS, cert.as_str())?;
+    assert_eq!(rt; found, Status::CertRefused);
+    assert_eq!(rt; out.as_slice(), b"refused unknown-node 7\n".as_slice());
+    Ok(())
+}
+
+#[test]
+fn organisations_name_faulty_nodes(rt: HostRuntime) -> Result<(), Fail> {
+    let alloc = rt.alloc();
+    let one = r#"[{"id":"A","validators":["a","zz"]}]"#;
+    for (line, orgs, status, text) in [
+        ("greatest config --orgs orgs --faulty-orgs A", one, Status::Yes, "greatest b c\n"),
+        ("greatest config --orgs orgs --faulty-orgs A --faulty b", one, Status::Yes, "greatest c\n"),
+        ("greatest config --orgs orgs --faulty-orgs B", one, Status::Usage, "usage unknown-name --faulty-orgs 1\n"),
+        ("greatest config --faulty-orgs A", one, Status::Usage, "usage unknown-name --faulty-orgs 1\n"),
+        ("greatest config --orgs orgs", r#"[{"id":"A"},{"id":"A"}]"#, Status::ConfigRefused, "orgs duplicate-org 1\n"),
+        ("greatest config --orgs orgs", "{}", Status::ConfigRefused, "orgs not-orgs\n"),
+    ] {
+        let (found, out) = ends_with_orgs(alloc, line, TWO_OF_THREE, orgs)?;
+        assert_eq!(rt; found, status, "at {line}");
+        assert_eq!(rt; out.as_slice(), text.as_bytes(), "at {line}");
+    }
+    Ok(())
+}
+
+#[test]
+fn export_writes_the_formula_of_two_of_two(rt: HostRuntime) -> Result<(), Fail> {
+    let alloc = rt.alloc();
+    let (found, out) = ends(alloc, "export config", TWO_OF_TWO.as_bytes(), b"")?;
+    assert_eq!(rt; found, Status::Yes);
+    let text = "c config d5ccec4a141b4b11eb0b80bb62d235f24e373c62aa2fa9f6fb33f6b1e2871f41\nc from\nc faulty\nc 1 a p\nc 2 a q\nc 3 b p\nc 4 b q\np cnf 8 16\n1 2 0\n3 4 0\n-1 -3 0\n-2 -4 0\n-5 1 0\n-5 2 0\n-1 5 0\n-6 1 0\n-6 2 0\n-2 6 0\n-7 3 0\n-7 4 0\n-3 7 0\n-8 3 0\n-8 4 0\n-4 8 0\n";
+    assert_eq!(rt; out.as_slice(), text.as_bytes());
+    Ok(())
+}
+
+#[test]
+fn export_writes_the_formula_of_two_of_three_without_a_faulty_node(rt: HostRuntime) -> Result<(), Fail> {
+    let alloc = rt.alloc();
+    let (found, out) = ends(alloc, "export config --faulty a", TWO_OF_THREE.as_bytes(), b"")?;
+    assert_eq!(rt; found, Status::Yes);
+    let text = "c config f823e204944abcff32c8dadffba2a0178a590a613358f9a6f271b651cd4e6fbb\nc from\nc faulty a\nc 1 a b\nc 2 a c\nc 3 b b\nc 4 b c\np cnf 8 12\n1 2 0\n3 4 0\n-1 -3 0\n-2 -4 0\n-5 1 2 0\n-1 5 0\n-6 1 2 0\n-2 6 0\n-7 3 4 0\n-3 7 0\n-8 3 4 0\n-4 8 0\n";
+    assert_eq!(rt; out.as_slice(), text.as_bytes());
+    Ok(())
+}
+
+#[test]
+fn export_writes_the_formula_of_no_nodes(rt: HostRuntime) -> Result<(), Fail> {
+    let alloc = rt.alloc();
+    let (found, out) = ends(alloc, "export config", b"[]", b"")?;
+    assert_eq!(rt; found, Status::Yes);
+    let text = "c config 4f53cda18c2baa0c0354bb5f9a3ecbe5ed12ab4d8e11ba873c2f11161202b945\nc from\nc faulty\np cnf 0 2\n0\n0\n";
+    assert_eq!(rt; out.as_slice(), text.as_bytes());
     Ok(())
 }

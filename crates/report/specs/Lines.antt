@@ -53,7 +53,7 @@ name_at names v = unwrap_or (slice_get names v) []
 -- ---- refusals
 
 abbrev pub usage : Text
-usage = codes "usage: quorum_cli COMMAND\nshow CONFIG\nclosure CONFIG --node NAME\ngreatest CONFIG [COMMON]\navailable CONFIG --set NAMES [--from NAME]\nblocks CONFIG --set NAMES [COMMON]\nvblocks CONFIG --node NAME --set NAMES\ncheck CONFIG CERT\nCOMMON: --from NAME --faulty NAMES --orgs ORGS --faulty-orgs IDS\n"
+usage = codes "usage: quorum_cli COMMAND\nshow CONFIG\nclosure CONFIG --node NAME\ngreatest CONFIG [COMMON]\navailable CONFIG --set NAMES [--from NAME]\nblocks CONFIG --set NAMES [COMMON]\nvblocks CONFIG --node NAME --set NAMES\ncheck CONFIG CERT\nexport CONFIG [COMMON]\nCOMMON: --from NAME --faulty NAMES --orgs ORGS --faulty-orgs IDS\n"
 
 abbrev pub same_path : Text
 same_path = codes "usage same-path\n"
@@ -143,6 +143,24 @@ accepted names a = accepted_kind a.answer ++ (line (word_if_any (codes "from") n
 -- a line of its own, and the list of a set's names behind a word
 abbrev pub with_list : Text → Text → List Name → Table → Text
 with_list head word names set = head ++ line (list word names set)
+
+-- a word, and behind it the word of an option where it is given
+abbrev pub worded_if_any : Text → Option Text → Text
+worded_if_any text None = text
+worded_if_any text (Some word) = worded text word
+
+-- the first comment lines of an exported formula: the digest of the configuration, and the node of whose trust closure
+-- the formula speaks
+abbrev pub export_head : List ℕ → Option Name → Text
+export_head digest from = line (worded (codes "c config") (encode_lower digest)) ++ line (worded_if_any (codes "c from") from)
+
+-- an exported formula: its comment lines, the faulty nodes the last of them, and its DIMACS text
+abbrev pub exported : Text → List Name → Table → Text → Text
+exported head names faulty dimacs = with_list head (codes "c faulty") names faulty ++ dimacs
+
+-- a formula with this many variables is not written
+abbrev pub too_large : ℕ → Text
+too_large vars = line (numbered (codes "too-large") vars)
 
 abbrev pub closure : List Name → Table → Text
 closure names set = with_list [] (codes "closure") names set

@@ -1,6 +1,6 @@
 // Words, numbers and names, one behind another.
-ghost use Rattle.std.specs.Prelude.{◌≡◌, ◌<◌, ◌++◌, ◌∷◌, [], length, decimal, codes, OnOk, IfOk};
-ghost use Rattle.report.specs.Lines.{numbered, worded, list, listed, line, word_if_any, accepted as spec_accepted, accepted_kind, with_list as spec_with_list, counts as spec_counts, name_at as spec_name_at};
+ghost use Rattle.std.specs.Prelude.{◌≡◌, ◌<◌, ◌++◌, ◌∷◌, [], length, decimal, codes, option_map, string_bytes, OnOk, IfOk};
+ghost use Rattle.report.specs.Lines.{numbered, worded, list, listed, line, word_if_any, accepted as spec_accepted, accepted_kind, with_list as spec_with_list, counts as spec_counts, export_head as spec_export_head, exported as spec_exported, too_large as spec_too_large, name_at as spec_name_at};
 
 use certificate_file::{Accepted, Answer};
 use fbas_core::System;
@@ -147,5 +147,50 @@ pub fn counts(alloc: Global, system: &System) -> Result<Vec<u8>, AllocError>
     push_count(&mut text, "nodes", system.len() as u64)?;
     push_count(&mut text, "entries", system.entries())?;
     push_count(&mut text, "unset", system.unset())?;
+    Ok(text)
+}
+
+/// The first comment lines of an exported formula: the digest of the configuration, and the node of whose trust closure the
+/// formula speaks.
+pub fn export_head(
+    alloc: Global,
+    digest: &[u8; 32],
+    from: &Option<String>,
+) -> Result<Vec<u8>, AllocError>
+    ensures { IfOk result (λ text. text.items ≡ spec_export_head digest.now (option_map string_bytes from.now)) }
+{
+    let mut text = Vec::from_slice(alloc, b"c config")?;
+    push_behind(&mut text, digest_text::digits(digest).as_slice())?;
+    push_word(&mut text, "\nc from")?;
+    if let Some(name) = from {
+        push_behind(&mut text, name.as_bytes())?;
+    }
+    text.push(b'\n')?;
+    Ok(text)
+}
+
+/// An exported formula: its comment lines, the faulty nodes the last of them, and its DIMACS text.
+pub fn exported(
+    alloc: Global,
+    head: &[u8],
+    system: &System,
+    faulty: &NodeSet,
+    dimacs: &[u8],
+) -> Result<Vec<u8>, AllocError>
+    requires { length faulty.now ≡ length system.now.sets }
+    ensures { IfOk result (λ text. text.items ≡ spec_exported head.now system.now.names faulty.now dimacs.now) }
+{
+    let mut text = Vec::from_slice(alloc, head)?;
+    push_list(&mut text, "c faulty", system, faulty)?;
+    text.extend_from_slice(dimacs)?;
+    Ok(text)
+}
+
+/// The line for a formula that has too many variables.
+pub fn too_large(alloc: Global, vars: u64) -> Result<Vec<u8>, AllocError>
+    ensures { IfOk result (λ text. text.items ≡ spec_too_large vars) }
+{
+    let mut text = Vec::new(alloc);
+    push_count(&mut text, "too-large", vars)?;
     Ok(text)
 }
