@@ -6,3 +6,5 @@ pub mod ListLaws
 pub mod PairedLaws
 pub mod Meaning
 pub mod PartLaws
+pub mod GreatestLaws
+pub mod RefutationLaws
