@@ -1,4 +1,5 @@
 pub mod Samples
+pub mod RefutationSamples
 pub mod Prefixes
 pub mod Steps
 pub mod WordLaws
