@@ -9,3 +9,4 @@ pub mod Meaning
 pub mod PartLaws
 pub mod GreatestLaws
 pub mod RefutationLaws
+pub mod WholeLaws

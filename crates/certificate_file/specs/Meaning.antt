@@ -1,7 +1,7 @@
 -- What an accepted certificate shows.
 use Rattle.std.specs.Prelude.{◌≡◌, ◌<◌, ℕ, Option, Some, None, IfSome, length}
-use Rattle.fbas_model.specs.Nodes.{Table, members}
-use Rattle.fbas_model.specs.Fbas.{Quorum, Intersects}
+use Rattle.fbas_model.specs.Nodes.{Nodes, Table, members, ◌⊆◌, Meets}
+use Rattle.fbas_model.specs.Fbas.{Fbas, Quorum, Intersects}
 use Rattle.fbas_model.specs.Systems.{System}
 use Rattle.fbas_model.specs.Restriction.{closure_of, kept, restricted_sets}
 use Rattle.witness_pair.specs.Pairs.{IsPair}
@@ -30,6 +30,10 @@ pub record PairHolds (f : System) (h : Header) (p : Pair) : Type 0 where
 -- every two quorums of the system restricted to the part share a node, once the faulty nodes there are deleted
 abbrev pub PartIntersects : System → Table → Table → Type 0
 PartIntersects f part faulty = Intersects (restricted_sets part f.sets) (members (kept part faulty))
+
+-- every two quorums inside the part share a node, once b is deleted
+abbrev pub IntersectsWithin : Fbas → Nodes → Nodes → Type 0
+IntersectsWithin f b part = (u w : Nodes) → Quorum f b u → Quorum f b w → u ⊆ part → w ⊆ part → Meets u w
 
 -- a refutation: every two quorums of the part share a node once the faulty ones are deleted
 abbrev pub AnswerHolds : System → Header → Answer → Type 0

@@ -9,6 +9,7 @@
 mod checking;
 mod faults;
 mod formula;
+mod laws;
 mod lines;
 mod lists;
 mod parts;
@@ -20,6 +21,7 @@ mod words;
 
 pub use checking::check;
 pub use faults::CertError;
+pub use laws::a_refutation_speaks_of_the_quorums_of_the_system;
 pub use lrat_model::{Lit, StepFault};
 pub use places::{Accepted, Answer, Header};
 pub use witness_pair::Pair;
