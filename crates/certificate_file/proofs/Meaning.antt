@@ -4,15 +4,13 @@ use Rattle.std.proofs.lemmas.List.{length-map}
 use Rattle.std.proofs.lemmas.List.Quantifiers.{position-Some}
 use Rattle.std.proofs.lemmas.Bool.{cases_Bool}
 use Rattle.std.specs.Str.{bytes_eq}
-use Rattle.fbas_model.specs.Nodes.{Table, members, ◌⊆◌, Meets}
+use Rattle.fbas_model.specs.Nodes.{Table}
 use Rattle.fbas_model.specs.Names.{Name, place_of}
-use Rattle.fbas_model.specs.Fbas.{IsClosure}
 use Rattle.fbas_model.specs.Counting.{is_quorum}
 use Rattle.fbas_model.specs.Systems.{System, IsSystem}
 use Rattle.fbas_model.specs.Restriction.{closure_of}
 use Rattle.fbas_model.proofs.Closure.{system_mentions_nodes, closure_of-closure, length-closure_of}
 use Rattle.fbas_model.proofs.QuorumLaw.{quorum-to}
-use Rattle.witness_pair.specs.declared.Pair.{Pair}
 use Rattle.witness_pair.specs.Pairs.{AreTheTwo}
 use Rattle.witness_pair.specs.Making.{shared, least, pair_of}
 use Rattle.witness_pair.proofs.PairLaws.{pair_of_quorums, none_of_both}
@@ -36,7 +34,7 @@ use Rattle.certificate_file.specs.declared.faults.CertError.{CertError}
 use Rattle.certificate_file.specs.declared.faults.CertError.TheVariants.{BadLine, UnknownNode, NotQuorum, Digest, TooLarge, Formula}
 use Rattle.certificate_file.proofs.Prefixes.{taken, limits_passed}
 use Rattle.certificate_file.proofs.RefutationLaws.{formula_known, step_known}
-use Rattle.certificate_file.proofs.PartLaws.{length-shared, length-others, inside, whole_is_part, closure_is_part, pair_holds}
+use Rattle.certificate_file.proofs.PartLaws.{length-shared, inside, whole_is_part, closure_is_part, pair_holds}
 
 got : {A B : Type 0} (r : Result A CertError) (f : A → Result B CertError) (b : B) → and_then f r ≡ Ok b → (a : A) × (r ≡ Ok a) × (f a ≡ Ok b)
 got (Ok a) f b h = (a, refl, h)

@@ -21,7 +21,9 @@ mod words;
 
 pub use checking::check;
 pub use faults::CertError;
-pub use laws::a_refutation_speaks_of_the_quorums_of_the_system;
+pub use laws::{
+    a_refutation_speaks_of_the_quorums_of_the_system, the_nodes_in_some_quorum_are_the_greatest,
+};
 pub use lrat_model::{Lit, StepFault};
 pub use places::{Accepted, Answer, Header};
 pub use witness_pair::Pair;
