@@ -1,4 +1,5 @@
 pub mod Samples
+pub mod RefutationSamples
 pub mod Prefixes
 pub mod Steps
 pub mod WordLaws
@@ -6,3 +7,6 @@ pub mod ListLaws
 pub mod PairedLaws
 pub mod Meaning
 pub mod PartLaws
+pub mod GreatestLaws
+pub mod RefutationLaws
+pub mod WholeLaws

@@ -1,37 +1,40 @@
 -- What is known from line to line, and what an accepted certificate shows.
-use Rattle.std.proofs.Common.{◌≡◌, ◌<◌, ℕ, ◌+◌, List, [], ◌∷◌, length, Bool, true, false, cond, Option, Some, None, is_none, ok_or, Result, Ok, Err, IfOk, inl, inr, refl, sym, ◌∙◌, ap, subst, codes}
+use Rattle.std.proofs.Common.{◌≡◌, ◌<◌, ℕ, ◌+◌, List, [], ◌∷◌, length, Bool, true, false, ◌&&◌, ◌==◌, nat_le, cond, Option, Some, None, is_none, ok_or, Result, Ok, Err, IfOk, inl, inr, refl, sym, ◌∙◌, ap, subst, codes}
 use Rattle.std.proofs.lemmas.List.{length-map}
 use Rattle.std.proofs.lemmas.List.Quantifiers.{position-Some}
+use Rattle.std.proofs.lemmas.Bool.{cases_Bool}
 use Rattle.std.specs.Str.{bytes_eq}
-use Rattle.fbas_model.specs.Nodes.{Table, members, ◌⊆◌, Meets}
+use Rattle.fbas_model.specs.Nodes.{Table}
 use Rattle.fbas_model.specs.Names.{Name, place_of}
-use Rattle.fbas_model.specs.Fbas.{IsClosure}
 use Rattle.fbas_model.specs.Counting.{is_quorum}
 use Rattle.fbas_model.specs.Systems.{System, IsSystem}
 use Rattle.fbas_model.specs.Restriction.{closure_of}
 use Rattle.fbas_model.proofs.Closure.{system_mentions_nodes, closure_of-closure, length-closure_of}
 use Rattle.fbas_model.proofs.QuorumLaw.{quorum-to}
-use Rattle.witness_pair.specs.declared.Pair.{Pair}
 use Rattle.witness_pair.specs.Pairs.{AreTheTwo}
 use Rattle.witness_pair.specs.Making.{shared, least, pair_of}
 use Rattle.witness_pair.proofs.PairLaws.{pair_of_quorums, none_of_both}
 use Rattle.certificate_file.specs.Lines.{Lines, tail, line, lines_of}
+use Rattle.lrat_checker.specs.Checking.{Checking}
+use Rattle.lrat_text.specs.Lines.{step_in}
 use Rattle.certificate_file.specs.Words.{digest_in, names_after}
-use Rattle.certificate_file.specs.Acceptance.{and_then, unless, is_among, all_among, marks, nodes_of, named, everyone, others, from_node, from_names, within, quorum, paired, apart, subject_of, from_line, faulty_line, first_line, second_line, take_line, check_lines, checked}
+use Rattle.certificate_file.specs.Formulas.{counts_in, formula_of}
+use Rattle.certificate_file.specs.Acceptance.{and_then, unless, is_among, all_among, marks, nodes_of, named, everyone, others, from_node, from_names, within, quorum, paired, apart, subject_of, from_line, faulty_line, kind_line, first_line, second_line, sized, formula_line, or_bad_line, take_step, step_line, take_line, check_lines, checked}
 use Rattle.certificate_file.specs.Meaning.{Holds}
-use Rattle.certificate_file.specs.Reading.{IsPart, IsSubject, IsPartQuorum, IsKnown, IsKnownState, IsShown}
+use Rattle.certificate_file.specs.Reading.{IsPart, IsSubject, IsPartQuorum, AreSteps, IsKnown, IsKnownState, IsShown}
 use Rattle.certificate_file.specs.declared.places.Header.{Header}
 use Rattle.certificate_file.specs.declared.places.Subject.{Subject}
 use Rattle.certificate_file.specs.declared.places.Answer.TheVariants.{Pair as pair}
 use Rattle.certificate_file.specs.declared.places.Accepted.{Accepted}
 use Rattle.certificate_file.specs.declared.places.Place.{Place}
-use Rattle.certificate_file.specs.declared.places.Place.TheVariants.{AtTitle, AtDigest, AtFrom, AtFaulty, AtKind, AtFirst, AtSecond, AtEnd}
+use Rattle.certificate_file.specs.declared.places.Place.TheVariants.{AtTitle, AtDigest, AtFrom, AtFaulty, AtKind, AtFirst, AtSecond, AtFormula, AtSteps, AtEnd}
 use Rattle.certificate_file.specs.declared.places.State.{State}
 use Rattle.certificate_file.specs.declared.places.State.TheVariants.{Going, Done}
 use Rattle.certificate_file.specs.declared.faults.CertError.{CertError}
-use Rattle.certificate_file.specs.declared.faults.CertError.TheVariants.{BadLine, UnknownNode, NotQuorum, Digest}
+use Rattle.certificate_file.specs.declared.faults.CertError.TheVariants.{BadLine, UnknownNode, NotQuorum, Digest, TooLarge, Formula}
 use Rattle.certificate_file.proofs.Prefixes.{taken, limits_passed}
-use Rattle.certificate_file.proofs.PartLaws.{length-shared, length-others, inside, whole_is_part, closure_is_part, pair_holds}
+use Rattle.certificate_file.proofs.RefutationLaws.{formula_known, step_known}
+use Rattle.certificate_file.proofs.PartLaws.{length-shared, inside, whole_is_part, closure_is_part, pair_holds}
 
 got : {A B : Type 0} (r : Result A CertError) (f : A → Result B CertError) (b : B) → and_then f r ≡ Ok b → (a : A) × (r ≡ Ok a) × (f a ≡ Ok b)
 got (Ok a) f b h = (a, refl, h)
@@ -155,6 +158,30 @@ known_second f s u l text k state e =
     let g = got r (paired s.header l u) state e in
     paired_on f s l u g.0 state k.0 k.1 (part_quorum f s l (codes "second") text g.0 k.0 g.1) g.2
 
+known_kind : (f : System) (s : Subject) (l : ℕ) (text : List ℕ) → IsSubject f s → (state : State) → kind_line s l text ≡ Ok state → IsKnownState f state
+known_kind f s l text k state e = elim (cases_Bool (bytes_eq text (codes "kind pair"))) [
+  | inl is ↦ let pair_next = rw is at e in let same : Going (AtFirst s) ≡ state = cc in subst (IsKnownState f) same k
+  | inr not ↦ constant f l _ state (Going (AtFormula s)) k (rw not at e)
+]
+
+pub known_formula : (f : System) (s : Subject) (l : ℕ) (text : List ℕ) → IsSubject f s → (state : State) → formula_line f s l text ≡ Ok state → IsKnownState f state
+known_formula f s l text k state e =
+    let c = formula_of f s in
+    let g = got (ok_or (counts_in text) (BadLine l)) (sized l s.header c) state e in
+    let counts = g.0 in
+    let right = (counts.vars == c.vars) && (counts.clauses == c.database.last) in
+    let next : Result State CertError = Ok (Going (AtSteps s.header c)) in
+    let small = passed (TooLarge c.vars) (nat_le c.vars 4000000) (unless (Formula l) right next) state g.2 in
+    let fits = passed (Formula l) right next state small.1 in
+    let same : Going (AtSteps s.header c) ≡ state = let q = fits.1 in cc in
+    subst (IsKnownState f) same (formula_known f s k)
+
+pub known_step : (f : System) (h : Header) (c : Checking) (l : ℕ) (text : List ℕ) → AreSteps f h c → (state : State) → step_line h c l text ≡ Ok state → IsKnownState f state
+known_step f h c l text k state e = elim (cases_Bool (bytes_eq text (codes "end"))) [
+  | inl is ↦ let refused = rw is at e in absurd cc
+  | inr not ↦ let g = got (or_bad_line l (step_in text)) (take_step l h c) state (rw not at e) in step_known f l h c g.0 state k g.2
+]
+
 known_on : (f : System) (d : List ℕ) (p : Place) (l : ℕ) (text : List ℕ) (s : State) → IsSystem f.names f.sets → IsKnown f p → take_line f d p l text ≡ Ok s → IsKnownState f s
 unfolding take_line
 known_on f d AtTitle l text s is k e = constant f l _ s (Going AtDigest) tt e
@@ -164,9 +191,11 @@ known_on f d AtDigest l text s is k e =
     let same : Going AtFrom ≡ s = let q = p.1 in cc in subst (IsKnownState f) same tt
 known_on f d AtFrom l text s is k e = part_line f l text s is e
 known_on f d (AtFaulty from nodes) l text s is k e = known_faulty f from nodes l text k s e
-known_on f d (AtKind s) l text state is k e = constant f l _ state (Going (AtFirst s)) k e
+known_on f d (AtKind s) l text state is k e = known_kind f s l text k state e
 known_on f d (AtFirst s) l text state is k e = known_first f s l text k state e
 known_on f d (AtSecond s u) l text state is k e = known_second f s u l text k state e
+known_on f d (AtFormula s) l text state is k e = known_formula f s l text k state e
+known_on f d (AtSteps h c) l text state is k e = known_step f h c l text k state e
 known_on f d (AtEnd a) l text s is k e = constant f l _ s (Done a) k e
 
 known_through : (f : System) (d : List ℕ) (l : ℕ) (s : State) (ls : Lines) (a : Accepted) → IsSystem f.names f.sets → IsKnownState f s → check_lines f d l s ls ≡ Ok a → IsShown f a

@@ -1,5 +1,5 @@
 -- Which certificates are accepted, and the first fault of the others.
-use Rattle.std.specs.Prelude.{ℕ, ◌+◌, List, [], ◌∷◌, map, length, Bool, true, false, not, nat_le, Option, Some, None, is_none, ok_or, Result, Ok, Err, codes}
+use Rattle.std.specs.Prelude.{ℕ, ◌+◌, List, [], ◌∷◌, map, length, Bool, true, false, not, ◌&&◌, ◌==◌, nat_le, Option, Some, None, is_none, ok_or, Result, Ok, Err, codes, if◌then◌else◌}
 use Rattle.std.specs.List.{list_all, list_any}
 use Rattle.std.specs.Str.{bytes_eq}
 use Rattle.fbas_model.specs.Nodes.{Table}
@@ -8,19 +8,28 @@ use Rattle.fbas_model.specs.Fbas.{Fbas}
 use Rattle.fbas_model.specs.Counting.{is_quorum}
 use Rattle.fbas_model.specs.Systems.{System}
 use Rattle.fbas_model.specs.Restriction.{closure_of}
+use Rattle.lrat_model.specs.Steps.{ProofStep, step_fault, after_step, progress_of}
+use Rattle.lrat_model.specs.declared.step.StepFault.{StepFault}
+use Rattle.lrat_model.specs.declared.step.Progress.{Progress}
+use Rattle.lrat_model.specs.declared.step.Progress.TheVariants.{Going as going, Refuted}
+use Rattle.lrat_checker.specs.Checking.{Checking}
+use Rattle.lrat_text.specs.Lines.{step_in}
+use Rattle.lrat_text.specs.declared.faults.LineFault.{LineFault}
 use Rattle.witness_pair.specs.Making.{shared, least, pair_of}
 use Rattle.certificate_file.specs.Lines.{Lines, tail, line, lines_of}
 use Rattle.certificate_file.specs.Words.{Word, names_after, digest_in}
+use Rattle.certificate_file.specs.Formulas.{counts_in, formula_of}
+use Rattle.certificate_file.specs.declared.formula.Counts.{Counts}
 use Rattle.certificate_file.specs.declared.faults.CertError.{CertError}
 use Rattle.certificate_file.specs.declared.places.Header.{Header}
 use Rattle.certificate_file.specs.declared.places.Subject.{Subject}
-use Rattle.certificate_file.specs.declared.places.Answer.TheVariants.{Pair as pair}
+use Rattle.certificate_file.specs.declared.places.Answer.TheVariants.{Pair as pair, Refutation}
 use Rattle.certificate_file.specs.declared.places.Accepted.{Accepted}
 use Rattle.certificate_file.specs.declared.places.Place.{Place}
-use Rattle.certificate_file.specs.declared.places.Place.TheVariants.{AtTitle, AtDigest, AtFrom, AtFaulty, AtKind, AtFirst, AtSecond, AtEnd}
+use Rattle.certificate_file.specs.declared.places.Place.TheVariants.{AtTitle, AtDigest, AtFrom, AtFaulty, AtKind, AtFirst, AtSecond, AtFormula, AtSteps, AtEnd}
 use Rattle.certificate_file.specs.declared.places.State.{State}
 use Rattle.certificate_file.specs.declared.places.State.TheVariants.{Going, Done}
-use Rattle.certificate_file.specs.declared.faults.CertError.TheVariants.{BadLine, LineTooLong, TooManyLines, Digest, UnknownNode, NotQuorum, Overlap, Truncated, Trailing}
+use Rattle.certificate_file.specs.declared.faults.CertError.TheVariants.{BadLine, LineTooLong, TooManyLines, Digest, UnknownNode, NotQuorum, Overlap, TooLarge, Formula, Step, NotRefuted, Truncated, Trailing}
 
 -- ---- results in a row
 
@@ -98,9 +107,10 @@ subject_of from nodes faulty = record { header = record { from = from; faulty = 
 abbrev pub faulty_line : System → Option ℕ → Table → ℕ → List ℕ → Result State CertError
 faulty_line f from nodes l text = and_then (λ faulty. Ok (Going (AtKind (subject_of from nodes faulty)))) (named f.names l (codes "faulty") text)
 
--- a pair: no other kind is read yet
+-- a pair or a refutation: no other kind is read yet
 abbrev pub kind_line : Subject → ℕ → List ℕ → Result State CertError
-kind_line s l text = expected l text (codes "kind pair") (Ok (Going (AtFirst s)))
+kind_line s l text =
+    if bytes_eq text (codes "kind pair") then Ok (Going (AtFirst s)) else expected l text (codes "kind refutation") (Ok (Going (AtFormula s)))
 
 -- a set of nodes of the part
 abbrev pub within : Subject → ℕ → Table → Result Table CertError
@@ -127,6 +137,39 @@ paired h l u w = apart l (least (shared u w)) (Ok (Going (AtEnd (record { header
 abbrev pub second_line : System → Subject → Table → ℕ → List ℕ → Result State CertError
 second_line f s u l text = and_then (paired s.header l u) (and_then (quorum f s.header l) (and_then (within s l) (named f.names l (codes "second") text)))
 
+-- the formula of the part, which has these many variables and clauses
+abbrev pub sized : ℕ → Header → Checking → Counts → Result State CertError
+sized l h c counts =
+    unless (TooLarge c.vars) (nat_le c.vars 4000000)
+    (unless (Formula l) ((counts.vars == c.vars) && (counts.clauses == c.database.last))
+    (Ok (Going (AtSteps h c))))
+
+-- how many variables and clauses the formula has
+abbrev pub formula_line : System → Subject → ℕ → List ℕ → Result State CertError
+formula_line f s l text = and_then (sized l s.header (formula_of f s)) (ok_or (counts_in text) (BadLine l))
+
+-- the next line after a step: `end` where it was the empty lemma
+abbrev pub after_progress : Header → Checking → Progress → State
+after_progress h c going = Going (AtSteps h c)
+after_progress h c Refuted = Going (AtEnd (record { header = h; answer = Refutation }))
+
+-- what is so after a step, if it has no fault
+abbrev pub step_unless : ℕ → Header → Checking → ProofStep → Option StepFault → Result State CertError
+step_unless l h c step (Some fault) = Err (Step l fault)
+step_unless l h c step None = Ok (after_progress h (record { vars = c.vars; database = after_step c.database step }) (progress_of step))
+
+abbrev pub take_step : ℕ → Header → Checking → ProofStep → Result State CertError
+take_step l h c step = step_unless l h c step (step_fault c.vars c.database step)
+
+-- the step of a line, which is bad where it has none
+abbrev pub or_bad_line : ℕ → Result ProofStep LineFault → Result ProofStep CertError
+or_bad_line l (Ok step) = Ok step
+or_bad_line l (Err fault) = Err (BadLine l)
+
+-- a step of the refutation, which does not end before the empty lemma
+abbrev pub step_line : Header → Checking → ℕ → List ℕ → Result State CertError
+step_line h c l text = if bytes_eq text (codes "end") then Err (NotRefuted l) else and_then (take_step l h c) (or_bad_line l (step_in text))
+
 -- line l taken at its place, for the system f and the digest d of its configuration
 unfoldable pub take_line : System → List ℕ → Place → ℕ → List ℕ → Result State CertError
 take_line f d AtTitle l text = expected l text (codes "fbas-cert 1") (Ok (Going AtDigest))
@@ -136,6 +179,8 @@ take_line f d (AtFaulty from nodes) l text = faulty_line f from nodes l text
 take_line f d (AtKind s) l text = kind_line s l text
 take_line f d (AtFirst s) l text = first_line f s l text
 take_line f d (AtSecond s u) l text = second_line f s u l text
+take_line f d (AtFormula s) l text = formula_line f s l text
+take_line f d (AtSteps h c) l text = step_line h c l text
 take_line f d (AtEnd a) l text = expected l text (codes "end") (Ok (Done a))
 
 -- ---- the whole

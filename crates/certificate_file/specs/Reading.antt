@@ -1,16 +1,21 @@
 -- One line of what is left to read, and what is known between two lines.
-use Rattle.std.specs.Prelude.{◌≡◌, ◌<◌, ℕ, List, [], ◌∷◌, length, true, Option, IfSome, Some, None, Result, Ok, Err}
+use Rattle.std.specs.Prelude.{◌≡◌, ◌<◌, ℕ, List, [], ◌∷◌, ◌++◌, length, true, Option, IfSome, Some, None, Result, Ok, Err}
 use Rattle.fbas_model.specs.Counting.{is_quorum}
 use Rattle.fbas_model.specs.Systems.{System, IsSystem}
 use Rattle.certificate_file.specs.Lines.{Lines, tail, line}
 use Rattle.certificate_file.specs.Acceptance.{within_limits}
 use Rattle.fbas_model.specs.Nodes.{Table, members, ◌⊆◌}
 use Rattle.fbas_model.specs.Fbas.{IsClosed}
-use Rattle.certificate_file.specs.Meaning.{Holds, HasPlaces, part_from}
+use Rattle.lrat_model.specs.Steps.{ProofStep, Database, progress_of}
+use Rattle.lrat_model.specs.Runs.{Run}
+use Rattle.lrat_model.specs.declared.step.Progress.TheVariants.{Refuted}
+use Rattle.lrat_checker.specs.Checking.{Checking}
+use Rattle.certificate_file.specs.Meaning.{Holds, HasPlaces, PartIntersects, part_from}
+use Rattle.certificate_file.specs.declared.places.Header.{Header}
 use Rattle.certificate_file.specs.declared.places.Subject.{Subject}
 use Rattle.certificate_file.specs.declared.places.Accepted.{Accepted}
 use Rattle.certificate_file.specs.declared.places.Place.{Place}
-use Rattle.certificate_file.specs.declared.places.Place.TheVariants.{AtTitle, AtDigest, AtFrom, AtFaulty, AtKind, AtFirst, AtSecond, AtEnd}
+use Rattle.certificate_file.specs.declared.places.Place.TheVariants.{AtTitle, AtDigest, AtFrom, AtFaulty, AtKind, AtFirst, AtSecond, AtFormula, AtSteps, AtEnd}
 use Rattle.certificate_file.specs.declared.places.State.{State}
 use Rattle.certificate_file.specs.declared.places.State.TheVariants.{Going, Done}
 use Rattle.certificate_file.specs.declared.faults.CertError.{CertError}
@@ -54,6 +59,20 @@ pub record IsPartQuorum (f : System) (s : Subject) (u : Table) : Type 0 where
   pub within : members u ⊆ members s.nodes
   pub quorum : is_quorum f.sets s.header.faulty u ≡ true
 
+-- some run of steps from here on ends with the empty lemma
+pub record IsRefutable (c : Checking) : Type 0 where
+  pub steps : List ProofStep
+  pub last : ProofStep
+  pub new : Database
+  pub run : Run c.vars c.database (steps ++ last ∷ []) new
+  pub refuted : progress_of last ≡ Refuted
+
+-- what is known between two steps: a run to the empty lemma shows that every two quorums of the part share a node
+pub record AreSteps (f : System) (h : Header) (c : Checking) : Type 0 where
+  pub node : IfSome h.from (λ v. v < length f.sets)
+  pub faulty : length h.faulty ≡ length f.sets
+  pub shows : IsRefutable c → PartIntersects f (part_from f h.from) h.faulty
+
 -- what is known at a place
 abbrev pub IsKnown : System → Place → Type 0
 IsKnown f AtTitle = Unit {0}
@@ -63,6 +82,8 @@ IsKnown f (AtFaulty from nodes) = IsPart f from nodes
 IsKnown f (AtKind s) = IsSubject f s
 IsKnown f (AtFirst s) = IsSubject f s
 IsKnown f (AtSecond s u) = IsSubject f s × IsPartQuorum f s u
+IsKnown f (AtFormula s) = IsSubject f s
+IsKnown f (AtSteps h c) = AreSteps f h c
 IsKnown f (AtEnd a) = IsShown f a
 
 abbrev pub IsKnownState : System → State → Type 0

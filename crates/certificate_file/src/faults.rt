@@ -1,9 +1,10 @@
 // Why a certificate is not accepted.
+use lrat_model::StepFault;
 use std::alloc::AllocError;
 use thiserror::Error;
 
 /// Why a certificate is not accepted: its first fault, where lines count from 1.
-#[derive(Clone, Copy, Debug, PartialEq, Eq, Error)]
+#[derive(Debug, Drop, Error)]
 pub enum CertError {
     /// This line is not one that may stand there.
     #[error("line {0} is not one that may stand there")]
@@ -26,6 +27,18 @@ pub enum CertError {
     /// The quorum of this line shares nodes with the one before it, of which this is the least.
     #[error("the quorum of line {0} shares node {1} with the first one")]
     Overlap(u64, u32),
+    /// The formula has so many variables, more than 4,000,000.
+    #[error("the formula has {0} variables")]
+    TooLarge(u64),
+    /// The formula has not the variables or the clauses that this line says.
+    #[error("line {0} has not the size of the formula")]
+    Formula(u64),
+    /// The step of this line is refused.
+    #[error("the step of line {0} is refused: {1}")]
+    Step(u64, StepFault),
+    /// The refutation ends on this line without the empty lemma.
+    #[error("line {0} ends a refutation without the empty lemma")]
+    NotRefuted(u64),
     /// The input ends before the line feed of this line.
     #[error("line {0} is missing")]
     Truncated(u64),

@@ -1,4 +1,5 @@
 // What a certificate says, and the places of its lines.
+use lrat_checker::Checker;
 use name_set::NodeSet;
 use witness_pair::Pair;
 
@@ -16,6 +17,8 @@ pub struct Header {
 pub enum Answer {
     /// Two quorums that share no node: the system doesn't intersect. Their nodes have their numbers in the whole system.
     Pair(Pair),
+    /// Every two quorums share a node: no assignment makes the intersection formula true.
+    Refutation,
 }
 
 /// What an accepted certificate says.
@@ -42,6 +45,8 @@ pub enum Place {
     AtKind(Subject),
     AtFirst(Subject),
     AtSecond(Subject, NodeSet),
+    AtFormula(Subject),
+    AtSteps(Header, Checker),
     AtEnd(Accepted),
 }
 

@@ -6,9 +6,11 @@ ghost use Rattle.certificate_file.specs.Acceptance.{and_then, named, within, exp
 ghost use Rattle.certificate_file.specs.Reading.{IsPart, IsSubject, IsKnown, IsKnownState};
 
 use crate::faults::CertError;
+use crate::formula::formula_line;
 use crate::lists::named;
 use crate::parts::{cut, from_line, within};
 use crate::places::{Accepted, Answer, Header, Place, State, Subject};
+use crate::refuting::step_line;
 use crate::words::words;
 use digest_text::digits;
 use fbas_core::System;
@@ -83,16 +85,19 @@ fn faulty_line(
     Ok(State::Going(Place::AtKind(Subject { header, nodes })))
 }
 
-/// Line 5: a pair. No other kind is read yet.
+/// Line 5: a pair or a refutation. No other kind is read yet.
 fn kind_line(line: u64, text: &[u8], subject: Subject) -> Result<State, CertError>
     ensures unread { IsErrOf result CertError.Read → ⊥ }
     ensures value { result ≡ kind_line subject line text.now }
 {
+    if text == b"kind pair".as_slice() {
+        return Ok(State::Going(Place::AtFirst(subject)));
+    }
     expected(
         line,
         text,
-        "kind pair",
-        State::Going(Place::AtFirst(subject)),
+        "kind refutation",
+        State::Going(Place::AtFormula(subject)),
     )
 }
 
@@ -212,6 +217,8 @@ pub fn take_line(
         Place::AtKind(subject) => kind_line(line, text, subject),
         Place::AtFirst(subject) => first_line(alloc, system, subject, line, text),
         Place::AtSecond(subject, first) => second_line(alloc, system, subject, first, line, text),
+        Place::AtFormula(subject) => formula_line(alloc, system, subject, line, text),
+        Place::AtSteps(header, checker) => step_line(alloc, header, checker, line, text),
         Place::AtEnd(accepted) => expected(line, text, "end", State::Done(accepted)),
     }
 }

@@ -1,0 +1,189 @@
+// The line that gives the size of the intersection formula, and the formula.
+ghost use Rattle.std.specs.Prelude.{◌≡◌, ◌⊎◌, ◌<◌, ◌≤◌, length, IfOk, IfErr, IsErrOf, Ok, Err};
+ghost use Rattle.std.specs.List.{list_all};
+ghost use Rattle.std.specs.Char.{is_ascii_digit};
+ghost use Rattle.fbas_model.specs.Nodes.{members};
+ghost use Rattle.fbas_model.specs.Fbas.{IsGreatestQuorum, all_nodes};
+ghost use Rattle.lrat_text.specs.Numbers.{is_numeral, id_in};
+ghost use Rattle.certificate_file.specs.Words.{words_view};
+ghost use Rattle.certificate_file.specs.Greatest.{greatest_of};
+ghost use Rattle.certificate_file.specs.Formulas.{formula_of, formula_over, number_in, counts_behind};
+ghost use Rattle.certificate_file.specs.Acceptance.{sized, formula_line};
+ghost use Rattle.certificate_file.specs.Reading.{IsSubject};
+
+use crate::faults::CertError;
+use crate::places::{Header, Place, State, Subject};
+use crate::words::words;
+use clause_encoder::{EncodeError, encode};
+use fbas_core::System;
+use greatest_quorum::shrink;
+use lrat_checker::Checker;
+use name_set::NodeSet;
+use std::alloc::{AllocError, Global};
+
+/// The greatest number.
+const MOST: u64 = 9_223_372_036_854_775_807;
+
+/// How many variables and clauses a formula has.
+#[derive(Clone, Copy)]
+struct Counts {
+    vars: u64,
+    clauses: u64,
+}
+
+/// Decimal digits of which the first is not 0.
+fn is_numeral(word: &[u8]) -> bool
+    ensures { result ≡ is_numeral word.now }
+{
+    match word.first() {
+        Some(first) => *first > b'0' && has_digits(word),
+        None => false,
+    }
+}
+
+fn has_digits(word: &[u8]) -> bool
+    ensures { result ≡ list_all is_ascii_digit word.now }
+{
+    word.iter().all(|byte| byte.is_ascii_digit())
+}
+
+/// The number of decimal digits of which the first is not 0.
+fn positive(word: &[u8]) -> Option<u64>
+    ensures { result ≡ id_in word.now }
+{
+    if !is_numeral(word) {
+        return None;
+    }
+    let Ok(digits) = str::from_utf8(word) else {
+        return None;
+    };
+    match digits.parse::<u64>() {
+        Ok(number) if number <= MOST => Some(number),
+        _ => None,
+    }
+}
+
+/// The same, or 0.
+fn number(word: &[u8]) -> Option<u64>
+    ensures { result ≡ number_in word.now }
+{
+    if word == b"0".as_slice() {
+        return Some(0);
+    }
+    positive(word)
+}
+
+/// The numbers behind the word `formula`.
+fn counts_behind(words: &[Vec<u8>]) -> Option<Counts>
+    ensures { result ≡ counts_behind (words_view words.now) }
+{
+    let [word, vars, clauses] = words else {
+        return None;
+    };
+    if word.as_slice() != b"formula".as_slice() {
+        return None;
+    }
+    let vars = number(vars)?;
+    let clauses = positive(clauses)?;
+    Some(Counts { vars, clauses })
+}
+
+/// The greatest quorum once the faulty nodes are deleted.
+fn greatest_of(alloc: Global, system: &System, faulty: &NodeSet) -> Result<NodeSet, AllocError>
+    requires { length faulty.now ≡ length system.now.sets }
+    ensures same_n { IfOk result (λ g. length g ≡ length system.now.sets) }
+    ensures is { IfOk result (λ g. IsGreatestQuorum system.now.sets (members faulty.now) (all_nodes system.now.sets) (members g)) }
+    ensures table { IfOk result (λ g. g ≡ greatest_of system.now.sets faulty.now) }
+{
+    let mut greatest = NodeSet::new(alloc, system.len())?;
+    greatest.fill();
+    shrink(system, &mut greatest, faulty);
+    Ok(greatest)
+}
+
+/// A checker that holds the formula of the system after deletion of its faulty nodes, and how many variables it has.
+fn formula_over(
+    alloc: Global,
+    system: &System,
+    faulty: &NodeSet,
+) -> Result<(Checker, u64), CertError>
+    requires { length faulty.now ≡ length system.now.sets }
+    ensures unread { IsErrOf result CertError.Read → ⊥ }
+    ensures ok { IfOk result (λ r. r.0 ≡ formula_over system.now.sets faulty.now (greatest_of system.now.sets faulty.now)) }
+    ensures vars { IfOk result (λ r. r.1 ≡ r.0.vars) }
+    ensures small { IfOk result (λ r. r.0.vars ≤ 4000000) }
+    ensures err { IfErr result (λ e. (e ≡ CertError.Memory)
+        ⊎ ((e ≡ CertError.TooLarge (formula_over system.now.sets faulty.now (greatest_of system.now.sets faulty.now)).vars)
+        × (4000000 < (formula_over system.now.sets faulty.now (greatest_of system.now.sets faulty.now)).vars))) }
+{
+    let greatest = greatest_of(alloc, system, faulty)?;
+    match encode(alloc, system, faulty, &greatest) {
+        Ok((store, variables)) => {
+            let vars = variables.vars();
+            Ok((Checker::start(alloc, store, vars)?, vars))
+        }
+        Err(EncodeError::TooLarge(vars)) => Err(CertError::TooLarge(vars)),
+        Err(EncodeError::Memory) => Err(CertError::Memory),
+    }
+}
+
+/// The same of the part, after deletion of its faulty nodes.
+#[tactic(auto, unfolding(crate::specs::Formulas::formula_of))]
+fn formula_of(
+    alloc: Global,
+    system: &System,
+    subject: &Subject,
+) -> Result<(Checker, u64), CertError>
+    requires { IsSubject system.now subject.now }
+    ensures unread { IsErrOf result CertError.Read → ⊥ }
+    ensures ok { IfOk result (λ r. r.0 ≡ formula_of system.now subject.now) }
+    ensures vars { IfOk result (λ r. r.1 ≡ r.0.vars) }
+    ensures small { IfOk result (λ r. r.0.vars ≤ 4000000) }
+    ensures err { IfErr result (λ e. (e ≡ CertError.Memory)
+        ⊎ ((e ≡ CertError.TooLarge (formula_of system.now subject.now).vars) × (4000000 < (formula_of system.now subject.now).vars))) }
+{
+    let part = system.restrict(alloc, &subject.nodes)?;
+    let faulty = system.cut(alloc, &subject.header.faulty, &subject.nodes)?;
+    formula_over(alloc, &part, &faulty)
+}
+
+/// The steps begin where the formula has so many variables and clauses.
+fn sized(
+    header: Header,
+    checker: Checker,
+    vars: u64,
+    line: u64,
+    counts: Counts,
+) -> Result<State, CertError>
+    requires vars { vars ≡ checker.vars }
+    requires small { vars ≤ 4000000 }
+    ensures unread { IsErrOf result CertError.Read → ⊥ }
+    ensures value { result ≡ sized line header checker counts }
+{
+    if counts.vars != vars || counts.clauses != checker.last() {
+        return Err(CertError::Formula(line));
+    }
+    Ok(State::Going(Place::AtSteps(header, checker)))
+}
+
+/// The line `formula`: the variables and the clauses of the part's formula, which is written anew. The cost is that of the
+/// greatest quorum and of the formula.
+pub fn formula_line(
+    alloc: Global,
+    system: &System,
+    subject: Subject,
+    line: u64,
+    text: &[u8],
+) -> Result<State, CertError>
+    requires { IsSubject system.now subject }
+    ensures unread { IsErrOf result CertError.Read → ⊥ }
+    ensures ok { IfOk result (λ s. formula_line system.now subject line text.now ≡ Ok s) }
+    ensures err { IfErr result (λ e. (e ≡ CertError.Memory) ⊎ (formula_line system.now subject line text.now ≡ Err e)) }
+{
+    let words = words(alloc, text)?;
+    let Some(counts) = counts_behind(words.as_slice()) else {
+        return Err(CertError::BadLine(line));
+    };
+    let (checker, vars) = formula_of(alloc, system, &subject)?;
+    sized(subject.header, checker, vars, line, counts)
+}
