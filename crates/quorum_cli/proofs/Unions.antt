@@ -18,6 +18,6 @@ is_union n s t full rest neither whole u same size all left less every is = ext_
     let at_rest : members rest k ≡ (true && not (members s k)) = ap (λ (x : Nodes). x k) left ∙ ap (λ (b : Bool). b && not (members s k)) (ap (λ (x : Nodes). x k) all ∙ here) in
     let at_neither : members neither k ≡ ((true && not (members s k)) && not (members t k)) = ap (λ (x : Nodes). x k) less ∙ ap (λ (b : Bool). b && not (members t k)) at_rest in
     let at_u : members u k ≡ (true && not ((true && not (members s k)) && not (members t k))) =
-        ap (λ (x : Nodes). x k) is ∙ ap (λ (b : Bool). b && not (members neither k)) (ap (λ (x : Nodes). x k) every ∙ here) ∙ ap (λ (b : Bool). true && not b) at_neither in
+    ap (λ (x : Nodes). x k) is ∙ ap (λ (b : Bool). b && not (members neither k)) (ap (λ (x : Nodes). x k) every ∙ here) ∙ ap (λ (b : Bool). true && not b) at_neither in
     let same_place : k ≡ 0 + k = omega arith in
     at_u ∙ neither_not (members s k) (members t k) ∙ ap (members s ∪ members t) same_place ∙ sym (members-table_from 0 (length s) (members s ∪ members t) k (omega (arith, size, same))))

@@ -18,8 +18,10 @@ use Rattle.node_json.specs.declared.faults.OrgFault.{OrgFault}
 use Rattle.certificate_file.specs.Acceptance.{checked}
 use Rattle.certificate_file.specs.declared.places.Accepted.{Accepted}
 use Rattle.certificate_file.specs.declared.faults.CertError.{CertError}
+use Rattle.certificate_file.specs.declared.faults.CertError.TheVariants.{TooLarge as TooManyVariables}
 use Rattle.report.specs.Lines.{usage, same_path, config_too_long, config_refused, orgs_too_long, orgs_refused, cert_refused, accepted}
-use Rattle.quorum_cli.specs.declared.status.Status.TheVariants.{Yes, Usage, ConfigRefused, CertRefused}
+use Rattle.quorum_cli.specs.declared.status.Status.TheVariants.{Yes, Usage, ConfigRefused, CertRefused, TooLarge}
+use Rattle.quorum_cli.specs.declared.status.Status.{Status}
 use Rattle.quorum_cli.specs.Status.{is_answer}
 use Rattle.quorum_cli.specs.declared.reply.Reply.{Reply as Answer}
 use Rattle.quorum_cli.specs.Questions.{question_of, part_of, Answers, FitsQuestion}
@@ -39,10 +41,15 @@ abbrev pub or_orgs_refused : Result (List Org) OrgFault → Result (List Org) An
 or_orgs_refused (Ok orgs) = Ok orgs
 or_orgs_refused (Err e) = Err (record { status = ConfigRefused; text = orgs_refused e })
 
+-- how the program ends where a certificate has this fault
+abbrev pub cert_status : CertError → Status
+cert_status (TooManyVariables vars) = TooLarge
+cert_status fault = CertRefused
+
 -- a certificate is accepted, or its first fault is named
 abbrev pub checked_answer : List Name → Result Accepted CertError → Answer
 checked_answer names (Ok a) = record { status = Yes; text = accepted names a }
-checked_answer names (Err e) = record { status = CertRefused; text = cert_refused names e }
+checked_answer names (Err e) = record { status = cert_status e; text = cert_refused names e }
 
 -- what comes of `check` over the certificate; nothing where it is missing
 abbrev pub check_outcome : System → List ℕ → Option (List ℕ) → Option Outcome

@@ -15,8 +15,9 @@ use Rattle.quorum_cli.specs.declared.status.Status.TheVariants.{Yes, Usage}
 use Rattle.quorum_cli.specs.declared.reading.Outcome.{Outcome}
 use Rattle.quorum_cli.specs.declared.reading.Outcome.TheVariants.{Told, Asked}
 
--- the certificate is accepted for a configuration and its system, and its answer holds: of a pair, its two sets are
--- quorums of the system once the nodes of its header are deleted, and share no node
+-- the certificate is accepted for a configuration and its system, and its answer holds for the part that it speaks of, the
+-- whole system or the trust closure of a node, once the nodes of its header are deleted: the two sets of a pair are quorums
+-- of the part and share no node, and with a refutation every two quorums of the part share a node
 pub record Shows (system : System) (config cert : List ℕ) : Type 0 where
   pub accepted : Accepted
   pub checks : checked system (sha256 config) cert ≡ Ok accepted

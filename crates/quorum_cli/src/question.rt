@@ -60,11 +60,7 @@ fn head_of(alloc: Global, config: &[u8], from: &Option<String>) -> Result<Text, 
 }
 
 // The order `closure`.
-fn closure_asked(
-    alloc: Global,
-    order: &Order,
-    system: &System,
-) -> Result<Inquiry, Refusal>
+fn closure_asked(alloc: Global, order: &Order, system: &System) -> Result<Inquiry, Refusal>
     ensures ok { IfOk result (λ i. question_of Command.Closure system.now [] [] (order_view order.now) ≡ Ok i) }
     ensures err { IfErr result (λ r. Refuses r (question_of Command.Closure system.now [] [] (order_view order.now))) }
     ensures usage { IfErr result IsUsage }
@@ -95,11 +91,7 @@ fn greatest_asked(
 }
 
 // The order `available`.
-fn available_asked(
-    alloc: Global,
-    order: &Order,
-    system: &System,
-) -> Result<Inquiry, Refusal>
+fn available_asked(alloc: Global, order: &Order, system: &System) -> Result<Inquiry, Refusal>
     ensures ok { IfOk result (λ i. question_of Command.Available system.now [] [] (order_view order.now) ≡ Ok i) }
     ensures err { IfErr result (λ r. Refuses r (question_of Command.Available system.now [] [] (order_view order.now))) }
     ensures usage { IfErr result IsUsage }
@@ -135,11 +127,7 @@ fn blocks_asked(
 }
 
 // The order `vblocks`.
-fn vblocks_asked(
-    alloc: Global,
-    order: &Order,
-    system: &System,
-) -> Result<Inquiry, Refusal>
+fn vblocks_asked(alloc: Global, order: &Order, system: &System) -> Result<Inquiry, Refusal>
     ensures ok { IfOk result (λ i. question_of Command.Vblocks system.now [] [] (order_view order.now) ≡ Ok i) }
     ensures err { IfErr result (λ r. Refuses r (question_of Command.Vblocks system.now [] [] (order_view order.now))) }
     ensures usage { IfErr result IsUsage }

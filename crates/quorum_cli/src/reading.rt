@@ -1,5 +1,5 @@
 // What comes of the words: an answer, or a question about a system.
-ghost use Rattle.std.specs.Prelude.{◌≡◌, ◌≤◌, All, Some, None, Ok, Err, IsTrue, IfOk, IfErr, IsOk, IsErr, IsErrOf, length, option_map, string_bytes};
+ghost use Rattle.std.specs.Prelude.{◌≡◌, ◌≤◌, ◌⊎◌, All, Some, None, Ok, Err, IsTrue, IfOk, IfErr, IsOk, IsErr, IsErrOf, length, option_map, string_bytes};
 ghost use Rattle.sha2.specs.Sha256.{sha256};
 ghost use Rattle.desk_io.specs.State.{OnlyReads, left_of};
 ghost use Rattle.desk_io.specs.Faults.{ReadFails};
@@ -8,7 +8,7 @@ ghost use Rattle.cli_words.specs.Words.{order_of};
 ghost use Rattle.node_json.specs.Configuration.{system_of};
 ghost use Rattle.certificate_file.specs.Acceptance.{checked};
 ghost use Rattle.report.specs.Lines.{config_refused, orgs_refused};
-ghost use Rattle.quorum_cli.specs.Answers.{words_of, outcome_of, order_outcome, system_outcome, command_outcome, check_outcome, ask_outcome, orgs_answer, orgs_given, asked, checked_answer, refused_words, max_file, FitsOutcome, IsTold};
+ghost use Rattle.quorum_cli.specs.Answers.{words_of, outcome_of, order_outcome, system_outcome, command_outcome, check_outcome, ask_outcome, orgs_answer, orgs_given, asked, checked_answer, cert_status as spec_cert_status, refused_words, max_file, FitsOutcome, IsTold};
 ghost use Rattle.quorum_cli.specs.Meaning.{Shows, HasCert, HasAccepted, NamesFiles, NamesAccepted, YesMeans, IsCheck, IsToldUsage};
 ghost use Rattle.quorum_cli.specs.Questions.{question_of};
 ghost use Rattle.quorum_cli.specs.Organisations.{orgs_view, FitsOrgs};
@@ -76,14 +76,25 @@ fn refuse_config(alloc: Global, fault: ConfigFault) -> Result<Reply, Stop>
     Ok(Reply::new(Status::ConfigRefused, text))
 }
 
+// How the program ends where a certificate has this fault.
+fn cert_status(fault: &CertError) -> Status
+    ensures value { result ≡ spec_cert_status fault.now }
+    ensures refused { (result ≡ Status.TooLarge) ⊎ (result ≡ Status.CertRefused) }
+{
+    match fault {
+        CertError::TooLarge(_) => Status::TooLarge,
+        _ => Status::CertRefused,
+    }
+}
+
 // The answer to a certificate that is refused.
 fn refuse_cert(alloc: Global, system: &System, fault: &CertError) -> Result<Reply, Stop>
     ensures ok { IfOk result (λ a. a ≡ checked_answer system.now.names (Err fault.now)) }
-    ensures refused { IfOk result (λ a. a.status ≡ Status.CertRefused) }
+    ensures refused { IfOk result (λ a. (a.status ≡ Status.TooLarge) ⊎ (a.status ≡ Status.CertRefused)) }
     ensures memory { IfErr result (λ e. e ≡ Stop.Memory) }
 {
     let text = report::cert_refused(alloc, system.names(), fault)?;
-    Ok(Reply::new(Status::CertRefused, text))
+    Ok(Reply::new(cert_status(fault), text))
 }
 
 // The answer to a certificate that is accepted.
@@ -190,7 +201,11 @@ fn orgs_for<D: Desk>(
     };
     match read_file(alloc, desk, Which::Orgs, path)? {
         Some(bytes) => orgs_in(alloc, system, &bytes),
-        None => Ok(GivenOrgs::Refused(reply_with(alloc, Status::ConfigRefused, "orgs too-long\n")?)),
+        None => Ok(GivenOrgs::Refused(reply_with(
+            alloc,
+            Status::ConfigRefused,
+            "orgs too-long\n",
+        )?)),
     }
 }
 
@@ -228,12 +243,12 @@ fn ask<D: Desk>(
 ) -> Result<Outcome, Stop>
     ensures outcome { IfOk result (λ o. IsTrue D.tells →
         ask_outcome order.now.command (order_view order.now) system config.now
-            (orgs_given system.names (D.state desk.old).files (order_view order.now).orgs) ≡ Some o) }
+        (orgs_given system.names (D.state desk.old).files (order_view order.now).orgs) ≡ Some o) }
     ensures fits { IfOk result FitsOutcome }
     ensures unaccepted { IfOk result (YesMeans ⊥) }
     ensures missing { IsErrOf result Stop.Read → IsTrue D.tells → IsTrue (D.state desk.old).plain
         → ask_outcome order.now.command (order_view order.now) system config.now
-            (orgs_given system.names (D.state desk.old).files (order_view order.now).orgs) ≡ None }
+        (orgs_given system.names (D.state desk.old).files (order_view order.now).orgs) ≡ None }
     ensures reads { IsTrue D.tells → OnlyReads (D.state desk.old) (D.state desk.new) }
     ensures faults { ReadFails (D.faults desk.old) (D.faults desk.new) (IsErrOf result Stop.Read) }
 {

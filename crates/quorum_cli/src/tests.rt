@@ -460,10 +460,26 @@ fn questions_are_asked_of_a_trust_closure(rt: HostRuntime) -> Result<(), Fail> {
     for (line, status, text) in [
         ("greatest config --from a", Status::Yes, "greatest a b\n"),
         ("closure config --node a", Status::Yes, "closure a b\n"),
-        ("blocks config --from a --set a,c", Status::Yes, "blocks yes\n"),
-        ("available config --from a --set b", Status::No, "available no\nunmet a\n"),
-        ("greatest config --from a --faulty c", Status::Yes, "greatest a b\n"),
-        ("greatest config --from z", Status::Usage, "usage unknown-name --from 1\n"),
+        (
+            "blocks config --from a --set a,c",
+            Status::Yes,
+            "blocks yes\n",
+        ),
+        (
+            "available config --from a --set b",
+            Status::No,
+            "available no\nunmet a\n",
+        ),
+        (
+            "greatest config --from a --faulty c",
+            Status::Yes,
+            "greatest a b\n",
+        ),
+        (
+            "greatest config --from z",
+            Status::Usage,
+            "usage unknown-name --from 1\n",
+        ),
     ] {
         let (found, out) = ends(alloc, line, TWO_PAIRS.as_bytes(), b"")?;
         assert_eq!(rt; found, status, "at {line}");
@@ -488,12 +504,42 @@ fn organisations_name_faulty_nodes(rt: HostRuntime) -> Result<(), Fail> {
     let alloc = rt.alloc();
     let one = r#"[{"id":"A","validators":["a","zz"]}]"#;
     for (line, orgs, status, text) in [
-        ("greatest config --orgs orgs --faulty-orgs A", one, Status::Yes, "greatest b c\n"),
-        ("greatest config --orgs orgs --faulty-orgs A --faulty b", one, Status::Yes, "greatest c\n"),
-        ("greatest config --orgs orgs --faulty-orgs B", one, Status::Usage, "usage unknown-name --faulty-orgs 1\n"),
-        ("greatest config --faulty-orgs A", one, Status::Usage, "usage unknown-name --faulty-orgs 1\n"),
-        ("greatest config --orgs orgs", r#"[{"id":"A"},{"id":"A"}]"#, Status::ConfigRefused, "orgs duplicate-org 1\n"),
-        ("greatest config --orgs orgs", "{}", Status::ConfigRefused, "orgs not-orgs\n"),
+        (
+            "greatest config --orgs orgs --faulty-orgs A",
+            one,
+            Status::Yes,
+            "greatest b c\n",
+        ),
+        (
+            "greatest config --orgs orgs --faulty-orgs A --faulty b",
+            one,
+            Status::Yes,
+            "greatest c\n",
+        ),
+        (
+            "greatest config --orgs orgs --faulty-orgs B",
+            one,
+            Status::Usage,
+            "usage unknown-name --faulty-orgs 1\n",
+        ),
+        (
+            "greatest config --faulty-orgs A",
+            one,
+            Status::Usage,
+            "usage unknown-name --faulty-orgs 1\n",
+        ),
+        (
+            "greatest config --orgs orgs",
+            r#"[{"id":"A"},{"id":"A"}]"#,
+            Status::ConfigRefused,
+            "orgs duplicate-org 1\n",
+        ),
+        (
+            "greatest config --orgs orgs",
+            "{}",
+            Status::ConfigRefused,
+            "orgs not-orgs\n",
+        ),
     ] {
         let (found, out) = ends_with_orgs(alloc, line, TWO_OF_THREE, orgs)?;
         assert_eq!(rt; found, status, "at {line}");
@@ -507,17 +553,26 @@ fn export_writes_the_formula_of_two_of_two(rt: HostRuntime) -> Result<(), Fail> 
     let alloc = rt.alloc();
     let (found, out) = ends(alloc, "export config", TWO_OF_TWO.as_bytes(), b"")?;
     assert_eq!(rt; found, Status::Yes);
-    let text = "c config d5ccec4a141b4b11eb0b80bb62d235f24e373c62aa2fa9f6fb33f6b1e2871f41\nc from\nc faulty\nc 1 a p\nc 2 a q\nc 3 b p\nc 4 b q\np cnf 8 16\n1 2 0\n3 4 0\n-1 -3 0\n-2 -4 0\n-5 1 0\n-5 2 0\n-1 5 0\n-6 1 0\n-6 2 0\n-2 6 0\n-7 3 0\n-7 4 0\n-3 7 0\n-8 3 0\n-8 4 0\n-4 8 0\n";
+    let text =
+        "c config d5ccec4a141b4b11eb0b80bb62d235f24e373c62aa2fa9f6fb33f6b1e2871f41\nc from\nc faulty\nc 1 a p\nc 2 a q\nc 3 b p\nc 4 b q\np cnf 8 16\n1 2 0\n3 4 0\n-1 -3 0\n-2 -4 0\n-5 1 0\n-5 2 0\n-1 5 0\n-6 1 0\n-6 2 0\n-2 6 0\n-7 3 0\n-7 4 0\n-3 7 0\n-8 3 0\n-8 4 0\n-4 8 0\n";
     assert_eq!(rt; out.as_slice(), text.as_bytes());
     Ok(())
 }
 
 #[test]
-fn export_writes_the_formula_of_two_of_three_without_a_faulty_node(rt: HostRuntime) -> Result<(), Fail> {
+fn export_writes_the_formula_of_two_of_three_without_a_faulty_node(
+    rt: HostRuntime,
+) -> Result<(), Fail> {
     let alloc = rt.alloc();
-    let (found, out) = ends(alloc, "export config --faulty a", TWO_OF_THREE.as_bytes(), b"")?;
+    let (found, out) = ends(
+        alloc,
+        "export config --faulty a",
+        TWO_OF_THREE.as_bytes(),
+        b"",
+    )?;
     assert_eq!(rt; found, Status::Yes);
-    let text = "c config f823e204944abcff32c8dadffba2a0178a590a613358f9a6f271b651cd4e6fbb\nc from\nc faulty a\nc 1 a b\nc 2 a c\nc 3 b b\nc 4 b c\np cnf 8 12\n1 2 0\n3 4 0\n-1 -3 0\n-2 -4 0\n-5 1 2 0\n-1 5 0\n-6 1 2 0\n-2 6 0\n-7 3 4 0\n-3 7 0\n-8 3 4 0\n-4 8 0\n";
+    let text =
+        "c config f823e204944abcff32c8dadffba2a0178a590a613358f9a6f271b651cd4e6fbb\nc from\nc faulty a\nc 1 a b\nc 2 a c\nc 3 b b\nc 4 b c\np cnf 8 12\n1 2 0\n3 4 0\n-1 -3 0\n-2 -4 0\n-5 1 2 0\n-1 5 0\n-6 1 2 0\n-2 6 0\n-7 3 4 0\n-3 7 0\n-8 3 4 0\n-4 8 0\n";
     assert_eq!(rt; out.as_slice(), text.as_bytes());
     Ok(())
 }
@@ -527,7 +582,8 @@ fn export_writes_the_formula_of_no_nodes(rt: HostRuntime) -> Result<(), Fail> {
     let alloc = rt.alloc();
     let (found, out) = ends(alloc, "export config", b"[]", b"")?;
     assert_eq!(rt; found, Status::Yes);
-    let text = "c config 4f53cda18c2baa0c0354bb5f9a3ecbe5ed12ab4d8e11ba873c2f11161202b945\nc from\nc faulty\np cnf 0 2\n0\n0\n";
+    let text =
+        "c config 4f53cda18c2baa0c0354bb5f9a3ecbe5ed12ab4d8e11ba873c2f11161202b945\nc from\nc faulty\np cnf 0 2\n0\n0\n";
     assert_eq!(rt; out.as_slice(), text.as_bytes());
     Ok(())
 }

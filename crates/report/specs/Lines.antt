@@ -14,11 +14,14 @@ use Rattle.node_json.specs.declared.faults.ConfigFault.{ConfigFault}
 use Rattle.node_json.specs.declared.faults.ConfigFault.TheVariants.{NotJson, NotNodes, NotNode, BadKey, Duplicate, TooDeep, BadQuorumSet, TooManyNodes, TooManyEntries, Memory}
 use Rattle.node_json.specs.declared.faults.OrgFault.{OrgFault}
 use Rattle.node_json.specs.declared.faults.OrgFault.TheVariants.{NotJson as NoTree, NotOrgs, BadOrg, DuplicateOrg, TooManyOrgs, Memory as NoOrgs}
+use Rattle.lrat_model.specs.Literal.{Literal, Plus, Minus}
+use Rattle.lrat_model.specs.declared.step.StepFault.{StepFault}
+use Rattle.lrat_model.specs.declared.step.StepFault.TheVariants.{IdOrder, BadLiteral, Tautology, NoSuchClause, NotUnit, NoConflict, RatStep, Memory as NoStep}
 use Rattle.certificate_file.specs.declared.faults.CertError.{CertError}
-use Rattle.certificate_file.specs.declared.faults.CertError.TheVariants.{BadLine, LineTooLong, TooManyLines, Digest, UnknownNode, NotQuorum, Overlap, Truncated, Trailing, Read, Memory as NoMemory}
+use Rattle.certificate_file.specs.declared.faults.CertError.TheVariants.{BadLine, LineTooLong, TooManyLines, Digest, UnknownNode, NotQuorum, Overlap, Formula, Step, NotRefuted, TooLarge, Truncated, Trailing, Read, Memory as NoMemory}
 use Rattle.certificate_file.specs.declared.places.Accepted.{Accepted}
 use Rattle.certificate_file.specs.declared.places.Answer.{Answer}
-use Rattle.certificate_file.specs.declared.places.Answer.TheVariants.{Pair}
+use Rattle.certificate_file.specs.declared.places.Answer.TheVariants.{Pair, Refutation}
 
 abbrev pub Text : Type 0
 Text = List ℕ
@@ -109,6 +112,22 @@ orgs_too_long = codes "orgs too-long\n"
 abbrev pub orgs_refused : OrgFault → Text
 orgs_refused fault = line (orgs_fault fault)
 
+-- a literal as a signed number
+abbrev pub literal_word : Literal → Text
+literal_word (Plus x) = decimal x
+literal_word (Minus x) = 45 ∷ decimal x
+
+-- a want of memory is no refusal of the step, and is not printed
+abbrev pub step_fault : StepFault → Text
+step_fault (IdOrder last id) = numbered (numbered (codes "id-order") last) id
+step_fault (BadLiteral l) = worded (codes "bad-literal") (literal_word l)
+step_fault (Tautology l) = worded (codes "tautology") (literal_word l)
+step_fault (NoSuchClause id) = numbered (codes "no-such-clause") id
+step_fault (NotUnit place) = numbered (codes "not-unit") place
+step_fault NoConflict = codes "no-conflict"
+step_fault (RatStep place) = numbered (codes "rat-step") place
+step_fault NoStep = []
+
 -- a failed read and a want of memory are no refusals of the bytes, and are not printed
 abbrev pub cert_fault : List Name → CertError → Text
 cert_fault names (BadLine l) = numbered (codes "refused bad-line") l
@@ -118,6 +137,10 @@ cert_fault names (Digest found wanted) = worded (worded (codes "refused digest")
 cert_fault names (UnknownNode l) = numbered (codes "refused unknown-node") l
 cert_fault names (NotQuorum l) = numbered (codes "refused not-quorum") l
 cert_fault names (Overlap l v) = worded (numbered (codes "refused overlap") l) (name_at names v)
+cert_fault names (Formula l) = numbered (codes "refused formula") l
+cert_fault names (Step l fault) = worded (numbered (codes "refused step") l) (step_fault fault)
+cert_fault names (NotRefuted l) = numbered (codes "refused not-refuted") l
+cert_fault names (TooLarge vars) = numbered (codes "too-large") vars
 cert_fault names (Truncated l) = numbered (codes "refused truncated") l
 cert_fault names Trailing = codes "refused trailing"
 cert_fault names Read = []
@@ -130,6 +153,7 @@ cert_refused names fault = line (cert_fault names fault)
 
 abbrev pub accepted_kind : Answer → Text
 accepted_kind (Pair p) = codes "accepted pair\n"
+accepted_kind Refutation = codes "accepted refutation\n"
 
 -- a word, and behind it the name of a node where there is one
 abbrev pub word_if_any : Text → List Name → Option ℕ → Text

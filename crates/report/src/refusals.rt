@@ -1,9 +1,9 @@
 // Why a file is refused.
-ghost use Rattle.std.specs.Prelude.{◌≡◌, ◌<◌, ◌++◌, ◌∷◌, [], length, OnOk, IfOk};
-ghost use Rattle.report.specs.Lines.{numbered, worded, config_fault, config_refused as spec_config_refused, orgs_fault, orgs_refused as spec_orgs_refused, cert_fault, cert_refused as spec_cert_refused, names_fault, names_refused as spec_names_refused, set_fault};
+ghost use Rattle.std.specs.Prelude.{◌≡◌, ◌<◌, ◌++◌, ◌∷◌, [], length, codes, OnOk, IfOk};
+ghost use Rattle.report.specs.Lines.{numbered, worded, config_fault, config_refused as spec_config_refused, orgs_fault, orgs_refused as spec_orgs_refused, cert_fault, cert_refused as spec_cert_refused, literal_word, step_fault, names_fault, names_refused as spec_names_refused, set_fault};
 
-use crate::words::{name_at, push_behind, push_number};
-use certificate_file::CertError;
+use crate::words::{name_at, push_behind, push_decimal, push_number};
+use certificate_file::{CertError, Lit, StepFault};
 use name_set::{NameFault, Names};
 use node_json::{ConfigFault, OrgFault, SetFault};
 use std::alloc::{AllocError, Global};
@@ -101,6 +101,57 @@ fn overlap(alloc: Global, names: &Names, line: u64, node: u32) -> Result<Vec<u8>
     Ok(text)
 }
 
+// A literal as a signed number.
+fn push_literal(text: &mut Vec<u8>, literal: Lit) -> Result<(), AllocError>
+    ensures { OnOk result (text.new.items ≡ text.old.items ++ literal_word literal) }
+{
+    if literal.number() < 0 {
+        text.push(b'-')?;
+    }
+    push_decimal(text, u64::from(literal.variable()))
+}
+
+// A word and a literal.
+fn literal_behind(alloc: Global, word: &str, literal: Lit) -> Result<Vec<u8>, AllocError>
+    ensures { IfOk result (λ text. text.items ≡ worded word.now (literal_word literal)) }
+{
+    let mut text = Vec::from_slice(alloc, word.as_bytes())?;
+    text.push(b' ')?;
+    push_literal(&mut text, literal)?;
+    Ok(text)
+}
+
+fn id_order(alloc: Global, last: u64, id: u64) -> Result<Vec<u8>, AllocError>
+    ensures { IfOk result (λ text. text.items ≡ step_fault (StepFault.IdOrder last id)) }
+{
+    let mut text = numbered_word(alloc, "id-order", last)?;
+    push_number(&mut text, id)?;
+    Ok(text)
+}
+
+fn step_words(alloc: Global, fault: &StepFault) -> Result<Vec<u8>, AllocError>
+    ensures { IfOk result (λ text. text.items ≡ step_fault fault.now) }
+{
+    match fault {
+        StepFault::IdOrder(last, id) => id_order(alloc, *last, *id),
+        StepFault::BadLiteral(literal) => literal_behind(alloc, "bad-literal", *literal),
+        StepFault::Tautology(literal) => literal_behind(alloc, "tautology", *literal),
+        StepFault::NoSuchClause(id) => numbered_word(alloc, "no-such-clause", *id),
+        StepFault::NotUnit(place) => numbered_word(alloc, "not-unit", *place),
+        StepFault::NoConflict => Vec::from_slice(alloc, b"no-conflict"),
+        StepFault::RatStep(place) => numbered_word(alloc, "rat-step", *place),
+        StepFault::Memory => Ok(Vec::new(alloc)),
+    }
+}
+
+fn step_refused(alloc: Global, line: u64, fault: &StepFault) -> Result<Vec<u8>, AllocError>
+    ensures { IfOk result (λ text. text.items ≡ worded (numbered (codes "refused step") line) (step_fault fault.now)) }
+{
+    let mut text = numbered_word(alloc, "refused step", line)?;
+    push_behind(&mut text, step_words(alloc, fault)?.as_slice())?;
+    Ok(text)
+}
+
 fn cert_words(alloc: Global, names: &Names, fault: &CertError) -> Result<Vec<u8>, AllocError>
     ensures { IfOk result (λ text. text.items ≡ cert_fault names.now fault.now) }
 {
@@ -112,13 +163,17 @@ fn cert_words(alloc: Global, names: &Names, fault: &CertError) -> Result<Vec<u8>
         CertError::UnknownNode(l) => numbered_word(alloc, "refused unknown-node", *l),
         CertError::NotQuorum(l) => numbered_word(alloc, "refused not-quorum", *l),
         CertError::Overlap(l, v) => overlap(alloc, names, *l, *v),
+        CertError::Formula(l) => numbered_word(alloc, "refused formula", *l),
+        CertError::Step(l, fault) => step_refused(alloc, *l, fault),
+        CertError::NotRefuted(l) => numbered_word(alloc, "refused not-refuted", *l),
+        CertError::TooLarge(vars) => numbered_word(alloc, "too-large", *vars),
         CertError::Truncated(l) => numbered_word(alloc, "refused truncated", *l),
         CertError::Trailing => Vec::from_slice(alloc, b"refused trailing"),
         CertError::Read | CertError::Memory => Ok(Vec::new(alloc)),
     }
 }
 
-/// The line for a certificate that is refused.
+/// The line for a certificate that is refused, or whose formula is too large.
 pub fn cert_refused(alloc: Global, names: &Names, fault: &CertError) -> Result<Vec<u8>, AllocError>
     ensures { IfOk result (λ text. text.items ≡ spec_cert_refused names.now fault.now) }
 {

@@ -106,6 +106,7 @@ pub fn accepted(alloc: Global, system: &System, accepted: &Accepted) -> Result<V
         &mut text,
         match &accepted.answer {
             Answer::Pair(_) => "accepted pair\n",
+            Answer::Refutation => "accepted refutation\n",
         },
     )?;
     push_word_if_any(&mut text, "from", system.names(), accepted.header.from)?;
