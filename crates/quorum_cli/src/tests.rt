@@ -587,3 +587,123 @@ fn export_writes_the_formula_of_no_nodes(rt: HostRuntime) -> Result<(), Fail> {
     assert_eq!(rt; out.as_slice(), text.as_bytes());
     Ok(())
 }
+
+/// The first lines of a refutation for them.
+const REFUTATION: &str =
+    "fbas-cert 1\nconfig d5ccec4a141b4b11eb0b80bb62d235f24e373c62aa2fa9f6fb33f6b1e2871f41\nfrom\nfaulty\nkind refutation\n";
+
+const FIRST_LEMMA: &str = "17 -1 0 7 6 3 4 2 0\n";
+
+const EMPTY_LEMMA: &str = "18 0 17 1 10 8 0\n";
+
+// How `check` ends on two of two, for the lines of a refutation behind its header.
+fn refutes(alloc: Global, parts: &[&str]) -> Result<(Status, Vec<u8>), AllocError> {
+    let mut cert = String::from_str(alloc, REFUTATION)?;
+    for part in parts {
+        cert.push_str(part)?;
+    }
+    checks(alloc, TWO_OF_TWO, cert.as_str())
+}
+
+#[test]
+fn check_accepts_a_refutation(rt: HostRuntime) -> Result<(), Fail> {
+    let alloc = rt.alloc();
+    let (found, out) = refutes(
+        alloc,
+        &["formula 8 16\n", FIRST_LEMMA, EMPTY_LEMMA, "end\n"],
+    )?;
+    assert_eq!(rt; found, Status::Yes);
+    assert_eq!(rt;
+        out.as_slice(),
+        b"accepted refutation\nfrom\nfaulty\n".as_slice()
+    );
+    Ok(())
+}
+
+#[test]
+fn check_accepts_the_refutation_of_no_nodes(rt: HostRuntime) -> Result<(), Fail> {
+    let alloc = rt.alloc();
+    let cert =
+        "fbas-cert 1\nconfig 4f53cda18c2baa0c0354bb5f9a3ecbe5ed12ab4d8e11ba873c2f11161202b945\nfrom\nfaulty\nkind refutation\nformula 0 2\n3 0 1 0\nend\n";
+    let (found, out) = checks(alloc, "[]", cert)?;
+    assert_eq!(rt; found, Status::Yes);
+    assert_eq!(rt;
+        out.as_slice(),
+        b"accepted refutation\nfrom\nfaulty\n".as_slice()
+    );
+    Ok(())
+}
+
+#[test]
+fn check_refuses_other_lines_of_a_refutation(rt: HostRuntime) -> Result<(), Fail> {
+    let alloc = rt.alloc();
+    for (formula, lemma, rest, text) in [
+        (
+            "formula 8 16\n",
+            FIRST_LEMMA,
+            "18 0 17 1 10 8 0\n",
+            "refused truncated 9\n",
+        ),
+        (
+            "formula 8 16\n",
+            FIRST_LEMMA,
+            "17 d 17 0\n18 0 17 1 10 8 0\nend\n",
+            "refused step 9 no-such-clause 17\n",
+        ),
+        (
+            "formula 8 17\n",
+            FIRST_LEMMA,
+            "18 0 17 1 10 8 0\nend\n",
+            "refused formula 6\n",
+        ),
+        (
+            "formula 8 16\n",
+            FIRST_LEMMA,
+            "18 0 17 1 10 8 0\nend\nx",
+            "refused trailing\n",
+        ),
+        ("formula 8 16\n", "end\n", "", "refused not-refuted 7\n"),
+        (
+            "formula 8 16\n",
+            FIRST_LEMMA,
+            "18 0 17 1 10 8 0\n19 0 1 0\nend\n",
+            "refused bad-line 9\n",
+        ),
+    ] {
+        let (found, out) = refutes(alloc, &[formula, lemma, rest])?;
+        assert_eq!(rt; found, Status::CertRefused, "at {text}");
+        assert_eq!(rt; out.as_slice(), text.as_bytes(), "at {text}");
+    }
+    Ok(())
+}
+
+#[test]
+fn check_refuses_other_lemmas_of_a_refutation(rt: HostRuntime) -> Result<(), Fail> {
+    let alloc = rt.alloc();
+    for (lemma, text) in [
+        ("17 -1 0 6 7 3 4 2 0\n", "refused step 7 not-unit 1\n"),
+        ("17 -1 0 -7 6 3 4 2 0\n", "refused step 7 rat-step 1\n"),
+        ("16 -1 0 7 6 3 4 2 0\n", "refused step 7 id-order 16 16\n"),
+        ("17 9 0 1 0\n", "refused step 7 bad-literal 9\n"),
+        ("17 -1 1 0 1 0\n", "refused step 7 tautology 1\n"),
+        ("17 -1 0 7 6 0\n", "refused step 7 no-conflict\n"),
+    ] {
+        let (found, out) = refutes(alloc, &["formula 8 16\n", lemma, EMPTY_LEMMA, "end\n"])?;
+        assert_eq!(rt; found, Status::CertRefused, "at {text}");
+        assert_eq!(rt; out.as_slice(), text.as_bytes(), "at {text}");
+    }
+    Ok(())
+}
+
+#[test]
+fn check_of_another_configuration_is_refused_by_its_digest(rt: HostRuntime) -> Result<(), Fail> {
+    let alloc = rt.alloc();
+    let mut config = String::from_str(alloc, TWO_OF_TWO)?;
+    config.push_str(" ")?;
+    let (found, out) = checks(alloc, config.as_str(), REFUTATION)?;
+    assert_eq!(rt; found, Status::CertRefused);
+    let text =
+        "refused digest d5ccec4a141b4b11eb0b80bb62d235f24e373c62aa2fa9f6fb33f6b1e2871f41 e447d2166e43d95a4175fffa38d00e0b7b24ce8dab605574d1ec241467a845a1\n";
+    assert_eq!(rt; out.as_slice(), text.as_bytes());
+    Ok(())
+}
