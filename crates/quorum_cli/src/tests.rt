@@ -707,3 +707,51 @@ fn check_of_another_configuration_is_refused_by_its_digest(rt: HostRuntime) -> R
     assert_eq!(rt; out.as_slice(), text.as_bytes());
     Ok(())
 }
+
+// A name of two letters, another for each number below 200.
+fn push_name(text: &mut Vec<u8>, number: u8) -> Result<(), AllocError> {
+    text.push(b'"')?;
+    text.push(b'a' + number / 20)?;
+    text.push(b'a' + number % 20)?;
+    text.push(b'"')?;
+    Ok(())
+}
+
+// A configuration of 200 nodes, of which each needs 100 of all.
+fn half_of_two_hundred(alloc: Global) -> Result<Vec<u8>, AllocError> {
+    let mut all = Vec::new(alloc);
+    for number in 0..200 {
+        if number != 0 {
+            all.push(b',')?;
+        }
+        push_name(&mut all, number)?;
+    }
+    let mut config = Vec::from_slice(alloc, b"[")?;
+    for number in 0..200 {
+        if number != 0 {
+            config.push(b',')?;
+        }
+        config.extend_from_slice(br#"{"publicKey":"#)?;
+        push_name(&mut config, number)?;
+        config.extend_from_slice(br#","quorumSet":{"threshold":100,"validators":["#)?;
+        config.extend_from_slice(&all)?;
+        config.extend_from_slice(b"]}}")?;
+    }
+    config.push(b']')?;
+    Ok(config)
+}
+
+#[test]
+fn a_formula_with_too_many_variables_is_named_by_their_number(rt: HostRuntime) -> Result<(), Fail> {
+    let alloc = rt.alloc();
+    let config = half_of_two_hundred(alloc)?;
+    let (found, out) = ends(alloc, "export config", &config, b"")?;
+    assert_eq!(rt; found, Status::TooLarge);
+    assert_eq!(rt; out.as_slice(), b"too-large 6020400\n".as_slice());
+    let cert =
+        "fbas-cert 1\nconfig d884224eb5c94b56192c3e255562a01521a12c4cab2b78fdbb8db9235641e9d3\nfrom\nfaulty\nkind refutation\nformula 0 2\n";
+    let (found, out) = ends(alloc, "check config cert", &config, cert.as_bytes())?;
+    assert_eq!(rt; found, Status::TooLarge);
+    assert_eq!(rt; out.as_slice(), b"too-large 6020400\n".as_slice());
+    Ok(())
+}
