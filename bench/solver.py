@@ -23,13 +23,15 @@ def limit():
     resource.setrlimit(resource.RLIMIT_CPU, (LIMIT, LIMIT + 1))
 
 
-def timed(words):
-    """The output of a run, or None where it did not end in time, and its processor time."""
+def timed(words, good):
+    """The output of a run, or None where it did not end in time, and its processor time. `good` are the statuses of answers."""
     before = resource.getrusage(resource.RUSAGE_CHILDREN)
     run = subprocess.run(words, capture_output=True, text=True, preexec_fn=limit)
     after = resource.getrusage(resource.RUSAGE_CHILDREN)
     seconds = after.ru_utime + after.ru_stime - before.ru_utime - before.ru_stime
-    return (None if run.returncode < 0 else run.stdout), seconds
+    if run.returncode not in good and seconds < LIMIT - 1:
+        sys.exit("%s: the program ended with %d" % (words, run.returncode))
+    return (run.stdout if run.returncode in good else None), seconds
 
 
 def dimacs(folder, organisations):
@@ -44,8 +46,8 @@ def row(folder, organisations):
     with open(path) as file:
         header = next(line for line in file if line.startswith("p cnf"))
     variables, clauses = header.split()[2:]
-    ours, our_time = timed([PROGRAM, str(organisations)])
-    theirs, their_time = timed(["minisat", path])
+    ours, our_time = timed([PROGRAM, str(organisations)], [0])
+    theirs, their_time = timed(["minisat", path], [10, 20])
     lemmas, refuted = "-", "did not end"
     if ours is not None:
         lemmas = re.search(r"lemmas (\d+)", ours).group(1)

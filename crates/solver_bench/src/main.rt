@@ -31,7 +31,10 @@ fn main(rt: HostRuntime) -> Result<()> {
     if organisations == 0 || organisations > MOST {
         bail!("organisations are 1 to 100");
     }
-    if words.next().is_some() {
+    if let Some(word) = words.next() {
+        if word.as_str() != "dimacs" {
+            bail!("the second word is dimacs");
+        }
         let text = dimacs(alloc, organisations)?;
         print!(rt; "{}", from_utf8(&text)?)?;
         return Ok(());

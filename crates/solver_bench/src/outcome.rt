@@ -7,7 +7,7 @@ ghost use Rattle.lrat_checker.specs.Ranges.{AreInRange};
 use crate::trial::configuration;
 use anyhow::{Result, bail};
 use cdcl_core::{Budget, Solver, Verdict};
-use clause_encoder::{encode, write_dimacs};
+use clause_encoder::{VarMap, encode, write_dimacs};
 use clause_store::Store;
 use fbas_core::System;
 use greatest_quorum::shrink;
@@ -88,6 +88,17 @@ fn solve(alloc: Global, store: Store, vars: u64, units: u64) -> Result<Outcome>
     })
 }
 
+/// The intersection formula of a system, no node deleted.
+fn formula(alloc: Global, system: &System) -> Result<(Store, VarMap)>
+    ensures small { IfOk result (λ r. r.1.count < 2 ^ 31) }
+    ensures range { IfOk result (λ r. AreInRange r.1.count r.0.held) }
+    ensures same_n { IfOk result (λ r. length r.1.greatest ≡ length system.now.names) }
+{
+    let faulty = NodeSet::new(alloc, system.len())?;
+    let greatest = greatest_of(alloc, system, &faulty)?;
+    Ok(encode(alloc, system, &faulty, &greatest)?)
+}
+
 /// Solves the formula of a trial configuration within a budget, and checks the log.
 pub fn outcome_of(alloc: Global, organisations: u32, units: u64) -> Result<Outcome>
     requires organisations { organisations ≤ 100 }
@@ -95,9 +106,7 @@ pub fn outcome_of(alloc: Global, organisations: u32, units: u64) -> Result<Outco
 {
     let text = configuration(alloc, organisations)?;
     let system = read_config(alloc, text.as_bytes())?;
-    let faulty = NodeSet::new(alloc, system.len())?;
-    let greatest = greatest_of(alloc, &system, &faulty)?;
-    let (store, map) = encode(alloc, &system, &faulty, &greatest)?;
+    let (store, map) = formula(alloc, &system)?;
     solve(alloc, store, map.vars(), units)
 }
 
@@ -107,8 +116,6 @@ pub fn dimacs(alloc: Global, organisations: u32) -> Result<Vec<u8>>
 {
     let text = configuration(alloc, organisations)?;
     let system = read_config(alloc, text.as_bytes())?;
-    let faulty = NodeSet::new(alloc, system.len())?;
-    let greatest = greatest_of(alloc, &system, &faulty)?;
-    let (store, map) = encode(alloc, &system, &faulty, &greatest)?;
+    let (store, map) = formula(alloc, &system)?;
     Ok(write_dimacs(alloc, &store, &map, &system)?)
 }
