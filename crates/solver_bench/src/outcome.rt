@@ -1,0 +1,121 @@
+//! What the solver and the checker say of a trial configuration.
+ghost use Rattle.std.specs.Prelude.{◌≡◌, ◌≤◌, ◌<◌, ◌^◌, IfOk, length};
+ghost use Rattle.fbas_model.specs.Nodes.{members};
+ghost use Rattle.fbas_model.specs.Fbas.{IsGreatestQuorum, all_nodes};
+ghost use Rattle.lrat_checker.specs.Ranges.{AreInRange};
+
+use crate::trial::configuration;
+use anyhow::{Result, bail};
+use cdcl_core::{Budget, Solver, Verdict};
+use clause_encoder::{VarMap, encode, write_dimacs};
+use clause_store::Store;
+use fbas_core::System;
+use greatest_quorum::shrink;
+use lrat_checker::Checker;
+use lrat_model::Progress;
+use name_set::NodeSet;
+use node_json::read_config;
+use std::alloc::{AllocError, Global};
+
+/// The most clauses of a formula that the solver is given.
+const MOST_CLAUSES: u64 = 1_000_000_000;
+
+/// What the solver and the checker said.
+#[derive(Clone, Copy)]
+pub struct Outcome {
+    pub variables: u64,
+    pub clauses: u64,
+    pub verdict: Verdict,
+    /// How many lemmas with a literal there are.
+    pub lemmas: u64,
+    /// Whether the checker takes each step of the log, and the empty lemma last.
+    pub is_refuted: bool,
+}
+
+/// The greatest quorum, no node deleted.
+fn greatest_of(alloc: Global, system: &System, faulty: &NodeSet) -> Result<NodeSet, AllocError>
+    requires { length faulty.now ≡ length system.now.sets }
+    ensures same_n { IfOk result (λ g. length g ≡ length system.now.sets) }
+    ensures greatest { IfOk result (λ g. IsGreatestQuorum system.now.sets (members faulty.now) (all_nodes system.now.sets) (members g)) }
+{
+    let mut greatest = NodeSet::new(alloc, system.len())?;
+    greatest.fill();
+    shrink(system, &mut greatest, faulty);
+    Ok(greatest)
+}
+
+/// Whether the checker takes each step of the log, and the empty lemma last.
+fn is_refutation(
+    alloc: Global,
+    store: Store,
+    vars: u64,
+    solver: &Solver,
+) -> Result<bool, AllocError>
+    requires small { vars < 2 ^ 31 }
+    requires range { AreInRange vars store.held }
+{
+    let mut checker = Checker::start(alloc, store, vars)?;
+    let mut progress = Progress::Going;
+    for step in solver.log() {
+        match checker.step(step) {
+            Ok(next) => progress = next,
+            Err(_) => return Ok(false),
+        }
+    }
+    Ok(progress == Progress::Refuted)
+}
+
+/// Solves a formula within a budget, and checks the log.
+fn solve(alloc: Global, store: Store, vars: u64, units: u64) -> Result<Outcome>
+    requires small { vars < 2 ^ 31 }
+    requires range { AreInRange vars store.held }
+    requires few { units ≤ 4000000 }
+{
+    let clauses = store.last();
+    if clauses > MOST_CLAUSES {
+        bail!("too many clauses");
+    }
+    let mut solver = Solver::start(alloc, &store, vars)?;
+    let mut budget = Budget::of(units);
+    let verdict = solver.solve(&mut budget)?;
+    let is_refuted = is_refutation(alloc, store, vars, &solver)?;
+    Ok(Outcome {
+        variables: vars,
+        clauses,
+        verdict,
+        lemmas: units - budget.left(),
+        is_refuted,
+    })
+}
+
+/// The intersection formula of a system, no node deleted.
+fn formula(alloc: Global, system: &System) -> Result<(Store, VarMap)>
+    ensures small { IfOk result (λ r. r.1.count < 2 ^ 31) }
+    ensures range { IfOk result (λ r. AreInRange r.1.count r.0.held) }
+    ensures same_n { IfOk result (λ r. length r.1.greatest ≡ length system.now.names) }
+{
+    let faulty = NodeSet::new(alloc, system.len())?;
+    let greatest = greatest_of(alloc, system, &faulty)?;
+    Ok(encode(alloc, system, &faulty, &greatest)?)
+}
+
+/// Solves the formula of a trial configuration within a budget, and checks the log.
+pub fn outcome_of(alloc: Global, organisations: u32, units: u64) -> Result<Outcome>
+    requires organisations { organisations ≤ 100 }
+    requires few { units ≤ 4000000 }
+{
+    let text = configuration(alloc, organisations)?;
+    let system = read_config(alloc, text.as_bytes())?;
+    let (store, map) = formula(alloc, &system)?;
+    solve(alloc, store, map.vars(), units)
+}
+
+/// The DIMACS text of the formula of a trial configuration.
+pub fn dimacs(alloc: Global, organisations: u32) -> Result<Vec<u8>>
+    requires { organisations ≤ 100 }
+{
+    let text = configuration(alloc, organisations)?;
+    let system = read_config(alloc, text.as_bytes())?;
+    let (store, map) = formula(alloc, &system)?;
+    Ok(write_dimacs(alloc, &store, &map, &system)?)
+}
