@@ -5,7 +5,7 @@ ghost use Rattle.lrat_model.specs.Literal.{has};
 ghost use Rattle.lrat_model.specs.Clauses.{with_clause, without};
 ghost use Rattle.lrat_model.specs.Steps.{step_of, step_fault, addition_fault, deletion_fault, after_step, progress_of, progress_at};
 ghost use Rattle.lrat_model.specs.declared.step.StepFault.TheVariants.{Memory};
-ghost use Rattle.lrat_checker.specs.Ranges.{IsInRange, AreInRange};
+ghost use Rattle.lrat_model.specs.Ranges.{IsInRange, AreInRange};
 ghost use Rattle.lrat_checker.specs.Covers.{Covers};
 ghost use Rattle.lrat_checker.specs.Checking.{IsAddition};
 
