@@ -6,7 +6,7 @@
 
 ghost use Rattle.std.specs.Prelude.{◌≡◌, ◌<◌, ◌^◌};
 ghost use Rattle.std.specs.Bool.{OnTrue};
-ghost use Rattle.lrat_checker.specs.Ranges.{IsInRange};
+ghost use Rattle.lrat_model.specs.Ranges.{IsInRange};
 
 use anyhow::{Context, Result, bail};
 use clause_store::Store;

@@ -12,7 +12,7 @@ use Rattle.lrat_model.specs.declared.step.ClauseStatus.{ClauseStatus}
 use Rattle.lrat_model.specs.declared.step.ClauseStatus.TheVariants.{Falsified, Forces, Unresolved}
 use Rattle.lrat_model.specs.declared.step.StepFault.{StepFault}
 use Rattle.lrat_model.specs.declared.step.StepFault.TheVariants.{BadLiteral, Tautology, Memory}
-use Rattle.lrat_checker.specs.Ranges.{IsInRange}
+use Rattle.lrat_model.specs.Ranges.{IsInRange}
 
 -- literals without a fault are in range
 pub range-literal_fault : (vars : ℕ) (before ls : List Literal) → literal_fault vars before ls ≡ None → IsInRange vars ls

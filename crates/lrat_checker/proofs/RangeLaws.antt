@@ -6,7 +6,7 @@ use Rattle.std.proofs.lemmas.List.Elements.{All-head, All-tail, All-push, All-ni
 use Rattle.lrat_model.specs.Literal.{Literal, variable_of, has}
 use Rattle.lrat_model.specs.Clauses.{Held, clause_at, with_clause, without, has_id}
 use Rattle.lrat_model.proofs.Literals.{has-cons}
-use Rattle.lrat_checker.specs.Ranges.{IsInRange, AreInRange}
+use Rattle.lrat_model.specs.Ranges.{IsInRange, AreInRange}
 
 -- a literal of a list that is in range
 pub range_of : (vars : ℕ) (ls : List Literal) (l : Literal) → IsInRange vars ls → has ls l ≡ true → variable_of l ≤ vars

@@ -1,4 +1,3 @@
-pub mod Ranges
 pub mod Alike
 pub mod Values
 pub mod Assigned

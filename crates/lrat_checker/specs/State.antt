@@ -2,7 +2,7 @@
 use Rattle.std.specs.Prelude.{◌≡◌, []}
 use Rattle.lrat_checker.specs.declared.checker.Checker.TheInside.{Inside}
 use Rattle.lrat_checker.specs.Checking.{Checking}
-use Rattle.lrat_checker.specs.Ranges.{AreInRange}
+use Rattle.lrat_model.specs.Ranges.{AreInRange}
 
 -- what a checker is seen as
 abbrev pub shown : Inside → Checking

@@ -5,7 +5,7 @@ ghost use Rattle.lrat_model.specs.Literal.{has};
 ghost use Rattle.lrat_model.specs.Clauses.{with_clause, without};
 ghost use Rattle.lrat_model.specs.Steps.{step_of, step_fault, addition_fault, deletion_fault, after_step, progress_of, progress_at};
 ghost use Rattle.lrat_model.specs.declared.step.StepFault.TheVariants.{Memory};
-ghost use Rattle.lrat_checker.specs.Ranges.{IsInRange, AreInRange};
+ghost use Rattle.lrat_model.specs.Ranges.{IsInRange, AreInRange};
 ghost use Rattle.lrat_checker.specs.Covers.{Covers};
 ghost use Rattle.lrat_checker.specs.Checking.{IsAddition};
 
@@ -259,25 +259,37 @@ mod tests {
         Ok(())
     }
 
-    // The lemma -1 again and again, each from the one before, which is then deleted: 500 of both, and the empty lemma.
+    fn is_going(answer: Result<Progress, StepFault>) -> bool {
+        matches!(answer, Ok(Progress::Going))
+    }
+
+    // The lemma -1 from itself under this id, and then this id is deleted: whether the checker takes both.
+    fn renew(alloc: Global, checker: &mut Checker, id: u32) -> Result<bool, AllocError> {
+        let lemma = addition(alloc, u64::from(id) + 1, &[-1], &[i64::from(id)])?;
+        let deletion = Step::Delete {
+            id: u64::from(id),
+            ids: Vec::from_slice(alloc, &[u64::from(id)])?,
+        };
+        Ok(is_going(checker.step(&lemma)) && is_going(checker.step(&deletion)))
+    }
+
+    fn renew_all(alloc: Global, checker: &mut Checker) -> Result<bool, AllocError> {
+        for id in 17..517_u32 {
+            if !renew(alloc, checker, id)? {
+                return Ok(false);
+            }
+        }
+        Ok(true)
+    }
+
+    // The lemma -1, which is then renewed 500 times, and the empty lemma from the last of them.
     #[test]
     fn a_thousand_steps(rt: HostRuntime) -> Result<(), Fail> {
         let alloc = rt.alloc();
         let mut checker = checker(alloc)?;
         let first = addition(alloc, 17, &[-1], &[7, 6, 3, 4, 2])?;
-        let answer = checker.step(&first);
-        assert_eq!(rt; shown(alloc, answer)?.as_str(), "Going");
-        for id in 18..518_u32 {
-            let step = addition(alloc, u64::from(id), &[-1], &[i64::from(id) - 1])?;
-            let answer = checker.step(&step);
-            assert_eq!(rt; shown(alloc, answer)?.as_str(), "Going", "{id}");
-            let deletion = Step::Delete {
-                id: u64::from(id),
-                ids: Vec::from_slice(alloc, &[u64::from(id) - 1])?,
-            };
-            let answer = checker.step(&deletion);
-            assert_eq!(rt; shown(alloc, answer)?.as_str(), "Going", "{id}");
-        }
+        assert!(rt; is_going(checker.step(&first)));
+        assert!(rt; renew_all(alloc, &mut checker)?);
         let last = addition(alloc, 518, &[], &[517, 1, 10, 8])?;
         let answer = checker.step(&last);
         assert_eq!(rt; shown(alloc, answer)?.as_str(), "Refuted");

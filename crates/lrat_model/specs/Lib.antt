@@ -1,5 +1,6 @@
 pub mod Literal
 pub mod Clauses
+pub mod Ranges
 pub mod Propagation
 pub mod Steps
 pub mod Runs

@@ -1,5 +1,5 @@
 ghost use Rattle.std.specs.Prelude.{◌≡◌, true, ◌≤◌, ◌<◌, ◌^◌, IfOk};
-ghost use Rattle.lrat_checker.specs.Ranges.{AreInRange, IsInRange};
+ghost use Rattle.lrat_model.specs.Ranges.{AreInRange, IsInRange};
 
 use cdcl_core::{Budget, Solver, Verdict};
 use clause_store::Store;

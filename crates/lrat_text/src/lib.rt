@@ -19,6 +19,7 @@ mod writing;
 pub use faults::LineFault;
 pub use log::Log;
 pub use lrat_model::{Lit, Step};
+pub use numbers::read_id;
 pub use reading::read_step;
 pub use writing::{StepBytes, write_step};
 

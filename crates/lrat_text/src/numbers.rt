@@ -26,7 +26,7 @@ impl Number for u64 {
     ghost number_in = { id_in };
 
     fn read(word: &[u8]) -> Option<u64> {
-        positive(word, MOST_ID)
+        read_id(word)
     }
 }
 
@@ -52,6 +52,14 @@ impl Number for Lit {
             Lit::positive(variable)
         })
     }
+}
+
+/// The id that a word says: a number from 1 to 2^63 - 1, in decimal digits without a leading zero. None for any other word.
+/// In time linear in the word.
+pub fn read_id(word: &[u8]) -> Option<u64>
+    ensures { result ≡ id_in word.now }
+{
+    positive(word, MOST_ID)
 }
 
 /// Whether a `-` comes first, and what follows it.

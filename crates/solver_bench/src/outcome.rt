@@ -2,7 +2,7 @@
 ghost use Rattle.std.specs.Prelude.{◌≡◌, ◌≤◌, ◌<◌, ◌^◌, IfOk, length};
 ghost use Rattle.fbas_model.specs.Nodes.{members};
 ghost use Rattle.fbas_model.specs.Fbas.{IsGreatestQuorum, all_nodes};
-ghost use Rattle.lrat_checker.specs.Ranges.{AreInRange};
+ghost use Rattle.lrat_model.specs.Ranges.{AreInRange};
 
 use crate::trial::configuration;
 use anyhow::{Result, bail};

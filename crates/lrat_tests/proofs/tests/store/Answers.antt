@@ -2,7 +2,7 @@ use Rattle.std.proofs.Common.{◌≡◌, ◌∷◌, [], ◌+◌, ℕ, List, arit
 use Rattle.std.proofs.lemmas.List.Elements.{All-append, All-cons, All-nil}
 use Rattle.lrat_model.specs.Literal.{Literal}
 use Rattle.lrat_model.specs.Clauses.{Held}
-use Rattle.lrat_checker.specs.Ranges.{AreInRange, IsInRange}
+use Rattle.lrat_model.specs.Ranges.{AreInRange, IsInRange}
 use Rattle.lrat_tests.proofs.tests.store.Goals as goal
 
 pub loop-numbers-preserved : goal.loop-numbers-preserved

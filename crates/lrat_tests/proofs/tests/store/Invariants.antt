@@ -1,5 +1,5 @@
 use Rattle.std.proofs.Common.{◌≤◌}
-use Rattle.lrat_checker.specs.Ranges.{AreInRange}
+use Rattle.lrat_model.specs.Ranges.{AreInRange}
 use Rattle.lrat_tests.proofs.tests.store.Given as goal
 
 abbrev pub invariant-loop-numbers : goal.invariant-loop-numbers

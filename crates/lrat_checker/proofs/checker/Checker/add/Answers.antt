@@ -3,7 +3,7 @@ use Rattle.lrat_model.specs.Literal.{negated}
 use Rattle.lrat_model.specs.Clauses.{Held}
 use Rattle.lrat_model.specs.Steps.{literal_fault}
 use Rattle.lrat_checker.specs.Assigned.{Assigned}
-use Rattle.lrat_checker.specs.Ranges.{AreInRange}
+use Rattle.lrat_model.specs.Ranges.{AreInRange}
 use Rattle.lrat_checker.proofs.RangeLaws.{range-with_clause}
 use Rattle.lrat_checker.proofs.FaultLaws.{range-literal_fault, lemma_fault-not_memory, literals_first, where_ok}
 use Rattle.lrat_checker.proofs.checker.Checker.add.Goals as goal

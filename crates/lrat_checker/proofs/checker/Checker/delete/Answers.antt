@@ -1,7 +1,7 @@
 use Rattle.std.proofs.Common.{sym, subst}
 use Rattle.lrat_model.specs.Clauses.{Held}
 use Rattle.lrat_model.specs.Steps.{Database}
-use Rattle.lrat_checker.specs.Ranges.{AreInRange}
+use Rattle.lrat_model.specs.Ranges.{AreInRange}
 use Rattle.lrat_checker.proofs.RangeLaws.{range-without}
 use Rattle.lrat_checker.proofs.FaultLaws.{either}
 use Rattle.lrat_checker.proofs.checker.Checker.delete.Goals as goal

@@ -3,7 +3,7 @@ use Rattle.std.specs.Prelude.{ℕ, ◌≤◌, List, All}
 use Rattle.lrat_model.specs.Literal.{Literal, variable_of}
 use Rattle.lrat_model.specs.Clauses.{Held}
 
--- each literal is one of the first vars variables, or its negation
+-- each literal is one of the variables up to vars, or its negation
 abbrev pub IsInRange : ℕ → List Literal → Type 0
 IsInRange vars literals = All (λ l. variable_of l ≤ vars) literals
 
