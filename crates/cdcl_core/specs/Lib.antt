@@ -4,7 +4,6 @@ pub mod Scans
 pub mod Log
 pub mod Search
 pub mod Values
-pub mod Ranges
 pub mod Solving
 pub mod State
 pub mod Marks

@@ -1,8 +1,8 @@
 //! Conflict analysis: the first unique implication point, and the hints that lead to the conflict.
-ghost use Rattle.std.specs.Prelude.{◌≡◌, ◌≢◌, ◌⊎◌, ◌==◌, if◌then◌else◌, ℕ, ◌^◌, ◌+◌, ◌<◌, ◌≤◌, List, [], true, false, Some, AllPairs, IfOk, MatchBool, length, slice_index};
+ghost use Rattle.std.specs.Prelude.{◌≡◌, ◌≢◌, ◌⊎◌, ◌==◌, if◌then◌else◌, ℕ, ◌^◌, ◌+◌, ◌<◌, ◌≤◌, List, [], true, false, ◌++◌, ◌∷◌, Some, AllPairs, IfOk, OnOk, reverse, MatchBool, length, slice_index};
 ghost use Rattle.lrat_model.specs.Clauses.{clause_at};
 ghost use Rattle.lrat_model.specs.Entries.{held_of};
-ghost use Rattle.lrat_model.specs.Literal.{Literal, has, variable_of};
+ghost use Rattle.lrat_model.specs.Literal.{Literal, has, negated, variable_of};
 ghost use Rattle.cdcl_core.specs.Marks.{ArePlaces, IsLowest, Marks, is_marked};
 ghost use Rattle.cdcl_core.specs.Scans.{Finds};
 ghost use Rattle.cdcl_core.specs.Search.{IsLearntClause, IsState};
@@ -20,6 +20,29 @@ pub struct LearntClause {
     pub hints: Vec<i64>,
     pub jump: usize,
     pub seen: Vec<bool>,
+}
+
+impl LearntClause {
+    /// From what a walk back over the trail has found, the last of the trail first.
+    fn in_trail_order(
+        mut lits: Vec<Lit>,
+        mut hints: Vec<i64>,
+        jump: usize,
+        seen: Vec<bool>,
+    ) -> LearntClause
+        ensures lits { result.lits.items ≡ reverse lits.items }
+        ensures hints { result.hints.items ≡ reverse hints.items }
+        ensures jump { result.jump ≡ jump }
+    {
+        lits.reverse();
+        hints.reverse();
+        LearntClause {
+            lits,
+            hints,
+            jump,
+            seen,
+        }
+    }
 }
 
 /// Learns from a clause that is false: walks back over the trail to the first unique implication point of
@@ -59,29 +82,29 @@ pub fn analyse(
             continue;
         }
         if place == lowest {
-            let asserting = t.negated();
-            lits.push(asserting)?;
+            keep(&mut lits, t)?;
             place = last;
             continue;
         }
         if is_between(first, place, last) {
             above = above_with(&lits, above, place + 1);
-            lits.push(t.negated())?;
+            keep(&mut lits, t)?;
             continue;
         }
         let reason = reasons[place];
         hints.push(reason as i64)?;
         lowest = visit(clauses, reason, &places, last, lowest, &mut marks);
     }
-    lits.reverse();
-    hints.reverse();
     let jump = next_decision(reasons, above);
-    Ok(LearntClause {
-        lits,
-        hints,
-        jump,
-        seen: marks,
-    })
+    Ok(LearntClause::in_trail_order(lits, hints, jump, marks))
+}
+
+/// Keeps the negation of a literal of the trail.
+fn keep(lits: &mut Vec<Lit>, l: Lit) -> Result<(), AllocError>
+    ensures { OnOk result (lits.new.items ≡ lits.old.items ++ negated l ∷ []) }
+{
+    lits.push(l.negated())?;
+    Ok(())
 }
 
 /// No variable is marked.

@@ -7,13 +7,13 @@ ghost use Rattle.cdcl_core.specs.Trail.{IsTrail, IsVariable, InRange, open_count
 ghost use Rattle.cdcl_core.specs.Scans.{Finds};
 ghost use Rattle.cdcl_core.specs.Search.{IsLearntClause, IsState};
 ghost use Rattle.lrat_model.specs.Steps.{Addition};
-ghost use Rattle.cdcl_core.specs.Log.{steps_of};
 ghost use Rattle.cdcl_core.specs.Values.{value_of};
 
 use crate::analysis::{LearntClause, mark, no_marks};
 use crate::order::Order;
 use crate::propagation::{Propagated, Scan, has, propagate};
 use lrat_model::{Lit, Step};
+use lrat_text::Log;
 use std::alloc::{AllocError, Global};
 
 /// An open variable, as a literal: the one of the greatest score, as its phase is.
@@ -121,7 +121,7 @@ pub fn learn(
     id: u64,
     learnt: LearntClause,
     clauses: &mut Vec<(u64, Vec<Lit>)>,
-    log: &mut Vec<Step>,
+    log: &mut Log,
     trail: &mut Vec<Lit>,
     reasons: &mut Vec<u64>,
 ) -> Result<(), AllocError>
@@ -132,10 +132,10 @@ pub fn learn(
     ensures held { OnOk result (held_of clauses.new.items ≡ with_clause (held_of clauses.old.items) id learnt.lits.items) }
     ensures rise { OnOk result (AllPairs (λ e f. e.0 < f.0) clauses.new.items) }
     ensures state { OnOk result ((n : ℕ) → IsState n (held_of clauses.old.items) trail.old.items reasons.old.items → IsState n (with_clause (held_of clauses.old.items) id learnt.lits.items) trail.new.items reasons.new.items) }
-    ensures log { OnOk result (steps_of log.new.items ≡ steps_of log.old.items ++ Addition id learnt.lits.items learnt.hints.items ∷ []) }
+    ensures log { OnOk result (log.new ≡ log.old ++ Addition id learnt.lits.items learnt.hints.items ∷ []) }
     ensures ids { All (λ e. 0 < e.0) clauses.old.items → 0 < id → OnOk result (All (λ e. (0 < e.0) × (e.0 ≤ id)) clauses.new.items) }
     ensures range { OnOk result ((n : ℕ) → IsState n (held_of clauses.old.items) trail.old.items reasons.old.items → InRange n (held_of clauses.old.items) → InRange n (held_of clauses.new.items)) }
-    ensures unchanged { OnErr result ((clauses.new.items ≡ clauses.old.items) × (log.new.items ≡ log.old.items)) }
+    ensures unchanged { OnErr result ((clauses.new.items ≡ clauses.old.items) × (log.new ≡ log.old)) }
 {
     let LearntClause {
         lits,
@@ -145,9 +145,9 @@ pub fn learn(
     } = learnt;
     let mut held = Vec::new(alloc);
     held.extend_from_slice(&lits)?;
-    log.reserve(1)?;
-    clauses.push((id, held))?;
-    log.push(Step::Add { id, lits, hints }).unwrap();
+    clauses.reserve(1)?;
+    log.push(Step::Add { id, lits, hints })?;
+    clauses.push_reserved((id, held));
     trail.truncate(jump);
     reasons.truncate(jump);
     Ok(())

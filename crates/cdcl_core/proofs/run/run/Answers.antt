@@ -6,7 +6,7 @@ use Rattle.lrat_model.specs.Steps.{ProofStep, Addition}
 use Rattle.lrat_model.specs.Entries.{held_of}
 use Rattle.cdcl_core.specs.Scans.{Finds}
 use Rattle.cdcl_core.specs.Search.{IsLearntClause, IsState, database_of}
-use Rattle.cdcl_core.specs.Log.{HasNoEmptyLemma, steps_of}
+use Rattle.cdcl_core.specs.Log.{HasNoEmptyLemma}
 use Rattle.cdcl_core.specs.declared.propagation.Scan.TheVariants.{False}
 use Rattle.cdcl_core.proofs.Quiet.{id_found}
 use Rattle.cdcl_core.proofs.Sats.{fixpoint_satisfies}
@@ -14,6 +14,7 @@ use Rattle.cdcl_core.proofs.Pushes.{no_empty-push, refuted_where_empty}
 use Rattle.cdcl_core.proofs.LearntLemmas.{learnt_clause_consistent}
 use Rattle.cdcl_core.proofs.Logs.{run_satisfies, follows_nothing}
 use Rattle.cdcl_core.proofs.Searches.{searched_more}
+use Rattle.cdcl_core.proofs.Numbers.{numbers_push}
 use Rattle.cdcl_core.proofs.run.run.Goals as goal
 
 some_there : (ls : List Literal) → (length ls == 0) ≡ false → 0 < length ls
@@ -52,14 +53,23 @@ returns-then-is_empty-clause-goes_on c =
     let jump = c.in_ok-learnt-in-Conflict.learnt.jump in
     let learnt : IsLearntClause held trues reasons lits.items hints.items jump = rw (c.deref-in-Conflict.ensures.value, c.deref-in-Conflict-2.ensures.value, c.deref-in-Conflict-3.ensures.value) at c.in_ok-learnt-in-Conflict.ensures in
     let none : (length lits.items == 0) ≡ true = sym (rw c.deref-in-Conflict-6.ensures.value at c.is_empty.ensures) ∙ c.if-is_empty.true in
-    searched_more c.args.vars (database_of c.args.clauses.now.items c.args.last.now) (steps_of c.args.log.now.items) held c.lemmas.last (steps_of c.lemmas.log.items) trues reasons state lits.items hints.items jump learnt c.args.left.now c.lemmas.left inv.8 (held_of c.learn.new.clauses.items) (steps_of c.learn.new.log.items) c.in_ok-learn-in-Conflict.ensures.held c.in_ok-learn-in-Conflict.ensures.log c.lemmas.left (λ _. refl) (λ some. absurd (true≢false (sym none ∙ some)))
+    searched_more c.args.vars (database_of c.args.clauses.now.items c.args.last.now) c.args.log.now held c.lemmas.last c.lemmas.log trues reasons state lits.items hints.items jump learnt c.args.left.now c.lemmas.left inv.8 (held_of c.learn.new.clauses.items) c.learn.new.log c.in_ok-learn-in-Conflict.ensures.held c.in_ok-learn-in-Conflict.ensures.log c.lemmas.left (λ _. refl) (λ some. absurd (true≢false (sym none ∙ some)))
+
+pub returns-then-is_empty-clause-numbers : goal.returns-then-is_empty-clause-numbers
+returns-then-is_empty-clause-numbers c =
+    let inv = c.lemmas.invariant in
+    let held = held_of c.lemmas.clauses.items in
+    let lits = c.in_ok-learnt-in-Conflict.learnt.lits in
+    let hints = c.in_ok-learnt-in-Conflict.learnt.hints in
+    let learnt : IsLearntClause held c.settle.new.trail.items c.settle.new.reasons.items lits.items hints.items c.in_ok-learnt-in-Conflict.learnt.jump = rw (c.deref-in-Conflict.ensures.value, c.deref-in-Conflict-2.ensures.value, c.deref-in-Conflict-3.ensures.value) at c.in_ok-learnt-in-Conflict.ensures in
+    numbers_push c.lemmas.clauses.items c.lemmas.last inv.1 (omega (arith, inv.7, c.requires.room)) c.lemmas.log c.learn.new.log lits.items hints.items learnt.named inv.10 c.in_ok-learn-in-Conflict.ensures.log
 
 pub returns-then-is_empty-clause-unsat : goal.returns-then-is_empty-clause-unsat
 returns-then-is_empty-clause-unsat c =
     λ _.
     let lits = c.in_ok-learnt-in-Conflict.learnt.lits in
     let none : (length lits.items == 0) ≡ true = sym (rw c.deref-in-Conflict-6.ensures.value at c.is_empty.ensures) ∙ c.if-is_empty.true in (
-      steps_of c.lemmas.log.items,
+      c.lemmas.log,
       Addition (c.lemmas.last + 1) lits.items c.in_ok-learnt-in-Conflict.learnt.hints.items,
       c.in_ok-learn-in-Conflict.ensures.log,
       refuted_where_empty lits.items none,
@@ -114,10 +124,11 @@ lemmas-preserved c =
       done.ids (λ i d within. (inv.1 i d within).0) (omega arith),
       done.range c.args.vars state inv.2,
       subst (λ h. IsState c.args.vars h c.learn-in-Conflict.new.trail.items c.learn-in-Conflict.new.reasons.items) (sym done.held) (done.state c.args.vars state),
-      subst (λ (ls : List ProofStep). HasNoEmptyLemma ls) (sym done.log) (no_empty-push (steps_of c.lemmas.log.items) (c.lemmas.last + 1) lits.items hints.items inv.4 other),
+      subst (λ (ls : List ProofStep). HasNoEmptyLemma ls) (sym done.log) (no_empty-push c.lemmas.log (c.lemmas.last + 1) lits.items hints.items inv.4 other),
       inv.5,
       omega (arith, inv.6),
       omega (arith, inv.7),
-      searched_more c.args.vars (database_of c.args.clauses.now.items c.args.last.now) (steps_of c.args.log.now.items) held c.lemmas.last (steps_of c.lemmas.log.items) trues reasons state lits.items hints.items jump learnt c.args.left.now c.lemmas.left inv.8 (held_of c.learn-in-Conflict.new.clauses.items) (steps_of c.learn-in-Conflict.new.log.items) done.held done.log (c.lemmas.left - 1) (λ none. absurd (true≢false (sym none ∙ other))) (λ _. omega (arith, inv.6)),
+      searched_more c.args.vars (database_of c.args.clauses.now.items c.args.last.now) c.args.log.now held c.lemmas.last c.lemmas.log trues reasons state lits.items hints.items jump learnt c.args.left.now c.lemmas.left inv.8 (held_of c.learn-in-Conflict.new.clauses.items) c.learn-in-Conflict.new.log done.held done.log (c.lemmas.left - 1) (λ none. absurd (true≢false (sym none ∙ other))) (λ _. omega (arith, inv.6)),
       c.save_phases.ensures ∙ c.raise.ensures ∙ inv.9,
+      numbers_push c.lemmas.clauses.items c.lemmas.last inv.1 (omega (arith, inv.7, c.requires.room)) c.lemmas.log c.learn-in-Conflict.new.log lits.items hints.items learnt.named inv.10 done.log,
     )
