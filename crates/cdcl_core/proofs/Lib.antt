@@ -20,3 +20,4 @@ pub mod MarkLaws
 pub mod Bare
 pub mod WalkSteps
 pub mod Opens
+pub mod Sweeps

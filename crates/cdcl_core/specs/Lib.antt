@@ -1,6 +1,5 @@
 pub mod Fixpoint
 pub mod Trail
-pub mod Scans
 pub mod Log
 pub mod Search
 pub mod Values

@@ -4,11 +4,11 @@ ghost use Rattle.lrat_model.specs.Clauses.{clause_at};
 ghost use Rattle.lrat_model.specs.Entries.{held_of};
 ghost use Rattle.lrat_model.specs.Literal.{Literal, has, variable_of};
 ghost use Rattle.cdcl_core.specs.Marks.{ArePlaces, IsLowest, Marks, is_marked};
-ghost use Rattle.cdcl_core.specs.Scans.{Finds};
+ghost use Rattle.cdcl_core.specs.Fixpoint.{IsConflict};
 ghost use Rattle.cdcl_core.specs.Search.{IsLearntClause, IsState};
 ghost use Rattle.cdcl_core.specs.Trail.{InRange};
 
-use crate::propagation::{Scan, find};
+use crate::propagation::find;
 use lrat_model::Lit;
 use std::alloc::{AllocError, Global};
 
@@ -38,7 +38,7 @@ pub fn analyse(
     requires rise { AllPairs (λ e f. e.0 < f.0) clauses.now }
     requires range { InRange vars (held_of clauses.now) }
     requires state { IsState vars (held_of clauses.now) trail.now reasons.now }
-    requires conflict { Finds (held_of clauses.now) trail.now (Scan.False conflict) }
+    requires conflict { IsConflict (held_of clauses.now) trail.now conflict }
     requires small { conflict < 2 ^ 63 }
     ensures { IfOk result (λ w. IsLearntClause (held_of clauses.now) trail.now reasons.now w.lits.items w.hints.items w.jump) }
 {

@@ -1,10 +1,9 @@
-ghost use Rattle.std.specs.Prelude.{◌≡◌, ℕ, ◌^◌, ◌<◌, ◌≤◌, ◌+◌, ◌++◌, ◌∷◌, [], true, false, Ok, None, List, IfSome, IfOk, OnOk, OnErr, All, AllPairs, length};
+ghost use Rattle.std.specs.Prelude.{◌≡◌, ℕ, ◌^◌, ◌<◌, ◌≤◌, ◌+◌, ◌++◌, ◌∷◌, [], true, false, Ok, None, List, IfSome, IfOk, OnOk, OnErr, All, AllPairs, length, take, slice_index_or};
 ghost use Rattle.lrat_model.specs.Literal.{Literal, Plus, negated, has};
 ghost use Rattle.lrat_model.specs.Clauses.{Held, with_clause};
-ghost use Rattle.cdcl_core.specs.Fixpoint.{IsFixpoint};
+ghost use Rattle.cdcl_core.specs.Fixpoint.{IsConflict, IsFixpoint};
 ghost use Rattle.lrat_model.specs.Entries.{held_of};
 ghost use Rattle.cdcl_core.specs.Trail.{IsTrail, IsVariable, InRange, open_count};
-ghost use Rattle.cdcl_core.specs.Scans.{Finds};
 ghost use Rattle.cdcl_core.specs.Search.{IsLearntClause, IsState};
 ghost use Rattle.lrat_model.specs.Steps.{Addition};
 ghost use Rattle.cdcl_core.specs.Log.{steps_of};
@@ -12,7 +11,7 @@ ghost use Rattle.cdcl_core.specs.Values.{value_of};
 
 use crate::analysis::{LearntClause, mark, no_marks};
 use crate::order::Order;
-use crate::propagation::{Propagated, Scan, has, propagate};
+use crate::propagation::{Propagated, assignment_of, propagate};
 use lrat_model::{Lit, Step};
 use std::alloc::{AllocError, Global};
 
@@ -86,10 +85,10 @@ pub fn settle(
     requires state { IsState vars (held_of clauses.now) trail.old.items reasons.old.items }
     ensures state { OnOk result (IsState vars (held_of clauses.now) trail.new.items reasons.new.items) }
     ensures full { result ≡ Ok Settled.Full → (open_count trail.new.items vars ≡ 0) × IsFixpoint (held_of clauses.now) trail.new.items }
-    ensures conflict { (id : ℕ) → result ≡ Ok (Settled.Conflict id) → Finds (held_of clauses.now) trail.new.items (Scan.False id) }
+    ensures conflict { (id : ℕ) → result ≡ Ok (Settled.Conflict id) → IsConflict (held_of clauses.now) trail.new.items id }
 {
     'turns: loop {
-        match propagate(clauses, trail, reasons, vars as u64)? {
+        match propagate(alloc, clauses, trail, reasons, vars as u64)? {
             Propagated::Conflict(id) => return Ok(Settled::Conflict(id)),
             Propagated::Fixpoint => {
                 if !decide(alloc, trail, reasons, order, vars)? {
@@ -100,15 +99,19 @@ pub fn settle(
     }
 }
 
-/// The values of the first variables: true where the variable is on the trail.
+/// The values of the first variables: true where the variable is on the trail. Linear in the variables.
 pub fn values_of(alloc: Global, trail: &[Lit], vars: u32) -> Result<Vec<bool>, AllocError>
-    requires { vars < 2 ^ 31 }
+    requires few { vars < 2 ^ 31 }
+    requires range { (l : Literal) → has trail.now l ≡ true → IsVariable vars l }
+    requires fresh { (place : ℕ) (d : Literal) → place < length trail.now → has (take place trail.now) (slice_index_or trail.now place d) ≡ false }
+    requires consistent { (l : Literal) → has trail.now l ≡ true → has trail.now (negated l) ≡ false }
     ensures { IfOk result (λ v. (length v.items ≡ vars) × ((x : ℕ) → 0 < x → x ≤ vars → value_of v.items x ≡ has trail.now (Plus x))) }
 {
+    let assignment = assignment_of(alloc, trail, vars as u64)?;
     let mut values = Vec::new(alloc);
     let mut done = 0;
     while done < vars {
-        values.push(has(trail, Lit::positive(done + 1)))?;
+        values.push(assignment.is_true(Lit::positive(done + 1)))?;
         done += 1;
     }
     Ok(values)

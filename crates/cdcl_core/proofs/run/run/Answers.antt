@@ -4,10 +4,9 @@ use Rattle.std.proofs.lemmas.Bool.{true≢false}
 use Rattle.lrat_model.specs.Literal.{Literal}
 use Rattle.lrat_model.specs.Steps.{ProofStep, Addition}
 use Rattle.lrat_model.specs.Entries.{held_of}
-use Rattle.cdcl_core.specs.Scans.{Finds}
+use Rattle.cdcl_core.specs.Fixpoint.{IsConflict}
 use Rattle.cdcl_core.specs.Search.{IsLearntClause, IsState, database_of}
 use Rattle.cdcl_core.specs.Log.{HasNoEmptyLemma, steps_of}
-use Rattle.cdcl_core.specs.declared.propagation.Scan.TheVariants.{False}
 use Rattle.cdcl_core.proofs.Quiet.{id_found}
 use Rattle.cdcl_core.proofs.Sats.{fixpoint_satisfies}
 use Rattle.cdcl_core.proofs.Pushes.{no_empty-push, refuted_where_empty}
@@ -31,7 +30,7 @@ returns-in-Full-clause-sat c =
 
 pub analyse-requires-clause-small : goal.analyse-requires-clause-small
 analyse-requires-clause-small c =
-    let finds : Finds (held_of c.lemmas.clauses.items) c.settle.new.trail.items (False c.in-Conflict.conflict) = rw c.deref.ensures.value at c.in_ok-settle.ensures.conflict c.in-Conflict.conflict (cc c.in-Conflict.is) in
+    let finds : IsConflict (held_of c.lemmas.clauses.items) c.settle.new.trail.items c.in-Conflict.conflict = rw c.deref.ensures.value at c.in_ok-settle.ensures.conflict c.in-Conflict.conflict (cc c.in-Conflict.is) in
     let ids = id_found (λ k. (0 < k) × (k ≤ c.lemmas.last)) c.lemmas.clauses.items c.lemmas.invariant.1 c.in-Conflict.conflict finds.0 finds.1 in
     omega (arith, ids.1, c.lemmas.invariant.7)
 
