@@ -54,6 +54,7 @@ module _ (held : Held) (trues : List Literal) (reasons : List ℕ) (lits : List 
   learnt_clause_is_lemma = record {
     next = next;
     distinct = learnt.distinct;
+    named = learnt.named;
     few_hints = omega (arith, learnt.few_hints, on.1);
     useful = learnt.useful;
   }

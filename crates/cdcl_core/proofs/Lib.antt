@@ -21,3 +21,4 @@ pub mod Bare
 pub mod WalkSteps
 pub mod Opens
 pub mod Sweeps
+pub mod Numbers

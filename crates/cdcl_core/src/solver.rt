@@ -5,15 +5,17 @@ ghost use Rattle.lrat_model.specs.Clauses.{clause_at, with_clause, IsUnsatisfiab
 ghost use Rattle.lrat_model.specs.Entries.{held_of};
 ghost use Rattle.lrat_model.specs.Lemmas.{IsDue};
 ghost use Rattle.lrat_model.specs.Propagation.{Closes};
+ghost use Rattle.lrat_model.specs.Ranges.{AreInRange, IsInRange};
 ghost use Rattle.lrat_model.specs.Runs.{Run};
-ghost use Rattle.cdcl_core.specs.Log.{AreLemmas, EndsEmpty, HasNoEmptyLemma, steps_of, units};
-ghost use Rattle.cdcl_core.specs.Ranges.{AreInRange, IsInRange};
+ghost use Rattle.lrat_text.specs.Texts.{HasNumbers};
+ghost use Rattle.cdcl_core.specs.Log.{AreLemmas, EndsEmpty, HasNoEmptyLemma, units};
 ghost use Rattle.cdcl_core.specs.Solving.{assignment, logged};
 
 use crate::budget::Budget;
 use crate::run::{Verdict, run};
 use clause_store::Store;
-use lrat_model::{Lit, Step};
+use lrat_model::Lit;
+use lrat_text::Log;
 use std::alloc::{AllocError, Global};
 use std::marker::Model;
 
@@ -24,7 +26,7 @@ pub struct Solver {
     vars: u32,
     last: u64,
     clauses: Vec<(u64, Vec<Lit>)>,
-    log: Vec<Step>,
+    log: Log,
     values: Vec<bool>,
     is_refuted: bool,
     is_broken: bool,
@@ -59,7 +61,7 @@ impl Solver {
             vars: vars as u32,
             last: store.last(),
             clauses,
-            log: Vec::new(alloc),
+            log: Log::new(alloc),
             values,
             is_refuted: false,
             is_broken: false,
@@ -156,9 +158,10 @@ impl Solver {
         self.values[var as usize - 1]
     }
 
-    /// The steps that were logged, in order.
-    pub fn log(&self) -> &[Step]
-        ensures { steps_of result.now ≡ self.now.log }
+    /// The steps that were logged, in order. A step line can say the numbers of each.
+    pub fn log(&self) -> &Log
+        ensures log { result.now ≡ self.now.log }
+        ensures numbers { All HasNumbers result.now }
     {
         &self.log
     }

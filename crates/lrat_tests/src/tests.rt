@@ -5,6 +5,7 @@ use cdcl_core::{Budget, Solver, Verdict};
 use clause_store::Store;
 use lrat_checker::Checker;
 use lrat_model::{Lit, Progress};
+use lrat_text::write_step;
 use std::alloc::{AllocError, Global};
 use std::test::Fail;
 
@@ -84,13 +85,25 @@ fn is_refutation(alloc: Global, store: Store, vars: u64, solver: &Solver) -> Res
 {
     let mut checker = Checker::start(alloc, store, vars)?;
     let mut progress = Progress::Going;
-    for step in solver.log() {
+    for step in solver.log().as_slice() {
         match checker.step(step) {
             Ok(next) => progress = next,
             Err(_) => return Ok(false),
         }
     }
     Ok(progress == Progress::Refuted)
+}
+
+// The lines of the steps that were logged.
+fn lines(alloc: Global, solver: &Solver) -> Result<Vec<u8>, AllocError> {
+    let mut lines = Vec::new(alloc);
+    for step in solver.log().as_slice() {
+        for byte in write_step(step) {
+            lines.push(byte)?;
+        }
+        lines.push(b'\n')?;
+    }
+    Ok(lines)
 }
 
 #[test]
@@ -114,8 +127,8 @@ fn empty_clauses_are_refuted_at_no_cost(rt: HostRuntime) -> Result<(), Fail> {
     let mut solver = Solver::start(alloc, &store, 0)?;
     let mut budget = Budget::of(0);
     assert_eq!(rt; solver.solve(&mut budget)?, Verdict::Unsat);
-    let text = format!(in alloc; "{:?}", solver.log())?;
-    assert_eq!(rt; text.as_str(), "[Add { id: 3, lits: [], hints: [1] }]");
+    let lines = lines(alloc, &solver)?;
+    assert_eq!(rt; lines.as_slice(), b"3 0 1 0\n".as_slice());
     assert!(rt; is_refutation(alloc, store, 0, &solver)?);
     Ok(())
 }

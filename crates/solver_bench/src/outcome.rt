@@ -56,7 +56,7 @@ fn is_refutation(
 {
     let mut checker = Checker::start(alloc, store, vars)?;
     let mut progress = Progress::Going;
-    for step in solver.log() {
+    for step in solver.log().as_slice() {
         match checker.step(step) {
             Ok(next) => progress = next,
             Err(_) => return Ok(false),

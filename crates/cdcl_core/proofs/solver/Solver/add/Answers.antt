@@ -28,4 +28,5 @@ invariant_of-self c =
           (unsatisfiable_more (held_of s.clauses.items) (with_clause (held_of s.clauses.items) id lits) (clause_at-more (held_of s.clauses.items) id lits) (inv.refuting is));
       refuted = inv.refuted;
       unrefuted = inv.unrefuted;
+      numbers = inv.numbers;
     }
