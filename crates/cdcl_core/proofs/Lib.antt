@@ -20,4 +20,5 @@ pub mod MarkLaws
 pub mod Bare
 pub mod WalkSteps
 pub mod Opens
+pub mod Sweeps
 pub mod Numbers

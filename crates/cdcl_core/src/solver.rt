@@ -104,8 +104,9 @@ impl Solver {
     /// was given, takes none. `Spent` where no unit is left and a lemma with a literal is due. Where memory
     /// ran out once, each later call wants memory too.
     ///
-    /// The number of lemmas is bounded by the budget alone. Between two lemmas all clauses are scanned once
-    /// for each literal that is set.
+    /// The number of lemmas is bounded by the budget alone. Between two lemmas all clauses are swept at most
+    /// once for each literal that is set, and once more; a sweep takes time linear in their literals. Each
+    /// decision takes time linear in the variables.
     pub fn solve(&mut self, budget: &mut Budget) -> Result<Verdict, AllocError>
         requires room { self.old.database.last + budget.old + 1 < 2 ^ 63 }
         ensures log { self.new.log ≡ self.old.log ++ logged self.old self.new }

@@ -6,7 +6,7 @@ use Rattle.lrat_model.specs.Literal.{Literal, Plus, Minus, variable_of, negated,
 use Rattle.lrat_model.specs.Steps.{literal_fault}
 use Rattle.lrat_model.specs.declared.step.StepFault.TheVariants.{BadLiteral, Tautology}
 use Rattle.lrat_checker.specs.Alike.{Alike}
-use Rattle.lrat_checker.proofs.ValueLaws.{has-push}
+use Rattle.partial_assignment.proofs.ValueLaws.{has-push}
 
 same-negated : (m l : Literal) → same m (negated l) ≡ same (negated m) l
 same-negated (Plus x) (Plus y) = refl

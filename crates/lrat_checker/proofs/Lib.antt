@@ -1,5 +1,3 @@
-pub mod ValueLaws
-pub mod StatusFrom
 pub mod StatusLaws
 pub mod RangeLaws
 pub mod AlikeLaws

@@ -9,10 +9,10 @@ ghost use Rattle.lrat_model.specs.Ranges.{IsInRange, AreInRange};
 ghost use Rattle.lrat_checker.specs.Covers.{Covers};
 ghost use Rattle.lrat_checker.specs.Checking.{IsAddition};
 
-use crate::assignment::Assignment;
 use crate::hint::lemma_fault;
 use clause_store::Store;
 use lrat_model::{Lit, Progress, Step, StepFault};
+use partial_assignment::Assignment;
 use std::alloc::{AllocError, Global};
 use std::marker::Model;
 

@@ -8,39 +8,15 @@ ghost use Rattle.lrat_model.specs.Ranges.{IsInRange, AreInRange};
 ghost use Rattle.lrat_checker.specs.Alike.{Alike};
 ghost use Rattle.lrat_checker.specs.Hints.{Took, id_of};
 
-use crate::assignment::Assignment;
 use clause_store::Store;
-use lrat_model::{ClauseStatus, Lit, StepFault};
+use lrat_model::{Lit, StepFault};
+use partial_assignment::{Assignment, ClauseStatus, status};
 
 /// Where a hint leads, if it is no fault: on, or to a clause with all literals false.
 #[derive(Clone, Copy)]
 pub enum Hinting {
     More,
     Conflict,
-}
-
-/// What a clause says. O(its literals).
-fn status(assignment: &Assignment, clause: &[Lit]) -> ClauseStatus
-    requires { IsInRange assignment.now.vars clause.now }
-    ensures { result ≡ status assignment.now.trues clause.now }
-{
-    let mut first = None;
-    for l in clause {
-        if !assignment.is_true(l.negated()) {
-            match first {
-                None => first = Some(*l),
-                Some(k) => {
-                    if !k.same(*l) {
-                        return ClauseStatus::Unresolved;
-                    }
-                }
-            }
-        }
-    }
-    match first {
-        None => ClauseStatus::Falsified,
-        Some(l) => ClauseStatus::Forces(l),
-    }
 }
 
 /// The id that a hint names, if it is no RAT hint.

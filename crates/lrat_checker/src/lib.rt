@@ -1,7 +1,6 @@
 //! A checker of LRAT proofs without RAT, step by step.
 #![tactic(auto)]
 
-mod assignment;
 mod checker;
 mod hint;
 

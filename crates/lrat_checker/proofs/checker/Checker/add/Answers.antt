@@ -2,7 +2,7 @@ use Rattle.std.proofs.Common.{◌≡◌, sym, ap, subst, ◌∙◌, None, [], ma
 use Rattle.lrat_model.specs.Literal.{negated}
 use Rattle.lrat_model.specs.Clauses.{Held}
 use Rattle.lrat_model.specs.Steps.{literal_fault}
-use Rattle.lrat_checker.specs.Assigned.{Assigned}
+use Rattle.partial_assignment.specs.Assigned.{Assigned}
 use Rattle.lrat_model.specs.Ranges.{AreInRange}
 use Rattle.lrat_checker.proofs.RangeLaws.{range-with_clause}
 use Rattle.lrat_checker.proofs.FaultLaws.{range-literal_fault, lemma_fault-not_memory, literals_first, where_ok}

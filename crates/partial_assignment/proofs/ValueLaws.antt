@@ -5,9 +5,9 @@ use Rattle.std.proofs.lemmas.List.{drop_more, length-set, length-append}
 use Rattle.std.proofs.lemmas.List.Elements.{All-push, All-weaker}
 use Rattle.lrat_model.specs.Literal.{Literal, Plus, Minus, variable_of, negated, same, has}
 use Rattle.lrat_model.proofs.Literals.{has-cons, same-true}
-use Rattle.lrat_checker.specs.declared.assignment.Value.{Value}
-use Rattle.lrat_checker.specs.declared.assignment.Value.TheVariants.{Unassigned, True, False}
-use Rattle.lrat_checker.specs.Values.{makes_true, true_by, value_of, assigned, IsAssignment}
+use Rattle.partial_assignment.specs.declared.assignment.Value.{Value}
+use Rattle.partial_assignment.specs.declared.assignment.Value.TheVariants.{Unassigned, True, False}
+use Rattle.partial_assignment.specs.Values.{makes_true, true_by, value_of, assigned, IsAssignment}
 
 pub true_by-set_other : (values : List Value) (place : ℕ) (v : Value) (l : Literal) → variable_of l ≢ place → true_by (set values place v) l ≡ true_by values l
 true_by-set_other values place v l other = ap (λ u. makes_true u l) (get_or-set_other values place (variable_of l) v Unassigned other)

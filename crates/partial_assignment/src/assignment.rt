@@ -1,8 +1,7 @@
-//! Which literals are true, while hints are taken.
+//! Which literals are true.
 ghost use Rattle.std.specs.Prelude.{◌≡◌, ◌+◌, ◌≤◌, ◌<◌, ◌^◌, [], ◌∷◌, ◌++◌, true, false, length, All, IfOk};
 ghost use Rattle.lrat_model.specs.Literal.{Literal, has, negated, variable_of};
-ghost use Rattle.lrat_checker.specs.Alike.{Alike};
-ghost use Rattle.lrat_checker.specs.Values.{value_of, true_by};
+ghost use Rattle.partial_assignment.specs.Values.{value_of, true_by};
 
 use lrat_model::Lit;
 use std::alloc::{AllocError, Global};
@@ -24,7 +23,7 @@ pub struct Assignment {
 }
 
 impl Model for Assignment {
-    ghost use Rattle.lrat_checker.specs.Assigned.{Assigned, shown, IsSound};
+    ghost use Rattle.partial_assignment.specs.Assigned.{Assigned, shown, IsSound};
 
     ghost Value = { Assigned };
 
@@ -34,7 +33,8 @@ impl Model for Assignment {
 }
 
 impl Assignment {
-    /// No variable of this many has a value. Takes all the memory that an assignment ever needs.
+    /// No variable of this many has a value. Takes all the memory that an assignment ever needs. Linear in
+    /// the variables.
     pub fn new(alloc: Global, vars: u64) -> Result<Assignment, AllocError>
         requires { vars < 2 ^ 31 }
         ensures vars { IfOk result (λ a. a.vars ≡ vars) }
@@ -46,14 +46,14 @@ impl Assignment {
         Ok(Assignment { values, trail })
     }
 
-    /// The number of variables.
+    /// The number of variables. O(1).
     pub fn vars(&self) -> u64
         ensures { result ≡ self.now.vars }
     {
         self.values.len() as u64 - 1
     }
 
-    /// Whether the literal is true.
+    /// Whether the literal is true. O(1).
     pub fn is_true(&self, l: Lit) -> bool
         requires { variable_of l ≤ self.now.vars }
         ensures { result ≡ has self.now.trues l }
@@ -65,8 +65,8 @@ impl Assignment {
         }
     }
 
-    /// Makes a literal true whose variable has no value.
-    fn make_true(&mut self, l: Lit)
+    /// Makes a literal true whose variable has no value. O(1).
+    pub fn make_true(&mut self, l: Lit)
         requires range { variable_of l ≤ self.old.vars }
         requires open { has self.old.trues l ≡ false }
         requires consistent { has self.old.trues (negated l) ≡ false }
@@ -77,11 +77,11 @@ impl Assignment {
         self.trail.push(l).unwrap();
     }
 
-    /// Makes a literal true that is not false.
+    /// Makes a literal true that is not false. O(1).
     pub fn force(&mut self, l: Lit)
         requires range { variable_of l ≤ self.old.vars }
         requires consistent { has self.old.trues (negated l) ≡ false }
-        ensures trues { Alike (l ∷ self.old.trues) self.new.trues }
+        ensures trues { (m : Literal) → has (l ∷ self.old.trues) m ≡ has self.new.trues m }
         ensures vars { self.new.vars ≡ self.old.vars }
     {
         if !self.is_true(l) {
