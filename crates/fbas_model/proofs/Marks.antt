@@ -1,5 +1,5 @@
 -- The marks of the chosen names, one name after another.
-use Rattle.std.proofs.Common.{◌≡◌, ℕ, ◌<◌, ◌==◌, ◌||◌, Bool, false, List, [], ◌∷◌, ◌++◌, length, slice_get, slice_index_or, Some, Contains, inl, inr, refl, sym, ap, subst, ◌∙◌, arith, ext_get_or}
+use Rattle.std.proofs.Common.{◌≡◌, ℕ, ◌<◌, ◌==◌, ◌||◌, Bool, false, List, [], ◌∷◌, ◌++◌, length, slice_get, slice_index_or, Some, Contains, inl, inr, sym, ap, subst, ◌∙◌, arith, ext_get_or}
 use Rattle.std.proofs.Math.Bool.{or-false}
 use Rattle.std.proofs.lemmas.Bool.{cases_Bool, eqb-true, eq-eqb, both_ways, false_from_ne_true}
 use Rattle.std.proofs.lemmas.List.{get_or-map, get_or_default, length-map}

@@ -1,5 +1,5 @@
 -- Lists of ids: the members of each, one after another.
-use Rattle.std.proofs.Common.{◌≡◌, ℕ, zero, suc, ◌+◌, ◌<◌, ◌≤◌, ◌==◌, ◌||◌, true, false, List, [], ◌∷◌, length, take, drop, get_or, add-one, take-suc, Bool, not, ◌++◌, Option, Some, None, unwrap_or, ok_or, option_copied, Result, Ok, Err, IfOk, IfErr, Bor, inl, inr, refl, sym, ap, ◌∙◌, arith, ext_get_or, take_all}
+use Rattle.std.proofs.Common.{◌≡◌, ℕ, ◌+◌, ◌<◌, ◌≤◌, ◌==◌, ◌||◌, true, false, List, [], ◌∷◌, length, take, drop, get_or, add-one, take-suc, Bool, not, ◌++◌, Option, Some, None, unwrap_or, ok_or, option_copied, Result, Ok, Err, IfOk, IfErr, Bor, inl, inr, refl, sym, ap, ◌∙◌, arith, take_all}
 use Rattle.std.specs.BTreeSet.{insert_key}
 use Rattle.std.specs.List.{list_any, slice_split}
 use Rattle.std.specs.Str.{bytes_eq}
@@ -10,7 +10,7 @@ use Rattle.std.proofs.lemmas.List.Splits.{length-slice_split}
 use Rattle.std.proofs.lemmas.List.Sums.{count_by-le-length, fold-append}
 use Rattle.std.proofs.lemmas.Slice.Eq.{bytes_eq-Decides}
 use Rattle.fbas_model.specs.Names.{Name, name_cmp, is_key, is_among, place_of}
-use Rattle.fbas_model.specs.Nodes.{Nodes, Table, members, ∅, only, ◌∪◌}
+use Rattle.fbas_model.specs.Nodes.{Nodes, Table, members, ∅}
 use Rattle.fbas_model.specs.Restriction.{table_from}
 use Rattle.fbas_model.proofs.Tables.{table_is}
 use Rattle.name_set.specs.Lists.{items_of, node_at, unless_fault, unless_faulty}
