@@ -100,7 +100,7 @@ fn encode_within(
 /// else a sequential counter (Sinz 2005).
 ///
 /// `TooLarge` comes where the formula has more than 4,000,000 variables, which are counted before anything is written.
-/// Linear in the entries of the members' quorum sets and in the formula.
+/// Linear in n, in the entries of the members' quorum sets and in the formula.
 pub fn encode(
     alloc: Global,
     system: &System,
