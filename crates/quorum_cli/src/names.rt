@@ -1,14 +1,14 @@
 // The nodes that the options name.
 ghost use Rattle.std.specs.Prelude.{◌≡◌, ◌<◌, All, IfOk, IfErr, Ok, length, option_map, string_bytes};
 ghost use Rattle.cli_words.specs.Order.{order_view};
-ghost use Rattle.quorum_cli.specs.Questions.{set_named as set_by_option, node_named as node_by_option, orgs_named as orgs_by_option, union, faulty_named as faulty_by_options, Refuses, IsUsage};
+ghost use Rattle.quorum_cli.specs.Questions.{set_named as set_by_option, node_named as node_by_option, orgs_named as orgs_by_option, faulty_named as faulty_by_options, Refuses, IsUsage};
 
 use crate::refusal::{Refusal, refuse_names};
 use cli_words::Order;
 use fbas_core::System;
 use name_set::{NameFault, NodeSet, read_name, read_names};
 use node_json::{Orgs, read_ids};
-use std::alloc::{AllocError, Global};
+use std::alloc::Global;
 
 /// The set that an option's list names, empty where the option is not given.
 pub fn set_named(
@@ -80,22 +80,6 @@ fn orgs_named(
     }
 }
 
-// The nodes of both sets: all nodes but those that are in neither.
-fn union(alloc: Global, s: &NodeSet, t: &NodeSet, n: u32) -> Result<NodeSet, AllocError>
-    requires same_s { length s.now ≡ n }
-    requires same_t { length t.now ≡ n }
-    ensures { IfOk result (λ u. u ≡ union s.now t.now) }
-{
-    let mut neither = NodeSet::new(alloc, n)?;
-    neither.fill();
-    neither.minus(s);
-    neither.minus(t);
-    let mut nodes = NodeSet::new(alloc, n)?;
-    nodes.fill();
-    nodes.minus(&neither);
-    Ok(nodes)
-}
-
 /// The faulty nodes: those that `--faulty` names, and the members of the organisations that `--faulty-orgs` names.
 pub fn faulty_named(
     alloc: Global,
@@ -110,7 +94,8 @@ pub fn faulty_named(
     ensures fits { IfOk result (λ s. length s ≡ length system.now.sets) }
 {
     let n = system.len();
-    let named = set_named(alloc, system, "--faulty", &order.faulty)?;
+    let mut named = set_named(alloc, system, "--faulty", &order.faulty)?;
     let members = orgs_named(alloc, orgs, n, "--faulty-orgs", &order.faulty_orgs)?;
-    Ok(union(alloc, &named, &members, n)?)
+    named.join(&members);
+    Ok(named)
 }
