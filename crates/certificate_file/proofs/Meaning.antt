@@ -1,14 +1,14 @@
 -- What is known from line to line, and what an accepted certificate shows.
 use Rattle.std.proofs.Common.{◌≡◌, ◌<◌, ℕ, ◌+◌, List, [], ◌∷◌, length, Bool, true, false, ◌&&◌, ◌==◌, nat_le, cond, Option, Some, None, is_none, ok_or, Result, Ok, Err, IfOk, inl, inr, refl, sym, ◌∙◌, ap, subst, codes}
-use Rattle.std.proofs.lemmas.List.{length-map}
 use Rattle.std.proofs.lemmas.List.Quantifiers.{position-Some}
 use Rattle.std.proofs.lemmas.Bool.{cases_Bool}
 use Rattle.std.specs.Str.{bytes_eq}
 use Rattle.fbas_model.specs.Nodes.{Table}
-use Rattle.fbas_model.specs.Names.{Name, place_of}
+use Rattle.fbas_model.specs.Names.{Name, marks, place_of}
 use Rattle.fbas_model.specs.Counting.{is_quorum}
 use Rattle.fbas_model.specs.Systems.{System, IsSystem}
 use Rattle.fbas_model.specs.Restriction.{closure_of}
+use Rattle.fbas_model.proofs.Marks.{length-marks}
 use Rattle.fbas_model.proofs.Closure.{system_mentions_nodes, closure_of-closure, length-closure_of}
 use Rattle.fbas_model.proofs.QuorumLaw.{quorum-to}
 use Rattle.witness_pair.specs.Pairs.{AreTheTwo}
@@ -19,7 +19,7 @@ use Rattle.lrat_checker.specs.Checking.{Checking}
 use Rattle.lrat_text.specs.Lines.{step_in}
 use Rattle.certificate_file.specs.Words.{digest_in, names_after}
 use Rattle.certificate_file.specs.Formulas.{counts_in, formula_of}
-use Rattle.certificate_file.specs.Acceptance.{and_then, unless, is_among, all_among, marks, nodes_of, named, everyone, others, from_node, from_names, within, quorum, paired, apart, subject_of, from_line, faulty_line, kind_line, first_line, second_line, sized, formula_line, or_bad_line, take_step, step_line, take_line, check_lines, checked}
+use Rattle.certificate_file.specs.Acceptance.{and_then, unless, all_among, nodes_of, named, everyone, others, from_node, from_names, within, quorum, paired, apart, subject_of, from_line, faulty_line, kind_line, first_line, second_line, sized, formula_line, or_bad_line, take_step, step_line, take_line, check_lines, checked}
 use Rattle.certificate_file.specs.Meaning.{Holds}
 use Rattle.certificate_file.specs.Reading.{IsPart, IsSubject, IsPartQuorum, AreSteps, IsKnown, IsKnownState, IsShown}
 use Rattle.certificate_file.specs.declared.places.Header.{Header}
@@ -59,7 +59,7 @@ named_places f l word text u is e =
     let g = got (ok_or (names_after word text) (BadLine l)) (nodes_of f.names l) u e in
     let p = passed (UnknownNode l) (all_among g.0 f.names) (Ok (marks f.names g.0)) u g.2 in
     let same : marks f.names g.0 ≡ u = let q = p.1 in cc in
-    ap length (sym same) ∙ length-map f.names (λ (n : Name). is_among n g.0) ∙ sym is.places
+    ap length (sym same) ∙ length-marks f.names g.0 ∙ sym is.places
 
 none_is : (o : Option ℕ) → is_none o ≡ true → o ≡ None
 none_is None e = refl

@@ -3,7 +3,7 @@ use Rattle.std.specs.Prelude.{ℕ, ◌+◌, List, [], ◌∷◌, map, length, Bo
 use Rattle.std.specs.List.{list_all, list_any}
 use Rattle.std.specs.Str.{bytes_eq}
 use Rattle.fbas_model.specs.Nodes.{Table}
-use Rattle.fbas_model.specs.Names.{Name, place_of}
+use Rattle.fbas_model.specs.Names.{Name, is_among, marks, place_of}
 use Rattle.fbas_model.specs.Fbas.{Fbas}
 use Rattle.fbas_model.specs.Counting.{is_quorum}
 use Rattle.fbas_model.specs.Systems.{System}
@@ -45,15 +45,8 @@ unless e false r = Err e
 
 -- ---- lists of names
 
-abbrev pub is_among : Name → List Name → Bool
-is_among name names = list_any (λ n. bytes_eq n name) names
-
 abbrev pub all_among : List Name → List Name → Bool
 all_among chosen names = list_all (λ n. is_among n names) chosen
-
--- which of the names are chosen
-abbrev pub marks : List Name → List Name → Table
-marks names chosen = map (λ n. is_among n chosen) names
 
 -- the nodes of the chosen names, on line l
 abbrev pub nodes_of : List Name → ℕ → List Name → Result Table CertError

@@ -1,10 +1,7 @@
 // The line that gives the size of the intersection formula, and the formula.
 ghost use Rattle.std.specs.Prelude.{◌≡◌, ◌⊎◌, ◌<◌, ◌≤◌, length, IfOk, IfErr, IsErrOf, Ok, Err};
-ghost use Rattle.std.specs.List.{list_all};
-ghost use Rattle.std.specs.Char.{is_ascii_digit};
 ghost use Rattle.fbas_model.specs.Nodes.{members};
 ghost use Rattle.fbas_model.specs.Fbas.{IsGreatestQuorum, all_nodes};
-ghost use Rattle.lrat_text.specs.Numbers.{is_numeral, id_in};
 ghost use Rattle.certificate_file.specs.Words.{words_view};
 ghost use Rattle.certificate_file.specs.Greatest.{greatest_of};
 ghost use Rattle.certificate_file.specs.Formulas.{formula_of, formula_over, number_in, counts_behind};
@@ -18,11 +15,9 @@ use clause_encoder::{EncodeError, encode};
 use fbas_core::System;
 use greatest_quorum::shrink;
 use lrat_checker::Checker;
+use lrat_text::read_id;
 use name_set::NodeSet;
 use std::alloc::{AllocError, Global};
-
-/// The greatest number.
-const MOST: u64 = 9_223_372_036_854_775_807;
 
 /// How many variables and clauses a formula has.
 #[derive(Clone, Copy)]
@@ -31,46 +26,14 @@ struct Counts {
     clauses: u64,
 }
 
-/// Decimal digits of which the first is not 0.
-fn is_numeral(word: &[u8]) -> bool
-    ensures { result ≡ is_numeral word.now }
-{
-    match word.first() {
-        Some(first) => *first > b'0' && has_digits(word),
-        None => false,
-    }
-}
-
-fn has_digits(word: &[u8]) -> bool
-    ensures { result ≡ list_all is_ascii_digit word.now }
-{
-    word.iter().all(|byte| byte.is_ascii_digit())
-}
-
-/// The number of decimal digits of which the first is not 0.
-fn positive(word: &[u8]) -> Option<u64>
-    ensures { result ≡ id_in word.now }
-{
-    if !is_numeral(word) {
-        return None;
-    }
-    let Ok(digits) = str::from_utf8(word) else {
-        return None;
-    };
-    match digits.parse::<u64>() {
-        Ok(number) if number <= MOST => Some(number),
-        _ => None,
-    }
-}
-
-/// The same, or 0.
+/// A number of variables: 0, or what is written as an id is.
 fn number(word: &[u8]) -> Option<u64>
     ensures { result ≡ number_in word.now }
 {
     if word == b"0".as_slice() {
         return Some(0);
     }
-    positive(word)
+    read_id(word)
 }
 
 /// The numbers behind the word `formula`.
@@ -84,7 +47,7 @@ fn counts_behind(words: &[Vec<u8>]) -> Option<Counts>
         return None;
     }
     let vars = number(vars)?;
-    let clauses = positive(clauses)?;
+    let clauses = read_id(clauses)?;
     Some(Counts { vars, clauses })
 }
 

@@ -7,13 +7,13 @@ use Rattle.fbas_model.specs.Nodes.{Nodes, Table, members, size, listed_from}
 use Rattle.fbas_model.specs.Fbas.{Fbas, IsGreatestQuorum, all_nodes}
 use Rattle.lrat_model.specs.Literal.{Literal, Plus, Minus, variable_of}
 use Rattle.lrat_model.specs.Clauses.{numbered}
+use Rattle.lrat_model.specs.Ranges.{IsInRange, AreInRange}
 use Rattle.threshold_circuit.specs.Circuits.{Circuit, Inputs, always, never, leaf, at_least, end_of_gate, input, IsOpen, AreOpen}
 use Rattle.threshold_circuit.specs.Gates.{before_row, own_variables}
 use Rattle.clause_encoder.specs.Counter.{counter_variable, carried, cell_clauses, row_clauses, counter_clauses}
 use Rattle.clause_encoder.specs.GateClauses.{without_repeats, every_clauses, some_clauses, gate_clauses}
 use Rattle.clause_encoder.specs.CircuitClauses.{circuit_clauses, inputs_clauses}
 use Rattle.clause_encoder.specs.Formula.{side_a, side_b, with_gate, node_clauses, side_clauses, some_node, no_node_on_both, circuit_at, formula, formula_clauses, formula_vars}
-use Rattle.clause_encoder.specs.Meaning.{AreInRange}
 use Rattle.clause_encoder.proofs.Numbering.{counter_variable_below}
 use Rattle.clause_encoder.proofs.GateFills.{Below}
 use Rattle.clause_encoder.proofs.CircuitFills.{VariablesBelow, circuit_range, inputs_range}
@@ -207,14 +207,14 @@ formula_below f b g is =
 
 -- ---- as the list of what is held
 
-literals_all : (vars : ℕ) (ls : List Literal) → LiteralsBelow (vars + 1) ls → All (λ l. variable_of l ≤ vars) ls
+literals_all : (vars : ℕ) (ls : List Literal) → LiteralsBelow (vars + 1) ls → IsInRange vars ls
 literals_all vars [] h = All-nil (λ l. variable_of l ≤ vars)
 literals_all vars (l ∷ ls) h = All-cons (λ l. variable_of l ≤ vars) l ls (omega (arith, h.0)) (literals_all vars ls h.1)
 
 pub numbered_range : (vars first : ℕ) (cs : List (List Literal)) → ClausesBelow (vars + 1) cs → AreInRange vars (numbered first cs)
-numbered_range vars first [] h = All-nil (λ (e : ℕ × List Literal). All (λ l. variable_of l ≤ vars) e.1)
+numbered_range vars first [] h = All-nil (λ (e : ℕ × List Literal). IsInRange vars e.1)
 numbered_range vars first (c ∷ cs) h =
-    All-cons (λ (e : ℕ × List Literal). All (λ l. variable_of l ≤ vars) e.1) (first, c) (numbered (first + 1) cs) (literals_all vars c h.0) (numbered_range vars (first + 1) cs h.1)
+    All-cons (λ (e : ℕ × List Literal). IsInRange vars e.1) (first, c) (numbered (first + 1) cs) (literals_all vars c h.0) (numbered_range vars (first + 1) cs h.1)
 
 formula_some : (f : Fbas) (b g : Table) → 1 ≤ (formula f b g).next
 unfolding formula

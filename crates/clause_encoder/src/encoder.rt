@@ -4,11 +4,12 @@ ghost use Rattle.fbas_model.specs.Nodes.{Nodes, Table, members, size, listed_fro
 ghost use Rattle.fbas_model.specs.Fbas.{Fbas, Quorum, Intersects, IsGreatestQuorum, all_nodes};
 ghost use Rattle.lrat_model.specs.Literal.{formula_true};
 ghost use Rattle.lrat_model.specs.Clauses.{numbered, Satisfies, IsUnsatisfiable};
+ghost use Rattle.lrat_model.specs.Ranges.{AreInRange};
 ghost use Rattle.lrat_model.specs.Runs.{formula_database};
 ghost use Rattle.threshold_circuit.specs.Views.{circuit_view};
 ghost use Rattle.clause_encoder.specs.declared.encoder.EncodeError.TheVariants.{TooLarge};
 ghost use Rattle.clause_encoder.specs.Formula.{side_a, side_b, formula_over, circuit_at, formula, formula_clauses as spec_clauses, formula_vars as spec_vars};
-ghost use Rattle.clause_encoder.specs.Meaning.{told, Tells, AreDisjointQuorums, AreInRange};
+ghost use Rattle.clause_encoder.specs.Meaning.{told, Tells, AreDisjointQuorums};
 ghost use Rattle.clause_encoder.specs.Written.{circuit_in, variables_of as gate_variables_of, IsWritable};
 
 use crate::marks::Marks;
@@ -99,7 +100,7 @@ fn encode_within(
 /// else a sequential counter (Sinz 2005).
 ///
 /// `TooLarge` comes where the formula has more than 4,000,000 variables, which are counted before anything is written.
-/// Linear in the entries of the members' quorum sets and in the formula.
+/// Linear in n, in the entries of the members' quorum sets and in the formula.
 pub fn encode(
     alloc: Global,
     system: &System,

@@ -5,6 +5,7 @@ pub mod Sizes
 pub mod Unions
 pub mod Mentioned
 pub mod Tables
+pub mod Marks
 pub mod Kept
 pub mod Renumbered
 pub mod RestrictionLaw

@@ -2,7 +2,7 @@
 use Rattle.std.proofs.Common.{◌≡◌, ℕ, zero, suc, ◌+◌, ◌<◌, Bool, true, false, ◌||◌, ◌==◌, [], ◌∷◌, length, refl, sym, ◌∙◌, ap, arith, replicate, inl, inr}
 use Rattle.std.specs.Prelude.{slice_set}
 use Rattle.std.proofs.lemmas.Bool.{cases_Bool, both_ways, eqb-true, eq-eqb}
-use Rattle.std.proofs.lemmas.List.{length-set, length-replicate, get_or-set_other}
+use Rattle.std.proofs.lemmas.List.{ext_get_or, length-set, length-replicate, get_or-set_other}
 use Rattle.std.proofs.lemmas.Grind.{get_or-set_at}
 use Rattle.fbas_model.specs.Nodes.{Nodes, Table, members, ∅, only, ◌∪◌}
 use Rattle.fbas_model.specs.Restriction.{table_from}
@@ -50,3 +50,10 @@ pub members-table_from : (v n : ℕ) (s : Nodes) (x : ℕ) → x < n → members
 members-table_from v zero s x h = absurd (omega arith)
 members-table_from v (suc n) s zero h = let e : v ≡ v + zero = omega arith in ap s e
 members-table_from v (suc n) s (suc x) h = let e : v + 1 + x ≡ v + suc x = omega arith in members-table_from (v + 1) n s x (omega arith) ∙ ap s e
+
+-- a table is that of a set that it agrees with
+pub table_is : (n : ℕ) (t : Table) (s : Nodes) → length t ≡ n → ((v : ℕ) → v < n → members t v ≡ s v) → t ≡ table_from 0 n s
+table_is n t s size each = ext_get_or false t (table_from 0 n s) (size ∙ sym (length-table_from 0 n s)) (λ k h.
+    let within : k < n = omega (arith, size) in
+    let e : 0 + k ≡ k = omega arith in
+    each k within ∙ sym (members-table_from 0 n s k within ∙ ap s e))

@@ -1,11 +1,12 @@
 -- The names of nodes: public keys as byte strings, in byte order.
-use Rattle.std.specs.Prelude.{ℕ, List, length, Bool, not, ◌&&◌, ◌==◌, ◌↔◌, nat_le, Contains, Option, position}
-use Rattle.std.specs.List.{list_all}
+use Rattle.std.specs.Prelude.{ℕ, List, length, map, Bool, not, ◌&&◌, ◌==◌, ◌↔◌, nat_le, Contains, Option, position}
+use Rattle.std.specs.List.{list_all, list_any}
 use Rattle.std.specs.Str.{bytes_eq}
 use Rattle.std.specs.Ordering.{nat_cmp}
 use Rattle.std.specs.declared.cmp.Ordering.{Ordering}
 use Rattle.std.specs.Cmp.Lexicographic.{slice_cmp}
 use Rattle.std.specs.List.Sorted.{IsStrictlySortedBy}
+use Rattle.fbas_model.specs.Nodes.{Table}
 
 abbrev pub Name : Type 0
 Name = List ℕ
@@ -30,3 +31,11 @@ pub record AreNamesOf (given names : List Name) : Type 0 where
 -- the place of a name among names, counted from 0: the number of the node that has it
 abbrev pub place_of : List Name → Name → Option ℕ
 place_of names name = position (λ n. bytes_eq n name) names
+
+-- whether the name is one of the names
+abbrev pub is_among : Name → List Name → Bool
+is_among name names = list_any (bytes_eq name) names
+
+-- which of the names are chosen
+abbrev pub marks : List Name → List Name → Table
+marks names chosen = map (λ name. is_among name chosen) names

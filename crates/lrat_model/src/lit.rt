@@ -84,6 +84,12 @@ impl Lit {
 }
 
 impl fmt::Display for Lit {
+    ghost use Rattle.std.specs.Prelude.{Some};
+    ghost use Rattle.std.specs.Fmt.{signed_decimal};
+    ghost use Rattle.lrat_model.specs.Literal.{number_of};
+
+    ghost output = { λ l. Some (signed_decimal (number_of l)) };
+
     fn fmt<W: fmt::Write>(&self, f: &mut fmt::Formatter<W>) -> fmt::Result {
         write!(f, "{}", self.0)
     }

@@ -1,6 +1,7 @@
 //! Logs of steps.
-ghost use Rattle.std.specs.Prelude.{◌≡◌, [], ◌∷◌, ◌++◌, length, map, option_map, slice_get, OnOk, OnErr};
+ghost use Rattle.std.specs.Prelude.{◌≡◌, [], ◌∷◌, ◌++◌, length, map, option_map, slice_get, All, OnOk, OnErr};
 ghost use Rattle.lrat_model.specs.Steps.{step_of};
+ghost use Rattle.lrat_text.specs.Texts.{HasNumbers};
 
 use lrat_model::Step;
 use std::alloc::{AllocError, Global};
@@ -47,9 +48,10 @@ impl Log {
         self.steps.len()
     }
 
-    /// The steps in order: O(1).
+    /// The steps in order: O(1). `write_step` takes each of them where it may take each of the log.
     pub fn as_slice(&self) -> &[Step]
-        ensures { map step_of result.now ≡ self.now }
+        ensures steps { map step_of result.now ≡ self.now }
+        ensures numbers { All HasNumbers self.now → All (λ step. HasNumbers (step_of step)) result.now }
     {
         &self.steps
     }

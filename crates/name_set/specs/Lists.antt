@@ -1,9 +1,8 @@
 -- Names that stand in a text, and the fault of a text that names no nodes.
-use Rattle.std.specs.Prelude.{ℕ, ◌+◌, ◌==◌, List, [], ◌∷◌, map, Bool, Result, Ok, Err, ok_or, if◌then◌else◌}
-use Rattle.std.specs.List.{list_any, slice_split}
-use Rattle.std.specs.Str.{bytes_eq}
+use Rattle.std.specs.Prelude.{ℕ, ◌+◌, ◌==◌, List, [], ◌∷◌, Result, Ok, Err, ok_or, if◌then◌else◌}
+use Rattle.std.specs.List.{slice_split}
 use Rattle.fbas_model.specs.Nodes.{Table}
-use Rattle.fbas_model.specs.Names.{Name, is_key, place_of}
+use Rattle.fbas_model.specs.Names.{Name, is_key, place_of, marks}
 use Rattle.name_set.specs.declared.lists.NameFault.{NameFault}
 use Rattle.name_set.specs.declared.lists.NameFault.TheVariants.{Empty, BadKey, Unknown}
 
@@ -26,13 +25,6 @@ unless_fault (Err e) r = Err e
 abbrev pub unless_faulty : List Name → ℕ → List Name → Result Table NameFault → Result Table NameFault
 unless_faulty names k [] r = r
 unless_faulty names k (item ∷ items) r = unless_fault (node_at names k item) (unless_faulty names (k + 1) items r)
-
-abbrev pub is_among : Name → List Name → Bool
-is_among name items = list_any (λ item. bytes_eq item name) items
-
--- which of the names are items
-abbrev pub marks : List Name → List Name → Table
-marks names items = map (λ name. is_among name items) names
 
 -- the nodes of the list of names that a text is, or the fault of its first faulty item, whose place counts from 1
 unfoldable pub names_read : List ℕ → List Name → Result Table NameFault

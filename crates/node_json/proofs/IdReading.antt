@@ -1,38 +1,24 @@
 -- Lists of ids: the members of each, one after another.
-use Rattle.std.proofs.Common.{◌≡◌, ℕ, zero, suc, ◌+◌, ◌<◌, ◌≤◌, ◌==◌, ◌||◌, true, false, List, [], ◌∷◌, length, take, drop, get_or, Option, Some, None, unwrap_or, ok_or, option_copied, Result, Ok, Err, IfOk, IfErr, Bor, inl, inr, refl, sym, ap, ◌∙◌, arith, ext_get_or, take_all}
-use Rattle.std.proofs.Math.Bool.{or-false, or-true}
-use Rattle.std.specs.List.{slice_split}
-use Rattle.std.proofs.lemmas.Bool.{cases_Bool, cases_lt, eqb-true, eq-eqb, both_ways, false_from_ne_true}
+use Rattle.std.proofs.Common.{◌≡◌, ℕ, ◌+◌, ◌<◌, ◌≤◌, ◌==◌, ◌||◌, true, false, List, [], ◌∷◌, length, take, drop, get_or, add-one, take-suc, Bool, not, ◌++◌, Option, Some, None, unwrap_or, ok_or, option_copied, Result, Ok, Err, IfOk, IfErr, Bor, inl, inr, refl, sym, ap, ◌∙◌, arith, take_all}
+use Rattle.std.specs.BTreeSet.{insert_key}
+use Rattle.std.specs.List.{list_any, slice_split}
+use Rattle.std.specs.Str.{bytes_eq}
+use Rattle.std.proofs.lemmas.Bool.{eqb-true, false≢true, or_cases, or_left, or_right}
 use Rattle.std.proofs.lemmas.List.{drop_all, drop_more}
 use Rattle.std.proofs.lemmas.List.Folds.{list_any_more}
 use Rattle.std.proofs.lemmas.List.Splits.{length-slice_split}
-use Rattle.std.proofs.lemmas.List.Sums.{count_by-le-length}
-use Rattle.fbas_model.specs.Names.{Name, is_key, place_of}
-use Rattle.fbas_model.specs.Nodes.{Nodes, Table, members, ∅, only, ◌∪◌}
+use Rattle.std.proofs.lemmas.List.Sums.{count_by-le-length, fold-append}
+use Rattle.std.proofs.lemmas.Slice.Eq.{bytes_eq-Decides}
+use Rattle.fbas_model.specs.Names.{Name, name_cmp, is_key, is_among, place_of}
+use Rattle.fbas_model.specs.Nodes.{Nodes, Table, members, ∅}
 use Rattle.fbas_model.specs.Restriction.{table_from}
+use Rattle.fbas_model.proofs.Tables.{table_is}
 use Rattle.name_set.specs.Lists.{items_of, node_at, unless_fault, unless_faulty}
 use Rattle.name_set.specs.declared.lists.NameFault.{NameFault}
 use Rattle.name_set.specs.declared.lists.NameFault.TheVariants.{Unknown}
+use Rattle.node_json.specs.NamesInOrder.{with_names, in_order}
 use Rattle.node_json.specs.Organisations.{Org, ids_of, members_under, members_of, ids_read}
 use Rattle.node_json.proofs.OrgPlaces.{known-place, unknown-place}
-
--- ---- tables
-
-length-table : (v n : ℕ) (s : Nodes) → length (table_from v n s) ≡ n
-length-table v zero s = refl
-length-table v (suc n) s = let e = length-table (v + 1) n s in omega arith
-
-members-table : (v n : ℕ) (s : Nodes) (k : ℕ) → k < n → members (table_from v n s) k ≡ s (v + k)
-members-table v zero s k h = absurd (omega arith)
-members-table v (suc n) s zero h = let e : v + 0 ≡ v = omega arith in rw e refl
-members-table v (suc n) s (suc k) h = let e : v + 1 + k ≡ v + suc k = omega arith in members-table (v + 1) n s k (omega arith) ∙ ap s e
-
--- a table is that of the set that it agrees with
-pub table-is : (n : ℕ) (t : Table) (s : Nodes) → length t ≡ n → ((v : ℕ) → v < n → members t v ≡ s v) → t ≡ table_from 0 n s
-table-is n t s size each = ext_get_or false t (table_from 0 n s) (size ∙ sym (length-table 0 n s)) (λ k h.
-    let within : k < n = omega (arith, size) in
-    let e : 0 + k ≡ k = omega arith in
-    each k within ∙ sym (members-table 0 n s k within ∙ ap s e))
 
 -- ---- what stands between the commas
 
@@ -57,6 +43,35 @@ members-more orgs ids i n id s old new h is under added was v less =
     let one : members s v ≡ p (get_or ids i id) = ap (λ o. members (unwrap_or o []) v) (sym under) ∙ ap p is in
     added v ∙ ap (λ b. b || members s v) (was v less) ∙ ap (λ b. members_of orgs (take i ids) v || b) one ∙ sym (list_any_more p ids i id h)
 
+-- an id that is among those before it adds none
+among_any : (p : Name → Bool) (id : Name) (ids : List Name) → is_among id ids ≡ true → p id ≡ true → list_any p ids ≡ true
+among_any p id [] h t = absurd (false≢true h)
+among_any p id (x ∷ xs) h t = elim (or_cases (bytes_eq id x) (is_among id xs) h) [
+  | inl e ↦ or_left (p x) (list_any p xs) (ap p (sym ((bytes_eq-Decides id x).0 e)) ∙ t)
+  | inr e ↦ or_right (p x) (list_any p xs) (among_any p id xs e t)
+]
+
+absorbed : (a b : Bool) → (b ≡ true → a ≡ true) → a ≡ (a || b)
+absorbed true b h = refl
+absorbed false true h = h refl
+absorbed false false h = refl
+
+pub members-again : (orgs : List Org) (ids : List Name) (i n : ℕ) (id : Name) (old : Table) → i < length ids → id ≡ get_or ids i id → is_among id (take i ids) ≡ true
+    → ((v : ℕ) → v < n → members old v ≡ members_of orgs (take i ids) v) → (v : ℕ) → v < n → members old v ≡ members_of orgs (take (i + 1) ids) v
+members-again orgs ids i n id old h is before was v less =
+    let p = λ (name : Name). members (unwrap_or (members_under orgs name) []) v in
+    was v less ∙ absorbed (members_of orgs (take i ids) v) (p id) (λ t. among_any p id (take i ids) before t) ∙ ap (λ b. members_of orgs (take i ids) v || b) (ap p is) ∙ sym (list_any_more p ids i id h)
+
+pub not_new : (b : Bool) → not b ≡ false → b ≡ true
+not_new true h = refl
+not_new false h = absurd (false≢true (sym h))
+
+-- the ids so far, in order
+pub seen-more : (ids before after : List Name) (i : ℕ) (id : Name) → i < length ids → id ≡ get_or ids i id → after ≡ with_names before (id ∷ []) → before ≡ in_order (take i ids) → after ≡ in_order (take (i + 1) ids)
+seen-more ids before after i id h is more was =
+    let grown : take (i + 1) ids ≡ take i ids ++ id ∷ [] = rw (add-one, take-suc ids i id h, ← is) refl in
+    more ∙ ap (λ (ks : List Name). with_names ks (id ∷ [])) was ∙ sym (ap in_order grown ∙ fold-append (insert_key name_cmp) [] (take i ids) (id ∷ []))
+
 -- ---- the first fault
 
 module _ (names items : List Name) (r : Result Table NameFault) (i : ℕ) (item : Name) (h : i < length items) (e : item ≡ get_or items i item) where
@@ -80,7 +95,7 @@ united orgs n items = Ok (table_from 0 n (members_of orgs items))
 
 pub read-nothing : (text : List ℕ) (orgs : List Org) (n : ℕ) (t : Table) → (length text == 0) ≡ true → length t ≡ n → members t ≡ ∅ → ids_read text orgs n ≡ Ok t
 unfolding ids_read
-read-nothing [] orgs n t h size empty = ap Ok (sym (table-is n t (members_of orgs []) size (λ v less. ap (λ (s : Nodes). s v) empty)))
+read-nothing [] orgs n t h size empty = ap Ok (sym (table_is n t (members_of orgs []) size (λ v less. ap (λ (s : Nodes). s v) empty)))
 read-nothing (b ∷ bytes) orgs n t h size empty = absurd (let k = eqb-true (length (b ∷ bytes)) 0 h in omega arith)
 
 -- the text that is not empty
@@ -93,7 +108,7 @@ pub read_all : (text : List ℕ) (orgs : List Org) (n : ℕ) (t : Table) (i : �
     → ((v : ℕ) → v < n → members t v ≡ members_of orgs (take i (parts text)) v) → ids_read text orgs n ≡ Ok t
 read_all text orgs n t i h all known size each =
     let past : length (parts text) ≤ i = omega arith in
-    read-parts text orgs n h ∙ known ∙ rw (drop_all i (parts text) past) refl ∙ ap Ok (sym (table-is n t (members_of orgs (parts text)) size (λ v less. each v less ∙ ap (λ ids. members_of orgs ids v) (take_all i (parts text) past))))
+    read-parts text orgs n h ∙ known ∙ rw (drop_all i (parts text) past) refl ∙ ap Ok (sym (table_is n t (members_of orgs (parts text)) size (λ v less. each v less ∙ ap (λ ids. members_of orgs ids v) (take_all i (parts text) past))))
 
 -- ---- one item
 
@@ -109,37 +124,3 @@ module _ (orgs : List Org) (k : ℕ) (id : Name) (h : (length id == 0) ≡ false
   pub item-known : (r : Option (Bor Table)) → option_copied r ≡ members_under orgs id → IfOk (ok_or r (Unknown k)) (λ s. (at : ℕ) × (node_at (ids_of orgs) k id ≡ Ok at))
   item-known None e = tt
   item-known (Some s) e = let at = known-place orgs id s.now (sym e) in (at.0, node_at-key (ids_of orgs) k id h key ∙ rw at.1 refl)
-
--- ---- the other set's nodes, one after another
-
-module _ (initial others : Table) (v : ℕ) where
-  -- what is added below v
-  abbrev pub Added : Table → Type 0
-  Added t = (k : ℕ) → k < v → members t k ≡ (members initial k || members others k)
-
-  abbrev pub Kept : Table → Type 0
-  Kept t = (k : ℕ) → v ≤ k → members t k ≡ members initial k
-
-module _ (initial others : Table) (v : ℕ) (old : Table) (done : Added initial others v old) (ahead : Kept initial others v old) where
-  pub added-in : (new : Table) → members new ≡ members old ∪ only v → members others v ≡ true → Added initial others (v + 1) new
-  added-in new put is k h = ap (λ (s : Nodes). s k) put ∙ elim (cases_Bool (k == v)) [
-    | inl here ↦ let e : k ≡ v = eqb-true k v here in rw (here, e, is, or-true (members old v), or-true (members initial v)) refl
-    | inr there ↦ let below : k < v = apart k h there in rw (there, or-false (members old k)) (done k below)
-  ]
-    where
-      apart : (k : ℕ) → k < v + 1 → (k == v) ≡ false → k < v
-      apart k h there = elim (cases_lt k v) [
-        | inl less ↦ less
-        | inr more ↦ absurd (both_ways (k == v) there (eq-eqb k v (omega arith)))
-      ]
-
-  pub kept-in : (new : Table) → members new ≡ members old ∪ only v → Kept initial others (v + 1) new
-  kept-in new put k h =
-      let there : (k == v) ≡ false = false_from_ne_true (k == v) (λ e. absurd (let same = eqb-true k v e in omega arith)) in
-      ap (λ (s : Nodes). s k) put ∙ rw (there, or-false (members old k)) (ahead k (omega arith))
-
-  pub added-out : members others v ≡ false → Added initial others (v + 1) old
-  added-out is k h = elim (cases_lt k v) [
-    | inl less ↦ done k less
-    | inr more ↦ let e : k ≡ v = omega arith in rw (e, is, or-false (members initial v)) (ahead v (omega arith))
-  ]

@@ -7,8 +7,8 @@ use Rattle.std.specs.List.{list_any}
 use Rattle.std.specs.Cmp.Lexicographic.{slice_cmp}
 use Rattle.std.specs.Ordering.{match_ordering}
 use denote.Ref.{Bor}
-use Rattle.fbas_model.specs.Names.{name_cmp}
-use Rattle.node_json.specs.NamesInOrder.{is_among, with_names}
+use Rattle.fbas_model.specs.Names.{name_cmp, is_among}
+use Rattle.node_json.specs.NamesInOrder.{with_names}
 use Rattle.node_json.specs.View.{names_view}
 
 -- the order of the texts

@@ -12,8 +12,8 @@ use Rattle.std.specs.List.{AllByRecursion}
 use Rattle.std.specs.List.Sorted.{IsStrictlySortedBy}
 use Rattle.std.specs.Ordering.{match_ordering, ordering_reverse}
 use Rattle.std.specs.Str.{bytes_eq}
-use Rattle.fbas_model.specs.Names.{Name, name_cmp, AreNamesOf}
-use Rattle.node_json.specs.NamesInOrder.{is_among, in_order}
+use Rattle.fbas_model.specs.Names.{Name, name_cmp, AreNamesOf, is_among}
+use Rattle.node_json.specs.NamesInOrder.{in_order}
 
 -- ---- which names they are
 

@@ -12,8 +12,8 @@ use Rattle.serde_json.specs.Read.{read}
 use Rattle.serde_json.specs.View.{view, items_view}
 use Rattle.serde_json.specs.declared.value.Value.{Value}
 use Rattle.node_json.specs.Named as spec
-use Rattle.fbas_model.specs.Names.{Name, name_cmp}
-use Rattle.node_json.specs.NamesInOrder.{is_among, in_order, with_names}
+use Rattle.fbas_model.specs.Names.{Name, name_cmp, is_among}
+use Rattle.node_json.specs.NamesInOrder.{in_order, with_names}
 use Rattle.node_json.proofs.NamesInOrder.{is_among-in_order}
 use Rattle.node_json.specs.Reading.{after, tree_of, nodes_of, nodes_in, nodes_from, node_of, node_key_of, node_set_of}
 use Rattle.node_json.specs.View.{node_view, nodes_view}

@@ -4,8 +4,7 @@ use Rattle.std.proofs.lemmas.List.{length-map, map-append, get_or-map}
 use Rattle.std.specs.BTreeMap.{insert_entry}
 use Rattle.std.specs.List.{IsDistinct}
 use Rattle.std.specs.Str.{bytes_eq}
-use Rattle.fbas_model.specs.Names.{Name}
-use Rattle.node_json.specs.NamesInOrder.{is_among}
+use Rattle.fbas_model.specs.Names.{Name, is_among}
 use Rattle.node_json.specs.Organisations.{among_nodes, ids_of}
 use Rattle.node_json.specs.OrgsView.{named_org_view, named_orgs_view, named_ids, org_view, orgs_view, AreIndexed}
 use Rattle.node_json.specs.declared.named_orgs.NamedOrg.{NamedOrg}

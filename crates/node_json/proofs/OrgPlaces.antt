@@ -16,9 +16,8 @@ use Rattle.std.specs.Map.{lookup}
 use Rattle.std.specs.Option.{option_or}
 use Rattle.std.specs.Ordering.{is_eq, match_ordering}
 use Rattle.std.specs.Str.{bytes_eq}
-use Rattle.fbas_model.specs.Names.{Name, name_cmp, place_of}
+use Rattle.fbas_model.specs.Names.{Name, name_cmp, place_of, is_among}
 use Rattle.fbas_model.specs.Nodes.{Table}
-use Rattle.node_json.specs.NamesInOrder.{is_among}
 use Rattle.node_json.specs.Organisations.{Org, HasNone, ids_of, members_under}
 use Rattle.node_json.specs.OrgsView.{AreIndexed}
 

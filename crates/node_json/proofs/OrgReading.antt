@@ -13,10 +13,10 @@ use Rattle.serde_json.specs.Data.{Data, Items, item}
 use Rattle.serde_json.specs.Find.{as_array}
 use Rattle.serde_json.specs.View.{view, items_view}
 use Rattle.serde_json.specs.declared.value.Value.{Value}
-use Rattle.fbas_model.specs.Names.{Name, name_cmp}
-use Rattle.node_json.specs.NamesInOrder.{is_among, in_order, with_names}
+use Rattle.fbas_model.specs.Names.{Name, name_cmp, is_among}
+use Rattle.node_json.specs.NamesInOrder.{in_order, with_names}
 use Rattle.node_json.proofs.NamesInOrder.{is_among-in_order}
-use Rattle.node_json.proofs.OrgMarks.{length-marks}
+use Rattle.fbas_model.proofs.Marks.{length-marks}
 use Rattle.node_json.specs.Organisations as spec
 use Rattle.node_json.specs.Organisations.{org_of, org_id_of, org_validators_of, orgs_from, orgs_in, named_orgs_of, among_nodes, orgs_of}
 use Rattle.node_json.specs.Reading.{after, tree_of}

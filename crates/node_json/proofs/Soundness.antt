@@ -6,12 +6,11 @@ use Rattle.std.proofs.lemmas.List.Folds.{list_any-append}
 use Rattle.std.specs.Str.{bytes_eq}
 use Rattle.serde_json.specs.Data.{Data, Items, no_items, item}
 use Rattle.serde_json.specs.Find.{get, as_str, as_array}
-use Rattle.fbas_model.specs.Names.{Name, is_key}
+use Rattle.fbas_model.specs.Names.{Name, is_key, is_among}
 use Rattle.fbas_model.specs.QuorumSets.{depth, depth_of}
 use Rattle.fbas_model.specs.Trees.{Entries}
 use Rattle.node_json.specs.Configuration.{number_of, nodes_then, numbered, all_numbered, names_in_set, names_in_sets, names_if_any, all_names}
 use Rattle.node_json.specs.Named.{NamedSet, NamedSets, named_set, no_sets, one_set, NamedNode}
-use Rattle.node_json.specs.NamesInOrder.{is_among}
 use Rattle.node_json.specs.Reading.{and_then, after, unless, or_missing, is_object, key_if, key_of, keys_in, items_or_none, threshold_of, validators_of, inner_of, sets_by, inner_by, set_by, set_of, max_levels, set_if_any, node_key_of, node_set_of, node_of, nodes_from, nodes_in}
 use Rattle.node_json.specs.Sound.{AreSound, IsShallow}
 use Rattle.node_json.specs.declared.faults.ConfigFault.{ConfigFault}

@@ -1,13 +1,7 @@
 -- Names in byte order, each once.
-use Rattle.std.specs.Prelude.{Bool, List, [], fold}
+use Rattle.std.specs.Prelude.{List, [], fold}
 use Rattle.std.specs.BTreeSet.{insert_key}
-use Rattle.std.specs.List.{list_any}
-use Rattle.std.specs.Str.{bytes_eq}
 use Rattle.fbas_model.specs.Names.{Name, name_cmp}
-
--- whether the name is one of the names
-abbrev pub is_among : Name → List Name → Bool
-is_among name names = list_any (bytes_eq name) names
 
 -- names in order, with more put in: each in its place, unless it is there
 abbrev pub with_names : List Name → List Name → List Name

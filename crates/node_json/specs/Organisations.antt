@@ -4,12 +4,11 @@ use Rattle.std.specs.List.{find, list_any}
 use Rattle.std.specs.Str.{bytes_eq}
 use Rattle.serde_json.specs.Data.{Data, Items, no_items, item}
 use Rattle.serde_json.specs.Find.{get, as_array}
-use Rattle.fbas_model.specs.Names.{Name}
+use Rattle.fbas_model.specs.Names.{Name, is_among, marks}
 use Rattle.fbas_model.specs.Nodes.{Nodes, Table, members}
 use Rattle.fbas_model.specs.Restriction.{table_from}
-use Rattle.name_set.specs.Lists.{items_of, marks, unless_faulty}
+use Rattle.name_set.specs.Lists.{items_of, unless_faulty}
 use Rattle.name_set.specs.declared.lists.NameFault.{NameFault}
-use Rattle.node_json.specs.NamesInOrder.{is_among}
 use Rattle.node_json.specs.Reading.{and_then, after, unless, tree_of, is_object, key_of, validators_of}
 use Rattle.node_json.specs.declared.faults.OrgFault.{OrgFault}
 use Rattle.node_json.specs.declared.faults.OrgFault.TheVariants.{NotJson, NotOrgs, BadOrg, DuplicateOrg, TooManyOrgs}

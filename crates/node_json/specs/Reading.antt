@@ -4,8 +4,7 @@ use Rattle.std.specs.Str.{is_utf8}
 use Rattle.serde_json.specs.Data.{Data, null, boolean, number, string, array, object, Items, no_items, item}
 use Rattle.serde_json.specs.Find.{get, as_array, as_object, as_number, as_str, as_u64}
 use Rattle.serde_json.specs.Read.{read}
-use Rattle.fbas_model.specs.Names.{Name, is_key}
-use Rattle.node_json.specs.NamesInOrder.{is_among}
+use Rattle.fbas_model.specs.Names.{Name, is_key, is_among}
 use Rattle.node_json.specs.Named.{NamedSet, NamedSets, named_set, no_sets, one_set, NamedNode}
 use Rattle.node_json.specs.declared.faults.SetFault.TheVariants.{Shape, Threshold, Validators, Inner}
 use Rattle.node_json.specs.declared.faults.ConfigFault.{ConfigFault}

@@ -1,9 +1,9 @@
 // The names of the nodes.
 
 ghost use Rattle.std.specs.Prelude.{◌≡◌, ◌<◌, ◌^◌, [], ◌∷◌, not, length, IfOk, OnOk};
-ghost use Rattle.fbas_model.specs.Names.{AreNamesOf};
+ghost use Rattle.fbas_model.specs.Names.{AreNamesOf, is_among};
 ghost use Rattle.node_json.specs.Configuration.{names_in_set, all_names};
-ghost use Rattle.node_json.specs.NamesInOrder.{is_among, in_order, with_names};
+ghost use Rattle.node_json.specs.NamesInOrder.{in_order, with_names};
 ghost use Rattle.node_json.specs.View.{names_view, set_view, nodes_view};
 
 use crate::nodes::NamedNode;

@@ -3,7 +3,7 @@
 ghost use Rattle.std.specs.Prelude.{◌≡◌, ◌⊎◌, [], Ok, Err, All, length, map, Contains, IfOk, IfErr, MatchOption, option_copied};
 ghost use Rattle.std.specs.List.{IsDistinct};
 ghost use Rattle.std.specs.Str.{bytes_eq};
-ghost use Rattle.name_set.specs.Lists.{marks};
+ghost use Rattle.fbas_model.specs.Names.{marks};
 ghost use Rattle.node_json.specs.Organisations.{HasNone, among_nodes, ids_of, members_under, orgs_of};
 ghost use Rattle.node_json.specs.OrgsView.{named_org_view, named_orgs_view, named_ids, org_view};
 ghost use Rattle.node_json.specs.View.{names_view};

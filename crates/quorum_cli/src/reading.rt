@@ -344,6 +344,7 @@ pub fn outcome_of_words<D: Desk>(
     ensures told { IfOk result (λ o. IsCheck (order_of (words_of words.now)) → IsTold o) }
     ensures refused { IfOk result (λ o. IsErr (order_of (words_of words.now)) → IsToldUsage o) }
     ensures taken { IsErrOf result Stop.Read → IsOk (order_of (words_of words.now)) }
+    ensures unread { IsErr (order_of (words_of words.now)) → IsTrue D.tells → D.state desk.new ≡ D.state desk.old }
     ensures missing { IsErrOf result Stop.Read → IsTrue D.tells → IsTrue (D.state desk.old).plain
         → outcome_of (words_of words.now) (D.state desk.old).files ≡ None }
     ensures reads { IsTrue D.tells → OnlyReads (D.state desk.old) (D.state desk.new) }

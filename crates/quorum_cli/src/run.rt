@@ -37,6 +37,7 @@ fn answer<D: Desk>(alloc: Global, words: &[String], desk: &mut D) -> Result<Repl
         → NamesAccepted (words_of words.now) (D.state desk.old).files) }
     ensures refused { IfOk result (λ a. IsErr (order_of (words_of words.now)) → a.status ≡ Status.Usage) }
     ensures taken { IsErrOf result Stop.Read → IsOk (order_of (words_of words.now)) }
+    ensures unread { IsErr (order_of (words_of words.now)) → IsTrue D.tells → D.state desk.new ≡ D.state desk.old }
     ensures missing { IsErrOf result Stop.Read → IsTrue D.tells → IsTrue (D.state desk.old).plain
         → outcome_of (words_of words.now) (D.state desk.old).files ≡ None }
     ensures reads { IsTrue D.tells → OnlyReads (D.state desk.old) (D.state desk.new) }
@@ -81,7 +82,10 @@ pub fn run<D: Desk>(alloc: Global, words: &[String], desk: &mut D) -> Status
     // Files stay as they are.
     ensures files { IsTrue D.tells → (D.state desk.new).files ≡ (D.state desk.old).files }
 
-    // Whatever the desk tells: words that are no order are refused, and a file is read only where they are one.
+    // No file is begun for words that are no order.
+    ensures unread { IsTrue D.tells → IsErr (order_of (words_of words.now)) → (D.state desk.new).left ≡ (D.state desk.old).left }
+
+    // Whatever the desk tells: words that are no order are refused, and a read fault comes only where they are one.
     ensures refused { IsErr (order_of (words_of words.now)) → IsTrue (is_answer result) → result ≡ Status.Usage }
     ensures taken { result ≡ Status.ReadFault → IsOk (order_of (words_of words.now)) }
     // Faults are answered exactly where they are counted.

@@ -200,7 +200,7 @@ mod tests {
         Ok(set)
     }
 
-    /// The circuit, its value on the greatest quorum, and its number of variables.
+    /// The circuit, and its value on the greatest quorum.
     fn shown(
         alloc: Global,
         quorum_set: &QuorumSet,

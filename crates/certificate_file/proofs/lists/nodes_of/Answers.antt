@@ -1,5 +1,6 @@
 use Rattle.std.proofs.Common.{◌≡◌, ◌<◌, ◌∙◌, sym, ap, refl, subst, rules, inr, length, slice_get, Some, Contains, List, ℕ}
-use Rattle.certificate_file.proofs.ListLaws.{marked_more, known_more, unknown, marks-none}
+use Rattle.fbas_model.proofs.Marks.{marks-none}
+use Rattle.certificate_file.proofs.ListLaws.{marked_more, known_more, unknown}
 use Rattle.certificate_file.proofs.lists.nodes_of.Goals as goal
 
 pub loop-name-init : goal.loop-name-init

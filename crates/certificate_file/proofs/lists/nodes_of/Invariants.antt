@@ -1,6 +1,7 @@
 use Rattle.std.proofs.Common.{◌≡◌, drop, take, length}
+use Rattle.fbas_model.specs.Names.{marks}
 use Rattle.certificate_file.specs.Words.{words_view}
-use Rattle.certificate_file.specs.Acceptance.{all_among, marks}
+use Rattle.certificate_file.specs.Acceptance.{all_among}
 use Rattle.certificate_file.proofs.lists.nodes_of.Given as goal
 
 abbrev pub invariant-loop-name : goal.invariant-loop-name

@@ -3,9 +3,10 @@ use Rattle.std.specs.Prelude.{All}
 use Rattle.fbas_model.specs.Nodes.{members}
 use Rattle.fbas_model.specs.Fbas.{Intersects}
 use Rattle.lrat_model.specs.Clauses.{Held, Satisfies, IsUnsatisfiable}
+use Rattle.lrat_model.specs.Ranges.{AreInRange}
 use Rattle.lrat_model.specs.Steps.{Database}
 use Rattle.clause_encoder.specs.Formula.{formula_vars}
-use Rattle.clause_encoder.specs.Meaning.{Tells, AreInRange}
+use Rattle.clause_encoder.specs.Meaning.{Tells}
 use Rattle.clause_encoder.specs.Variables.{Variables}
 use Rattle.clause_encoder.specs.Written.{circuit_in, variables_of}
 use Rattle.clause_encoder.proofs.EncodeLaws.{prepared, few_nodes, nodes_low, store_is, counted_vars, members_fit}

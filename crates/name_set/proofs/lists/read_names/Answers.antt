@@ -3,8 +3,9 @@ use Rattle.std.proofs.lemmas.List.{length_push}
 use Rattle.std.proofs.lemmas.Result.{err_from_is_err_and}
 use Rattle.std.proofs.lemmas.Iterator.Consumers.{YieldsList-at, YieldsList-turn, YieldsList-end}
 use Rattle.std.proofs.lemmas.Iterator.Splits.{YieldsList-from_slice_split}
-use Rattle.name_set.proofs.ListLaws.{parts, marked_more, marks-none, known_more, faulty_here, read-nothing, read-parts, read_all}
-use Rattle.name_set.specs.Lists.{marks}
+use Rattle.name_set.proofs.ListLaws.{parts, marked_more, known_more, faulty_here, read-nothing, read-parts, read_all}
+use Rattle.fbas_model.specs.Names.{marks}
+use Rattle.fbas_model.proofs.Marks.{marks-none}
 use Rattle.name_set.proofs.lists.read_names.Goals as goal
 
 pub returns-then-is_empty-clause-ok : goal.returns-then-is_empty-clause-ok

@@ -1,5 +1,6 @@
 use Rattle.std.proofs.Common.{◌≡◌, ◌+◌, length, take, drop, Ok}
-use Rattle.name_set.specs.Lists.{unless_faulty, marks}
+use Rattle.fbas_model.specs.Names.{marks}
+use Rattle.name_set.specs.Lists.{unless_faulty}
 use Rattle.name_set.proofs.ListLaws.{parts}
 use Rattle.name_set.proofs.lists.read_names.Given as goal
 

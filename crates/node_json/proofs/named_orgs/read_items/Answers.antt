@@ -1,8 +1,8 @@
 use Rattle.std.proofs.Common.{◌≡◌, Ok, Err, true, false, not, arith, rules, refl, sym, ◌∙◌, inl, inr}
 use Rattle.serde_json.specs.View.{view, items_view}
+use Rattle.fbas_model.specs.Names.{is_among}
 use Rattle.node_json.specs.declared.named_orgs.NamedOrg.{NamedOrg}
 use Rattle.node_json.specs.declared.faults.OrgFault.TheVariants.{DuplicateOrg}
-use Rattle.node_json.specs.NamesInOrder.{is_among}
 use Rattle.node_json.specs.Organisations.{org_of}
 use Rattle.node_json.specs.OrgsView.{named_org_view, named_ids}
 use Rattle.node_json.specs.View.{names_view}

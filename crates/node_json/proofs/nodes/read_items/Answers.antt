@@ -1,8 +1,8 @@
 use Rattle.std.proofs.Common.{◌≡◌, ◌<◌, length, Ok, Err, true, false, not, arith, rules, sym, ◌∙◌, inl, inr}
 use Rattle.serde_json.specs.View.{view}
+use Rattle.fbas_model.specs.Names.{is_among}
 use Rattle.node_json.specs.declared.nodes.NamedNode.{NamedNode}
 use Rattle.node_json.specs.declared.faults.ConfigFault.TheVariants.{Duplicate}
-use Rattle.node_json.specs.NamesInOrder.{is_among}
 use Rattle.node_json.specs.Reading.{node_of}
 use Rattle.node_json.specs.View.{names_view, node_view}
 use Rattle.node_json.proofs.NodeReading.{keys_of, nodes_loop, node_of-read, node_of-set_fault, is_new, is_duplicate, nodes_fault, seen_loop}

@@ -1,6 +1,8 @@
-use Rattle.std.proofs.Common.{◌≡◌, ◌+◌, ◌++◌, ◌∷◌, [], length, take, arith, ◌∙◌}
+use Rattle.std.proofs.Common.{◌≡◌, ◌+◌, ◌++◌, ◌∷◌, [], length, take, arith, ap, sym, ◌∙◌}
 use Rattle.node_json.specs.View.{names_view}
-use Rattle.node_json.proofs.OrgMarks.{marks-none, marked, dropped, names-more}
+use Rattle.fbas_model.specs.Names.{marks}
+use Rattle.fbas_model.proofs.Marks.{marks-none, marks-found, marks-missing}
+use Rattle.node_json.proofs.OrgMarks.{names-more}
 use Rattle.node_json.proofs.organisations.marked.Goals as goal
 use Rattle.node_json.proofs.organisations.marked.Goals.{in-Some, in_default}
 
@@ -17,6 +19,6 @@ loop-name-preserved c =
     let item = c.as_bytes.result.now in
     let grown : names_view (take (i + 1) list) ≡ names_view (take i list) ++ item ∷ [] = names-more list i _ item (omega arith) c.as_bytes.ensures.value in
     elim c.match-find.branch [
-      | in-Some w ↦ rw w.nodes-is (w.put.ensures.size ∙ c.loop-name.invariant.0, marked names c.loop-name.nodes w.put.new.self (names_view (take i list)) (names_view (take (i + 1) list)) item w.in-Some.at grown w.in-Some.ensures.found w.in-Some.ensures.only (w.put.ensures.size ∙ c.loop-name.invariant.0) w.put.ensures.added c.loop-name.invariant.1)
-      | in_default w ↦ rw w.nodes-is (c.loop-name.invariant.0, dropped names c.loop-name.nodes (names_view (take i list)) (names_view (take (i + 1) list)) item grown w.in_default.ensures.found c.loop-name.invariant.0 c.loop-name.invariant.1)
+      | in-Some w ↦ rw w.nodes-is (w.put.ensures.size ∙ c.loop-name.invariant.0, marks-found names c.loop-name.nodes w.put.new.self (names_view (take i list)) item w.in-Some.at w.in-Some.ensures.found w.in-Some.ensures.only (w.put.ensures.size ∙ c.loop-name.invariant.0) w.put.ensures.added c.loop-name.invariant.1 ∙ ap (marks names) (sym grown))
+      | in_default w ↦ rw w.nodes-is (c.loop-name.invariant.0, marks-missing names c.loop-name.nodes (names_view (take i list)) item w.in_default.ensures.found c.loop-name.invariant.0 c.loop-name.invariant.1 ∙ ap (marks names) (sym grown))
     ]

@@ -1,5 +1,5 @@
 use Rattle.std.proofs.Common.{◌≡◌, take, length}
-use Rattle.name_set.specs.Lists.{marks}
+use Rattle.fbas_model.specs.Names.{marks}
 use Rattle.node_json.specs.View.{names_view}
 use Rattle.node_json.proofs.organisations.marked.Given as goal
 
