@@ -1,12 +1,11 @@
 -- What the words of a line say.
-use Rattle.std.specs.Prelude.{ℕ, List, [], ◌∷◌, length, Bool, true, false, ◌&&◌, ◌==◌, nat_le, nat_lt, Option, Some, None, Result, Ok, Err, codes, map, Vec, if◌then◌else◌}
+use Rattle.std.specs.Prelude.{ℕ, List, [], ◌∷◌, length, Bool, true, false, ◌&&◌, ◌==◌, nat_le, nat_lt, Option, Some, None, codes, map, Vec, if◌then◌else◌}
 use Rattle.std.specs.List.{list_all}
 use Rattle.std.specs.Str.{bytes_eq}
 use Rattle.std.specs.declared.cmp.Ordering.{Ordering}
 use Rattle.std.specs.declared.cmp.Ordering.TheVariants.{Less, Equal, Greater}
 use Rattle.std.specs.declared.alloc.Global.{Global}
-use Rattle.hex.specs.Hex.{decode_sized, encode_lower}
-use Rattle.hex.specs.declared.error.FromHexError.{FromHexError}
+use Rattle.digest_text.specs.Digits.{digest_of}
 use Rattle.fbas_model.specs.Names.{Name, name_cmp}
 
 abbrev pub Word : Type 0
@@ -49,14 +48,6 @@ names_behind word (w ∷ ws) = if bytes_eq w word && list_all is_name ws && is_r
 -- the list of names behind a word of a line
 abbrev pub names_after : Word → List ℕ → Option (List Name)
 names_after word text = names_behind word (words_of text)
-
-abbrev pub digest_if : List ℕ → Result (List ℕ) FromHexError → Option (List ℕ)
-digest_if digits (Ok d) = if bytes_eq (encode_lower d) digits then Some d else None
-digest_if digits (Err e) = None
-
--- the digest of 32 bytes that 64 digits with lower-case letters say
-abbrev pub digest_of : List ℕ → Option (List ℕ)
-digest_of digits = digest_if digits (decode_sized digits 32)
 
 abbrev pub digest_behind : List Word → Option (List ℕ)
 digest_behind (word ∷ digits ∷ []) = if bytes_eq word (codes "config") then digest_of digits else None

@@ -1,7 +1,6 @@
 // What each line of a certificate says at its place.
 ghost use Rattle.std.specs.Prelude.{◌≡◌, ◌⊎◌, length, true, IfOk, IfErr, IsErrOf, Ok, Err};
 ghost use Rattle.fbas_model.specs.Counting.{is_quorum};
-ghost use Rattle.certificate_file.specs.Words.{digest_of};
 ghost use Rattle.certificate_file.specs.Acceptance.{and_then, named, within, expected, digest_line, faulty_line, kind_line, quorum, first_line, second_line, paired, take_line};
 ghost use Rattle.certificate_file.specs.Reading.{IsPart, IsSubject, IsKnown, IsKnownState};
 
@@ -12,7 +11,7 @@ use crate::parts::{cut, from_line, within};
 use crate::places::{Accepted, Answer, Header, Place, State, Subject};
 use crate::refuting::step_line;
 use crate::words::words;
-use digest_text::digits;
+use digest_text::read_digits;
 use fbas_core::System;
 use name_set::NodeSet;
 use std::alloc::Global;
@@ -29,20 +28,6 @@ fn expected(line: u64, text: &[u8], wanted: &str, next: State) -> Result<State, 
     Ok(next)
 }
 
-/// The digest that 64 digits with lower-case letters say.
-fn read_digest(text: &[u8]) -> Option<[u8; 32]>
-    ensures { result ≡ digest_of text.now }
-{
-    let mut found = [0; 32];
-    if hex::decode_to_slice(text, &mut found).is_err() {
-        return None;
-    }
-    if digits(&found).as_slice() != text {
-        return None;
-    }
-    Some(found)
-}
-
 /// Line 2: the digest of the configuration.
 fn digest_line(alloc: Global, digest: &[u8; 32], line: u64, text: &[u8]) -> Result<State, CertError>
     ensures unread { IsErrOf result CertError.Read → ⊥ }
@@ -56,7 +41,7 @@ fn digest_line(alloc: Global, digest: &[u8; 32], line: u64, text: &[u8]) -> Resu
     if word.as_slice() != b"config".as_slice() {
         return Err(CertError::BadLine(line));
     }
-    let Some(found) = read_digest(digits) else {
+    let Some(found) = read_digits(digits) else {
         return Err(CertError::BadLine(line));
     };
     if found.as_slice() != digest.as_slice() {
