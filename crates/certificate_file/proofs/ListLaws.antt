@@ -1,15 +1,14 @@
 -- The nodes of names, one after another.
-use Rattle.std.proofs.Common.{◌≡◌, ℕ, zero, suc, ◌+◌, ◌<◌, List, [], ◌∷◌, ◌++◌, length, Bool, true, false, ◌||◌, ◌==◌, Some, slice_get, slice_index_or, Contains, Err, refl, sym, ◌∙◌, ap, subst, arith, take, drop, drop-cons, add-one, Vec, inl, inr}
+use Rattle.std.proofs.Common.{◌≡◌, ℕ, zero, suc, ◌+◌, ◌<◌, List, [], ◌∷◌, ◌++◌, length, true, false, Some, slice_get, slice_index_or, Contains, Err, refl, sym, ◌∙◌, ap, arith, take, drop, drop-cons, add-one, Vec, inl, inr}
 use Rattle.std.specs.Str.{bytes_eq}
 use Rattle.std.specs.declared.alloc.Global.{Global}
-use Rattle.std.proofs.Math.Bool.{or-false}
 use Rattle.std.proofs.Math.Seq.{take-suc}
-use Rattle.std.proofs.lemmas.Bool.{cases_Bool, eqb-true, eq-eqb, or_cases, both_ways}
-use Rattle.std.proofs.lemmas.List.{ext_get_or, get_or-map, length-map, map-append}
-use Rattle.std.proofs.lemmas.List.Folds.{list_any-append, list_any_at}
-use Rattle.std.proofs.lemmas.Option.{slice_get-get_or, get_or_from_slice_get, slice_get_within}
+use Rattle.std.proofs.lemmas.Bool.{cases_Bool, or_cases}
+use Rattle.std.proofs.lemmas.List.{map-append}
+use Rattle.std.proofs.lemmas.List.Folds.{list_any_at}
+use Rattle.std.proofs.lemmas.Option.{get_or_from_slice_get, slice_get_within}
 use Rattle.std.proofs.lemmas.Slice.Eq.{bytes_eq-Decides}
-use Rattle.fbas_model.specs.Nodes.{Nodes, Table, members, ∅, only, ◌∪◌}
+use Rattle.fbas_model.specs.Nodes.{Table, members, only, ◌∪◌}
 use Rattle.fbas_model.specs.Names.{Name, is_among, marks}
 use Rattle.fbas_model.proofs.Marks.{marks-found}
 use Rattle.certificate_file.specs.Words.{words_view}

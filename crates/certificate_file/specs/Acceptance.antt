@@ -1,6 +1,6 @@
 -- Which certificates are accepted, and the first fault of the others.
 use Rattle.std.specs.Prelude.{ℕ, ◌+◌, List, [], ◌∷◌, map, length, Bool, true, false, not, ◌&&◌, ◌==◌, nat_le, Option, Some, None, is_none, ok_or, Result, Ok, Err, codes, if◌then◌else◌}
-use Rattle.std.specs.List.{list_all, list_any}
+use Rattle.std.specs.List.{list_all}
 use Rattle.std.specs.Str.{bytes_eq}
 use Rattle.fbas_model.specs.Nodes.{Table}
 use Rattle.fbas_model.specs.Names.{Name, is_among, marks, place_of}

@@ -1,5 +1,5 @@
 -- What the program answers, by its words and the files that they name.
-use Rattle.std.specs.Prelude.{◌≡◌, ℕ, nat_le, List, [], length, Bool, true, false, IsTrue, Option, Some, None, Result, Ok, Err, if◌then◌else◌, map, string_bytes, String}
+use Rattle.std.specs.Prelude.{◌≡◌, ℕ, nat_le, List, [], length, IsTrue, Option, Some, None, Result, Ok, Err, if◌then◌else◌, map, string_bytes, String}
 use Rattle.std.specs.declared.alloc.Global.{Global}
 use Rattle.sha2.specs.Sha256.{sha256}
 use Rattle.desk_io.specs.State.{Files}
@@ -25,7 +25,6 @@ use Rattle.quorum_cli.specs.declared.status.Status.{Status}
 use Rattle.quorum_cli.specs.Status.{is_answer}
 use Rattle.quorum_cli.specs.declared.reply.Reply.{Reply as Answer}
 use Rattle.quorum_cli.specs.Questions.{question_of, part_of, Answers, FitsQuestion}
-use Rattle.quorum_cli.specs.declared.question.Question.{Question}
 use Rattle.quorum_cli.specs.declared.question.Inquiry.{Inquiry}
 use Rattle.quorum_cli.specs.declared.reading.Outcome.{Outcome}
 use Rattle.quorum_cli.specs.declared.reading.Outcome.TheVariants.{Told, Asked}

@@ -1,5 +1,5 @@
 -- The printed names of the nodes from some node on.
-use Rattle.std.proofs.Common.{◌≡◌, ℕ, zero, suc, ◌+◌, ◌<◌, ◌≤◌, Bool, true, false, List, [], ◌∷◌, ◌++◌, length, drop, refl, sym, ◌∙◌, ap, arith, Some, slice_get, slice_index_or}
+use Rattle.std.proofs.Common.{◌≡◌, ℕ, zero, suc, ◌+◌, ◌<◌, true, false, List, [], ◌∷◌, ◌++◌, length, drop, refl, sym, ◌∙◌, ap, arith, Some, slice_get, slice_index_or}
 use Rattle.std.proofs.lemmas.List.{append_assoc}
 use Rattle.fbas_model.specs.Names.{Name}
 use Rattle.fbas_model.specs.Nodes.{Table}

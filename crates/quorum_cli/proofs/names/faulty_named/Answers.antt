@@ -1,4 +1,3 @@
-use Rattle.std.proofs.Common.{◌∙◌}
 use Rattle.cli_words.specs.Order.{order_view}
 use Rattle.quorum_cli.proofs.Unions.{both_named}
 use Rattle.quorum_cli.proofs.names.faulty_named.Goals as goal

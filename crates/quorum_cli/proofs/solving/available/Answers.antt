@@ -1,4 +1,4 @@
-use Rattle.std.proofs.Common.{◌≡◌, ℕ, List, inr, true, false, sym, ◌∙◌, ap}
+use Rattle.std.proofs.Common.{ℕ, List, inr, sym, ◌∙◌, ap}
 use Rattle.std.proofs.lemmas.Bool.{false≢true}
 use Rattle.quorum_cli.specs.declared.status.Status.TheVariants.{No}
 use Rattle.quorum_cli.specs.declared.reply.Reply.{Reply}

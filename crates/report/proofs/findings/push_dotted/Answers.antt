@@ -1,4 +1,4 @@
-use Rattle.std.proofs.Common.{◌≡◌, ◌++◌, ◌∷◌, ◌+◌, ℕ, List, drop, decimal, slice_index_or}
+use Rattle.std.proofs.Common.{◌++◌, ◌∷◌, ◌+◌, drop, decimal, slice_index_or}
 use Rattle.std.proofs.lemmas.List.{at_drop_more}
 use Rattle.report.specs.Lines.{dotted}
 use Rattle.report.proofs.Lists.{grown}

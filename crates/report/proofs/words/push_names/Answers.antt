@@ -1,4 +1,4 @@
-use Rattle.std.proofs.Common.{◌≡◌, ◌<◌, ◌++◌, ◌∷◌, length, ℕ, ◌+◌, true, false, List, sym, ◌∙◌, ap, arith, drop}
+use Rattle.std.proofs.Common.{◌<◌, ◌++◌, ◌∷◌, length, ℕ, ◌+◌, List, sym, ◌∙◌, ap, arith, drop}
 use Rattle.std.proofs.lemmas.List.{append_assoc}
 use Rattle.report.specs.Lines.{listed}
 use Rattle.report.proofs.Lists.{listed-taken, listed-passed}
