@@ -29,7 +29,7 @@ fn shown(alloc: Global, line: &str) -> Result<String, AllocError> {
 }
 
 #[test]
-fn lines_that_are_steps(rt: HostRuntime) -> Result<(), Fail> {
+fn lines_are_read_to_a_step_or_to_the_first_fault(rt: HostRuntime) -> Result<(), Fail> {
     let alloc = rt.alloc();
     for (line, want) in [
         ("17 -1 0 7 6 3 4 2 0", "17 + [Lit(-1)] [7, 6, 3, 4, 2]"),
@@ -44,16 +44,6 @@ fn lines_that_are_steps(rt: HostRuntime) -> Result<(), Fail> {
             "9223372036854775807 - [17, 1]",
         ),
         ("5 d 0", "5 - []"),
-    ] {
-        assert_eq!(rt; shown(alloc, line)?.as_str(), want, "{line}");
-    }
-    Ok(())
-}
-
-#[test]
-fn lines_that_are_none(rt: HostRuntime) -> Result<(), Fail> {
-    let alloc = rt.alloc();
-    for (line, want) in [
         ("", "NoZero"),
         (" \t", "NoZero"),
         ("3", "NoZero"),

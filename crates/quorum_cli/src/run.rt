@@ -82,7 +82,7 @@ pub fn run<D: Desk>(alloc: Global, words: &[String], desk: &mut D) -> Status
     // Files stay as they are.
     ensures files { IsTrue D.tells → (D.state desk.new).files ≡ (D.state desk.old).files }
 
-    // For words that are no order nothing is read: what is left of each file stays as it was.
+    // For words that are no order, what is left to read of each file stays as it was.
     ensures unread { IsTrue D.tells → IsErr (order_of (words_of words.now)) → (D.state desk.new).left ≡ (D.state desk.old).left }
 
     // Whatever the desk tells: words that are no order are refused, and a read fault comes only where they are one.

@@ -121,11 +121,6 @@ fn check_accepts_a_pair_and_names_the_first_fault(rt: HostRuntime) -> Result<(),
             "refused unknown-node 3\n",
         ),
         (
-            "from a\nfaulty a\nkind pair\nfirst b\nsecond c\nend\n",
-            Status::Yes,
-            "accepted pair\nfrom a\nfaulty a\n",
-        ),
-        (
             "from\nfaulty b a\nkind pair\nfirst a b\nsecond b c\nend\n",
             Status::CertRefused,
             "refused bad-line 4\n",
@@ -429,22 +424,19 @@ fn names_on_the_command_line_are_read_to_their_first_fault(rt: HostRuntime) -> R
 const TWO_PAIRS: &str =
     r#"[{"publicKey":"a","quorumSet":{"threshold":2,"validators":["a","b"]}},{"publicKey":"b","quorumSet":{"threshold":2,"validators":["a","b"]}},{"publicKey":"c","quorumSet":{"threshold":2,"validators":["c","d"]}},{"publicKey":"d","quorumSet":{"threshold":2,"validators":["c","d"]}}]"#;
 
-/// The first two lines of a certificate for them; the digest is that of `sha256sum`.
-const HEAD_OF_PAIRS: &str =
-    "fbas-cert 1\nconfig 889c01eef2922f0e93d94bddea0d564dcdbd54778b99eb026fad3b05c69cdb5f\n";
-
 /// Two nodes, each of which needs both.
 const TWO_OF_TWO: &str =
     r#"[{"publicKey":"p","quorumSet":{"threshold":2,"validators":["p","q"]}},{"publicKey":"q","quorumSet":{"threshold":2,"validators":["p","q"]}}]"#;
 
-// How a command line ends over a configuration and a file of organisations.
+// How a command line ends over a configuration, a certificate and a file of organisations.
 fn ends_with_orgs(
     alloc: Global,
     line: &str,
     config: &str,
+    cert: &str,
     orgs: &str,
 ) -> Result<(Status, Vec<u8>), AllocError> {
-    let mut files = files(alloc, config.as_bytes(), b"")?;
+    let mut files = files(alloc, config.as_bytes(), cert.as_bytes())?;
     files.push((
         String::from_str(alloc, "orgs")?,
         Vec::from_slice(alloc, orgs.as_bytes())?,
@@ -454,94 +446,129 @@ fn ends_with_orgs(
     Ok((status, Vec::from_slice(alloc, desk.out())?))
 }
 
+/// One organisation with node a and a node that is not there.
+const ORG: &str = r#"[{"id":"A","validators":["a","zz"]}]"#;
+
 #[test]
-fn questions_are_asked_of_a_trust_closure(rt: HostRuntime) -> Result<(), Fail> {
+fn questions_are_asked_of_a_trust_closure_and_of_organisations(
+    rt: HostRuntime,
+) -> Result<(), Fail> {
     let alloc = rt.alloc();
-    for (line, status, text) in [
-        ("greatest config --from a", Status::Yes, "greatest a b\n"),
-        ("closure config --node a", Status::Yes, "closure a b\n"),
+    for (config, line, cert, orgs, status, text) in [
         (
-            "blocks config --from a --set a,c",
-            Status::Yes,
-            "blocks yes\n",
-        ),
-        (
-            "available config --from a --set b",
-            Status::No,
-            "available no\nunmet a\n",
-        ),
-        (
-            "greatest config --from a --faulty c",
+            TWO_PAIRS,
+            "greatest config --from a",
+            "",
+            "",
             Status::Yes,
             "greatest a b\n",
         ),
         (
+            TWO_PAIRS,
+            "closure config --node a",
+            "",
+            "",
+            Status::Yes,
+            "closure a b\n",
+        ),
+        (
+            TWO_PAIRS,
+            "blocks config --from a --set a,c",
+            "",
+            "",
+            Status::Yes,
+            "blocks yes\n",
+        ),
+        (
+            TWO_PAIRS,
+            "available config --from a --set b",
+            "",
+            "",
+            Status::No,
+            "available no\nunmet a\n",
+        ),
+        (
+            TWO_PAIRS,
+            "check config cert",
+            "fbas-cert 1\nconfig 889c01eef2922f0e93d94bddea0d564dcdbd54778b99eb026fad3b05c69cdb5f\nfrom a\nfaulty\nkind pair\nfirst a b\nsecond c d\nend\n",
+            "",
+            Status::CertRefused,
+            "refused unknown-node 7\n",
+        ),
+        (
+            TWO_PAIRS,
+            "greatest config --from a --faulty c",
+            "",
+            "",
+            Status::Yes,
+            "greatest a b\n",
+        ),
+        (
+            TWO_PAIRS,
             "greatest config --from z",
+            "",
+            "",
             Status::Usage,
             "usage unknown-name --from 1\n",
         ),
-    ] {
-        let (found, out) = ends(alloc, line, TWO_PAIRS.as_bytes(), b"")?;
-        assert_eq!(rt; found, status, "at {line}");
-        assert_eq!(rt; out.as_slice(), text.as_bytes(), "at {line}");
-    }
-    Ok(())
-}
-
-#[test]
-fn a_certificate_of_a_trust_closure_names_its_nodes_alone(rt: HostRuntime) -> Result<(), Fail> {
-    let alloc = rt.alloc();
-    let mut cert = String::from_str(alloc, HEAD_OF_PAIRS)?;
-    cert.push_str("from a\nfaulty\nkind pair\nfirst a b\nsecond c d\nend\n")?;
-    let (found, out) = checks(alloc, TWO_PAIRS, cert.as_str())?;
-    assert_eq!(rt; found, Status::CertRefused);
-    assert_eq!(rt; out.as_slice(), b"refused unknown-node 7\n".as_slice());
-    Ok(())
-}
-
-#[test]
-fn organisations_name_faulty_nodes(rt: HostRuntime) -> Result<(), Fail> {
-    let alloc = rt.alloc();
-    let one = r#"[{"id":"A","validators":["a","zz"]}]"#;
-    for (line, orgs, status, text) in [
         (
+            TWO_OF_THREE,
             "greatest config --orgs orgs --faulty-orgs A",
-            one,
+            "",
+            ORG,
             Status::Yes,
             "greatest b c\n",
         ),
         (
-            "greatest config --orgs orgs --faulty-orgs A --faulty b",
-            one,
-            Status::Yes,
-            "greatest c\n",
-        ),
-        (
+            TWO_OF_THREE,
             "greatest config --orgs orgs --faulty-orgs B",
-            one,
+            "",
+            ORG,
             Status::Usage,
             "usage unknown-name --faulty-orgs 1\n",
         ),
         (
+            TWO_OF_THREE,
             "greatest config --faulty-orgs A",
-            one,
+            "",
+            ORG,
             Status::Usage,
             "usage unknown-name --faulty-orgs 1\n",
         ),
         (
+            TWO_OF_THREE,
             "greatest config --orgs orgs",
+            "",
             r#"[{"id":"A"},{"id":"A"}]"#,
             Status::ConfigRefused,
             "orgs duplicate-org 1\n",
         ),
         (
+            TWO_OF_THREE,
+            "check config cert",
+            "fbas-cert 1\nconfig f823e204944abcff32c8dadffba2a0178a590a613358f9a6f271b651cd4e6fbb\nfrom a\nfaulty a\nkind pair\nfirst b\nsecond c\nend\n",
+            "",
+            Status::Yes,
+            "accepted pair\nfrom a\nfaulty a\n",
+        ),
+        (
+            TWO_OF_THREE,
+            "greatest config --orgs orgs --faulty-orgs A --faulty b",
+            "",
+            ORG,
+            Status::Yes,
+            "greatest c\n",
+        ),
+        (
+            TWO_OF_THREE,
             "greatest config --orgs orgs",
+            "",
             "{}",
             Status::ConfigRefused,
             "orgs not-orgs\n",
         ),
     ] {
-        let (found, out) = ends_with_orgs(alloc, line, TWO_OF_THREE, orgs)?;
+        let (found, out) = ends_with_orgs(alloc, line, config, cert, orgs)?;
         assert_eq!(rt; found, status, "at {line}");
         assert_eq!(rt; out.as_slice(), text.as_bytes(), "at {line}");
     }
@@ -588,126 +615,6 @@ fn export_writes_the_formula_of_no_nodes(rt: HostRuntime) -> Result<(), Fail> {
     Ok(())
 }
 
-/// The first lines of a refutation for them.
-const REFUTATION: &str =
-    "fbas-cert 1\nconfig d5ccec4a141b4b11eb0b80bb62d235f24e373c62aa2fa9f6fb33f6b1e2871f41\nfrom\nfaulty\nkind refutation\n";
-
-const FIRST_LEMMA: &str = "17 -1 0 7 6 3 4 2 0\n";
-
-const EMPTY_LEMMA: &str = "18 0 17 1 10 8 0\n";
-
-// How `check` ends on two of two, for the lines of a refutation behind its header.
-fn refutes(alloc: Global, parts: &[&str]) -> Result<(Status, Vec<u8>), AllocError> {
-    let mut cert = String::from_str(alloc, REFUTATION)?;
-    for part in parts {
-        cert.push_str(part)?;
-    }
-    checks(alloc, TWO_OF_TWO, cert.as_str())
-}
-
-#[test]
-fn check_accepts_a_refutation(rt: HostRuntime) -> Result<(), Fail> {
-    let alloc = rt.alloc();
-    let (found, out) = refutes(
-        alloc,
-        &["formula 8 16\n", FIRST_LEMMA, EMPTY_LEMMA, "end\n"],
-    )?;
-    assert_eq!(rt; found, Status::Yes);
-    assert_eq!(rt;
-        out.as_slice(),
-        b"accepted refutation\nfrom\nfaulty\n".as_slice()
-    );
-    Ok(())
-}
-
-#[test]
-fn check_accepts_the_refutation_of_no_nodes(rt: HostRuntime) -> Result<(), Fail> {
-    let alloc = rt.alloc();
-    let cert =
-        "fbas-cert 1\nconfig 4f53cda18c2baa0c0354bb5f9a3ecbe5ed12ab4d8e11ba873c2f11161202b945\nfrom\nfaulty\nkind refutation\nformula 0 2\n3 0 1 0\nend\n";
-    let (found, out) = checks(alloc, "[]", cert)?;
-    assert_eq!(rt; found, Status::Yes);
-    assert_eq!(rt;
-        out.as_slice(),
-        b"accepted refutation\nfrom\nfaulty\n".as_slice()
-    );
-    Ok(())
-}
-
-#[test]
-fn check_refuses_other_lines_of_a_refutation(rt: HostRuntime) -> Result<(), Fail> {
-    let alloc = rt.alloc();
-    for (formula, lemma, rest, text) in [
-        (
-            "formula 8 16\n",
-            FIRST_LEMMA,
-            "18 0 17 1 10 8 0\n",
-            "refused truncated 9\n",
-        ),
-        (
-            "formula 8 16\n",
-            FIRST_LEMMA,
-            "17 d 17 0\n18 0 17 1 10 8 0\nend\n",
-            "refused step 9 no-such-clause 17\n",
-        ),
-        (
-            "formula 8 17\n",
-            FIRST_LEMMA,
-            "18 0 17 1 10 8 0\nend\n",
-            "refused formula 6\n",
-        ),
-        (
-            "formula 8 16\n",
-            FIRST_LEMMA,
-            "18 0 17 1 10 8 0\nend\nx",
-            "refused trailing\n",
-        ),
-        ("formula 8 16\n", "end\n", "", "refused not-refuted 7\n"),
-        (
-            "formula 8 16\n",
-            FIRST_LEMMA,
-            "18 0 17 1 10 8 0\n19 0 1 0\nend\n",
-            "refused bad-line 9\n",
-        ),
-    ] {
-        let (found, out) = refutes(alloc, &[formula, lemma, rest])?;
-        assert_eq!(rt; found, Status::CertRefused, "at {text}");
-        assert_eq!(rt; out.as_slice(), text.as_bytes(), "at {text}");
-    }
-    Ok(())
-}
-
-#[test]
-fn check_refuses_other_lemmas_of_a_refutation(rt: HostRuntime) -> Result<(), Fail> {
-    let alloc = rt.alloc();
-    for (lemma, text) in [
-        ("17 -1 0 6 7 3 4 2 0\n", "refused step 7 not-unit 1\n"),
-        ("17 -1 0 -7 6 3 4 2 0\n", "refused step 7 rat-step 1\n"),
-        ("16 -1 0 7 6 3 4 2 0\n", "refused step 7 id-order 16 16\n"),
-        ("17 9 0 1 0\n", "refused step 7 bad-literal 9\n"),
-        ("17 -1 1 0 1 0\n", "refused step 7 tautology 1\n"),
-        ("17 -1 0 7 6 0\n", "refused step 7 no-conflict\n"),
-    ] {
-        let (found, out) = refutes(alloc, &["formula 8 16\n", lemma, EMPTY_LEMMA, "end\n"])?;
-        assert_eq!(rt; found, Status::CertRefused, "at {text}");
-        assert_eq!(rt; out.as_slice(), text.as_bytes(), "at {text}");
-    }
-    Ok(())
-}
-
-#[test]
-fn check_of_another_configuration_is_refused_by_its_digest(rt: HostRuntime) -> Result<(), Fail> {
-    let alloc = rt.alloc();
-    let mut config = String::from_str(alloc, TWO_OF_TWO)?;
-    config.push_str(" ")?;
-    let (found, out) = checks(alloc, config.as_str(), REFUTATION)?;
-    assert_eq!(rt; found, Status::CertRefused);
-    let text =
-        "refused digest d5ccec4a141b4b11eb0b80bb62d235f24e373c62aa2fa9f6fb33f6b1e2871f41 e447d2166e43d95a4175fffa38d00e0b7b24ce8dab605574d1ec241467a845a1\n";
-    assert_eq!(rt; out.as_slice(), text.as_bytes());
-    Ok(())
-}
-
 // A name of two letters, another for each number below 200.
 fn push_name(text: &mut Vec<u8>, number: u8) -> Result<(), AllocError> {
     text.push(b'"')?;
@@ -741,16 +648,155 @@ fn half_of_two_hundred(alloc: Global) -> Result<Vec<u8>, AllocError> {
     Ok(config)
 }
 
+// A refutation of a configuration with this digest, of these lines.
+fn refutation(alloc: Global, digest: &str, lines: &str) -> Result<String, AllocError> {
+    let mut cert = String::from_str(alloc, "fbas-cert 1\nconfig ")?;
+    cert.push_str(digest)?;
+    cert.push_str("\nfrom\nfaulty\nkind refutation\n")?;
+    cert.push_str(lines)?;
+    Ok(cert)
+}
+
+/// The digests of the empty configuration, of `TWO_OF_TWO` and of half of two hundred, by `sha256sum`.
+const DIGEST_OF_NONE: &str = "4f53cda18c2baa0c0354bb5f9a3ecbe5ed12ab4d8e11ba873c2f11161202b945";
+const DIGEST_OF_TWO: &str = "d5ccec4a141b4b11eb0b80bb62d235f24e373c62aa2fa9f6fb33f6b1e2871f41";
+const DIGEST_OF_HALF: &str = "d884224eb5c94b56192c3e255562a01521a12c4cab2b78fdbb8db9235641e9d3";
+
 #[test]
-fn a_formula_with_too_many_variables_is_named_by_their_number(rt: HostRuntime) -> Result<(), Fail> {
+fn check_accepts_a_refutation_and_names_the_first_fault(rt: HostRuntime) -> Result<(), Fail> {
+    let alloc = rt.alloc();
+    let mut spaced = String::from_str(alloc, TWO_OF_TWO)?;
+    spaced.push_str(" ")?;
+    let half = half_of_two_hundred(alloc)?;
+    for (config, digest, lines, status, text) in [
+        (
+            b"[]".as_slice(),
+            DIGEST_OF_NONE,
+            "formula 0 2\n3 0 1 0\nend\n",
+            Status::Yes,
+            "accepted refutation\nfrom\nfaulty\n",
+        ),
+        (
+            TWO_OF_TWO.as_bytes(),
+            DIGEST_OF_TWO,
+            "formula 8 16\n17 -1 0 7 6 3 4 2 0\n18 0 17 1 10 8 0\nend\n",
+            Status::Yes,
+            "accepted refutation\nfrom\nfaulty\n",
+        ),
+        (
+            spaced.as_bytes(),
+            DIGEST_OF_TWO,
+            "formula 8 16\n17 -1 0 7 6 3 4 2 0\n18 0 17 1 10 8 0\nend\n",
+            Status::CertRefused,
+            "refused digest d5ccec4a141b4b11eb0b80bb62d235f24e373c62aa2fa9f6fb33f6b1e2871f41 e447d2166e43d95a4175fffa38d00e0b7b24ce8dab605574d1ec241467a845a1\n",
+        ),
+        (
+            TWO_OF_TWO.as_bytes(),
+            DIGEST_OF_TWO,
+            "formula 8 16\n17 -1 0 7 6 3 4 2 0\n18 0 17 1 10 8 0\n",
+            Status::CertRefused,
+            "refused truncated 9\n",
+        ),
+        (
+            TWO_OF_TWO.as_bytes(),
+            DIGEST_OF_TWO,
+            "formula 8 16\n17 -1 0 6 7 3 4 2 0\n18 0 17 1 10 8 0\nend\n",
+            Status::CertRefused,
+            "refused step 7 not-unit 1\n",
+        ),
+        (
+            TWO_OF_TWO.as_bytes(),
+            DIGEST_OF_TWO,
+            "formula 8 16\n17 -1 0 -7 6 3 4 2 0\n18 0 17 1 10 8 0\nend\n",
+            Status::CertRefused,
+            "refused step 7 rat-step 1\n",
+        ),
+        (
+            TWO_OF_TWO.as_bytes(),
+            DIGEST_OF_TWO,
+            "formula 8 16\n17 -1 0 7 6 3 4 2 0\n17 d 17 0\n18 0 17 1 10 8 0\nend\n",
+            Status::CertRefused,
+            "refused step 9 no-such-clause 17\n",
+        ),
+        (
+            TWO_OF_TWO.as_bytes(),
+            DIGEST_OF_TWO,
+            "formula 8 17\n17 -1 0 7 6 3 4 2 0\n18 0 17 1 10 8 0\nend\n",
+            Status::CertRefused,
+            "refused formula 6\n",
+        ),
+        (
+            TWO_OF_TWO.as_bytes(),
+            DIGEST_OF_TWO,
+            "formula 8 16\n17 -1 0 7 6 3 4 2 0\n18 0 17 1 10 8 0\nend\nx",
+            Status::CertRefused,
+            "refused trailing\n",
+        ),
+        (
+            TWO_OF_TWO.as_bytes(),
+            DIGEST_OF_TWO,
+            "formula 8 16\nend\n",
+            Status::CertRefused,
+            "refused not-refuted 7\n",
+        ),
+        (
+            TWO_OF_TWO.as_bytes(),
+            DIGEST_OF_TWO,
+            "formula 8 16\n16 -1 0 7 6 3 4 2 0\n18 0 17 1 10 8 0\nend\n",
+            Status::CertRefused,
+            "refused step 7 id-order 16 16\n",
+        ),
+        (
+            TWO_OF_TWO.as_bytes(),
+            DIGEST_OF_TWO,
+            "formula 8 16\n17 9 0 1 0\n18 0 17 1 10 8 0\nend\n",
+            Status::CertRefused,
+            "refused step 7 bad-literal 9\n",
+        ),
+        (
+            TWO_OF_TWO.as_bytes(),
+            DIGEST_OF_TWO,
+            "formula 8 16\n17 -1 1 0 1 0\n18 0 17 1 10 8 0\nend\n",
+            Status::CertRefused,
+            "refused step 7 tautology 1\n",
+        ),
+        (
+            TWO_OF_TWO.as_bytes(),
+            DIGEST_OF_TWO,
+            "formula 8 16\n17 -1 0 7 6 0\n18 0 17 1 10 8 0\nend\n",
+            Status::CertRefused,
+            "refused step 7 no-conflict\n",
+        ),
+        (
+            TWO_OF_TWO.as_bytes(),
+            DIGEST_OF_TWO,
+            "formula 8 16\n17 -1 0 7 6 3 4 2 0\n18 0 17 1 10 8 0\n19 0 1 0\nend\n",
+            Status::CertRefused,
+            "refused bad-line 9\n",
+        ),
+        (
+            half.as_slice(),
+            DIGEST_OF_HALF,
+            "formula 0 2\n",
+            Status::TooLarge,
+            "too-large 6020400\n",
+        ),
+    ] {
+        let cert = refutation(alloc, digest, lines)?;
+        let (found, out) = ends(alloc, "check config cert", config, cert.as_bytes())?;
+        assert_eq!(rt; found, status, "at {lines}");
+        assert_eq!(rt; out.as_slice(), text.as_bytes(), "at {lines}");
+    }
+    Ok(())
+}
+
+#[test]
+fn export_names_the_number_of_variables_where_they_are_too_many(
+    rt: HostRuntime,
+) -> Result<(), Fail> {
     let alloc = rt.alloc();
     let config = half_of_two_hundred(alloc)?;
     let (found, out) = ends(alloc, "export config", &config, b"")?;
-    assert_eq!(rt; found, Status::TooLarge);
-    assert_eq!(rt; out.as_slice(), b"too-large 6020400\n".as_slice());
-    let cert =
-        "fbas-cert 1\nconfig d884224eb5c94b56192c3e255562a01521a12c4cab2b78fdbb8db9235641e9d3\nfrom\nfaulty\nkind refutation\nformula 0 2\n";
-    let (found, out) = ends(alloc, "check config cert", &config, cert.as_bytes())?;
     assert_eq!(rt; found, Status::TooLarge);
     assert_eq!(rt; out.as_slice(), b"too-large 6020400\n".as_slice());
     Ok(())
