@@ -1,6 +1,5 @@
 -- Each clause of the formula is over its variables.
 use Rattle.std.proofs.Common.{◌≡◌, ℕ, zero, suc, ◌+◌, ◌≤◌, ◌<◌, min, ◌==◌, Bool, true, false, nat_le, not, if◌then◌else◌, List, [], ◌∷◌, ◌++◌, length, map, filter, slice_get, refl, subst, arith}
-use Rattle.std.specs.Prelude.{All}
 use Rattle.std.proofs.lemmas.Bool.{leb-true, false≢true}
 use Rattle.std.proofs.lemmas.List.Elements.{All-nil, All-cons}
 use Rattle.fbas_model.specs.Nodes.{Nodes, Table, members, size, listed_from}
@@ -16,7 +15,7 @@ use Rattle.clause_encoder.specs.CircuitClauses.{circuit_clauses, inputs_clauses}
 use Rattle.clause_encoder.specs.Formula.{side_a, side_b, with_gate, node_clauses, side_clauses, some_node, no_node_on_both, circuit_at, formula, formula_clauses, formula_vars}
 use Rattle.clause_encoder.proofs.Numbering.{counter_variable_below}
 use Rattle.clause_encoder.proofs.GateFills.{Below}
-use Rattle.clause_encoder.proofs.CircuitFills.{VariablesBelow, circuit_range, inputs_range}
+use Rattle.clause_encoder.proofs.CircuitFills.{VariablesBelow, below_more, circuit_range, inputs_range}
 use Rattle.clause_encoder.proofs.Members.{Each, each_of, place_at}
 use Rattle.clause_encoder.proofs.QuorumLaws.{IsReady, greatest_from, ready}
 use Rattle.clause_encoder.proofs.SideWriting.{node_grows, side_grows}
@@ -104,10 +103,6 @@ rows_below m s k n i (x ∷ xs) cells rows h =
     clauses_both m (row_clauses s i x (min (suc i) k)) (counter_clauses s k (suc i) xs)
     (row_below m s k n i x (min (suc i) k) cells (omega (arith, rows)) h.0 (omega arith))
     (rows_below m s k n (suc i) xs cells (omega (arith, rows)) h.1)
-
-below_more : (m n : ℕ) (xs : List ℕ) → m ≤ n → Below m xs → Below n xs
-below_more m n [] le h = tt
-below_more m n (x ∷ xs) le h = (omega (arith, le, h.0), below_more m n xs le h.1)
 
 gate_by : (first k : ℕ) (xs : List ℕ) (every some : Bool) → Below first xs →
     ClausesBelow (first + (if every then 1 else (if some then 1 else before_row k (suc (length xs))))) (if every then every_clauses first xs else (if some then some_clauses first xs else counter_clauses (counter_variable first k) k 0 xs))

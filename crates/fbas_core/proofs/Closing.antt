@@ -7,7 +7,7 @@ use Rattle.fbas_model.specs.Trees.{QuorumSet}
 use Rattle.fbas_model.specs.QuorumSets.{mentioned}
 use Rattle.fbas_model.specs.Fbas.{Fbas, HasQuorumSet, IsClosed, IsClosure}
 use Rattle.fbas_model.proofs.Sizes.{member_lt}
-use Rattle.quorum_set.specs.Views.{among}
+use Rattle.fbas_model.specs.Lists.{among}
 use Rattle.fbas_core.specs.Reaching.{Reaches}
 
 pub record Closing (f : Fbas) (v : ℕ) (reached : Table) (waiting : List ℕ) : Type 0 where

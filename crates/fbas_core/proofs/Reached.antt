@@ -6,9 +6,9 @@ use Rattle.std.proofs.lemmas.List.Folds.{list_any_more, list_any-append}
 use mathlib.Core.Path.{fun_ext}
 use Rattle.fbas_model.specs.Nodes.{Nodes, Table, members, only, ◌∪◌, ◌∖◌}
 use Rattle.fbas_model.proofs.Sizes.{size_put}
-use Rattle.quorum_set.specs.Views.{among}
+use Rattle.fbas_model.specs.Lists.{among}
 use Rattle.fbas_core.specs.Reaching.{Reaches}
-use Rattle.fbas_core.proofs.Entries.{or-assoc}
+use Rattle.std.proofs.Math.Bool.{or_assoc}
 
 both : (w a b m : Bool) → ((w || (a && not m)) || (b && not (m || a))) ≡ (w || ((a || b) && not m))
 both true a b m = refl
@@ -25,7 +25,7 @@ both false false false false = refl
 pub reaches_both : (a b : Nodes) (before now after : Table) (ws xs ys : List ℕ) → Reaches a before now ws xs → Reaches b now after xs ys → Reaches (a ∪ b) before after ws ys
 reaches_both a b before now after ws xs ys p q = record {
   same_n = q.same_n ∙ p.same_n;
-  reached = q.reached ∙ (ap (λ (s : Nodes). s ∪ b) p.reached ∙ fun_ext (λ v. or-assoc (members before v) (a v) (b v)));
+  reached = q.reached ∙ (ap (λ (s : Nodes). s ∪ b) p.reached ∙ fun_ext (λ v. or_assoc (members before v) (a v) (b v)));
   waits = q.waits ∙ (ap₂ (λ (s t : Nodes). s ∪ (b ∖ t)) p.waits p.reached ∙ fun_ext (λ v. both (among ws v) (a v) (b v) (members before v)));
   each_once = omega (arith, p.each_once, q.each_once);
 }

@@ -5,7 +5,7 @@ ghost use Rattle.fbas_model.specs.Nodes.{members};
 ghost use Rattle.fbas_model.specs.QuorumSets.{IsBelow, mentioned};
 ghost use Rattle.fbas_model.specs.Fbas.{IsClosure};
 ghost use Rattle.fbas_model.specs.Restriction.{closure_of};
-ghost use Rattle.quorum_set.specs.Views.{among};
+ghost use Rattle.fbas_model.specs.Lists.{among};
 ghost use Rattle.fbas_core.specs.Reaching.{Reaches};
 
 use crate::System;

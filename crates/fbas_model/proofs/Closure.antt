@@ -126,7 +126,7 @@ pub length-closure_of : (f : Fbas) (v : ℕ) → length (closure_of f v) ≡ len
 unfolding closure_of
 length-closure_of f v = length-iterate f (length f) (table_from 0 (length f) (only v)) (length-table_from 0 (length f) (only v))
 
-size_le_length : (t : Table) → size t ≤ length t
+pub size_le_length : (t : Table) → size t ≤ length t
 size_le_length t = count_by-le-length (λ (m : Bool). m) t
 
 some_member : (t : Table) (v : ℕ) → v ∈ members t → 1 ≤ size t

@@ -6,7 +6,7 @@ use Rattle.fbas_model.specs.Trees.{QuorumSet, quorum_set, Entries, none, node, i
 use Rattle.fbas_model.specs.QuorumSets.{count, Pick, done, pass_node, take_node, pass_inner, take_inner, Choice, choice, HasChoiceWithin}
 use Rattle.fbas_model.specs.Counting.{is_satisfied, count_met}
 
-count_met_le-count : (u : Nodes) (entries : Entries) → count_met u entries ≤ count entries
+pub count_met_le-count : (u : Nodes) (entries : Entries) → count_met u entries ≤ count entries
 count_met_le-count u none = omega arith
 count_met_le-count u (node w rest) = elim (u w) as (λ b. cond b 1 0 + count_met u rest ≤ 1 + count rest) [ true ↦ omega (arith, count_met_le-count u rest) | false ↦ omega (arith, count_met_le-count u rest) ]
 count_met_le-count u (inner q rest) = elim (is_satisfied u q) as (λ b. cond b 1 0 + count_met u rest ≤ 1 + count rest) [ true ↦ omega (arith, count_met_le-count u rest) | false ↦ omega (arith, count_met_le-count u rest) ]
@@ -26,10 +26,10 @@ mutual
   pub choice_satisfied : (u : Nodes) {q : QuorumSet} {s : Nodes} → Choice q s → s ⊆ u → is_satisfied u q ≡ true
   choice_satisfied u (choice {k} {entries} {s} low high p) h = and_from (leb 1 k) (leb k (count_met u entries)) (le-leb 1 k low) (le-leb k (count_met u entries) (pick_met u p h))
 
-only_within : (u : Nodes) (w : ℕ) → w ∈ u → only w ⊆ u
+pub only_within : (u : Nodes) (w : ℕ) → w ∈ u → only w ⊆ u
 only_within u w here v at = subst (λ x. x ∈ u) (sym (eqb-true v w at)) here
 
-both_within : (u s t : Nodes) → s ⊆ u → t ⊆ u → (s ∪ t) ⊆ u
+pub both_within : (u s t : Nodes) → s ⊆ u → t ⊆ u → (s ∪ t) ⊆ u
 both_within u s t p q v h = elim (or_cases (s v) (t v) h) [ inl a ↦ p v a | inr b ↦ q v b ]
 
 abbrev Picks : Nodes → Entries → ℕ → Type 0

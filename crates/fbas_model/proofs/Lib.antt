@@ -2,6 +2,7 @@ pub mod Counting
 pub mod Slices
 pub mod QuorumLaw
 pub mod Sizes
+pub mod Lists
 pub mod Unions
 pub mod Mentioned
 pub mod Tables

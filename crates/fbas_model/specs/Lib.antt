@@ -1,6 +1,7 @@
 pub mod Nodes
 pub mod Names
 pub mod Trees
+pub mod Lists
 pub mod Stored
 pub mod QuorumSets
 pub mod Fbas

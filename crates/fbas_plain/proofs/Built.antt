@@ -1,22 +1,13 @@
 -- Systems that are built node by node.
-use Rattle.std.proofs.Common.{◌≡◌, ℕ, ◌+◌, ◌*◌, ◌<◌, IsTrue, List, [], ◌∷◌, ◌++◌, Some, None, length, slice_index_or, sym, subst, arith}
+use Rattle.std.proofs.Common.{◌≡◌, ℕ, ◌+◌, ◌*◌, IsTrue, List, [], ◌∷◌, ◌++◌, Some, None, length, slice_index_or, sym, subst, arith}
 use Rattle.std.specs.Prelude.{All, IfSome}
 use Rattle.std.proofs.lemmas.List.{length-append, get_or_default}
-use Rattle.std.proofs.lemmas.List.Elements.{All-head, All-tail, All-append, All-nil, All-cons}
+use Rattle.std.proofs.lemmas.List.Elements.{All-append, All-nil, All-cons}
 use Rattle.fbas_model.specs.Names.{Name, is_key, AreNamesOf}
 use Rattle.fbas_model.specs.Trees.{QuorumSet}
-use Rattle.fbas_model.specs.QuorumSets.{IsBelow, AreBelow, all_entries}
+use Rattle.fbas_model.specs.QuorumSets.{all_entries}
 use Rattle.fbas_model.specs.Fbas.{Fbas}
 use Rattle.fbas_model.specs.Systems.{IsWithin, entries_in}
-use Rattle.quorum_set.specs.Views.{inner_entries, entries_of}
-
-below_inner : (n : ℕ) (qs : List QuorumSet) → All (IsBelow n) qs → AreBelow n (inner_entries qs)
-below_inner n [] h = tt
-below_inner n (q ∷ qs) h = (All-head (IsBelow n) q qs h, below_inner n qs (All-tail (IsBelow n) q qs h))
-
-pub below_entries : (n : ℕ) (ws : List ℕ) (qs : List QuorumSet) → All (λ w. w < n) ws → All (IsBelow n) qs → AreBelow n (entries_of ws qs)
-below_entries n [] qs h all = below_inner n qs all
-below_entries n (w ∷ ws) qs h all = (All-head (λ w. w < n) w ws h, below_entries n ws qs (All-tail (λ w. w < n) w ws h) all)
 
 entries_in-more : (sets : Fbas) (q : QuorumSet) → entries_in (sets ++ Some q ∷ []) ≡ entries_in sets + all_entries q
 entries_in-more [] q = omega arith

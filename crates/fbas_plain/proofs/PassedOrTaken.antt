@@ -1,17 +1,12 @@
 -- A pick from some entries passes over the first of them, or takes it.
 use Rattle.std.proofs.Common.{◌≡◌, ℕ, zero, suc, ◌+◌, ◌-◌, ◌<◌, ◌≤◌, ◌⊎◌, ◌↔◌, Bool, true, false, ◌==◌, IsTrue, List, [], ◌∷◌, inl, inr, refl, sym, subst, ap, arith, length}
-use Rattle.std.proofs.lemmas.Bool.{eqb-true, eq-eqb, or_cases, or_left, or_right, false≢true, both_ways}
+use Rattle.std.proofs.lemmas.Bool.{eqb-true, eq-eqb, or_left, or_right, false≢true, both_ways}
 use Rattle.fbas_model.specs.Nodes.{Nodes, ◌∈◌, ◌⊆◌, ∅, only, ◌∪◌}
 use Rattle.fbas_model.specs.Trees.{QuorumSet, quorum_set, Entries, none, node, inner}
 use Rattle.fbas_model.specs.QuorumSets.{count, Pick, done, pass_node, take_node, pass_inner, take_inner, Choice, choice, HasChoiceWithin, IsBelow, AreBelow, all_entries, all_entries_of}
-use Rattle.quorum_set.specs.Views.{inner_entries, entries_of}
+use Rattle.fbas_model.proofs.Counting.{only_within, both_within}
+use Rattle.fbas_model.specs.Lists.{inner_entries, entries_of}
 use Rattle.fbas_plain.specs.Plain.{HasPickWithin}
-
-only_within : (u : Nodes) (w : ℕ) → w ∈ u → only w ⊆ u
-only_within u w here v at = subst (λ x. x ∈ u) (sym (eqb-true v w at)) here
-
-both_within : (u s t : Nodes) → s ⊆ u → t ⊆ u → (s ∪ t) ⊆ u
-both_within u s t p q v h = elim (or_cases (s v) (t v) h) [ inl a ↦ p v a | inr b ↦ q v b ]
 
 pick_le-count : {entries : Entries} {k : ℕ} {s : Nodes} → Pick entries k s → k ≤ count entries
 pick_le-count done = omega arith

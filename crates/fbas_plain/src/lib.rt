@@ -6,7 +6,7 @@ ghost use Rattle.std.specs.Prelude.{◌≡◌, ℕ, ◌<◌, ◌≤◌, ◌↔�
 ghost use Rattle.fbas_model.specs.Nodes.{Nodes, members, ◌∪◌, Meets};
 ghost use Rattle.fbas_model.specs.QuorumSets.{HasChoiceWithin, IsBelow, AreBelow};
 ghost use Rattle.fbas_model.specs.Fbas.{HasSliceWithin, Quorum, MeetsQuorums, Intersects, Available};
-ghost use Rattle.quorum_set.specs.Views.{inner_entries, entries_of};
+ghost use Rattle.fbas_model.specs.Lists.{inner_entries, entries_of};
 ghost use Rattle.fbas_plain.specs.Plain.{HasPickWithin, IsWellFormed, AgreeBelow};
 
 use name_set::NodeSet;

@@ -6,8 +6,8 @@ use Rattle.lrat_model.specs.Clauses.{Held, clause_at}
 use Rattle.lrat_model.specs.Propagation.{status, Conflict, Stops, Leaves, after_status, after_finding, take_hint, and_then, propagate}
 use Rattle.lrat_model.specs.declared.step.ClauseStatus.TheVariants.{Forces}
 use Rattle.lrat_model.specs.declared.step.StepFault.{StepFault}
-use Rattle.lrat_checker.specs.Alike.{Alike}
-use Rattle.lrat_checker.proofs.AlikeLaws.{AreAlike, take_hint-alike}
+use Rattle.lrat_model.specs.Alike.{Alike}
+use Rattle.lrat_model.proofs.AlikeLaws.{AreAlike, take_hint-alike}
 use Rattle.lrat_checker.specs.Hints.{id_of}
 
 -- a hint that forces a literal makes it true

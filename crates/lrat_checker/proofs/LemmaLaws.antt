@@ -5,8 +5,8 @@ use Rattle.std.proofs.lemmas.List.{take_more, drop_more, map-append}
 use Rattle.lrat_model.specs.Literal.{Literal, Plus, Minus, variable_of, negated, same, has}
 use Rattle.lrat_model.specs.Steps.{literal_fault}
 use Rattle.lrat_model.specs.declared.step.StepFault.TheVariants.{BadLiteral, Tautology}
-use Rattle.lrat_checker.specs.Alike.{Alike}
-use Rattle.partial_assignment.proofs.ValueLaws.{has-push}
+use Rattle.lrat_model.specs.Alike.{Alike}
+use Rattle.lrat_model.proofs.Literals.{has-push}
 
 same-negated : (m l : Literal) → same m (negated l) ≡ same (negated m) l
 same-negated (Plus x) (Plus y) = refl

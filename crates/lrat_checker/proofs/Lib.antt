@@ -1,6 +1,5 @@
 pub mod StatusLaws
 pub mod RangeLaws
-pub mod AlikeLaws
 pub mod HintLaws
 pub mod LemmaLaws
 pub mod FaultLaws

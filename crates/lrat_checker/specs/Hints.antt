@@ -3,7 +3,7 @@ use Rattle.std.specs.Prelude.{◌≡◌, ℕ, List, Result, Ok, Err, ℤ, pos, n
 use Rattle.lrat_model.specs.Literal.{Literal}
 use Rattle.lrat_model.specs.Propagation.{Outcome, Conflict, Stops, Leaves}
 use Rattle.lrat_model.specs.declared.step.StepFault.{StepFault}
-use Rattle.lrat_checker.specs.Alike.{Alike}
+use Rattle.lrat_model.specs.Alike.{Alike}
 use Rattle.lrat_checker.specs.declared.hint.Hinting.{Hinting}
 use Rattle.lrat_checker.specs.declared.hint.Hinting.TheVariants as hinting
 

@@ -1,4 +1,3 @@
-pub mod Alike
 pub mod Hints
 pub mod Covers
 pub mod Checking

@@ -5,7 +5,7 @@ ghost use Rattle.lrat_model.specs.Literal.{Literal, negated, variable_of};
 ghost use Rattle.lrat_model.specs.Propagation.{status, take_hint, propagate};
 ghost use Rattle.lrat_model.specs.Steps.{literal_fault, outcome_fault};
 ghost use Rattle.lrat_model.specs.Ranges.{IsInRange, AreInRange};
-ghost use Rattle.lrat_checker.specs.Alike.{Alike};
+ghost use Rattle.lrat_model.specs.Alike.{Alike};
 ghost use Rattle.lrat_checker.specs.Hints.{Took, id_of};
 
 use clause_store::Store;

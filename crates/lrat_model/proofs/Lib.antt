@@ -1,4 +1,5 @@
 pub mod Literals
+pub mod AlikeLaws
 pub mod Statuses
 pub mod Truth
 pub mod Runs

@@ -1,9 +1,9 @@
 -- What the tests on literals tell.
-use Rattle.std.proofs.Common.{◌≡◌, Bool, true, false, List, [], ◌∷◌, ⊎_elim, inl, inr, refl, sym, ap, ◌∙◌, subst, cond, filter}
+use Rattle.std.proofs.Common.{◌≡◌, Bool, true, false, ◌||◌, List, [], ◌∷◌, ◌++◌, ⊎_elim, inl, inr, refl, sym, ap, ◌∙◌, subst, cond, filter}
 use Rattle.std.specs.Prelude.{◌⊎◌}
 use Rattle.std.specs.List.{list_all}
 use Rattle.std.proofs.lemmas.Bool.{eqb-true, eq-eqb, or_cases, or_left, or_right, and_parts, and_from, false≢true}
-use Rattle.lrat_model.specs.Literal.{Literal, Plus, Minus, negated, same, has}
+use Rattle.lrat_model.specs.Literal.{Literal, Plus, Minus, variable_of, negated, same, has}
 
 pub same-true : (a b : Literal) → same a b ≡ true → a ≡ b
 same-true (Plus x) (Plus y) e = ap Plus (eqb-true x y e)
@@ -19,6 +19,10 @@ pub negated-negated : (l : Literal) → negated (negated l) ≡ l
 negated-negated (Plus x) = refl
 negated-negated (Minus x) = refl
 
+pub variable_of-negated : (l : Literal) → variable_of (negated l) ≡ variable_of l
+variable_of-negated (Plus x) = refl
+variable_of-negated (Minus x) = refl
+
 -- a literal of a longer list is its first or in the rest
 pub has-cons : (l m : Literal) (ls : List Literal) → has (l ∷ ls) m ≡ true → (m ≡ l) ⊎ (has ls m ≡ true)
 has-cons l m ls e = ⊎_elim (λ h. inl (same-true m l h)) (λ h. inr h) (or_cases (same m l) (has ls m) e)
@@ -28,6 +32,17 @@ has-first l ls = or_left (same l l) (has ls l) (same-itself l)
 
 pub has-rest : (l m : Literal) (ls : List Literal) → has ls m ≡ true → has (l ∷ ls) m ≡ true
 has-rest l m ls e = or_right (same m l) (has ls m) e
+
+swap_or : (a b c : Bool) → (a || (b || c)) ≡ (b || (a || c))
+swap_or true true c = refl
+swap_or true false c = refl
+swap_or false true c = refl
+swap_or false false c = refl
+
+-- at its end a literal is as well placed as at its front
+pub has-push : (xs : List Literal) (l m : Literal) → has (xs ++ l ∷ []) m ≡ has (l ∷ xs) m
+has-push [] l m = refl
+has-push (x ∷ xs) l m = ap (λ b. same m x || b) (has-push xs l m) ∙ swap_or (same m x) (same m l) (has xs m)
 
 pub has-filter : (p : Literal → Bool) (ls : List Literal) (m : Literal) → has (filter p ls) m ≡ true → (has ls m ≡ true) × (p m ≡ true)
 has-filter p [] m e = absurd (false≢true e)

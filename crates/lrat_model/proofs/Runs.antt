@@ -26,6 +26,15 @@ clause_at-with_clause (f ∷ held) id clause k found e =
       | false ↦ λ h. clause_at-with_clause held id clause k found h
     ] e
 
+-- what was found is found among more clauses
+pub clause_at-more : (held : Held) (id : ℕ) (lits : List Literal) (k : ℕ) (clause : List Literal) → clause_at held k ≡ Some clause → clause_at (with_clause held id lits) k ≡ Some clause
+clause_at-more [] id lits k clause at = cc
+clause_at-more (e ∷ held) id lits k clause at =
+    elim (e.0 == k) as (λ b. cond b (Some e.1) (clause_at held k) ≡ Some clause → cond b (Some e.1) (clause_at (with_clause held id lits) k) ≡ Some clause) [
+      | true ↦ λ is. is
+      | false ↦ λ is. clause_at-more held id lits k clause is
+    ] at
+
 kept : (f k : ℕ) (pf pk : Bool) (c : List Literal) (was left : Option (List Literal)) → ((f ≡ k) → pf ≡ pk) → left ≡ cond pk was None → cond pf (cond (f == k) (Some c) left) left ≡ cond pk (cond (f == k) (Some c) was) None
 kept f k pf pk c was left alike rest = grind (arith, nat_tests)
 
@@ -87,7 +96,7 @@ refuted vars old [] last new run ends v satisfies = no_empty_lemma v vars old la
 refuted vars old (step ∷ steps) last new run ends v satisfies = refuted vars (after_step old step) steps last new run.1 ends v (Satisfies-step v vars old step run.0 satisfies)
 
 -- an assignment that makes a formula true satisfies its clauses where they are held
-Satisfies-numbered : (v : ℕ → Bool) (first : ℕ) (clauses : List (List Literal)) → formula_true v clauses ≡ true → Satisfies v (numbered first clauses)
+pub Satisfies-numbered : (v : ℕ → Bool) (first : ℕ) (clauses : List (List Literal)) → formula_true v clauses ≡ true → Satisfies v (numbered first clauses)
 Satisfies-numbered v first [] holds = λ id found at. cc
 Satisfies-numbered v first (clause ∷ clauses) holds = λ id found at.
     let parts : (clause_true v clause ≡ true) × (formula_true v clauses ≡ true) = and_parts (clause_true v clause) (formula_true v clauses) holds in

@@ -1,4 +1,5 @@
 pub mod Literal
+pub mod Alike
 pub mod Clauses
 pub mod Ranges
 pub mod Propagation

@@ -6,7 +6,7 @@ use Rattle.std.proofs.lemmas.Simd.{map-map}
 use Rattle.fbas_model.specs.Names.{Name}
 use Rattle.fbas_model.specs.QuorumSets.{all_entries, all_entries_of}
 use Rattle.fbas_model.specs.Trees.{QuorumSet, quorum_set, node, inner}
-use Rattle.quorum_set.specs.Views.{entries_of, inner_entries}
+use Rattle.fbas_model.specs.Lists.{entries_of, inner_entries}
 use Rattle.node_json.specs.Configuration.{number_of, nodes_then, numbered, all_numbered}
 use Rattle.node_json.specs.Named as spec
 use Rattle.node_json.specs.View.{sets_in, set_view, sets_view}

@@ -4,7 +4,7 @@ use Rattle.std.proofs.lemmas.Bool.{cases_eq, eq-eqb, false≢true, false_from_ne
 use Rattle.std.proofs.lemmas.List.{drop_more, length-set, length-append}
 use Rattle.std.proofs.lemmas.List.Elements.{All-push, All-weaker}
 use Rattle.lrat_model.specs.Literal.{Literal, Plus, Minus, variable_of, negated, same, has}
-use Rattle.lrat_model.proofs.Literals.{has-cons, same-true}
+use Rattle.lrat_model.proofs.Literals.{has-cons, has-push, same-true, variable_of-negated}
 use Rattle.partial_assignment.specs.declared.assignment.Value.{Value}
 use Rattle.partial_assignment.specs.declared.assignment.Value.TheVariants.{Unassigned, True, False}
 use Rattle.partial_assignment.specs.Values.{makes_true, true_by, value_of, assigned, IsAssignment}
@@ -50,10 +50,6 @@ open_value True (Minus x) first second = absurd (false≢true (sym second))
 open_value False (Plus x) first second = absurd (false≢true (sym second))
 open_value False (Minus x) first second = absurd (false≢true (sym first))
 
-same_variable-negated : (l : Literal) → variable_of (negated l) ≡ variable_of l
-same_variable-negated (Plus x) = refl
-same_variable-negated (Minus x) = refl
-
 pub assigned-below : (values : List Value) (place : ℕ) → place < length values → get_or values place Unassigned ≡ Unassigned → assigned values < length values
 assigned-below [] place within is = absurd (omega arith)
 assigned-below (Unassigned ∷ values) zero within is = at_most values where
@@ -90,17 +86,6 @@ makes_true-value_of (Minus x) (Minus y) same_variable = sym (eq-eqb y x same_var
 same-variable : (l m : Literal) → same m l ≡ true → variable_of m ≡ variable_of l
 same-variable l m is = ap variable_of (same-true m l is)
 
-swap_or : (a b c : Bool) → (a || (b || c)) ≡ (b || (a || c))
-swap_or true true c = refl
-swap_or true false c = refl
-swap_or false true c = refl
-swap_or false false c = refl
-
--- at its end a literal is as well placed as at its front
-pub has-push : (xs : List Literal) (l m : Literal) → has (xs ++ l ∷ []) m ≡ has (l ∷ xs) m
-has-push [] l m = refl
-has-push (x ∷ xs) l m = ap (λ b. same m x || b) (has-push xs l m) ∙ swap_or (same m x) (same m l) (has xs m)
-
 or_false : (b : Bool) → (b || false) ≡ b
 or_false true = refl
 or_false false = refl
@@ -108,7 +93,7 @@ or_false false = refl
 module _ (values : List Value) (trail : List Literal) (room : ℕ) (sound : IsAssignment values trail room) (l : Literal) (within : variable_of l + 1 ≤ length values) (open_l : has trail l ≡ false) (open_negated : has trail (negated l) ≡ false) where
   pub no_value : get_or values (variable_of l) Unassigned ≡ Unassigned
   no_value = open_value (get_or values (variable_of l) Unassigned) l (sound.agree l within ∙ open_l)
-      (subst (λ k. makes_true (get_or values k Unassigned) (negated l) ≡ false) (same_variable-negated l) (sound.agree (negated l) (omega (arith, within, same_variable-negated l)) ∙ open_negated))
+      (subst (λ k. makes_true (get_or values k Unassigned) (negated l) ≡ false) (variable_of-negated l) (sound.agree (negated l) (omega (arith, within, variable_of-negated l)) ∙ open_negated))
 
   -- the trail has room for one more
   pub room_left : length trail < room

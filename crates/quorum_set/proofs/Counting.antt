@@ -1,15 +1,14 @@
 -- What the loops over the two lists of a quorum set count.
-use Rattle.std.proofs.Common.{◌≡◌, ℕ, zero, suc, ◌+◌, ◌≤◌, ◌<◌, ◌↔◌, Bool, IsTrue, cond, inl, inr, refl, sym, ◌∙◌, ap, subst, arith, leb, length, take, add-zero}
+use Rattle.std.proofs.Common.{◌≡◌, ℕ, ◌+◌, ◌≤◌, ◌<◌, ◌↔◌, Bool, IsTrue, cond, inl, inr, refl, sym, ◌∙◌, ap, arith, leb, length, take, add-zero}
 use Rattle.std.proofs.lemmas.Bool.{cases_Bool, and_parts, and_from, leb-true, le-leb}
 use Rattle.fbas_model.specs.Nodes.{Nodes}
 use Rattle.fbas_model.specs.Trees.{QuorumSet, quorum_set}
-use Rattle.fbas_model.specs.QuorumSets.{HasChoiceWithin, IsBelow, AreBelow, weight, weight_of}
+use Rattle.fbas_model.specs.QuorumSets.{HasChoiceWithin}
 use Rattle.fbas_model.specs.Counting.{is_satisfied, count_met}
 use Rattle.fbas_model.proofs.Counting.{choice_satisfied, satisfied_choice}
-use Rattle.std.specs.Prelude.{List, [], ◌∷◌, All, count_by, slice_index_or}
-use Rattle.std.proofs.lemmas.List.Elements.{All-nil, All-cons, All-head, All-tail}
+use Rattle.std.specs.Prelude.{List, [], ◌∷◌, count_by, slice_index_or}
 use Rattle.std.proofs.lemmas.List.Sums.{count_by_more_yes, count_by_more_no, sum_by-cons}
-use Rattle.quorum_set.specs.Views.{inner_entries, entries_of}
+use Rattle.fbas_model.specs.Lists.{inner_entries, entries_of}
 
 count_met-inner_entries : (u : Nodes) (qs : List QuorumSet) → count_met u (inner_entries qs) ≡ count_by (is_satisfied u) qs
 count_met-inner_entries u [] = refl
@@ -27,43 +26,9 @@ answer_iff u t n ws qs low e = let entries = entries_of ws qs in (
   λ c. let k = leb-true t (count_met u entries) (and_parts (leb 1 t) (leb t (count_met u entries)) (choice_satisfied u c.1 c.2)).1 in le-leb t n (omega (arith, count_met-entries_of u ws qs)),
 )
 
-IsBelow-inner : (n : ℕ) (qs : List QuorumSet) → AreBelow n (inner_entries qs) → All (IsBelow n) qs
-IsBelow-inner n [] h = All-nil (IsBelow n)
-IsBelow-inner n (q ∷ qs) h = All-cons (IsBelow n) q qs h.0 (IsBelow-inner n qs h.1)
-
-pub IsBelow-nodes : (n : ℕ) (ws : List ℕ) (qs : List QuorumSet) → AreBelow n (entries_of ws qs) → All (λ w. w < n) ws
-IsBelow-nodes n [] qs h = All-nil (λ w. w < n)
-IsBelow-nodes n (w ∷ ws) qs h = All-cons (λ w. w < n) w ws h.0 (IsBelow-nodes n ws qs h.1)
-
-pub IsBelow-inners : (n : ℕ) (ws : List ℕ) (qs : List QuorumSet) → AreBelow n (entries_of ws qs) → All (IsBelow n) qs
-IsBelow-inners n [] qs h = IsBelow-inner n qs h
-IsBelow-inners n (w ∷ ws) qs h = IsBelow-inners n ws qs h.1
-
-IsBelow-of_inner : (n : ℕ) (qs : List QuorumSet) → All (IsBelow n) qs → AreBelow n (inner_entries qs)
-IsBelow-of_inner n [] h = tt
-IsBelow-of_inner n (q ∷ qs) h = (All-head (IsBelow n) q qs h, IsBelow-of_inner n qs (All-tail (IsBelow n) q qs h))
-
--- the entries' nodes are below n where the validators and the inner quorum sets are
-pub IsBelow-entries_of : (n : ℕ) (ws : List ℕ) (qs : List QuorumSet) → All (λ w. w < n) ws → All (IsBelow n) qs → AreBelow n (entries_of ws qs)
-IsBelow-entries_of n [] qs h all = IsBelow-of_inner n qs all
-IsBelow-entries_of n (w ∷ ws) qs h all = (All-head (λ w. w < n) w ws h, IsBelow-entries_of n ws qs (All-tail (λ w. w < n) w ws h) all)
-
-lighter_inner : (qs : List QuorumSet) (i : ℕ) (d : QuorumSet) → i < length qs → weight (slice_index_or qs i d) ≤ weight_of (inner_entries qs)
-lighter_inner [] i d h = absurd (omega arith)
-lighter_inner (q ∷ qs) zero d h = omega arith
-lighter_inner (q ∷ qs) (suc i) d h = omega (arith, lighter_inner qs i d (omega arith))
-
--- an inner quorum set weighs less than the quorum set that it stands in
-pub lighter : (ws : List ℕ) (qs : List QuorumSet) (i : ℕ) (q : QuorumSet) → i < length qs → q ≡ slice_index_or qs i q → weight q ≤ weight_of (entries_of ws qs)
-lighter [] qs i q h e = subst (λ (x : QuorumSet). weight x ≤ weight_of (inner_entries qs)) (sym e) (lighter_inner qs i q h)
-lighter (w ∷ ws) qs i q h e = lighter ws qs i q h e
-
 -- one more of the list counted
 pub count_step : (p : QuorumSet → Bool) (qs : List QuorumSet) (i : ℕ) (q : QuorumSet) (b : Bool) → i < length qs → q ≡ slice_index_or qs i q → b ≡ p q → count_by p (take (i + 1) qs) ≡ count_by p (take i qs) + cond b 1 0
 count_step p qs i q b h e f = elim (cases_Bool b) [
   | inl met ↦ rw met (count_by_more_yes p qs i q h (rw (← e) (sym f ∙ met)))
   | inr unmet ↦ rw unmet (count_by_more_no p qs i q h (rw (← e) (sym f ∙ unmet)) ∙ sym (add-zero (count_by p (take i qs))))
 ]
-
-pub item_of_all : (P : QuorumSet → Type 0) (qs : List QuorumSet) (i : ℕ) (q : QuorumSet) → i < length qs → q ≡ slice_index_or qs i q → All P qs → P q
-item_of_all P qs i q h e all = subst P (sym e) (all i q h)

@@ -4,7 +4,7 @@ use Rattle.std.specs.Prelude.{sum_by, slice_index_or}
 use Rattle.std.proofs.lemmas.List.Sums.{sum_by-cons, sum_by_more, sum_by-take-le}
 use Rattle.fbas_model.specs.Trees.{QuorumSet}
 use Rattle.fbas_model.specs.QuorumSets.{all_entries, all_entries_of}
-use Rattle.quorum_set.specs.Views.{inner_entries, entries_of}
+use Rattle.fbas_model.specs.Lists.{inner_entries, entries_of}
 
 -- an inner quorum set as an entry, with its own
 abbrev pub with_own : QuorumSet → ℕ

@@ -4,8 +4,9 @@ use Rattle.std.proofs.lemmas.List.{append-nil, drop_more, take_more, take_at, ta
 use Rattle.std.proofs.lemmas.List.Sums.{count_by_more_yes, count_by_more_no}
 use Rattle.std.proofs.lemmas.Bool.{cases_Bool, eq-eqb, ne_eqb}
 use Rattle.fbas_model.specs.Trees.{QuorumSet, quorum_set}
-use Rattle.fbas_model.specs.QuorumSets.{count, all_entries_of}
-use Rattle.quorum_set.specs.Views.{inner_entries, entries_of}
+use Rattle.fbas_model.specs.QuorumSets.{all_entries_of}
+use Rattle.fbas_model.specs.Lists.{inner_entries, entries_of}
+use Rattle.fbas_model.proofs.Lists.{count-lists}
 use Rattle.quorum_set.specs.Findings.{Found, repeated, threshold_found, validators_of, times, second_times, findings_at, findings_inside, HoldsFirst}
 
 -- the list is what it was, followed by the findings but for these last ones
@@ -54,14 +55,6 @@ validators-inner (q ∷ qs) = validators-inner qs
 pub validators-lists : (ws : List ℕ) (qs : List QuorumSet) → validators_of (entries_of ws qs) ≡ ws
 validators-lists [] qs = validators-inner qs
 validators-lists (w ∷ ws) qs = ap (λ (l : List ℕ). w ∷ l) (validators-lists ws qs)
-
-count-inner : (qs : List QuorumSet) → count (inner_entries qs) ≡ length qs
-count-inner [] = refl
-count-inner (q ∷ qs) = omega (arith, count-inner qs)
-
-pub count-lists : (ws : List ℕ) (qs : List QuorumSet) → count (entries_of ws qs) ≡ length ws + length qs
-count-lists [] qs = omega (arith, count-inner qs)
-count-lists (w ∷ ws) qs = omega (arith, count-lists ws qs)
 
 inside-lists : (path : List ℕ) (i : ℕ) (ws : List ℕ) (qs : List QuorumSet) → findings_inside path i (entries_of ws qs) ≡ findings_inside path i (inner_entries qs)
 inside-lists path i [] qs = refl

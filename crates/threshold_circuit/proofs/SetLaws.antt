@@ -1,12 +1,10 @@
 -- A quorum set by its lists, and the circuit gathered of them.
-use Rattle.std.proofs.Common.{◌≡◌, ℕ, zero, suc, ◌+◌, ◌-◌, ◌≤◌, ◌<◌, Bool, true, false, if◌then◌else◌, List, [], ◌∷◌, ◌⊎◌, length, get_or, drop, add-one, drop-cons, refl, ap, subst, sym, ◌∙◌, arith}
-use Rattle.std.specs.Prelude.{All}
+use Rattle.std.proofs.Common.{◌≡◌, ℕ, suc, ◌+◌, ◌-◌, ◌≤◌, ◌<◌, Bool, true, false, if◌then◌else◌, List, [], ◌∷◌, ◌⊎◌, length, get_or, drop, add-one, drop-cons, refl, ap, sym, ◌∙◌, arith}
 use Rattle.std.proofs.lemmas.Bool.Decides.{nat_tests}
-use Rattle.std.proofs.lemmas.List.Elements.{All-nil, All-cons, All-head, All-tail}
 use Rattle.fbas_model.specs.Nodes.{Nodes}
 use Rattle.fbas_model.specs.Trees.{QuorumSet, quorum_set, Entries}
-use Rattle.fbas_model.specs.QuorumSets.{count, IsBelow, AreBelow, weight, weight_of}
-use Rattle.quorum_set.specs.Views.{inner_entries, entries_of}
+use Rattle.fbas_model.specs.Lists.{inner_entries, entries_of}
+use Rattle.fbas_model.proofs.Lists.{count-lists}
 use Rattle.threshold_circuit.specs.Circuits.{Inputs, always, never, leaf, at_least, end_of_gate, input}
 use Rattle.threshold_circuit.specs.Simplified.{validator_circuit, always_count, undecided, threshold_over, is_good_threshold, simplified, simplified_entries}
 use Rattle.threshold_circuit.specs.Gathering.{joined}
@@ -30,14 +28,6 @@ undecided_joined (input never xs) ys = undecided_joined xs ys
 undecided_joined (input (leaf v) xs) ys = ap (input (leaf v)) (undecided_joined xs ys)
 undecided_joined (input (at_least k es) xs) ys = ap (input (at_least k es)) (undecided_joined xs ys)
 
-count-inner : (qs : List QuorumSet) → count (inner_entries qs) ≡ length qs
-count-inner [] = refl
-count-inner (q ∷ qs) = omega (arith, count-inner qs)
-
-count-lists : (ws : List ℕ) (qs : List QuorumSet) → count (entries_of ws qs) ≡ length ws + length qs
-count-lists [] qs = omega (arith, count-inner qs)
-count-lists (w ∷ ws) qs = omega (arith, count-lists ws qs)
-
 good_by : (g f : Nodes) (k : ℕ) (entries : Entries) (good : Bool) → is_good_threshold k entries ≡ good → simplified g f (quorum_set k entries) ≡ (if good then threshold_over (k - always_count (simplified_entries g f entries)) (undecided (simplified_entries g f entries)) else never)
 good_by g f k entries good is = rw is refl
 
@@ -60,33 +50,6 @@ good_set g f k ws qs t1 t2 e1 e2 rest some few at_threshold at_entries still end
     let kept : e2 ≡ undecided (simplified_entries g f entries) =
     gathered_all t1 t2 e1 e2 second rest still ended ∙ ap (λ (x : Inputs). joined x (undecided second)) at_entries ∙ sym (undecided_joined first second) ∙ ap undecided (sym whole) in
     sym (good_by g f k entries true test ∙ cc (lowered, kept))
-
--- the nodes and the weights of the parts
-
-pub below_nodes : (n : ℕ) (ws : List ℕ) (qs : List QuorumSet) → AreBelow n (entries_of ws qs) → All (λ w. w < n) ws
-below_nodes n [] qs h = All-nil (λ w. w < n)
-below_nodes n (w ∷ ws) qs h = All-cons (λ w. w < n) w ws h.0 (below_nodes n ws qs h.1)
-
-pub below_inner : (n : ℕ) (ws : List ℕ) (qs : List QuorumSet) → AreBelow n (entries_of ws qs) → AreBelow n (inner_entries qs)
-below_inner n [] qs h = h
-below_inner n (w ∷ ws) qs h = below_inner n ws qs h.1
-
-below_of_inner : (n : ℕ) (qs : List QuorumSet) → All (IsBelow n) qs → AreBelow n (inner_entries qs)
-below_of_inner n [] h = tt
-below_of_inner n (q ∷ qs) h = (All-head (IsBelow n) q qs h, below_of_inner n qs (All-tail (IsBelow n) q qs h))
-
-pub below_lists : (n : ℕ) (ws : List ℕ) (qs : List QuorumSet) → All (λ w. w < n) ws → All (IsBelow n) qs → AreBelow n (entries_of ws qs)
-below_lists n [] qs h all = below_of_inner n qs all
-below_lists n (w ∷ ws) qs h all = (All-head (λ w. w < n) w ws h, below_lists n ws qs (All-tail (λ w. w < n) w ws h) all)
-
-lighter_inner : (qs : List QuorumSet) (i : ℕ) (d : QuorumSet) → i < length qs → weight (get_or qs i d) ≤ weight_of (inner_entries qs)
-lighter_inner [] i d h = absurd (omega arith)
-lighter_inner (q ∷ qs) zero d h = omega arith
-lighter_inner (q ∷ qs) (suc i) d h = omega (arith, lighter_inner qs i d (omega arith))
-
-pub lighter : (ws : List ℕ) (qs : List QuorumSet) (i : ℕ) (q : QuorumSet) → i < length qs → q ≡ get_or qs i q → weight q ≤ weight_of (entries_of ws qs)
-lighter [] qs i q h e = subst (λ (x : QuorumSet). weight x ≤ weight_of (inner_entries qs)) (sym e) (lighter_inner qs i q h)
-lighter (w ∷ ws) qs i q h e = lighter ws qs i q h e
 
 pub cut_at : (i : ℕ) (xs : List QuorumSet) (x : QuorumSet) → x ≡ get_or xs i x → i < length xs → drop i xs ≡ x ∷ drop (i + 1) xs
 cut_at i xs x is low = rw (add-one, drop-cons xs i x) (ap (λ (y : QuorumSet). y ∷ drop (suc i) xs) (sym is))

@@ -5,7 +5,7 @@ use Rattle.fbas_model.specs.Nodes.{Nodes, ◌⊆◌, ◌∪◌}
 use Rattle.fbas_model.specs.Trees.{QuorumSet, quorum_set, Entries, none, node, inner}
 use Rattle.fbas_model.specs.QuorumSets.{count, HasChoiceWithin}
 use Rattle.fbas_model.specs.Counting.{is_satisfied, count_met}
-use Rattle.fbas_model.proofs.Counting.{choice_satisfied, satisfied_choice}
+use Rattle.fbas_model.proofs.Counting.{count_met_le-count, choice_satisfied, satisfied_choice}
 use Rattle.threshold_circuit.specs.Circuits.{Circuit, Inputs, always, never, leaf, at_least, end_of_gate, input, input_count}
 use Rattle.threshold_circuit.specs.Value.{circuit_value, count_true}
 use Rattle.threshold_circuit.specs.Simplified.{always_count, undecided, threshold_over, simplified, simplified_entries}
@@ -54,11 +54,6 @@ validator_by u v true greatest within = or_true (u v)
 validator_by u v false true within = or_false (u v)
 validator_by u v false false within = absent (u v) within
 
-met-le : (u : Nodes) (entries : Entries) → count_met u entries ≤ count entries
-met-le u none = omega arith
-met-le u (node w rest) = omega (arith, one_at_most (u w), met-le u rest)
-met-le u (inner q rest) = omega (arith, one_at_most (is_satisfied u q), met-le u rest)
-
 unmet : (k n met : ℕ) → nat_le k n ≡ false → met ≤ n → false ≡ nat_le k met
 unmet k n met h few = grind (arith, nat_tests)
 
@@ -78,7 +73,7 @@ mutual
   -- on a set of the greatest quorum's nodes the circuit has the truth of the quorum set on that set and the faulty nodes
   pub simplified_value : (greatest faulty u : Nodes) → u ⊆ greatest → (q : QuorumSet) → circuit_value u (simplified greatest faulty q) ≡ is_satisfied (u ∪ faulty) q
   simplified_value greatest faulty u within (quorum_set k entries) =
-      set_by u k (count entries) (count_met (u ∪ faulty) entries) (nat_le 1 k) (nat_le k (count entries)) (simplified_entries greatest faulty entries) refl refl (entries_value greatest faulty u within entries) (met-le (u ∪ faulty) entries)
+      set_by u k (count entries) (count_met (u ∪ faulty) entries) (nat_le 1 k) (nat_le k (count entries)) (simplified_entries greatest faulty entries) refl refl (entries_value greatest faulty u within entries) (count_met_le-count (u ∪ faulty) entries)
 
   entries_value : (greatest faulty u : Nodes) → u ⊆ greatest → (entries : Entries) → count_true u (simplified_entries greatest faulty entries) ≡ count_met (u ∪ faulty) entries
   entries_value greatest faulty u within none = refl

@@ -6,7 +6,7 @@ ghost use Rattle.std.specs.Prelude.{◌≡◌, ℕ, ◌-◌, ◌<◌, ◌≤◌,
 ghost use Rattle.fbas_model.specs.Nodes.{Nodes, members, ◌⊆◌, ◌∪◌};
 ghost use Rattle.fbas_model.specs.Trees.{QuorumSet as Tree};
 ghost use Rattle.fbas_model.specs.QuorumSets.{HasChoiceWithin, IsBelow, all_entries};
-ghost use Rattle.quorum_set.specs.Views.{entries_of};
+ghost use Rattle.fbas_model.specs.Lists.{entries_of};
 ghost use Rattle.threshold_circuit.specs.Circuits.{NodesBelow, HasThresholds, IsReduced, all_inputs};
 ghost use Rattle.threshold_circuit.specs.Gathering.{joined};
 ghost use Rattle.threshold_circuit.specs.Gates.{gate_variables, own_variables};

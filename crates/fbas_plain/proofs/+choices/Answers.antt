@@ -2,7 +2,7 @@ use Rattle.std.proofs.Common.{◌<◌, sym, ◌∙◌, arith}
 use Rattle.std.proofs.lemmas.Bool.{both_ways, ltb-true}
 use Rattle.fbas_model.specs.Nodes.{members, ◌∈◌, ◌∪◌}
 use Rattle.fbas_model.specs.QuorumSets.{HasChoiceWithin}
-use Rattle.quorum_set.specs.Views.{inner_entries, entries_of}
+use Rattle.fbas_model.specs.Lists.{inner_entries, entries_of}
 use Rattle.fbas_plain.proofs.PassedOrTaken.{Taken, splits_node, splits_inner, when_passed, when_not_taken, when_taken, pick_none, choice_of_pick, pick_of_choice}
 use Rattle.fbas_plain.proofs.+choices.Goals as goal
 use Rattle.fbas_plain.proofs.+choices.Goals.{picks-then-k-gt0, picks-else-k-gt0, picks_inner-then-k-gt0, picks_inner-else-k-gt0}

@@ -1,6 +1,6 @@
 use Rattle.std.proofs.Common.{◌+◌, ◌*◌}
 use Rattle.fbas_model.specs.QuorumSets.{all_entries, all_entries_of}
-use Rattle.quorum_set.specs.Views.{inner_entries, entries_of}
+use Rattle.fbas_model.specs.Lists.{inner_entries, entries_of}
 use Rattle.fbas_plain.proofs.+choices.Given as goal
 
 abbrev pub decreases-picks_inner : goal.decreases-picks_inner

@@ -3,14 +3,15 @@ use Rattle.std.proofs.lemmas.List.{drop_all}
 use Rattle.fbas_model.specs.Nodes.{members}
 use Rattle.fbas_model.specs.Trees.{QuorumSet}
 use Rattle.fbas_model.specs.QuorumSets.{AreBelow}
-use Rattle.quorum_set.specs.Views.{inner_entries, entries_of}
+use Rattle.fbas_model.specs.Lists.{inner_entries, entries_of}
 use Rattle.threshold_circuit.specs.declared.Circuit.{Circuit}
 use Rattle.threshold_circuit.specs.Simplified.{undecided, simplified, simplified_entries}
 use Rattle.threshold_circuit.specs.Views.{circuit_view, inputs_view}
 use Rattle.threshold_circuit.specs.Gathering.{joined}
 use Rattle.threshold_circuit.proofs.GatheredLaws.{StillGathers, gather_circuit}
 use Rattle.threshold_circuit.proofs.Reduced.{facts}
-use Rattle.threshold_circuit.proofs.SetLaws.{below_nodes, below_inner, lighter, cut_at, bad_set, good_set}
+use Rattle.fbas_model.proofs.Lists.{below_nodes, below_inner_entries, lighter}
+use Rattle.threshold_circuit.proofs.SetLaws.{cut_at, bad_set, good_set}
 use Rattle.threshold_circuit.proofs.+circuit_of.Goals as goal
 use Rattle.threshold_circuit.proofs.+circuit_of.Goals.{then-set-eq0-via-then-set-eq0, then-set-eq0-via-else-set-eq0+then-set-count}
 
@@ -30,7 +31,7 @@ with_validators-requires-clause-below t c =
 
 pub loop-inner-init : goal.loop-inner-init
 loop-inner-init t c = record {
-  below = rw c.deref-inner-items.ensures.value (below_inner (length c.args.greatest.now) c.set.inside.validators.items c.set.inside.inner.items (rw (← c.set.view_is) at c.requires.below));
+  below = rw c.deref-inner-items.ensures.value (below_inner_entries (length c.args.greatest.now) c.set.inside.validators.items c.set.inside.inner.items (rw (← c.set.view_is) at c.requires.below));
   still = record { lowered = refl; kept = refl };
 }
 

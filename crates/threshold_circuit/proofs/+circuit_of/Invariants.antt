@@ -1,7 +1,7 @@
 use Rattle.std.proofs.Common.{length, drop}
 use Rattle.fbas_model.specs.Nodes.{members}
 use Rattle.fbas_model.specs.QuorumSets.{AreBelow}
-use Rattle.quorum_set.specs.Views.{inner_entries}
+use Rattle.fbas_model.specs.Lists.{inner_entries}
 use Rattle.threshold_circuit.specs.Simplified.{simplified_entries}
 use Rattle.threshold_circuit.specs.Views.{inputs_view}
 use Rattle.threshold_circuit.proofs.GatheredLaws.{StillGathers}

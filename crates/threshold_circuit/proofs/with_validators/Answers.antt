@@ -1,7 +1,7 @@
 use Rattle.std.proofs.Common.{ℕ, List, [], ◌+◌, get_or, drop, ap, subst}
 use Rattle.std.proofs.lemmas.List.{drop_all}
 use Rattle.fbas_model.specs.Nodes.{members}
-use Rattle.quorum_set.specs.Views.{entries_of}
+use Rattle.fbas_model.specs.Lists.{entries_of}
 use Rattle.threshold_circuit.specs.Simplified.{validator_circuit, simplified_entries}
 use Rattle.threshold_circuit.specs.Views.{inputs_view}
 use Rattle.threshold_circuit.proofs.GatheredLaws.{StillGathers, gather_circuit, gathered_all}

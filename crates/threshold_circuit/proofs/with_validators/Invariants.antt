@@ -1,6 +1,6 @@
 use Rattle.std.proofs.Common.{drop, []}
 use Rattle.fbas_model.specs.Nodes.{members}
-use Rattle.quorum_set.specs.Views.{entries_of}
+use Rattle.fbas_model.specs.Lists.{entries_of}
 use Rattle.threshold_circuit.specs.Simplified.{simplified_entries}
 use Rattle.threshold_circuit.specs.Views.{inputs_view}
 use Rattle.threshold_circuit.proofs.GatheredLaws.{StillGathers}

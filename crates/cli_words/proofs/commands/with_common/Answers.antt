@@ -1,6 +1,5 @@
-use Rattle.std.proofs.Common.{◌≡◌, ap, ◌∙◌}
-use Rattle.clap.specs.Words.{Rule, App, app_of, rule_of, with_rule}
-use Rattle.cli_words.specs.Words.{optional as optional_rule}
+use Rattle.std.proofs.Common.{ap, ◌∙◌}
+use Rattle.clap.specs.Words.{app_of, with_rule}
 use Rattle.cli_words.proofs.WordsLemmas.{rule_added}
 use Rattle.cli_words.proofs.commands.with_common.Goals as goal
 

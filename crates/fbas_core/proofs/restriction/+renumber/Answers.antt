@@ -3,8 +3,9 @@ use Rattle.std.specs.Prelude.{slice_index}
 use Rattle.fbas_model.specs.Trees.{quorum_set}
 use Rattle.fbas_model.specs.QuorumSets.{IsBelow}
 use Rattle.fbas_model.specs.Restriction.{renumbered}
-use Rattle.quorum_set.specs.Views.{entries_of}
-use Rattle.fbas_core.proofs.Entries.{below_nodes, below_inners, item_of_all, lighter, renumbered-lists}
+use Rattle.fbas_model.specs.Lists.{entries_of}
+use Rattle.fbas_model.proofs.Lists.{below_nodes, below_inners, item_of_all, lighter}
+use Rattle.fbas_core.proofs.Entries.{renumbered-lists}
 use Rattle.fbas_core.proofs.restriction.+renumber.Goals as goal
 
 pub renumber_nodes-requires : goal.renumber_nodes-requires

@@ -2,9 +2,9 @@ use Rattle.std.proofs.Common.{ℕ, List, length, ◌<◌, sym, subst, arith, ◌
 use Rattle.fbas_model.specs.Nodes.{◌∪◌}
 use Rattle.fbas_model.specs.Trees.{QuorumSet}
 use Rattle.fbas_model.specs.QuorumSets.{IsBelow, mentioned, mentioned_by}
-use Rattle.quorum_set.specs.Views.{among, entries_of}
+use Rattle.fbas_model.specs.Lists.{among, entries_of}
 use Rattle.fbas_core.specs.Reaching.{Reaches}
-use Rattle.fbas_core.proofs.Entries.{below_nodes, below_inners, item_of_all, lighter, mentioned-lists}
+use Rattle.fbas_model.proofs.Lists.{below_nodes, below_inners, item_of_all, lighter, mentioned-lists}
 use Rattle.fbas_core.proofs.Reached.{each_of, reaches_more, reaches_both, reaches_same}
 use Rattle.fbas_core.proofs.trust.+reach.Goals as goal
 

@@ -1,7 +1,7 @@
 use Rattle.std.proofs.Common.{◌<◌, ℕ, List, length, sym, subst, slice_index_or, take_all}
 use Rattle.std.proofs.lemmas.List.{get_or_default}
 use Rattle.fbas_model.specs.Nodes.{only}
-use Rattle.quorum_set.specs.Views.{among}
+use Rattle.fbas_model.specs.Lists.{among}
 use Rattle.fbas_core.specs.Reaching.{Reaches}
 use Rattle.fbas_core.proofs.Reached.{reaches_old, reaches_new, reaches_more}
 use Rattle.fbas_core.proofs.trust.reach_all.Goals as goal

@@ -1,7 +1,7 @@
 use Rattle.std.proofs.Common.{◌≡◌, ◌≤◌, [], take, drop, sym, ap, ◌∙◌, subst, arith, ◌∷◌, ◌+◌}
 use Rattle.lrat_model.specs.Literal.{variable_of}
 use Rattle.lrat_model.specs.Steps.{literal_fault}
-use Rattle.lrat_checker.specs.Alike.{Alike}
+use Rattle.lrat_model.specs.Alike.{Alike}
 use Rattle.lrat_checker.proofs.LemmaLaws.{alike_more, tautology_here, no_fault_here}
 use Rattle.lrat_checker.proofs.hint.assume_negations.Goals as goal
 

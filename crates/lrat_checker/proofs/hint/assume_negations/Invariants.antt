@@ -1,7 +1,7 @@
 use Rattle.std.proofs.Common.{◌≡◌, [], map, take, drop}
 use Rattle.lrat_model.specs.Literal.{negated}
 use Rattle.lrat_model.specs.Steps.{literal_fault}
-use Rattle.lrat_checker.specs.Alike.{Alike}
+use Rattle.lrat_model.specs.Alike.{Alike}
 use Rattle.lrat_checker.proofs.hint.assume_negations.Given as goal
 
 abbrev pub invariant-loop-l : goal.invariant-loop-l

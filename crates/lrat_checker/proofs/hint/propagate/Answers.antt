@@ -4,7 +4,7 @@ use Rattle.std.proofs.lemmas.Int.{to_z-of_z}
 use Rattle.lrat_model.specs.Literal.{Literal}
 use Rattle.lrat_model.specs.Propagation.{take_hint, Conflict, Stops, Leaves}
 use Rattle.lrat_model.specs.Steps.{outcome_fault}
-use Rattle.lrat_checker.specs.Alike.{Alike}
+use Rattle.lrat_model.specs.Alike.{Alike}
 use Rattle.lrat_checker.proofs.HintLaws.{hints_conflict, hints_stop, hints_go_on}
 use Rattle.lrat_checker.proofs.hint.propagate.Goals as goal
 

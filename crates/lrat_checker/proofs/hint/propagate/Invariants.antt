@@ -1,7 +1,7 @@
 use Rattle.std.proofs.Common.{◌≡◌, ◌+◌, List, drop}
 use Rattle.lrat_model.specs.Literal.{Literal}
 use Rattle.lrat_model.specs.Propagation.{propagate}
-use Rattle.lrat_checker.specs.Alike.{Alike}
+use Rattle.lrat_model.specs.Alike.{Alike}
 use Rattle.lrat_checker.proofs.hint.propagate.Given as goal
 
 abbrev pub invariant-loop-i : goal.invariant-loop-i

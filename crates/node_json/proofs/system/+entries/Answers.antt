@@ -1,6 +1,6 @@
 use Rattle.std.proofs.Common.{◌≡◌, ◌+◌, length, drop, rules, ◌∙◌}
 use Rattle.fbas_model.specs.QuorumSets.{all_entries_of}
-use Rattle.quorum_set.specs.Views.{inner_entries}
+use Rattle.fbas_model.specs.Lists.{inner_entries}
 use Rattle.node_json.proofs.Numbering.{entries_end}
 use Rattle.node_json.proofs.system.+entries.Goals as goal
 

@@ -1,6 +1,6 @@
 use Rattle.std.proofs.Common.{◌≡◌, ◌+◌, drop}
 use Rattle.fbas_model.specs.QuorumSets.{all_entries_of}
-use Rattle.quorum_set.specs.Views.{inner_entries}
+use Rattle.fbas_model.specs.Lists.{inner_entries}
 use Rattle.node_json.proofs.system.+entries.Given as goal
 
 abbrev pub invariant-loop-inner : goal.invariant-loop-inner

@@ -3,14 +3,15 @@ use Rattle.fbas_model.specs.Nodes.{members, outside}
 use Rattle.fbas_model.specs.QuorumSets.{IsBelow}
 use Rattle.fbas_model.specs.Counting.{is_satisfied}
 use Rattle.fbas_model.proofs.Counting.{is_satisfied-is}
-use Rattle.quorum_set.proofs.Counting.{IsBelow-nodes, IsBelow-inners, lighter, count_step, answer_iff, item_of_all}
+use Rattle.fbas_model.proofs.Lists.{below_nodes, below_inners, lighter, item_of_all}
+use Rattle.quorum_set.proofs.Counting.{count_step, answer_iff}
 use Rattle.quorum_set.proofs.QuorumSet.+avoids.Goals as goal
 use Rattle.quorum_set.proofs.QuorumSet.+avoids.Goals.{then-avoids, else-avoids}
 
 pub count_outside-avoiding-requires :
     goal.count_outside-avoiding-requires
 count_outside-avoiding-requires t c =
-    rw c.deref.ensures.value (IsBelow-nodes (length c.args.s.now) c.self.inside.validators.items c.self.inside.inner.items (rw (← c.self.view_is) at c.requires))
+    rw c.deref.ensures.value (below_nodes (length c.args.s.now) c.self.inside.validators.items c.self.inside.inner.items (rw (← c.self.view_is) at c.requires))
 
 pub avoids-requires : goal.avoids-requires
 avoids-requires t c =
@@ -18,7 +19,7 @@ avoids-requires t c =
     let qs = c.self.inside.inner.items in
     let in_range : c.loop-inner.inner-index < length qs = rw (← c.deref-inner-items.ensures.value) c.loop-inner-test.true in
     let item = rw c.deref-inner-items.ensures.value at c.inner-item.is in
-    let below = IsBelow-inners (length c.args.s.now) ws qs (rw (← c.self.view_is) at c.requires) in
+    let below = below_inners (length c.args.s.now) ws qs (rw (← c.self.view_is) at c.requires) in
     let light = lighter ws qs c.loop-inner.inner-index c.inner-item.result in_range item in
     (rw (← c.decreases, ← c.self.view_is) (omega arith), item_of_all (IsBelow (length c.args.s.now)) qs c.loop-inner.inner-index c.inner-item.result in_range item below)
 

@@ -1,5 +1,5 @@
 use Rattle.std.proofs.Common.{◌<◌, arith, length, ◌∙◌, take_all}
-use Rattle.quorum_set.proofs.Counting.{lighter}
+use Rattle.fbas_model.proofs.Lists.{lighter}
 use Rattle.quorum_set.proofs.Entries.{entries_within, entries_more, entries-lists}
 use Rattle.quorum_set.proofs.QuorumSet.+entries.Goals as goal
 

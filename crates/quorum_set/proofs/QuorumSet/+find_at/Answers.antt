@@ -1,7 +1,7 @@
 use Rattle.std.proofs.Common.{◌≡◌, ℕ, ◌+◌, ◌<◌, ◌++◌, List, ◌∙◌, ap, refl, length, subst, arith}
 use Rattle.std.proofs.lemmas.Result.{err_from_is_err_and}
 use Rattle.quorum_set.specs.Findings.{found_all, findings_at, HoldsFirst}
-use Rattle.quorum_set.proofs.Counting.{lighter}
+use Rattle.fbas_model.proofs.Lists.{lighter}
 use Rattle.quorum_set.proofs.Entries.{entries_within}
 use Rattle.quorum_set.proofs.FindingLaws.{holds_first, holds_lists, holds_lists_part, inner_added, inner_part, pushed, popped, lengths-le}
 use Rattle.quorum_set.proofs.QuorumSet.+find_at.Goals as goal

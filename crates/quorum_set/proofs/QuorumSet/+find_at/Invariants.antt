@@ -1,5 +1,5 @@
 use Rattle.std.proofs.Common.{◌≡◌, drop}
-use Rattle.quorum_set.specs.Views.{inner_entries}
+use Rattle.fbas_model.specs.Lists.{inner_entries}
 use Rattle.quorum_set.specs.Findings.{found_all, findings_at, findings_inside}
 use Rattle.quorum_set.proofs.FindingLaws.{Holds}
 use Rattle.quorum_set.proofs.QuorumSet.+find_at.Given as goal

@@ -3,14 +3,15 @@ use Rattle.fbas_model.specs.Nodes.{members, ◌∪◌}
 use Rattle.fbas_model.specs.QuorumSets.{IsBelow}
 use Rattle.fbas_model.specs.Counting.{is_satisfied}
 use Rattle.fbas_model.proofs.Counting.{is_satisfied-is}
-use Rattle.quorum_set.proofs.Counting.{IsBelow-nodes, IsBelow-inners, lighter, count_step, answer_iff, item_of_all}
+use Rattle.fbas_model.proofs.Lists.{below_nodes, below_inners, lighter, item_of_all}
+use Rattle.quorum_set.proofs.Counting.{count_step, answer_iff}
 use Rattle.quorum_set.proofs.QuorumSet.+satisfied_in.Goals as goal
 use Rattle.quorum_set.proofs.QuorumSet.+satisfied_in.Goals.{then-satisfied_in, else-satisfied_in}
 
 pub count_in_either-satisfied-requires-clause-below :
     goal.count_in_either-satisfied-requires-clause-below
 count_in_either-satisfied-requires-clause-below t c =
-    rw c.deref.ensures.value (IsBelow-nodes (length c.args.u.now) c.self.inside.validators.items c.self.inside.inner.items (rw (← c.self.view_is) at c.requires.below))
+    rw c.deref.ensures.value (below_nodes (length c.args.u.now) c.self.inside.validators.items c.self.inside.inner.items (rw (← c.self.view_is) at c.requires.below))
 
 pub satisfied_in-requires : goal.satisfied_in-requires
 satisfied_in-requires t c =
@@ -18,7 +19,7 @@ satisfied_in-requires t c =
     let qs = c.self.inside.inner.items in
     let in_range : c.loop-inner.inner-index < length qs = rw (← c.deref-inner-items.ensures.value) c.loop-inner-test.true in
     let item = rw c.deref-inner-items.ensures.value at c.inner-item.is in
-    let below = IsBelow-inners (length c.args.u.now) ws qs (rw (← c.self.view_is) at c.requires.below) in
+    let below = below_inners (length c.args.u.now) ws qs (rw (← c.self.view_is) at c.requires.below) in
     let light = lighter ws qs c.loop-inner.inner-index c.inner-item.result in_range item in
     (rw (← c.decreases, ← c.self.view_is) (omega arith), (c.requires.same_n, item_of_all (IsBelow (length c.args.u.now)) qs c.loop-inner.inner-index c.inner-item.result in_range item below))
 

@@ -1,4 +1,4 @@
-use Rattle.threshold_circuit.proofs.SetLaws.{below_lists}
+use Rattle.fbas_model.proofs.Lists.{below_lists}
 use Rattle.threshold_circuit.proofs.tests.of.Goals as goal
 
 pub returns : goal.returns

@@ -1,7 +1,7 @@
 use Rattle.std.proofs.Common.{List, map, subst, sym, arith}
 use Rattle.std.specs.Prelude.{All}
 use Rattle.std.proofs.lemmas.List.{get_or-map, length-map}
-use Rattle.lrat_model.specs.Steps.{ProofStep, step_of}
+use Rattle.lrat_model.specs.Steps.{step_of}
 use Rattle.lrat_model.specs.declared.step.Step.{Step}
 use Rattle.lrat_text.specs.Texts.{HasNumbers}
 use Rattle.lrat_text.proofs.log.Log.as_slice.Goals as goal
