@@ -4,7 +4,7 @@ use Rattle.clap.specs.Words.{Text}
 use Rattle.cli_words.proofs.OnLiterals.{words_on_literals}
 use Rattle.cli_words.specs.Order.{Ordered, nothing_for}
 use Rattle.cli_words.specs.Words.{order_of}
-use Rattle.cli_words.specs.declared.orders.Command.TheVariants.{Show, Greatest, Blocks, Check}
+use Rattle.cli_words.specs.declared.orders.Command.TheVariants.{Show, Closure, Greatest, Available, Blocks, Vblocks, Check, Export}
 use Rattle.cli_words.specs.declared.orders.OrderFault.{OrderFault}
 use Rattle.cli_words.specs.declared.orders.OrderFault.TheVariants.{Words, SamePath}
 
