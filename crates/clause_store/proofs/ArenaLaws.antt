@@ -10,11 +10,11 @@ use Rattle.std.proofs.lemmas.List.Kept.{AllPairs-cons}
 use Rattle.lrat_model.specs.Literal.{Literal}
 use Rattle.lrat_model.specs.Clauses.{Held, clause_at, has_id, with_clause, without}
 use Rattle.clause_store.specs.declared.index.Entry.{Entry}
-use Rattle.clause_store.specs.Entries.{IsRising, is_held_in, marked}
+use Rattle.clause_store.specs.Entries.{IsRising, AreForward, is_held_in, marked}
 use Rattle.clause_store.specs.Shown.{clause_in, held_in}
 use Rattle.clause_store.specs.Index.{IsWithin, IsIndex}
 use Rattle.clause_store.specs.Nearest.{IsFirstAbove}
-use Rattle.clause_store.proofs.EntryLaws.{rising-tail, rising-head, above_differ, length-marked, SamePlace, marked-keeps, marked-rising}
+use Rattle.clause_store.proofs.EntryLaws.{rising-tail, rising-head, above_differ, length-marked, SamePlace, marked-keeps, marked-apart, marked-rising}
 
 -- an id that no entry has
 pub clause_at-none : (arena : List Literal) (es : List Entry) (id : ℕ) → All (λ e. e.id ≢ id) es → clause_at (held_in arena es) id ≡ None
@@ -79,6 +79,7 @@ index-marked size es last ids b index = record {
       let keeps : SamePlace (get_or (marked es ids b) k d) (get_or es k d) = marked-keeps es ids b k d in
       let inside : IsWithin size (get_or es k d) = index.within k d (omega (arith, here, length-marked es ids b)) in
       (omega (arith, keeps.1, keeps.2, inside.0), omega (arith, keeps.2, inside.1));
+  apart = marked-apart es ids b index.apart;
   rising = marked-rising es ids b index.rising;
   bounded = λ k d here.
       let keeps : SamePlace (get_or (marked es ids b) k d) (get_or es k d) = marked-keeps es ids b k d in
@@ -89,6 +90,9 @@ index-marked size es last ids b index = record {
       let above : 0 < (get_or es k d).id = index.positive k d (omega (arith, here, length-marked es ids b)) in
       omega (arith, keeps.0, above);
 }
+
+pub index_forward : (size : ℕ) (es : List Entry) (last : ℕ) → IsIndex size es last → AreForward es
+index_forward size es last index = λ k d within. (index.within k d within).0
 
 -- an arena that grows at its end keeps what its entries show
 slice_longer : (from count : ℕ) (xs ys : List Literal) → from + count ≤ length xs → take count (drop from (xs ++ ys)) ≡ take count (drop from xs)
@@ -129,6 +133,7 @@ module _ (xs ys grown : List Literal) (es more : List Entry) (last id start end 
   pub index-grown : more ≡ es → IsIndex (length grown) more last
   index-grown is_same = subst (λ fs. IsIndex (length grown) fs last) (sym is_same) (record {
     within = All-weaker (IsWithin (length xs)) (IsWithin (length grown)) (λ e inside. (inside.0, omega (arith, inside.1, grown_length))) es index.within;
+    apart = index.apart;
     rising = index.rising;
     bounded = index.bounded;
     positive = index.positive;
@@ -143,6 +148,7 @@ module _ (xs ys grown : List Literal) (es more : List Entry) (last id start end 
         let e : Entry = record { id = id; start = start; end = end; is_held = true } in
         subst (λ fs. IsIndex (length grown) fs id) (sym is_more) (record {
           within = All-push (IsWithin (length grown)) es e (All-weaker (IsWithin (length xs)) (IsWithin (length grown)) (λ f inside. (inside.0, omega (arith, inside.1, grown_length))) es index.within) (omega (arith, is_start, is_end, grown_length), omega (arith, is_end));
+          apart = all_pairs_push (λ f g. f.end ≤ g.start) es e index.apart (λ k d here. (let inside : IsWithin (length xs) (get_or es k d) = index.within k d here in omega (arith, inside.1, is_start)));
           rising = all_pairs_push (λ f g. f.id < g.id) es e index.rising (λ k d here. (let below : (get_or es k d).id ≤ last = index.bounded k d here in omega (arith, below, above)));
           bounded = All-push (λ f. f.id ≤ id) es e (All-weaker (λ f. f.id ≤ last) (λ f. f.id ≤ id) (λ f below. omega (arith, below, above)) es index.bounded) (omega arith);
           positive = All-push (λ f. 0 < f.id) es e index.positive (omega (arith, above));

@@ -1,5 +1,5 @@
 -- Entries under rising ids: where an id stands, and what marking changes.
-use Rattle.std.proofs.Common.{◌≡◌, ◌≢◌, ℕ, zero, suc, ◌<◌, ◌+◌, Bool, true, false, not, ◌&&◌, ◌||◌, cond, List, [], ◌∷◌, ◌++◌, length, get_or, set, take, drop, refl, sym, ap, ◌∙◌, subst, arith, ⊎_elim}
+use Rattle.std.proofs.Common.{◌≡◌, ◌≢◌, ℕ, zero, suc, ◌<◌, ◌≤◌, ◌+◌, Bool, true, false, not, ◌&&◌, ◌||◌, cond, List, [], ◌∷◌, ◌++◌, length, get_or, set, take, drop, refl, sym, ap, ◌∙◌, subst, arith, ⊎_elim}
 use Rattle.std.specs.Prelude.{◌==◌, All}
 use Rattle.std.specs.List.{AllWithin}
 use Rattle.std.specs.List.Sorted.{IsNonDecreasingBy}
@@ -9,7 +9,7 @@ use Rattle.std.proofs.lemmas.List.{take_more, take_all, drop_all, append-nil, ge
 use Rattle.std.proofs.lemmas.List.Elements.{All-tail}
 use Rattle.lrat_model.specs.Clauses.{has_id}
 use Rattle.clause_store.specs.declared.index.Entry.{Entry}
-use Rattle.clause_store.specs.Entries.{IsRising, is_held_in, marked}
+use Rattle.clause_store.specs.Entries.{IsRising, AreForward, AreApart, is_held_in, marked}
 
 pub rising-tail : (e : Entry) (es : List Entry) → IsRising (e ∷ es) → IsRising es
 rising-tail e es up = λ i j d lt within. up (suc i) (suc j) d (omega arith) (omega arith)
@@ -86,6 +86,19 @@ marked-rising es ids b up = λ i j d lt within.
     let inside : j < length es = omega (arith, within, length-marked es ids b) in
     let rises : (get_or es i d).id < (get_or es j d).id = up i j d lt inside in
     omega (arith, rises, low, high)
+
+pub marked-forward : (es : List Entry) (ids : List ℕ) (b : Bool) → AreForward es → AreForward (marked es ids b)
+marked-forward es ids b forward = λ k d within.
+    let keeps : SamePlace (get_or (marked es ids b) k d) (get_or es k d) = marked-keeps es ids b k d in
+    let own : (get_or es k d).start ≤ (get_or es k d).end = forward k d (omega (arith, within, length-marked es ids b)) in
+    omega (arith, keeps.1, keeps.2, own)
+
+pub marked-apart : (es : List Entry) (ids : List ℕ) (b : Bool) → AreApart es → AreApart (marked es ids b)
+marked-apart es ids b apart = λ i j d lt within.
+    let low : SamePlace (get_or (marked es ids b) i d) (get_or es i d) = marked-keeps es ids b i d in
+    let high : SamePlace (get_or (marked es ids b) j d) (get_or es j d) = marked-keeps es ids b j d in
+    let behind : (get_or es i d).end ≤ (get_or es j d).start = apart i j d lt (omega (arith, within, length-marked es ids b)) in
+    omega (arith, behind, low.2, high.1)
 
 -- where no id is named
 pub marked-nothing : (es : List Entry) (b : Bool) → marked es [] b ≡ es

@@ -3,3 +3,4 @@ pub mod Shown
 pub mod Index
 pub mod Arena
 pub mod Nearest
+pub mod Packed

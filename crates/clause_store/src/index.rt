@@ -1,10 +1,10 @@
 //! The index of an arena.
-ghost use Rattle.std.specs.Prelude.{◌≡◌, ◌≢◌, ◌<◌, ◌≤◌, List, [], ◌∷◌, Some, None, true, false, length, All, IfSome, OnOk, OnErr, IfErr};
+ghost use Rattle.std.specs.Prelude.{◌≡◌, ◌≢◌, ◌<◌, ◌≤◌, List, [], ◌∷◌, Some, None, true, false, length, All, IfSome, OnOk, OnErr, IfErr, is_some};
 ghost use Rattle.std.specs.List.{AllWithin, HoldsAt};
 ghost use Rattle.lrat_model.specs.Literal.{Literal};
 ghost use Rattle.lrat_model.specs.Steps.{deletion_fault};
 ghost use Rattle.lrat_model.specs.declared.step.StepFault.TheVariants.{NoSuchClause};
-ghost use Rattle.clause_store.specs.Entries.{IsRising, is_held_in, marked};
+ghost use Rattle.clause_store.specs.Entries.{IsRising, AreForward, is_held_in, marked};
 ghost use Rattle.clause_store.specs.Shown.{held_in};
 
 /// Where the literals of a clause stand in the arena, and whether the clause is held still.
@@ -44,41 +44,50 @@ pub fn place_of(entries: &[Entry], id: u64) -> Option<usize>
     }
 }
 
-/// Marks the entry of an id as held, or as held no more. Gives whether it was held.
-pub fn mark(entries: &mut [Entry], id: u64, is_held: bool) -> bool
-    requires { IsRising entries.old }
-    ensures was { result ≡ is_held_in entries.old id }
+/// Marks the entry of an id as held, or as held no more. Gives how many literals it has, where it was held.
+pub fn mark(entries: &mut [Entry], id: u64, is_held: bool) -> Option<usize>
+    requires rising { IsRising entries.old }
+    requires forward { AreForward entries.old }
+    ensures was { is_some result ≡ is_held_in entries.old id }
     ensures marked { entries.new ≡ marked entries.old (id ∷ []) is_held }
 {
     let Some(place) = place_of(entries, id) else {
-        return false;
+        return None;
     };
-    let was_held = entries[place].is_held;
+    let entry = entries[place];
     entries[place].is_held = is_held;
-    was_held
+    if entry.is_held {
+        Some(entry.end - entry.start)
+    } else {
+        None
+    }
 }
 
-/// Marks the entries of these ids as held no more, or none of them: `Err` has the first id that is not
-/// held, a second time in the list among them.
-pub fn mark_removed(entries: &mut [Entry], ids: &[u64]) -> Result<(), u64>
-    requires { IsRising entries.old }
+/// Marks the entries of these ids as held no more, and gives how many literals they have; or marks none of them: `Err` has
+/// the first id that is not held, a second time in the list among them.
+pub fn mark_removed(entries: &mut [Entry], ids: &[u64]) -> Result<usize, u64>
+    requires rising { IsRising entries.old }
+    requires forward { AreForward entries.old }
     ensures ok { (arena : List Literal) → OnOk result (deletion_fault (held_in arena entries.old) [] ids.now ≡ None) }
     ensures marked { OnOk result (entries.new ≡ marked entries.old ids.now false) }
     ensures missing { (arena : List Literal) → IfErr result (λ id. deletion_fault (held_in arena entries.old) [] ids.now ≡ Some (NoSuchClause id)) }
     ensures unchanged { OnErr result (entries.new ≡ entries.old) }
 {
+    let mut literals: usize = 0;
     for (i, id) in ids.iter().enumerate() {
-        if !mark(entries, *id, false) {
+        let Some(more) = mark(entries, *id, false) else {
             mark_held(entries, &ids[..i]);
             return Err(*id);
-        }
+        };
+        literals = literals.saturating_add(more);
     }
-    Ok(())
+    Ok(literals)
 }
 
 /// Marks the entries of these ids as held.
-pub fn mark_held(entries: &mut [Entry], ids: &[u64])
-    requires { IsRising entries.old }
+fn mark_held(entries: &mut [Entry], ids: &[u64])
+    requires rising { IsRising entries.old }
+    requires forward { AreForward entries.old }
     ensures { entries.new ≡ marked entries.old ids.now true }
 {
     for id in ids {

@@ -1,6 +1,7 @@
 //! Clauses under ids, their literals in one arena.
 #![tactic(auto)]
 
+mod compact;
 mod index;
 mod store;
 

@@ -6,6 +6,7 @@ ghost use Rattle.lrat_model.specs.Steps.{deletion_fault};
 ghost use Rattle.lrat_model.specs.declared.step.StepFault.TheVariants.{NoSuchClause};
 ghost use Rattle.clause_store.specs.Nearest.{IsFirstAbove};
 
+use crate::compact::reclaim;
 use crate::index::{Entry, mark, mark_removed, place_above, place_of};
 use lrat_model::Lit;
 use std::alloc::{AllocError, Global};
@@ -13,11 +14,15 @@ use std::marker::Model;
 
 /// Clauses under ids, and the last id: a database of `lrat_model`.
 ///
-/// The literals of all clauses lie in one arena. A clause that is removed leaves its room there.
+/// The literals of all clauses lie in one arena, in the order of ids. Clauses that are removed leave their room there, until it
+/// is more than half of the whole: then all that is held is moved together. So memory goes by the most literals and clauses
+/// that were held at a time.
 #[derive(Drop)]
 pub struct Store {
     arena: Vec<Lit>,
     entries: Vec<Entry>,
+    // The room of removed clauses, in literals and entries: it says only when to move what is held.
+    removed: usize,
     last: u64,
 }
 
@@ -42,6 +47,7 @@ impl Store {
         Store {
             arena: Vec::new(alloc),
             entries: Vec::new(alloc),
+            removed: 0,
             last: 0,
         }
     }
@@ -77,17 +83,24 @@ impl Store {
         Ok(())
     }
 
-    /// Takes the clause of an id out, and gives whether there was one. O(log n) for n pushed clauses.
+    /// Takes the clause of an id out, and gives whether there was one. O(log n) for n clauses held, and O(its literals),
+    /// amortised.
     pub fn remove(&mut self, id: u64) -> bool
         ensures found { result ≡ is_some (clause_at self.old.held id) }
         ensures held { self.new.held ≡ without self.old.held (id ∷ []) }
         ensures last { self.new.last ≡ self.old.last }
     {
-        mark(&mut self.entries, id, false)
+        let Some(literals) = mark(&mut self.entries, id, false) else {
+            return false;
+        };
+        let room = literals.saturating_add(1);
+        reclaim(&mut self.arena, &mut self.entries, &mut self.removed, room);
+        true
     }
 
     /// Takes the clauses of these ids out, or none of them: `Err` has the first id that is not held,
-    /// a second time in the list among them. O(k log n) for k ids and n pushed clauses.
+    /// a second time in the list among them. O(k log n) for k ids and n clauses held, and O(their literals),
+    /// amortised.
     pub fn remove_all(&mut self, ids: &[u64]) -> Result<(), u64>
         ensures ok { OnOk result (deletion_fault self.old.held [] ids.now ≡ None) }
         ensures held { OnOk result (self.new.held ≡ without self.old.held ids.now) }
@@ -95,10 +108,13 @@ impl Store {
         ensures missing { IfErr result (λ id. deletion_fault self.old.held [] ids.now ≡ Some (NoSuchClause id)) }
         ensures unchanged { OnErr result (self.new ≡ self.old) }
     {
-        mark_removed(&mut self.entries, ids)
+        let literals = mark_removed(&mut self.entries, ids)?;
+        let room = literals.saturating_add(ids.len());
+        reclaim(&mut self.arena, &mut self.entries, &mut self.removed, room);
+        Ok(())
     }
 
-    /// The literals under an id. O(log n) for n pushed clauses.
+    /// The literals under an id. O(log n) for n clauses held.
     pub fn lits(&self, id: u64) -> Option<&[Lit]>
         ensures { option_copied result ≡ clause_at self.now.held id }
     {
@@ -114,7 +130,7 @@ impl Store {
     }
 
     /// The least id above this one that is held, and its literals: with `first_above(0)` first, each
-    /// clause in the order of ids. O(log n) for n pushed clauses, and O(1) for each removed one between.
+    /// clause in the order of ids. O(log n) for n clauses held, and O(1) for each removed one that stands between.
     pub fn first_above(&self, id: u64) -> Option<(u64, &[Lit])>
         ensures some { IfSome result (λ e. IsFirstAbove self.now.held id e.0 e.1.now) }
         ensures none { result ≡ None → (k : ℕ) → id < k → clause_at self.now.held k ≡ None }
@@ -169,7 +185,7 @@ mod tests {
     #[test]
     fn ids_with_gaps(rt: HostRuntime) -> Result<(), Fail> {
         let alloc = rt.alloc();
-        let cases: [(&[u64], u64, &str); 6] = [
+        let cases: [(&[u64], u64, &str); 7] = [
             (
                 &[],
                 0,
@@ -177,6 +193,7 @@ mod tests {
             ),
             (&[10], 0, "last 10 2:[Lit(1), Lit(-2)] 5:[] 9:[Lit(3)]"),
             (&[9, 2], 0, "last 10 5:[] 10:[Lit(-1), Lit(-3), Lit(2)]"),
+            (&[10, 2], 0, "last 10 5:[] 9:[Lit(3)]"),
             (&[2, 9, 10, 5], 0, "last 10"),
             (
                 &[9, 3, 2],
