@@ -659,7 +659,9 @@ fn refutation(alloc: Global, digest: &str, lines: &str) -> Result<String, AllocE
 
 /// The digests of the empty configuration, of `TWO_OF_TWO` and of half of two hundred, by `sha256sum`.
 const DIGEST_OF_NONE: &str = "4f53cda18c2baa0c0354bb5f9a3ecbe5ed12ab4d8e11ba873c2f11161202b945";
+
 const DIGEST_OF_TWO: &str = "d5ccec4a141b4b11eb0b80bb62d235f24e373c62aa2fa9f6fb33f6b1e2871f41";
+
 const DIGEST_OF_HALF: &str = "d884224eb5c94b56192c3e255562a01521a12c4cab2b78fdbb8db9235641e9d3";
 
 #[test]
