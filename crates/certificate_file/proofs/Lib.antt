@@ -10,3 +10,4 @@ pub mod PartLaws
 pub mod GreatestLaws
 pub mod RefutationLaws
 pub mod WholeLaws
+pub mod FromLaws

@@ -2,15 +2,14 @@
 ghost use Rattle.std.specs.Prelude.{◌≡◌, ◌⊎◌, ◌<◌, ◌≤◌, length, IfOk, IfErr, IsErrOf, Ok, Err};
 ghost use Rattle.fbas_model.specs.Nodes.{members};
 ghost use Rattle.fbas_model.specs.Fbas.{IsGreatestQuorum, all_nodes};
-ghost use Rattle.certificate_file.specs.Words.{words_view};
 ghost use Rattle.certificate_file.specs.Greatest.{greatest_of};
-ghost use Rattle.certificate_file.specs.Formulas.{formula_of, formula_over, number_in, counts_behind};
+ghost use Rattle.certificate_file.specs.Formulas.{formula_of, formula_over, number_in, counts_in};
 ghost use Rattle.certificate_file.specs.Acceptance.{sized, formula_line};
 ghost use Rattle.certificate_file.specs.Reading.{IsSubject};
 
 use crate::faults::CertError;
 use crate::places::{Header, Place, State, Subject};
-use crate::words::words;
+use crate::words::Words;
 use clause_encoder::{EncodeError, encode};
 use fbas_core::System;
 use greatest_quorum::shrink;
@@ -37,13 +36,14 @@ fn number(word: &[u8]) -> Option<u64>
 }
 
 /// The numbers behind the word `formula`.
-fn counts_behind(words: &[Vec<u8>]) -> Option<Counts>
-    ensures { result ≡ counts_behind (words_view words.now) }
+fn counts_in(text: &[u8]) -> Option<Counts>
+    ensures { result ≡ counts_in text.now }
 {
-    let [word, vars, clauses] = words else {
-        return None;
-    };
-    if word.as_slice() != b"formula".as_slice() {
+    let mut words = Words::of(text);
+    let word = words.next()?;
+    let vars = words.next()?;
+    let clauses = words.next()?;
+    if words.next().is_some() || word != b"formula".as_slice() {
         return None;
     }
     let vars = number(vars)?;
@@ -143,8 +143,7 @@ pub fn formula_line(
     ensures ok { IfOk result (λ s. formula_line system.now subject line text.now ≡ Ok s) }
     ensures err { IfErr result (λ e. (e ≡ CertError.Memory) ⊎ (formula_line system.now subject line text.now ≡ Err e)) }
 {
-    let words = words(alloc, text)?;
-    let Some(counts) = counts_behind(words.as_slice()) else {
+    let Some(counts) = counts_in(text) else {
         return Err(CertError::BadLine(line));
     };
     let (checker, vars) = formula_of(alloc, system, &subject)?;

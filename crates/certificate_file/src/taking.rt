@@ -1,6 +1,8 @@
 // What each line of a certificate says at its place.
-ghost use Rattle.std.specs.Prelude.{◌≡◌, ◌⊎◌, length, true, IfOk, IfErr, IsErrOf, Ok, Err};
+ghost use Rattle.std.specs.Prelude.{◌≡◌, ◌⊎◌, length, true, None, IfOk, IfErr, IfSome, IsErrOf, Ok, Err};
+ghost use Rattle.digest_text.specs.Digits.{digest_of};
 ghost use Rattle.fbas_model.specs.Counting.{is_quorum};
+ghost use Rattle.certificate_file.specs.Words.{digest_in};
 ghost use Rattle.certificate_file.specs.Acceptance.{and_then, named, within, expected, digest_line, faulty_line, kind_line, quorum, first_line, second_line, paired, take_line};
 ghost use Rattle.certificate_file.specs.Reading.{IsPart, IsSubject, IsKnown, IsKnownState};
 
@@ -10,7 +12,7 @@ use crate::lists::named;
 use crate::parts::{cut, from_line, within};
 use crate::places::{Accepted, Answer, Header, Place, State, Subject};
 use crate::refuting::step_line;
-use crate::words::words;
+use crate::words::Words;
 use digest_text::read_digits;
 use fbas_core::System;
 use name_set::NodeSet;
@@ -28,19 +30,28 @@ fn expected(line: u64, text: &[u8], wanted: &str, next: State) -> Result<State, 
     Ok(next)
 }
 
-/// Line 2: the digest of the configuration.
-fn digest_line(alloc: Global, digest: &[u8; 32], line: u64, text: &[u8]) -> Result<State, CertError>
-    ensures unread { IsErrOf result CertError.Read → ⊥ }
-    ensures ok { IfOk result (λ s. digest_line digest.now line text.now ≡ Ok s) }
-    ensures err { IfErr result (λ e. (e ≡ CertError.Memory) ⊎ (digest_line digest.now line text.now ≡ Err e)) }
+/// The word behind the word `config`, where there is one and nothing else.
+fn digits_in(text: &[u8]) -> Option<&[u8]>
+    ensures some { IfSome result (λ digits. digest_in text.now ≡ digest_of digits.now) }
+    ensures none { result ≡ None → digest_in text.now ≡ None }
 {
-    let words = words(alloc, text)?;
-    let [word, digits] = words.as_slice() else {
+    let mut words = Words::of(text);
+    let word = words.next()?;
+    let digits = words.next()?;
+    if words.next().is_some() || word != b"config".as_slice() {
+        return None;
+    }
+    Some(digits)
+}
+
+/// Line 2: the digest of the configuration.
+fn digest_line(digest: &[u8; 32], line: u64, text: &[u8]) -> Result<State, CertError>
+    ensures unread { IsErrOf result CertError.Read → ⊥ }
+    ensures value { result ≡ digest_line digest.now line text.now }
+{
+    let Some(digits) = digits_in(text) else {
         return Err(CertError::BadLine(line));
     };
-    if word.as_slice() != b"config".as_slice() {
-        return Err(CertError::BadLine(line));
-    }
     let Some(found) = read_digits(digits) else {
         return Err(CertError::BadLine(line));
     };
@@ -196,7 +207,7 @@ pub fn take_line(
 {
     match place {
         Place::AtTitle => expected(line, text, "fbas-cert 1", State::Going(Place::AtDigest)),
-        Place::AtDigest => digest_line(alloc, digest, line, text),
+        Place::AtDigest => digest_line(digest, line, text),
         Place::AtFrom => from_line(alloc, system, line, text),
         Place::AtFaulty(from, nodes) => faulty_line(alloc, system, from, nodes, line, text),
         Place::AtKind(subject) => kind_line(line, text, subject),
