@@ -4,6 +4,8 @@
 mod compact;
 mod index;
 mod store;
+mod view;
 
 pub use lrat_model::Lit;
 pub use store::Store;
+pub use view::{ClauseRef, ClauseView, LongRef};

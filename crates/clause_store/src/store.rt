@@ -1,6 +1,7 @@
 //! The store.
-ghost use Rattle.std.specs.Prelude.{◌≡◌, ℕ, ◌<◌, [], ◌∷◌, Some, None, OnOk, OnErr, IfErr, IfSome, AllPairs, is_some};
+ghost use Rattle.std.specs.Prelude.{◌≡◌, ◌≢◌, ℕ, ◌<◌, List, [], ◌∷◌, length, Some, None, OnOk, OnErr, IfErr, IfSome, AllPairs, is_some};
 ghost use Rattle.std.specs.Option.{option_copied};
+ghost use Rattle.lrat_model.specs.Literal.{Literal};
 ghost use Rattle.lrat_model.specs.Clauses.{clause_at, with_clause, without};
 ghost use Rattle.lrat_model.specs.Steps.{deletion_fault};
 ghost use Rattle.lrat_model.specs.declared.step.StepFault.TheVariants.{NoSuchClause};
@@ -8,6 +9,7 @@ ghost use Rattle.clause_store.specs.Nearest.{IsFirstAbove};
 
 use crate::compact::reclaim;
 use crate::index::{Entry, mark, mark_removed, place_above, place_of};
+use crate::view::ClauseRef;
 use lrat_model::Lit;
 use std::alloc::{AllocError, Global};
 use std::marker::Model;
@@ -126,6 +128,18 @@ impl Store {
             Some(&self.arena[entry.start..entry.end])
         } else {
             None
+        }
+    }
+
+    /// The clause under an id, where it has K literals. As `lits` finds it.
+    pub fn view<const K: usize>(&self, id: u64) -> Option<ClauseRef<'_, K>>
+        ensures some { IfSome result (λ clause. clause_at self.now.held id ≡ Some clause) }
+        ensures width { IfSome result (λ clause. length clause ≡ K) }
+        ensures none { result ≡ None → (clause : List Literal) → clause_at self.now.held id ≡ Some clause → length clause ≢ K }
+    {
+        match self.lits(id) {
+            Some(lits) if lits.len() == K => Some(ClauseRef::of(lits)),
+            _ => None,
         }
     }
 
