@@ -2,6 +2,7 @@
 #![tactic(auto)]
 
 mod compact;
+mod guess;
 mod index;
 mod store;
 mod view;
