@@ -8,7 +8,9 @@ use Rattle.lrat_model.specs.Runs.{Run}
 use Rattle.lrat_model.specs.declared.step.Progress.TheVariants.{Going, Refuted}
 use Rattle.lrat_model.proofs.News.{useful_is_new}
 use Rattle.cdcl_core.specs.Log.{AreLemmas, units, HasNoEmptyLemma, EndsEmpty}
-use Rattle.list_journal.specs.Journals.{JournalLine, QuorumLine, BlockingLine, StepLine, ListKind, Whole, Partial, after_line, IsNewLine, JournalRun, line_progress, IsOpen, EndsRefuted, journal_units, AreUseful}
+use Rattle.list_journal.specs.Journals.{JournalLine, QuorumLine, BlockingLine, StepLine, after_line, IsNewLine, JournalRun, line_progress, IsOpen, EndsRefuted, journal_units, AreUseful}
+use Rattle.list_journal.specs.declared.kinds.ListKind.{ListKind}
+use Rattle.list_journal.specs.declared.kinds.ListKind.TheVariants.{Whole, Partial}
 use Rattle.blocking_lists.specs.Lines.{step_lines}
 
 pub run_append : (kind : ListKind) (f : Fbas) (b : Nodes) (g : Table) (old : Database) (xs ys : List JournalLine) (middle new : Database) → JournalRun kind f b g old xs middle → JournalRun kind f b g middle ys new → JournalRun kind f b g old (xs ++ ys) new

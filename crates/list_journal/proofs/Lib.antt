@@ -1,4 +1,5 @@
 pub mod Places
+pub mod Elements
 pub mod ClauseTruth
 pub mod Greatest
 pub mod Whole
@@ -6,4 +7,5 @@ pub mod WholeQuorums
 pub mod ListSamples
 pub mod TestLaws
 pub mod NameOrder
+pub mod OrderLaws
 pub mod ClauseLoops

@@ -12,8 +12,11 @@ use Rattle.lrat_model.specs.Steps.{Database, after_step}
 use Rattle.lrat_model.specs.declared.step.Progress.TheVariants.{Refuted}
 use Rattle.lrat_model.proofs.Runs.{Satisfies-step, refuted}
 use Rattle.list_journal.specs.Numbering.{quorum_clause, blocking_clause, assignment_of}
-use Rattle.list_journal.specs.Journals.{JournalLine, QuorumLine, BlockingLine, StepLine, ListKind, Whole, nothing_held, after_line, JournalRun, line_progress, IsWholeJournal, quorum_sets}
+use Rattle.list_journal.specs.Journals.{JournalLine, QuorumLine, BlockingLine, StepLine, nothing_held, after_line, JournalRun, line_progress, IsWholeJournal, quorum_sets}
+use Rattle.list_journal.specs.declared.kinds.ListKind.{ListKind}
+use Rattle.list_journal.specs.declared.kinds.ListKind.TheVariants.{Whole}
 use Rattle.list_journal.proofs.Greatest.{IsGreatest}
+use Rattle.list_journal.proofs.Elements.{later_in}
 use Rattle.list_journal.proofs.ClauseTruth.{quorum_clause_true, blocking_clause_true}
 use Rattle.greatest_quorum.proofs.GreatestLaws.{table_of}
 use Rattle.list_journal.proofs.Whole.{within_or_not, contains_or_not, quorum_within, satisfies_more}
@@ -77,7 +80,7 @@ module _ (f : Fbas) (b : Nodes) (g u : Table) (greatest : IsGreatest f b g) (pla
   lines_true kind old [] new run absent = tt
   lines_true kind old (QuorumLine id q ∷ lines) new run absent = (
     quorum_true q run.0.1 run.0.2 (λ same. absent (0, omega arith, same)),
-    lines_true kind (after_line g old (QuorumLine id q)) lines new run.2 (λ c. absent (Contains-append_right (q ∷ []) (quorum_sets lines) u c)),
+    lines_true kind (after_line g old (QuorumLine id q)) lines new run.2 (λ c. absent (later_in q (quorum_sets lines) u c)),
   )
   lines_true kind old (BlockingLine id s ∷ lines) new run absent = (block_true s run.0.2, lines_true kind (after_line g old (BlockingLine id s)) lines new run.2 absent)
   lines_true kind old (StepLine step ∷ lines) new run absent = (tt, lines_true kind (after_step old step) lines new run.2 absent)
