@@ -32,8 +32,9 @@ use Rattle.blocking_lists.specs.declared.journal.ListLine.{ListLine}
 use Rattle.list_journal.specs.declared.kinds.Listed.{Listed}
 use Rattle.list_journal.specs.declared.kinds.Listed.TheVariants as listed
 use Rattle.blocking_lists.proofs.Models.{new_where_false, useful_where_false, empty_closes}
-use Rattle.blocking_lists.proofs.Runs.{run_append, steps_partial, steps_whole, whole_from_partial, useful_append, steps_useful, units_append, units_steps, open_steps, open_append, ends_in_steps, ends_refuted}
-use Rattle.blocking_lists.proofs.Ids.{AreBelow, below_run, found_new}
+use Rattle.list_journal.proofs.Runs.{run_append, whole_from_partial, useful_append, units_append, open_append}
+use Rattle.blocking_lists.proofs.Runs.{steps_partial, steps_whole, steps_useful, units_steps, open_steps, ends_in_steps, ends_refuted}
+use Rattle.list_journal.proofs.Ids.{AreBelow, below_run, found_new}
 use Rattle.blocking_lists.proofs.Merged.{between_more, between_push, merged_steps, merged_line}
 use Rattle.list_journal.proofs.Places.{next_place, same_place}
 

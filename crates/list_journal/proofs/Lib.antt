@@ -6,6 +6,9 @@ pub mod Whole
 pub mod WholeQuorums
 pub mod ListSamples
 pub mod TestLaws
+pub mod DecisionLaws
+pub mod Runs
+pub mod Ids
 pub mod NameOrder
 pub mod OrderLaws
 pub mod ClauseLoops

@@ -1,6 +1,5 @@
 -- The definitions on three nodes that each need two of the three.
-use Rattle.std.proofs.Common.{◌≡◌, true, false, List, [], ◌∷◌, refl, Some, None, pos, Err}
-use Rattle.std.specs.Result.{is_ok}
+use Rattle.std.proofs.Common.{◌≡◌, true, false, List, [], ◌∷◌, refl, Some, pos}
 use Rattle.fbas_model.specs.Nodes.{Table}
 use Rattle.fbas_model.specs.Trees.{quorum_set, node, none}
 use Rattle.fbas_model.specs.Fbas.{Fbas}
@@ -10,8 +9,7 @@ use Rattle.greatest_quorum.specs.Greatest.{greatest_of}
 use Rattle.list_journal.specs.Tests.{is_blocking, is_least}
 use Rattle.list_journal.specs.Order.{ordered}
 use Rattle.list_journal.specs.Numbering.{quorum_clause, blocking_clause}
-use Rattle.list_journal.specs.Journals.{JournalLine, QuorumLine, BlockingLine, StepLine, nothing_held, blocking_sets, journal_units}
-use Rattle.list_journal.specs.declared.kinds.ListKind.TheVariants.{Whole, Partial}
+use Rattle.list_journal.specs.Journals.{JournalLine, QuorumLine, BlockingLine, StepLine, blocking_sets, journal_units}
 
 abbrev three : Fbas
 three = Some (quorum_set 2 (node 0 (node 1 (node 2 none)))) ∷ Some (quorum_set 2 (node 0 (node 1 (node 2 none)))) ∷ Some (quorum_set 2 (node 0 (node 1 (node 2 none)))) ∷ []

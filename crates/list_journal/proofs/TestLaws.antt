@@ -1,12 +1,9 @@
 -- The tests of lines say what they are named for.
-use Rattle.std.proofs.Common.{◌≡◌, ℕ, zero, suc, Bool, true, false, not, ◌&&◌, ◌||◌, List, [], ◌∷◌, length, cond, Some, None, Option, Result, Ok, refl, sym, ap, ◌∙◌, subst, arith, inl, inr, nat_lt, ◌==◌}
+use Rattle.std.proofs.Common.{◌≡◌, ℕ, zero, suc, Bool, true, false, not, ◌&&◌, ◌||◌, List, [], ◌∷◌, length, cond, Some, None, Option, refl, sym, ap, ◌∙◌, subst, arith, inl, inr, ◌==◌}
 use Rattle.std.specs.List.{list_any}
-use Rattle.std.specs.Prelude.{All}
-use Rattle.std.specs.Option.{option_or}
-use Rattle.std.proofs.lemmas.Bool.{cases_Bool, or_cases, or_left, or_right, and_parts, and_from, both_ways, false≢true, false_from_ne_true, ltb-true, lt-ltb, eqb-true, not_from_false}
-use Rattle.std.proofs.lemmas.List.Elements.{All-head, All-tail}
+use Rattle.std.proofs.lemmas.Bool.{cases_Bool, or_cases, or_left, or_right, and_parts, and_from, both_ways, false≢true, false_from_ne_true, lt-ltb, eqb-true, not_from_false}
 use Rattle.fbas_model.specs.Nodes.{Nodes, Table, members, ◌∈◌, ◌⊆◌, ◌∖◌, Meets, size}
-use Rattle.fbas_model.specs.Fbas.{Fbas, Quorum, Blocks, BlocksMinimally, all_nodes}
+use Rattle.fbas_model.specs.Fbas.{Fbas, Quorum, Blocks, all_nodes}
 use Rattle.fbas_model.specs.Counting.{is_quorum}
 use Rattle.fbas_model.specs.Restriction.{table_from}
 use Rattle.fbas_model.proofs.Tables.{length-table_from}
@@ -15,11 +12,10 @@ use Rattle.fbas_model.proofs.QuorumLaw.{quorum-to, quorum-from}
 use Rattle.lrat_model.specs.Literal.{Literal, IsSubset}
 use Rattle.lrat_model.specs.Clauses.{Held, clause_at}
 use Rattle.lrat_model.specs.Lemmas.{IsNew}
-use Rattle.lrat_model.specs.Steps.{ProofStep, Addition, Deletion, Database, step_fault}
-use Rattle.lrat_model.specs.declared.step.StepFault.{StepFault}
-use Rattle.greatest_quorum.specs.Greatest.{some_set, greatest_of}
+use Rattle.lrat_model.specs.Steps.{ProofStep, Addition, Deletion}
+use Rattle.greatest_quorum.specs.Greatest.{some_set}
 use Rattle.list_journal.specs.Numbering.{quorum_clause, blocking_clause}
-use Rattle.list_journal.specs.Journals.{JournalLine, QuorumLine, BlockingLine, StepLine, after_line, IsTaken, IsNewLine, IsNewStep, JournalRun}
+use Rattle.list_journal.specs.Journals.{QuorumLine, BlockingLine, IsNewLine, IsNewStep}
 use Rattle.list_journal.specs.declared.kinds.ListKind.{ListKind}
 use Rattle.list_journal.specs.declared.kinds.ListKind.TheVariants.{Whole, Partial}
 use Rattle.list_journal.specs.Tests.{is_within, is_meeting, is_blocking, is_least, is_covered, is_new, is_new_in, is_new_step}

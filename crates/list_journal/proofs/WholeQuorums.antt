@@ -1,7 +1,6 @@
 -- A journal that runs to the empty lemma has each minimal quorum: outside one that it lacks, every clause would be satisfied.
 use Rattle.std.proofs.Common.{◌≡◌, ℕ, Bool, true, false, not, ◌&&◌, List, [], ◌∷◌, ◌++◌, length, refl, sym, ap, ◌∙◌, subst, arith, inl, inr, Contains}
 use Rattle.std.proofs.lemmas.Bool.{and_parts, and_from, cases_Bool, both_ways, false_from_ne_true, not_from_false}
-use Rattle.std.proofs.lemmas.List.Elements.{Contains-append_right}
 use Rattle.fbas_model.specs.Nodes.{Nodes, Table, members, ◌∖◌, size}
 use Rattle.fbas_model.specs.Fbas.{Fbas, Quorum, IsMinimalQuorum, BlocksMinimally, all_nodes}
 use Rattle.fbas_model.specs.Restriction.{table_from}

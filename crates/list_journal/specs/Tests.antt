@@ -1,19 +1,17 @@
 -- Whether a line may stand in a journal, by computing: by trying all sets of nodes.
-use Rattle.std.specs.Prelude.{◌≡◌, ℕ, List, [], ◌∷◌, length, Bool, true, false, not, ◌&&◌, ◌||◌, nat_lt, Option, Some, None, Result, Ok, Err}
+use Rattle.std.specs.Prelude.{List, [], ◌∷◌, length, Bool, true, false, not, ◌&&◌, ◌||◌, Option, Some, None}
 use Rattle.std.specs.List.{list_all, list_any}
-use Rattle.std.specs.Option.{option_or}
-use Rattle.fbas_model.specs.Nodes.{Table, size}
+use Rattle.fbas_model.specs.Nodes.{Table}
 use Rattle.fbas_model.specs.Fbas.{Fbas}
 use Rattle.fbas_model.specs.Counting.{is_quorum}
 use Rattle.lrat_model.specs.Literal.{Literal, has}
 use Rattle.lrat_model.specs.Clauses.{Held, clause_at}
-use Rattle.lrat_model.specs.Steps.{ProofStep, Addition, Deletion, Database, step_fault}
-use Rattle.lrat_model.specs.declared.step.StepFault.{StepFault}
-use Rattle.greatest_quorum.specs.Greatest.{some_set, greatest_of}
-use Rattle.list_journal.specs.Numbering.{quorum_clause, blocking_clause}
-use Rattle.list_journal.specs.Journals.{JournalLine, QuorumLine, BlockingLine, StepLine, after_line}
+use Rattle.lrat_model.specs.Steps.{ProofStep, Addition, Deletion}
+use Rattle.greatest_quorum.specs.Greatest.{some_set}
 use Rattle.list_journal.specs.declared.kinds.ListKind.{ListKind}
 use Rattle.list_journal.specs.declared.kinds.ListKind.TheVariants.{Whole, Partial}
+use Rattle.list_journal.specs.declared.kinds.Listed.{Listed}
+use Rattle.list_journal.specs.declared.kinds.Listed.TheVariants as listed
 
 -- ---- sets
 
@@ -59,3 +57,8 @@ is_new_in Partial held clause = is_new held clause
 abbrev pub is_new_step : ListKind → Held → ProofStep → Bool
 is_new_step kind held (Addition id lits hints) = is_new_in kind held lits
 is_new_step kind held (Deletion id ids) = true
+
+-- and whether the clause of a set is; that of a blocking set always has to be
+abbrev pub is_new_set : ListKind → Listed → Held → List Literal → Bool
+is_new_set kind listed.Quorum held clause = is_new_in kind held clause
+is_new_set kind listed.Blocking held clause = is_new held clause

@@ -13,10 +13,12 @@ ghost use Rattle.list_journal.specs.Journals.{JournalLine, IsWholeJournal, block
 ghost use Rattle.list_journal.specs.Lists.{AreMinimalBlocks, IsLeastQuorum};
 
 mod clauses;
+mod deciding;
 mod kinds;
 mod order;
 
 pub use clauses::clause_of;
+pub use deciding::{is_blocking, is_least};
 pub use kinds::{ListKind, Listed};
 pub use order::{SetList, rising};
 
