@@ -1,4 +1,4 @@
-use Rattle.std.proofs.Common.{◌≡◌, ℕ, true, false, Bool, ◌∙◌, sym, ap, length}
+use Rattle.std.proofs.Common.{◌≡◌, ℕ, Bool, ◌∙◌, sym, ap, length}
 use Rattle.fbas_model.specs.Nodes.{Table, members}
 use Rattle.greatest_quorum.specs.Greatest.{greatest_of}
 use Rattle.greatest_quorum.proofs.GreatestLaws.{length-greatest_of}
