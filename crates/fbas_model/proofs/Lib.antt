@@ -12,3 +12,4 @@ pub mod Renumbered
 pub mod RestrictionLaw
 pub mod Closure
 pub mod Listed
+pub mod WholeLaw

@@ -6,6 +6,7 @@ ghost use Rattle.name_set.specs.Lists.{node_at, names_read, name_read};
 use crate::NodeSet;
 use crate::keys::is_key;
 use crate::names::Names;
+use fbas_model::MOST_NODES;
 use thiserror::Error;
 
 /// Why a text is no list of names: the fault of its first faulty item, and the place of that item, counted from 1.
@@ -44,7 +45,7 @@ fn node_at(names: &Names, place: u64, item: &[u8]) -> Result<u32, NameFault>
 /// looked at for its length, for being a key and for being among the names, in this order. O(bytes + k log n) for k items
 /// and n names. Takes no memory.
 pub fn read_names(text: &[u8], names: &Names) -> Result<NodeSet, NameFault>
-    requires { length names.now ≤ 4096 }
+    requires { length names.now ≤ MOST_NODES }
     ensures ok { IfOk result (λ s. names_read text.now names.now ≡ Ok s) }
     ensures err { IfErr result (λ e. names_read text.now names.now ≡ Err e) }
     ensures fits { IfOk result (λ s. length s ≡ length names.now) }

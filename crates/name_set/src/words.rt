@@ -5,6 +5,7 @@ ghost use Rattle.fbas_model.specs.Nodes.{Nodes, Table, members, ◌∈◌, ◌�
 ghost use Rattle.std.specs.Iterator.{YieldsFirst, item_count};
 ghost use Rattle.name_set.specs.Words.{PartAt};
 
+use fbas_model::MOST_NODES;
 use std::cmp::Ordering;
 use std::marker::Model;
 
@@ -20,8 +21,11 @@ pub struct NodeWords<const W: usize> {
     n: u32,
 }
 
-/// A set of the nodes of a system, which are at most 4,096.
-pub type NodeSet = NodeWords<64>;
+/// How many words a set of the nodes of a system has.
+pub const NODE_WORDS: usize = MOST_NODES / 64;
+
+/// A set of the nodes of a system.
+pub type NodeSet = NodeWords<NODE_WORDS>;
 
 impl<const W: usize> Model for NodeWords<W> {
     ghost use Rattle.fbas_model.specs.Nodes.{Table};
