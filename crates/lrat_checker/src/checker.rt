@@ -257,6 +257,32 @@ mod tests {
         Ok(())
     }
 
+    // Whether the checker takes the deletion of an id.
+    fn delete(alloc: Global, checker: &mut Checker, id: u64) -> Result<bool, AllocError> {
+        let ids = Vec::from_slice(alloc, &[id])?;
+        Ok(is_going(checker.step(&Step::Delete { id: 1, ids })))
+    }
+
+    // The index learns of lemmas that are added, and of clauses that are deleted.
+    #[test]
+    fn covered_after_changes(rt: HostRuntime) -> Result<(), Fail> {
+        let alloc = rt.alloc();
+        let mut checker = checker(alloc)?;
+        checker.expect_covers(alloc);
+        let (one, two) = (lits(alloc, &[8, -1])?, lits(alloc, &[-4, -2, 7])?);
+        assert!(rt; !checker.covers(18, &one) && checker.covers(18, &two));
+        let lemma = addition(alloc, 17, &[-1], &[7, 6, 3, 4, 2])?;
+        assert!(rt; is_going(checker.step(&lemma)));
+        assert!(rt; checker.covers(18, &one) && !checker.covers(17, &one));
+        for id in 1..17_u64 {
+            assert!(rt; delete(alloc, &mut checker, id)?);
+        }
+        assert!(rt; checker.covers(18, &one) && !checker.covers(18, &two));
+        assert!(rt; delete(alloc, &mut checker, 17)?);
+        assert!(rt; !checker.covers(18, &one));
+        Ok(())
+    }
+
     fn is_going(answer: Result<Progress, StepFault>) -> bool {
         matches!(answer, Ok(Progress::Going))
     }
@@ -315,8 +341,13 @@ mod tests {
         let answer = checker.step(&step);
         assert_eq!(rt; shown(alloc, answer)?.as_str(), "no-such-clause 7");
         let list = lits(alloc, &[-4, 5, -2, -3])?;
-        for (id, want) in [(4, false), (5, true), (17, true)] {
+        let cases = [(4, false), (5, true), (17, true)];
+        for (id, want) in cases {
             assert_eq!(rt; checker.covers(id, &list), want, "{id}");
+        }
+        checker.expect_covers(alloc);
+        for (id, want) in cases {
+            assert_eq!(rt; checker.covers(id, &list), want, "{id} by the index");
         }
         Ok(())
     }
