@@ -10,6 +10,5 @@ pub mod Runs
 pub mod LogLaws
 pub mod WritingLaws
 pub mod TextSteps
-pub mod Everyone
 pub mod Ends
 pub mod Found

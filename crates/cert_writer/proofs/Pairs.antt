@@ -34,7 +34,7 @@ use Rattle.cert_writer.proofs.Joined.{Takes, takes-append, AreLines, are_lines-a
 use Rattle.cert_writer.proofs.Words.{is_word, is_plain}
 use Rattle.cert_writer.proofs.Names.{AreNames, are_keys, named-listed}
 use Rattle.cert_writer.specs.Promises.{IsHeader, part_of, faulty_in, raised_pair}
-use Rattle.cert_writer.proofs.Everyone.{restricted-everyone}
+use Rattle.fbas_model.proofs.WholeLaw.{restricted_to_everyone}
 use Rattle.cert_writer.proofs.Headers.{takes_header, line_listed, lines_header}
 
 -- a set that a line of a pair may list: a quorum of the part
@@ -186,7 +186,7 @@ pair_accepted f d h p is sorted size bytes head holds =
 
 -- the same over the system of the part
 pub part_is_restricted : (f : System) (from : Option ℕ) → IsSystem f.names f.sets → part_of f from ≡ restricted (part_from f from) f
-part_is_restricted f None is = sym (restricted-everyone f is)
+part_is_restricted f None is = sym (restricted_to_everyone f is)
 part_is_restricted f (Some v) is = refl
 
 pub pair_of_part_accepted : (f part : System) (d : List ℕ) (h : Header) (p : Pair) → IsSystem f.names f.sets → IsStrictlySortedBy name_cmp f.names → length d ≡ 32 → IsBytes d → IsHeader f h → part ≡ part_of f h.from
