@@ -24,9 +24,10 @@ fn no_listing(
     ensures { IfOk result (λ k. k ≡ no_listing system.now kind subject.now) }
 {
     let part = system.restrict(alloc, &subject.nodes)?;
-    let faulty = system.cut(alloc, &subject.header.faulty, &subject.nodes)?;
-    let greatest = greatest(alloc, &part, &faulty)?;
-    let checker = Checker::start(alloc, Store::new(alloc), u64::from(greatest.count()))?;
+    let faulty = system.cut(&subject.header.faulty, &subject.nodes);
+    let greatest = greatest(&part, &faulty);
+    let mut checker = Checker::start(alloc, Store::new(alloc), u64::from(greatest.count()))?;
+    checker.expect_covers(alloc);
     Ok(Listing {
         kind,
         part: ListPart {

@@ -83,8 +83,8 @@ fn set_line(
     if id <= last {
         return Err(CertError::Step(line, StepFault::IdOrder(last, id)));
     }
-    let named = nodes_of(alloc, system, line, names)?;
-    let set = within(alloc, system, &subject, line, named)?;
+    let named = nodes_of(system, line, names)?;
+    let set = within(&subject, line, named)?;
     list_set(alloc, system, subject, listing, line, which, id, set)
 }
 

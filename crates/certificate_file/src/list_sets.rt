@@ -1,7 +1,6 @@
 //! Listed sets: quorums, and minimal blocking sets.
 ghost use Rattle.std.specs.Prelude.{◌≡◌, ◌⊎◌, ◌<◌, ◌&&◌, length, IfOk, IfErr, IsErrOf, Ok, Err};
 ghost use Rattle.fbas_model.specs.Nodes.{members, ◌⊆◌, size};
-ghost use Rattle.fbas_model.specs.Restriction.{kept};
 ghost use Rattle.lrat_model.specs.Ranges.{IsInRange};
 ghost use Rattle.list_journal.specs.Listed.{clause_for};
 ghost use Rattle.list_journal.specs.declared.kinds.Listed.TheVariants.{Quorum, Blocking};
@@ -33,23 +32,17 @@ fn right_quorum(listing: &Listing, line: u64, set: NodeSet) -> Result<NodeSet, C
 
 /// The set, where it is a minimal blocking set once the faulty nodes are deleted. The cost is that of `shrink` for each of its
 /// nodes.
-fn right_block(
-    alloc: Global,
-    listing: &Listing,
-    line: u64,
-    set: NodeSet,
-) -> Result<NodeSet, CertError>
+fn right_block(listing: &Listing, line: u64, set: NodeSet) -> Result<NodeSet, CertError>
     requires same_n { length set ≡ length listing.now.part.system.sets }
     requires same_faulty { length listing.now.part.faulty ≡ length listing.now.part.system.sets }
     ensures unread { IsErrOf result CertError.Read → ⊥ }
     ensures is { IfOk result (λ u. u ≡ set) }
-    ensures ok { IfOk result (λ u. right_set listing.now line Blocking set ≡ Ok u) }
-    ensures err { IfErr result (λ e. (e ≡ CertError.Memory) ⊎ (right_set listing.now line Blocking set ≡ Err e)) }
+    ensures value { result ≡ right_set listing.now line Blocking set }
 {
     let part = &listing.part;
     let n = part.system.len();
-    let mut copy = NodeSet::new(alloc, n)?;
-    let mut scratch = NodeSet::new(alloc, n)?;
+    let mut copy = NodeSet::new(n);
+    let mut scratch = NodeSet::new(n);
     if !is_blocking(&part.system, &part.faulty, &set, &mut scratch) {
         return Err(CertError::NotBlocking(line));
     }
@@ -61,7 +54,6 @@ fn right_block(
 
 /// The set, where it is what it is listed for.
 fn right_set(
-    alloc: Global,
     listing: &Listing,
     line: u64,
     which: Listed,
@@ -71,12 +63,11 @@ fn right_set(
     requires same_faulty { length listing.now.part.faulty ≡ length listing.now.part.system.sets }
     ensures unread { IsErrOf result CertError.Read → ⊥ }
     ensures is { IfOk result (λ u. u ≡ set) }
-    ensures ok { IfOk result (λ u. right_set listing.now line which set ≡ Ok u) }
-    ensures err { IfErr result (λ e. (e ≡ CertError.Memory) ⊎ (right_set listing.now line which set ≡ Err e)) }
+    ensures value { result ≡ right_set listing.now line which set }
 {
     match which {
         Listed::Quorum => right_quorum(listing, line, set),
-        Listed::Blocking => right_block(alloc, listing, line, set),
+        Listed::Blocking => right_block(listing, line, set),
     }
 }
 
@@ -151,8 +142,8 @@ pub fn list_set(
     ensures ok { IfOk result (λ s. list_set subject listing line which id set ≡ Ok s) }
     ensures err { IfErr result (λ e. (e ≡ CertError.Memory) ⊎ (list_set subject listing line which id set ≡ Err e)) }
 {
-    let cut = system.cut(alloc, &set, &subject.nodes)?;
-    let right = right_set(alloc, &listing, line, which, cut)?;
+    let cut = system.cut(&set, &subject.nodes);
+    let right = right_set(&listing, line, which, cut)?;
     let clause = new_clause(alloc, &listing, line, which, id, &right)?;
     listing.checker.give(id, &clause)?;
     with_block(&mut listing.sets, which, set)?;
