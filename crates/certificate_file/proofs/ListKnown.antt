@@ -1,11 +1,11 @@
 -- What is known of a list from line to line.
-use Rattle.std.proofs.Common.{◌≡◌, ℕ, ◌<◌, ◌+◌, List, [], ◌∷◌, ◌++◌, map, length, Bool, true, false, not, ◌&&◌, nat_lt, Option, Some, None, ok_or, Result, Ok, Err, refl, sym, ap, ◌∙◌, subst, arith, inl, inr, codes, ℤ}
+use Rattle.std.proofs.Common.{◌≡◌, ℕ, ◌<◌, ◌+◌, List, [], ◌∷◌, ◌++◌, map, length, Bool, true, false, not, ◌&&◌, nat_lt, nat_le, Option, Some, None, ok_or, Result, Ok, Err, refl, sym, ap, ◌∙◌, subst, arith, inl, inr, codes, ℤ}
 use Rattle.std.specs.Prelude.{All}
 use Rattle.std.specs.Str.{bytes_eq}
-use Rattle.std.proofs.lemmas.Bool.{cases_Bool, cases_lt, both_ways, ltb-true}
+use Rattle.std.proofs.lemmas.Bool.{cases_Bool, cases_lt, both_ways, ltb-true, leb-false}
 use Rattle.std.proofs.lemmas.List.{append-nil, map-append}
 use Rattle.std.proofs.lemmas.List.Elements.{All-nil, All-cons, All-append}
-use Rattle.fbas_model.specs.Nodes.{Table, members, size}
+use Rattle.fbas_model.specs.Nodes.{Table, members, ◌⊆◌, size}
 use Rattle.fbas_model.specs.Names.{Name, marks}
 use Rattle.fbas_model.proofs.Marks.{length-marks}
 use Rattle.witness_pair.proofs.PairLaws.{none_of_both}
@@ -29,7 +29,9 @@ use Rattle.list_journal.specs.declared.kinds.ListKind.{ListKind}
 use Rattle.list_journal.specs.declared.kinds.ListKind.TheVariants.{Whole, Partial as Part}
 use Rattle.list_journal.specs.declared.kinds.Listed.{Listed}
 use Rattle.list_journal.specs.declared.kinds.Listed.TheVariants as listed
-use Rattle.list_journal.proofs.Ids.{AreBelow, below_run, id_above}
+use Rattle.list_journal.proofs.Greatest.{IsGreatest}
+use Rattle.list_journal.proofs.Whole.{quorum_within, block_within}
+use Rattle.list_journal.proofs.Ids.{AreBelow, below_run}
 use Rattle.list_journal.proofs.Runs.{run_append, open_append, sets_append}
 use Rattle.list_journal.proofs.TestLaws.{blocks_to, least_to}
 use Rattle.cert_lines.specs.Limits.{unless}
@@ -47,7 +49,7 @@ use Rattle.certificate_file.specs.declared.places.Place.TheVariants.{AtList}
 use Rattle.certificate_file.specs.declared.places.State.{State}
 use Rattle.certificate_file.specs.declared.places.State.TheVariants.{Going, Done}
 use Rattle.certificate_file.proofs.CoverLaws.{covered-from}
-use Rattle.certificate_file.proofs.ListShown.{part_faulty_size, cut_size, list_shown}
+use Rattle.certificate_file.proofs.ListShown.{part_faulty_size, cut_size, part_greatest, list_shown}
 use Rattle.certificate_file.proofs.PartLaws.{inside}
 use Rattle.certificate_file.proofs.Results.{got, passed, within_part}
 
@@ -80,7 +82,10 @@ new_line Part listed.Blocking g d id u below above off = new_where_uncovered d i
 
 new_step : (kind : ListKind) (g : Table) (vars : ℕ) (d : Database) (step : ProofStep) → AreBelow d → step_fault vars d step ≡ None → (asks_new kind listed.Quorum && adds_covered d.held step) ≡ false → IsNewLine kind g d.held (StepLine step)
 new_step Whole g vars d step below none off = tt
-new_step Part g vars d (Addition id lits hints) below none off = new_where_uncovered d id lits below (id_above vars d id lits hints none) off
+new_step Part g vars d (Addition id lits hints) below none off = elim (cases_Bool (nat_le id d.last)) [
+  | inl low ↦ let refused = rw low at none in absurd cc
+  | inr above ↦ new_where_uncovered d id lits below (leb-false id d.last above) off
+]
 new_step Part g vars d (Deletion id ids) below none off = tt
 
 no_start : AreBelow nothing_held
@@ -97,7 +102,7 @@ abbrev Right : ListPart → Listed → Table → Type 0
 Right p listed.Quorum u = Quorum p.system.sets (members p.faulty) (members u)
 Right p listed.Blocking u = BlocksMinimally p.system.sets (members p.faulty) (members u)
 
-pub right_for : (k : Listing) (l : ℕ) (which : Listed) (u v : Table) → length u ≡ length k.part.system.sets → length k.part.faulty ≡ length k.part.system.sets → right_set k l which u ≡ Ok v → (v ≡ u) × Right k.part which u
+right_for : (k : Listing) (l : ℕ) (which : Listed) (u v : Table) → length u ≡ length k.part.system.sets → length k.part.faulty ≡ length k.part.system.sets → right_set k l which u ≡ Ok v → (v ≡ u) × Right k.part which u
 right_for k l listed.Quorum u v size same e =
     let p = passed (NotQuorum l) (is_quorum k.part.system.sets k.part.faulty u) (Ok u) v e in
     (let q = p.1 in cc, quorum-to k.part.system.sets k.part.faulty u p.0)
@@ -133,11 +138,24 @@ open_more journal line opens is = open_append journal (line ∷ []) opens (All-c
 held_below : (f : System) (s : Subject) (k : Listing) → IsList f s k → AreBelow k.checker.database
 held_below f s k is = below_run k.kind k.part.system.sets (members k.part.faulty) k.part.greatest nothing_held is.journal k.checker.database is.run no_start
 
-faulty_fits : (f : System) (s : Subject) (k : Listing) → IsList f s k → length k.part.faulty ≡ length k.part.system.sets
+pub faulty_fits : (f : System) (s : Subject) (k : Listing) → IsList f s k → length k.part.faulty ≡ length k.part.system.sets
 faulty_fits f s k is = subst (λ (p : ListPart). length p.faulty ≡ length p.system.sets) (sym is.part) (part_faulty_size f s is.subject)
 
 pub set_fits : (f : System) (s : Subject) (k : Listing) (u : Table) → IsList f s k → length u ≡ length f.sets → length (kept s.nodes u) ≡ length k.part.system.sets
 set_fits f s k u is e = subst (λ (p : ListPart). length (kept s.nodes u) ≡ length p.system.sets) (sym is.part) (cut_size f s is.subject u e)
+
+pub greatest_fits : (f : System) (s : Subject) (k : Listing) → IsList f s k → IsGreatest k.part.system.sets (members k.part.faulty) k.part.greatest
+greatest_fits f s k is = subst (λ (p : ListPart). IsGreatest p.system.sets (members p.faulty) p.greatest) (sym is.part) (part_greatest f s is.subject)
+
+-- what is listed lies in the greatest quorum
+right_inside : (p : ListPart) (which : Listed) (u : Table) → IsGreatest p.system.sets (members p.faulty) p.greatest → Right p which u → members u ⊆ members p.greatest
+right_inside p listed.Quorum u greatest right = quorum_within p.system.sets (members p.faulty) p.greatest (members u) greatest right
+right_inside p listed.Blocking u greatest right = block_within p.system.sets (members p.faulty) p.greatest (members u) greatest right
+
+pub right_within : (f : System) (s : Subject) (k : Listing) (l : ℕ) (which : Listed) (u v : Table) → IsList f s k → length u ≡ length k.part.system.sets → right_set k l which u ≡ Ok v → members v ⊆ members k.part.greatest
+right_within f s k l which u v is size e =
+    let right = right_for k l which u v size (faulty_fits f s k is) e in
+    subst (λ (t : Table). members t ⊆ members k.part.greatest) (sym right.0) (right_inside k.part which u (greatest_fits f s k is) right.1)
 
 -- a set of the part that is listed
 set_known : (f : System) (s : Subject) (k : Listing) (l : ℕ) (which : Listed) (id : ℕ) (u : Table) (state : State) → IsList f s k → k.checker.database.last < id → IsPartSet f s.nodes u → list_set s k l which id u ≡ Ok state → IsKnownState f state
@@ -169,7 +187,7 @@ set_known f s k l which id u state is above part e =
     subst (IsKnownState f) (ap (λ (w : Table). Going (AtList s (with_listed k which id u w))) (sym same) ∙ there) known
 
 -- the names of a line give a set of the part
-part_set : (f : System) (s : Subject) (l : ℕ) (names : List Name) (u : Table) → IsSubject f s → and_then (within s l) (nodes_of f.names l names) ≡ Ok u → IsPartSet f s.nodes u
+pub part_set : (f : System) (s : Subject) (l : ℕ) (names : List Name) (u : Table) → IsSubject f s → and_then (within s l) (nodes_of f.names l names) ≡ Ok u → IsPartSet f s.nodes u
 part_set f s l names u is e =
     let w = within_part s l (nodes_of f.names l names) u e in
     let p = passed (UnknownNode l) (all_among names f.names) (Ok (marks f.names names)) u w.0 in
