@@ -1,0 +1,8 @@
+pub mod Models
+pub mod Runs
+pub mod Ids
+pub mod Merged
+pub mod Searches
+pub mod Listings
+pub mod Turns
+pub mod ModelLoops

@@ -1,0 +1,9 @@
+pub mod Places
+pub mod ClauseTruth
+pub mod Greatest
+pub mod Whole
+pub mod WholeQuorums
+pub mod ListSamples
+pub mod TestLaws
+pub mod NameOrder
+pub mod ClauseLoops

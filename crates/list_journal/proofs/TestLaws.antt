@@ -1,0 +1,263 @@
+-- The tests of lines say what they are named for.
+use Rattle.std.proofs.Common.{◌≡◌, ℕ, zero, suc, Bool, true, false, not, ◌&&◌, ◌||◌, List, [], ◌∷◌, length, cond, Some, None, Option, Result, Ok, refl, sym, ap, ◌∙◌, subst, arith, inl, inr, nat_lt, ◌==◌}
+use Rattle.std.specs.List.{list_any}
+use Rattle.std.specs.Prelude.{All}
+use Rattle.std.specs.Option.{option_or}
+use Rattle.std.proofs.lemmas.Bool.{cases_Bool, or_cases, or_left, or_right, and_parts, and_from, both_ways, false≢true, false_from_ne_true, ltb-true, lt-ltb, eqb-true, not_from_false}
+use Rattle.std.proofs.lemmas.List.Elements.{All-head, All-tail}
+use Rattle.fbas_model.specs.Nodes.{Nodes, Table, members, ◌∈◌, ◌⊆◌, ◌∖◌, Meets, size}
+use Rattle.fbas_model.specs.Fbas.{Fbas, Quorum, Blocks, BlocksMinimally, all_nodes}
+use Rattle.fbas_model.specs.Counting.{is_quorum}
+use Rattle.fbas_model.specs.Restriction.{table_from}
+use Rattle.fbas_model.proofs.Tables.{length-table_from}
+use Rattle.fbas_model.proofs.Sizes.{member_lt}
+use Rattle.fbas_model.proofs.QuorumLaw.{quorum-to, quorum-from}
+use Rattle.lrat_model.specs.Literal.{Literal, IsSubset}
+use Rattle.lrat_model.specs.Clauses.{Held, clause_at}
+use Rattle.lrat_model.specs.Lemmas.{IsNew}
+use Rattle.lrat_model.specs.Steps.{ProofStep, Addition, Deletion, Database, step_fault}
+use Rattle.lrat_model.specs.declared.step.StepFault.{StepFault}
+use Rattle.greatest_quorum.specs.Greatest.{some_set, greatest_of}
+use Rattle.list_journal.specs.Numbering.{quorum_clause, blocking_clause}
+use Rattle.list_journal.specs.Journals.{JournalLine, QuorumLine, BlockingLine, StepLine, ListKind, Whole, Partial, after_line, IsTaken, IsNewLine, IsNewStep, JournalRun}
+use Rattle.list_journal.specs.Tests.{is_within, is_meeting, is_blocking, is_least, is_covered, is_new, ListFault, unless_test, refused, is_new_in, is_new_step, line_fault, next_line, lines_taken, HasPlaces}
+use Rattle.greatest_quorum.proofs.GreatestLaws.{some_set-from, table_of}
+
+-- ---- sets of so many nodes
+
+some_of : (n : ℕ) (test : Table → Bool) → some_set n test ≡ true → (u : Table) × (length u ≡ n) × (test u ≡ true)
+some_of zero test h = ([], refl, h)
+some_of (suc n) test h = elim (or_cases (some_set n (λ u. test (false ∷ u))) (some_set n (λ u. test (true ∷ u))) h) [
+  | inl e ↦ let r = some_of n (λ u. test (false ∷ u)) e in (false ∷ r.0, ap suc r.1, r.2)
+  | inr e ↦ let r = some_of n (λ u. test (true ∷ u)) e in (true ∷ r.0, ap suc r.1, r.2)
+]
+
+-- a test that some set would pass is passed by this one too, where none passes it
+none_of : (n : ℕ) (test : Table → Bool) → not (some_set n test) ≡ true → (u : Table) → length u ≡ n → test u ≡ false
+none_of n test none u size = false_from_ne_true (test u) (λ h. false≢true (sym (ap not (subst (λ (m : ℕ). some_set m test ≡ true) size (some_set-from u test h))) ∙ none))
+
+none_from : (n : ℕ) (test : Table → Bool) → ((u : Table) → length u ≡ n → test u ≡ true → ⊥) → not (some_set n test) ≡ true
+none_from n test none = not_from_false (some_set n test) (false_from_ne_true (some_set n test) (λ h. let r = some_of n test h in none r.0 r.1 r.2))
+
+refutes : (b : Bool) → not b ≡ true → b ≡ true → ⊥
+refutes true n h = false≢true n
+refutes false n h = false≢true h
+
+-- ---- inside and meeting
+
+pub within_to : (s t : Table) → is_within s t ≡ true → members s ⊆ members t
+within_to [] t h v here = absurd (false≢true here)
+within_to (m ∷ s) [] h zero here = absurd (refutes m (and_parts (not m) (is_within s []) h).0 here)
+within_to (m ∷ s) [] h (suc v) here = within_to s [] (and_parts (not m) (is_within s []) h).1 v here
+within_to (true ∷ s) (n ∷ t) h zero here = (and_parts n (is_within s t) h).0
+within_to (false ∷ s) (n ∷ t) h zero here = absurd (false≢true here)
+within_to (m ∷ s) (n ∷ t) h (suc v) here = within_to s t (and_parts (not m || n) (is_within s t) h).1 v here
+
+pub within_from : (s t : Table) → members s ⊆ members t → is_within s t ≡ true
+within_from [] t h = refl
+within_from (true ∷ s) [] h = absurd (false≢true (h 0 refl))
+within_from (false ∷ s) [] h = within_from s [] (λ v here. h (suc v) here)
+within_from (true ∷ s) (n ∷ t) h = and_from n (is_within s t) (h 0 refl) (within_from s t (λ v here. h (suc v) here))
+within_from (false ∷ s) (n ∷ t) h = within_from s t (λ v here. h (suc v) here)
+
+pub meeting_to : (s t : Table) → is_meeting s t ≡ true → Meets (members s) (members t)
+meeting_to [] t h = absurd (false≢true h)
+meeting_to (m ∷ s) [] h = absurd (false≢true h)
+meeting_to (m ∷ s) (n ∷ t) h = elim (or_cases (m && n) (is_meeting s t) h) [
+  | inl e ↦ let p = and_parts m n e in (0, p.0, p.1)
+  | inr e ↦ let r = meeting_to s t e in (suc r.0, r.1, r.2)
+]
+
+pub meeting_from : (s t : Table) (v : ℕ) → v ∈ members s → v ∈ members t → is_meeting s t ≡ true
+meeting_from [] t v here there = absurd (false≢true here)
+meeting_from (m ∷ s) [] v here there = absurd (false≢true there)
+meeting_from (m ∷ s) (n ∷ t) zero here there = or_left (m && n) (is_meeting s t) (and_from m n here there)
+meeting_from (m ∷ s) (n ∷ t) (suc v) here there = or_right (m && n) (is_meeting s t) (meeting_from s t v here there)
+
+-- ---- blocking sets
+
+table_size : (f : Fbas) (u : Nodes) → length (table_from 0 (length f) u) ≡ length f
+table_size f u = length-table_from 0 (length f) u
+
+low_nodes : (f : Fbas) (b u : Nodes) → u ⊆ (all_nodes f ∖ b) → u ⊆ all_nodes f
+low_nodes f b u left v here = (and_parts (all_nodes f v) (not (b v)) (left v here)).0
+
+pub blocks_to : (f : Fbas) (b s : Table) → length b ≡ length f → length s ≡ length f → is_blocking f b s ≡ true → Blocks f (members b) (members s)
+blocks_to f b s same size h =
+    let parts = and_parts (not (is_meeting s b)) (not (some_set (length f) (λ u. is_quorum f b u && not (is_meeting s u)))) h in
+    record {
+      left = λ v here. and_from (all_nodes f v) (not (members b v))
+          (lt-ltb v (length f) (let l = member_lt s v here in omega arith))
+          (not_from_false (members b v) (false_from_ne_true (members b v) (λ there. refutes (is_meeting s b) parts.0 (meeting_from s b v here there))));
+      meets = λ u q.
+          let t : Table = table_from 0 (length f) u in
+          let is : members t ≡ u = table_of f u (low_nodes f (members b) u q.left) in
+          elim (cases_Bool (is_meeting s t)) [
+            | inl meets ↦ subst (λ (w : Nodes). Meets (members s) w) is (meeting_to s t meets)
+            | inr apart ↦
+                let counted = quorum-from f b t (same ∙ sym (table_size f u)) (sym (table_size f u)) (subst (λ (w : Nodes). Quorum f (members b) w) (sym is) q) in
+                absurd (both_ways (is_quorum f b t && not (is_meeting s t)) (none_of (length f) (λ w. is_quorum f b w && not (is_meeting s w)) parts.1 t (table_size f u)) (and_from (is_quorum f b t) (not (is_meeting s t)) counted (not_from_false (is_meeting s t) apart)))
+          ];
+    }
+
+pub blocks_from : (f : Fbas) (b s : Table) → Blocks f (members b) (members s) → is_blocking f b s ≡ true
+blocks_from f b s is = and_from (not (is_meeting s b)) (not (some_set (length f) (λ u. is_quorum f b u && not (is_meeting s u))))
+    (not_from_false (is_meeting s b) (false_from_ne_true (is_meeting s b) (λ h.
+    let m = meeting_to s b h in refutes (members b m.0) (and_parts (all_nodes f m.0) (not (members b m.0)) (is.left m.0 m.1)).1 m.2)))
+    (none_from (length f) (λ u. is_quorum f b u && not (is_meeting s u)) (λ u size h.
+    let parts = and_parts (is_quorum f b u) (not (is_meeting s u)) h in
+    let m = is.meets (members u) (quorum-to f b u parts.0) in
+    refutes (is_meeting s u) parts.1 (meeting_from s u m.0 m.1 m.2)))
+
+pub least_to : (f : Fbas) (b s : Table) → is_least f b s ≡ true → (t : Nodes) → t ⊆ members s → Blocks f (members b) t → members s ⊆ t
+least_to f b s h t inside blocks =
+    let u : Table = table_from 0 (length f) t in
+    let is : members u ≡ t = table_of f t (low_nodes f (members b) t blocks.left) in
+    elim (cases_Bool (is_within s u)) [
+      | inl e ↦ subst (λ (w : Nodes). members s ⊆ w) is (within_to s u e)
+      | inr e ↦
+          let test : Table → Bool = λ w. is_within w s && (not (is_within s w) && is_blocking f b w) in
+          let yes_inside = within_from u s (subst (λ (w : Nodes). w ⊆ members s) (sym is) inside) in
+          let yes_blocks = blocks_from f b u (subst (λ (w : Nodes). Blocks f (members b) w) (sym is) blocks) in
+          absurd (both_ways (test u) (none_of (length f) test h u (table_size f t)) (and_from (is_within u s) (not (is_within s u) && is_blocking f b u) yes_inside (and_from (not (is_within s u)) (is_blocking f b u) (not_from_false (is_within s u) e) yes_blocks)))
+    ]
+
+pub least_from : (f : Fbas) (b s : Table) → length b ≡ length f → ((t : Nodes) → t ⊆ members s → Blocks f (members b) t → members s ⊆ t) → is_least f b s ≡ true
+least_from f b s same least = none_from (length f) (λ w. is_within w s && (not (is_within s w) && is_blocking f b w)) (λ u size h.
+    let parts = and_parts (is_within u s) (not (is_within s u) && is_blocking f b u) h in
+    let more = and_parts (not (is_within s u)) (is_blocking f b u) parts.1 in
+    refutes (is_within s u) more.0 (within_from s u (least (members u) (within_to u s parts.0) (blocks_to f b u same size more.1))))
+
+-- ---- new clauses
+
+any_entry : (p : ℕ → Bool) (held : Held) (id : ℕ) (clause : List Literal) → clause_at held id ≡ Some clause → p id ≡ true → list_any (λ e. p e.0) held ≡ true
+any_entry p [] id clause at yes_p = absurd (cc)
+any_entry p (e ∷ held) id clause at yes_p = elim (cases_Bool (e.0 == id)) [
+  | inl same ↦ or_left (p e.0) (list_any (λ k. p k.0) held) (subst (λ (n : ℕ). p n ≡ true) (sym (eqb-true e.0 id same)) yes_p)
+  | inr other ↦ or_right (p e.0) (list_any (λ k. p k.0) held) (any_entry p held id clause (ap (λ (b : Bool). cond b (Some e.1) (clause_at held id)) (sym other) ∙ at) yes_p)
+]
+
+some_entry : (p : ℕ → Bool) (held : Held) → list_any (λ e. p e.0) held ≡ true → (k : ℕ) × (p k ≡ true)
+some_entry p [] h = absurd (false≢true h)
+some_entry p (e ∷ held) h = elim (or_cases (p e.0) (list_any (λ k. p k.0) held) h) [ inl here ↦ (e.0, here) | inr there ↦ some_entry p held there ]
+
+pub new_to : (held : Held) (clause : List Literal) → is_new held clause ≡ true → IsNew held clause
+new_to held clause h id other at subset =
+    refutes (list_any (λ e. is_covered (clause_at held e.0) clause) held) h
+    (any_entry (λ k. is_covered (clause_at held k) clause) held id other at (ap (λ (o : Option (List Literal)). is_covered o clause) at ∙ subset))
+
+covered_by : (o : Option (List Literal)) (clause : List Literal) → is_covered o clause ≡ true → (other : List Literal) × (o ≡ Some other) × IsSubset other clause
+covered_by None clause h = absurd (false≢true h)
+covered_by (Some other) clause h = (other, refl, h)
+
+pub new_from : (held : Held) (clause : List Literal) → IsNew held clause → is_new held clause ≡ true
+new_from held clause new = not_from_false (list_any (λ e. is_covered (clause_at held e.0) clause) held) (false_from_ne_true (list_any (λ e. is_covered (clause_at held e.0) clause) held) (λ h.
+    let k = some_entry (λ k. is_covered (clause_at held k) clause) held h in
+    let c = covered_by (clause_at held k.0) clause k.1 in
+    new k.0 c.0 c.1 c.2))
+
+-- ---- lines
+
+passed : (t : Bool) (fault : ListFault) (next : Option ListFault) → unless_test t fault next ≡ None → (t ≡ true) × (next ≡ None)
+passed true fault next h = (refl, h)
+passed false fault next h = absurd (cc)
+
+passes : (t : Bool) (fault : ListFault) (next : Option ListFault) → t ≡ true → next ≡ None → unless_test t fault next ≡ None
+passes t fault next h rest = ap (λ (b : Bool). unless_test b fault next) h ∙ rest
+
+nothing_refused : (o : Option StepFault) (next : Option ListFault) → option_or (refused o) next ≡ None → (o ≡ None) × (next ≡ None)
+nothing_refused None next h = (refl, h)
+nothing_refused (Some fault) next h = absurd (cc)
+
+new_step_to : (kind : ListKind) (held : Held) (step : ProofStep) → is_new_step kind held step ≡ true → IsNewStep kind held step
+new_step_to Whole held step h = tt
+new_step_to Partial held (Addition id lits hints) h = new_to held lits h
+new_step_to Partial held (Deletion id ids) h = tt
+
+new_step_from : (kind : ListKind) (held : Held) (step : ProofStep) → IsNewStep kind held step → is_new_step kind held step ≡ true
+new_step_from Whole held (Addition id lits hints) h = refl
+new_step_from Whole held (Deletion id ids) h = refl
+new_step_from Partial held (Addition id lits hints) h = new_from held lits h
+new_step_from Partial held (Deletion id ids) h = refl
+
+new_quorum_to : (kind : ListKind) (g : Table) (held : Held) (id : ℕ) (u : Table) → is_new_in kind held (quorum_clause g u) ≡ true → IsNewLine kind g held (QuorumLine id u)
+new_quorum_to Whole g held id u h = tt
+new_quorum_to Partial g held id u h = new_to held (quorum_clause g u) h
+
+new_quorum_from : (kind : ListKind) (g : Table) (held : Held) (id : ℕ) (u : Table) → IsNewLine kind g held (QuorumLine id u) → is_new_in kind held (quorum_clause g u) ≡ true
+new_quorum_from Whole g held id u h = refl
+new_quorum_from Partial g held id u h = new_from held (quorum_clause g u) h
+
+new_block : (kind : ListKind) (g : Table) (held : Held) (id : ℕ) (s : Table) → IsNew held (blocking_clause g s) → IsNewLine kind g held (BlockingLine id s)
+new_block Whole g held id s h = h
+new_block Partial g held id s h = h
+
+block_new : (kind : ListKind) (g : Table) (held : Held) (id : ℕ) (s : Table) → IsNewLine kind g held (BlockingLine id s) → IsNew held (blocking_clause g s)
+block_new Whole g held id s h = h
+block_new Partial g held id s h = h
+
+-- a line without a fault is taken, and as new as the kind asks
+pub line_to : (kind : ListKind) (f : Fbas) (b : Table) (d : Database) (line : JournalLine) → length b ≡ length f → HasPlaces (length f) line → line_fault kind f b d line ≡ None
+    → IsTaken f (members b) (greatest_of f b) d line × IsNewLine kind (greatest_of f b) d.held line
+line_to kind f b d (QuorumLine id u) same places h =
+    let g = greatest_of f b in
+    let t1 : Option ListFault = unless_test (is_new_in kind d.held (quorum_clause g u)) ListFault.NotNew None in
+    let one = passed (nat_lt d.last id) (ListFault.NotAbove d.last id) (unless_test (is_quorum f b u) ListFault.NotQuorum t1) h in
+    let two = passed (is_quorum f b u) ListFault.NotQuorum t1 one.1 in
+    let three = passed (is_new_in kind d.held (quorum_clause g u)) ListFault.NotNew None two.1 in
+    ((ltb-true d.last id one.0, places, quorum-to f b u two.0), new_quorum_to kind g d.held id u three.0)
+line_to kind f b d (BlockingLine id s) same places h =
+    let g = greatest_of f b in
+    let t2 : Option ListFault = unless_test (is_new d.held (blocking_clause g s)) ListFault.NotNew None in
+    let t1 : Option ListFault = unless_test (is_least f b s) ListFault.NotMinimal t2 in
+    let one = passed (nat_lt d.last id) (ListFault.NotAbove d.last id) (unless_test (is_blocking f b s) ListFault.NotBlocking t1) h in
+    let two = passed (is_blocking f b s) ListFault.NotBlocking t1 one.1 in
+    let three = passed (is_least f b s) ListFault.NotMinimal t2 two.1 in
+    let four = passed (is_new d.held (blocking_clause g s)) ListFault.NotNew None three.1 in
+    let is : BlocksMinimally f (members b) (members s) = record { blocks = blocks_to f b s same places two.0; least = least_to f b s three.0 } in
+    ((ltb-true d.last id one.0, places, is), new_block kind g d.held id s (new_to d.held (blocking_clause g s) four.0))
+line_to kind f b d (StepLine step) same places h =
+    let g = greatest_of f b in
+    let one = nothing_refused (step_fault (size g) d step) (unless_test (is_new_step kind d.held step) ListFault.NotNew None) h in
+    let two = passed (is_new_step kind d.held step) ListFault.NotNew None one.1 in
+    (one.0, new_step_to kind d.held step two.0)
+
+pub line_from : (kind : ListKind) (f : Fbas) (b : Table) (d : Database) (line : JournalLine) → length b ≡ length f → IsTaken f (members b) (greatest_of f b) d line → IsNewLine kind (greatest_of f b) d.held line → line_fault kind f b d line ≡ None
+line_from kind f b d (QuorumLine id u) same taken new =
+    let g = greatest_of f b in
+    passes (nat_lt d.last id) (ListFault.NotAbove d.last id) (unless_test (is_quorum f b u) ListFault.NotQuorum (unless_test (is_new_in kind d.held (quorum_clause g u)) ListFault.NotNew None)) (lt-ltb d.last id taken.0)
+    (passes (is_quorum f b u) ListFault.NotQuorum (unless_test (is_new_in kind d.held (quorum_clause g u)) ListFault.NotNew None) (quorum-from f b u (same ∙ sym taken.1) (sym taken.1) taken.2)
+    (passes (is_new_in kind d.held (quorum_clause g u)) ListFault.NotNew None (new_quorum_from kind g d.held id u new) refl))
+line_from kind f b d (BlockingLine id s) same taken new =
+    let g = greatest_of f b in
+    let t2 : Option ListFault = unless_test (is_new d.held (blocking_clause g s)) ListFault.NotNew None in
+    let t1 : Option ListFault = unless_test (is_least f b s) ListFault.NotMinimal t2 in
+    passes (nat_lt d.last id) (ListFault.NotAbove d.last id) (unless_test (is_blocking f b s) ListFault.NotBlocking t1) (lt-ltb d.last id taken.0)
+    (passes (is_blocking f b s) ListFault.NotBlocking t1 (blocks_from f b s taken.2.blocks)
+    (passes (is_least f b s) ListFault.NotMinimal t2 (least_from f b s same taken.2.least)
+    (passes (is_new d.held (blocking_clause g s)) ListFault.NotNew None (new_from d.held (blocking_clause g s) (block_new kind g d.held id s new)) refl)))
+line_from kind f b d (StepLine step) same taken new =
+    ap (λ (o : Option StepFault). option_or (refused o) (unless_test (is_new_step kind d.held step) ListFault.NotNew None)) taken
+    ∙ passes (is_new_step kind d.held step) ListFault.NotNew None (new_step_from kind d.held step new) refl
+
+-- ---- runs
+
+next_ok : (o : Option ListFault) (rest : Result Database ListFault) (new : Database) → next_line o rest ≡ Ok new → (o ≡ None) × (rest ≡ Ok new)
+next_ok None rest new h = (refl, h)
+next_ok (Some fault) rest new h = absurd (cc)
+
+ok_same : (a b : Database) → (let x : Result Database ListFault = Ok a in x) ≡ Ok b → b ≡ a
+ok_same a b h = cc
+
+pub taken_to : (kind : ListKind) (f : Fbas) (b : Table) (d : Database) (lines : List JournalLine) (new : Database) → length b ≡ length f → All (HasPlaces (length f)) lines → lines_taken kind f b d lines ≡ Ok new → JournalRun kind f (members b) (greatest_of f b) d lines new
+taken_to kind f b d [] new same places h = ok_same d new h
+taken_to kind f b d (line ∷ lines) new same places h =
+    let one = next_ok (line_fault kind f b d line) (lines_taken kind f b (after_line (greatest_of f b) d line) lines) new h in
+    let two = line_to kind f b d line same (All-head (HasPlaces (length f)) line lines places) one.0 in
+    (two.0, two.1, taken_to kind f b (after_line (greatest_of f b) d line) lines new same (All-tail (HasPlaces (length f)) line lines places) one.1)
+
+pub taken_from : (kind : ListKind) (f : Fbas) (b : Table) (d : Database) (lines : List JournalLine) (new : Database) → length b ≡ length f → JournalRun kind f (members b) (greatest_of f b) d lines new → lines_taken kind f b d lines ≡ Ok new
+taken_from kind f b d [] new same run = ap Ok (sym run)
+taken_from kind f b d (line ∷ lines) new same run =
+    ap (λ (o : Option ListFault). next_line o (lines_taken kind f b (after_line (greatest_of f b) d line) lines)) (line_from kind f b d line same run.0 run.1)
+    ∙ taken_from kind f b (after_line (greatest_of f b) d line) lines new same run.2
