@@ -44,7 +44,11 @@ fn order_in(alloc: Global, words: &[String]) -> Result<Order, Early>
             Status::Usage,
             "usage: quorum_cli COMMAND\nshow CONFIG\nclosure CONFIG --node NAME\ngreatest CONFIG [COMMON]\navailable CONFIG --set NAMES [--from NAME]\nblocks CONFIG --set NAMES [COMMON]\nvblocks CONFIG --node NAME --set NAMES\ncheck CONFIG CERT\nexport CONFIG [COMMON]\nCOMMON: --from NAME --faulty NAMES --orgs ORGS --faulty-orgs IDS\n",
         )?)),
-        Err(OrderFault::SamePath) => Err(Early::Told(says(alloc, Status::Usage, "usage same-path\n")?)),
+        Err(OrderFault::SamePath) => Err(Early::Told(says(
+            alloc,
+            Status::Usage,
+            "usage same-path\n",
+        )?)),
         Err(OrderFault::Memory) => Err(Early::Memory),
     }
 }
@@ -209,16 +213,18 @@ fn carry_out<D: Desk>(alloc: Global, order: &Order, desk: &mut D) -> Result<Aske
     ensures reads { IsTrue D.tells → OnlyReads (D.state desk.old) (D.state desk.new) }
     ensures faults { ReadFails (D.faults desk.old) (D.faults desk.new) (IsErrOf result Early.Read) }
 {
-    let config = read_file(alloc, desk, Which::Config, &order.config, "config too-long\n")?;
+    let config = read_file(
+        alloc,
+        desk,
+        Which::Config,
+        &order.config,
+        "config too-long\n",
+    )?;
     over_config(alloc, order, &config, desk)
 }
 
 /// What the words ask, which begin with the program's name, or the early answer.
-pub fn ask_by_words<D: Desk>(
-    alloc: Global,
-    words: &[String],
-    desk: &mut D,
-) -> Result<Asked, Early>
+pub fn ask_by_words<D: Desk>(alloc: Global, words: &[String], desk: &mut D) -> Result<Asked, Early>
     ensures gives { IsTrue D.tells → GivesReading (D.state desk.old).plain result (asked_of (words_of words.now) (D.state desk.old).files) }
     ensures answers { IfErr result IsAnswer }
     ensures fits { IfOk result FitsAsked }
