@@ -1,6 +1,6 @@
 -- Taking out a node that has no slice inside what is left takes out no quorum.
 use Rattle.std.proofs.Common.{◌≡◌, ℕ, ◌+◌, ◌<◌, ◌⊎◌, Bool, true, false, not, ◌==◌, length, refl, sym, ◌∙◌, subst, ap, arith, inl, inr, ◌↔◌, nat_lt, nat_le, ◌-◌, ◌||◌}
-use Rattle.std.proofs.lemmas.Bool.{false≢true, cases_Bool, and_from, and_parts, eqb-true, eq-eqb, not_from_false, not-true, both_ways, lt-ltb, ltb-true, leb-true, le-leb, cases_lt}
+use Rattle.std.proofs.lemmas.Bool.{false≢true, cases_Bool, and_from, and_parts, eqb-true, eq-eqb, not_from_false, not-true, both_ways, lt-ltb, ltb-true, leb-true, le-leb, cases_lt, MatchBool-at_false}
 use Rattle.std.specs.Bool.{MatchBool}
 use Rattle.fbas_model.specs.Nodes.{Nodes, Table, members, ◌∈◌, ◌⊆◌, ◌∖◌, ∅, only, size, IsInhabited}
 use Rattle.fbas_model.specs.Fbas.{Fbas, HasSliceWithin, Quorum, all_nodes, IsGreatestQuorum, MeetsQuorums}
@@ -131,6 +131,12 @@ none_when_blocks f b s r g some h = elim g.quorum [
 pub blocks_iff : (f : Fbas) (b : Nodes) (s r : Table) (empty : Bool) → MatchBool empty (members r ≡ ∅) (IsInhabited (members r)) → IsGreatestQuorum f b (all_nodes f ∖ members s) (members r) → (empty ≡ true) ↔ MeetsQuorums f b (members s)
 blocks_iff f b s r true e g = (λ t. blocks_when_none f b s (members r) g e, λ h. refl)
 blocks_iff f b s r false e g = (λ t. absurd (false≢true t), λ h. absurd (none_when_blocks f b s (members r) g e h))
+
+-- the greatest quorum inside a set, where it has a node
+pub quorum_where_some : (f : Fbas) (b u : Nodes) (r : Table) (empty : Bool) → MatchBool empty (members r ≡ ∅) (IsInhabited (members r)) → empty ≡ false → IsGreatestQuorum f b u (members r) → Quorum f b (members r)
+quorum_where_some f b u r empty e h g =
+    let some = MatchBool-at_false (members r ≡ ∅) (IsInhabited (members r)) h e in
+    elim g.quorum [ inl none ↦ absurd (false≢true (subst (λ (t : Nodes). some.0 ∈ t) none some.1)) | inr q ↦ q ]
 
 pub cut_all : (f : Fbas) (n : ℕ) (s t u : Nodes) → n ≡ length f → t ≡ (λ v. nat_lt v n) → u ≡ (t ∖ s) → u ≡ (all_nodes f ∖ s)
 cut_all f n s t u e a m = m ∙ ap (λ (t : Nodes). t ∖ s) (a ∙ ap {B = Nodes} (λ n v. nat_lt v n) e)
