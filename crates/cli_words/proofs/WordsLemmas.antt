@@ -1,5 +1,5 @@
 -- Each stage of the reading of a command's words.
-use Rattle.std.proofs.Common.{◌≡◌, ◌∙◌, ap, List, [], ◌∷◌, true, false, Ok, Err, inl, inr, refl, rules}
+use Rattle.std.proofs.Common.{◌≡◌, ◌∙◌, ap, sym, subst, List, [], ◌∷◌, true, false, Ok, Err, inl, inr, refl, rules}
 use Rattle.clap.specs.Words.{App, Row, Rule, Text, kind_of, matches_of, is_simple_and_free, with_rule}
 use Rattle.clap.specs.Walk.{is_empty}
 use Rattle.clap.specs.Kinds.{Kinds, HasKind}
@@ -8,7 +8,8 @@ use Rattle.clap.specs.declared.error.kind.ErrorKind.TheVariants.{OutOfMemory}
 use Rattle.cli_words.specs.Order.{Ordered, has_same_path}
 use Rattle.cli_words.specs.Words.{app_for, is_taken, order_by, order_in, path_checked}
 use Rattle.cli_words.specs.declared.orders.Command.{Command}
-use Rattle.cli_words.specs.declared.orders.Command.TheVariants.{Show, Closure, Greatest, Available, Blocks, Vblocks, Check, Export}
+use Rattle.cli_words.specs.declared.orders.Command.TheVariants.{Query, Check}
+use Rattle.cli_words.specs.declared.orders.Query.TheVariants.{Show, Closure, Greatest, Available, Blocks, Vblocks, Export}
 use Rattle.cli_words.specs.declared.orders.OrderFault.TheVariants.{Words, SamePath}
 
 -- an error that is not of memory comes only where a kind does
@@ -20,21 +21,22 @@ is_empty-refused (k ∷ ks) e h other = search rules
 -- clap states the matches of each command
 pub is_stated : (k : Command) (app : App) → app ≡ app_for k → is_simple_and_free app ≡ true
 unfolding app_for
-is_stated Show app e = rw e refl
-is_stated Closure app e = rw e refl
-is_stated Greatest app e = rw e refl
-is_stated Available app e = rw e refl
-is_stated Blocks app e = rw e refl
-is_stated Vblocks app e = rw e refl
+is_stated (Query Show) app e = rw e refl
+is_stated (Query Closure) app e = rw e refl
+is_stated (Query Greatest) app e = rw e refl
+is_stated (Query Available) app e = rw e refl
+is_stated (Query Blocks) app e = rw e refl
+is_stated (Query Vblocks) app e = rw e refl
 is_stated Check app e = rw e refl
-is_stated Export app e = rw e refl
+is_stated (Query Export) app e = rw e refl
 
 pub order_by-taken : (k : Command) (words : List Text) (app : App) (rows : List Row) (o : Ordered) → app ≡ app_for k → is_taken app words ≡ true → rows ≡ matches_of app words → o ≡ order_in k rows
     → order_by k words ≡ path_checked o
 unfolding order_by
 order_by-taken k words app rows o a t r e =
-    let taken : is_taken (app_for k) words ≡ true = rw (← a) t in
-    rw (taken, ← a, ← r, ← e) refl
+    let taken : is_taken (app_for k) words ≡ true = subst (λ (x : App). is_taken x words ≡ true) a t in
+    let whole : o ≡ order_in k (matches_of (app_for k) words) = e ∙ ap (λ (x : List Row). order_in k x) (r ∙ ap (λ (x : App). matches_of x words) a) in
+    rw taken (ap path_checked (sym whole))
 
 pub order_by-same : (k : Command) (words : List Text) (app : App) (rows : List Row) (o : Ordered) → app ≡ app_for k → is_taken app words ≡ true → rows ≡ matches_of app words → o ≡ order_in k rows
     → has_same_path o ≡ true → order_by k words ≡ Err SamePath

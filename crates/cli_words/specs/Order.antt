@@ -1,5 +1,5 @@
 -- The order that a command line gives.
-use Rattle.std.specs.Prelude.{ℕ, List, [], Bool, true, false, ◌&&◌, ◌||◌, Option, Some, None, option_map, string_bytes}
+use Rattle.std.specs.Prelude.{ℕ, List, Bool, true, false, ◌&&◌, ◌||◌, Option, Some, None, option_map, string_bytes}
 use Rattle.std.specs.Str.{bytes_eq}
 use Rattle.cli_words.specs.declared.orders.Command.{Command}
 use Rattle.cli_words.specs.declared.orders.Command.TheVariants.{Check}
@@ -29,20 +29,6 @@ order_view o = record {
   faulty = option_map string_bytes o.faulty;
   faulty_orgs = option_map string_bytes o.faulty_orgs;
   set = option_map string_bytes o.set;
-}
-
--- the command without any text
-abbrev pub nothing_for : Command → Ordered
-nothing_for command = record {
-  command = command;
-  config = [];
-  cert = [];
-  orgs = None;
-  node = None;
-  from = None;
-  faulty = None;
-  faulty_orgs = None;
-  set = None;
 }
 
 -- the commands with a certificate, which all have a configuration too

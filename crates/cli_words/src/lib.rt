@@ -1,4 +1,4 @@
-// The words of the command line, read to an order.
+//! The words of the command line, read to an order.
 #![tactic(auto)]
 
 ghost use Rattle.std.specs.Prelude.{◌≡◌, ◌⊎◌, map, Ok, Err, IfOk, IfErr, string_bytes, option_map};
@@ -9,7 +9,7 @@ mod commands;
 mod orders;
 
 use commands::{arguments_of, matched, order_from};
-pub use orders::{Command, Order, OrderFault};
+pub use orders::{Command, Order, OrderFault, Query};
 use std::alloc::Global;
 
 /// The order that the words give, or why they give none. The words begin with the program's name, and a
@@ -34,32 +34,33 @@ pub fn order(alloc: Global, words: &[String]) -> Result<Order, OrderFault>
     }
 }
 
+#[tactic(auto, unfolding(crate::specs::Words::command_named))]
 fn command_named(name: &str) -> Option<Command>
     ensures { result ≡ spec_command_named name.now }
 {
     if name == "show" {
-        return Some(Command::Show);
+        return Some(Command::Query(Query::Show));
     }
     if name == "closure" {
-        return Some(Command::Closure);
+        return Some(Command::Query(Query::Closure));
     }
     if name == "greatest" {
-        return Some(Command::Greatest);
+        return Some(Command::Query(Query::Greatest));
     }
     if name == "available" {
-        return Some(Command::Available);
+        return Some(Command::Query(Query::Available));
     }
     if name == "blocks" {
-        return Some(Command::Blocks);
+        return Some(Command::Query(Query::Blocks));
     }
     if name == "vblocks" {
-        return Some(Command::Vblocks);
+        return Some(Command::Query(Query::Vblocks));
     }
     if name == "check" {
         return Some(Command::Check);
     }
     if name == "export" {
-        return Some(Command::Export);
+        return Some(Command::Query(Query::Export));
     }
     None
 }
@@ -120,10 +121,18 @@ mod tests {
     #[test]
     fn takes_each_command(rt: HostRuntime) {
         for (line, command, config, cert, node, faulty, set) in [
-            ("show f", Command::Show, "f", "", None, None, None),
+            (
+                "show f",
+                Command::Query(Query::Show),
+                "f",
+                "",
+                None,
+                None,
+                None,
+            ),
             (
                 "closure f --node v",
-                Command::Closure,
+                Command::Query(Query::Closure),
                 "f",
                 "",
                 Some("v"),
@@ -132,7 +141,7 @@ mod tests {
             ),
             (
                 "greatest f --faulty a,b",
-                Command::Greatest,
+                Command::Query(Query::Greatest),
                 "f",
                 "",
                 None,
@@ -141,7 +150,7 @@ mod tests {
             ),
             (
                 "available f --set a",
-                Command::Available,
+                Command::Query(Query::Available),
                 "f",
                 "",
                 None,
@@ -150,7 +159,7 @@ mod tests {
             ),
             (
                 "blocks f --set=",
-                Command::Blocks,
+                Command::Query(Query::Blocks),
                 "f",
                 "",
                 None,
@@ -159,7 +168,7 @@ mod tests {
             ),
             (
                 "blocks --set=-x --faulty b f",
-                Command::Blocks,
+                Command::Query(Query::Blocks),
                 "f",
                 "",
                 None,
@@ -168,7 +177,7 @@ mod tests {
             ),
             (
                 "vblocks f --node v --set a",
-                Command::Vblocks,
+                Command::Query(Query::Vblocks),
                 "f",
                 "",
                 Some("v"),
@@ -178,7 +187,7 @@ mod tests {
             ("check f c", Command::Check, "f", "c", None, None, None),
             (
                 "export f --faulty a",
-                Command::Export,
+                Command::Query(Query::Export),
                 "f",
                 "",
                 None,

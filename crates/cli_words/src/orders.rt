@@ -1,14 +1,15 @@
+//! Orders, and why words give none.
 ghost use Rattle.std.specs.Prelude.{◌≡◌};
 ghost use Rattle.cli_words.specs.declared.orders.OrderFault.TheVariants.{Memory};
 
 use std::alloc::AllocError;
 use thiserror::Error;
 
-/// What the program is to do, by the command's name and arguments.
+/// A question about a system that is answered at once.
 ///
 /// `COMMON` stands for `--from NAME --faulty NAMES --orgs ORGS --faulty-orgs IDS`, each of which may be left out.
 #[derive(Clone, Copy, Debug, PartialEq, Eq)]
-pub enum Command {
+pub enum Query {
     /// `show CONFIG`
     Show,
     /// `closure CONFIG --node NAME`
@@ -21,10 +22,17 @@ pub enum Command {
     Blocks,
     /// `vblocks CONFIG --node NAME --set NAMES`
     Vblocks,
-    /// `check CONFIG CERT`
-    Check,
     /// `export CONFIG [COMMON]`
     Export,
+}
+
+/// What the program is to do, by the command's name and arguments.
+#[derive(Clone, Copy, Debug, PartialEq, Eq)]
+pub enum Command {
+    /// One question is answered.
+    Query(Query),
+    /// `check CONFIG CERT`
+    Check,
 }
 
 /// Why the words give no order.

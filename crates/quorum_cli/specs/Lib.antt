@@ -1,6 +1,6 @@
 pub mod Status
+pub mod Reading
 pub mod Questions
 pub mod Answers
 pub mod Printing
 pub mod Meaning
-pub mod Organisations

@@ -1,9 +1,10 @@
-// The part of a system that is asked about: the whole, or the trust closure of a node.
-ghost use Rattle.std.specs.Prelude.{◌≡◌, IfOk, IfErr, Ok, length, option_map, string_bytes};
-ghost use Rattle.quorum_cli.specs.Questions.{closure_named, part_of as spec_part_of, cut_to, Refuses, IsUsage, FitsClosure};
+//! The part of a system that is asked about: the whole, or the trust closure of a node.
+ghost use Rattle.std.specs.Prelude.{◌≡◌, IfOk, IfErr, length, option_map, string_bytes};
+ghost use Rattle.quorum_cli.specs.Questions.{closure_named, part_of as spec_part_of, cut_to, FitsClosure};
+ghost use Rattle.quorum_cli.specs.Reading.{Gives, IsRefusal};
 
+use crate::early::Early;
 use crate::names::node_named;
-use crate::refusal::Refusal;
 use fbas_core::System;
 use name_set::NodeSet;
 use std::alloc::{AllocError, Global};
@@ -13,10 +14,9 @@ pub fn closure_named(
     alloc: Global,
     system: &System,
     from: &Option<String>,
-) -> Result<Option<NodeSet>, Refusal>
-    ensures ok { IfOk result (λ c. closure_named system.now (option_map string_bytes from.now) ≡ Ok c) }
-    ensures err { IfErr result (λ r. Refuses r (closure_named system.now (option_map string_bytes from.now))) }
-    ensures usage { IfErr result IsUsage }
+) -> Result<Option<NodeSet>, Early>
+    ensures gives { Gives result (closure_named system.now (option_map string_bytes from.now)) }
+    ensures refused { IfErr result IsRefusal }
     ensures fits { IfOk result (FitsClosure system.now) }
 {
     if from.is_none() {

@@ -1,4 +1,4 @@
-// The answer to a question.
+//! The answer to a question.
 ghost use Rattle.std.specs.Prelude.{◌≡◌, ◌⊎◌, ◌<◌, List, IfOk, length};
 ghost use Rattle.quorum_cli.specs.Questions.{Answers, FitsQuestion, AnswersClosure, AnswersGreatest, SaysAvailable, SaysUnavailable, SaysBlocks, SaysNotBlocks, AnswersVblocks, AnswersExport, export_answer, says};
 ghost use Rattle.fbas_model.specs.Nodes.{members};
@@ -8,20 +8,14 @@ ghost use Rattle.lrat_model.specs.Literal.{Literal};
 ghost use Rattle.clause_encoder.specs.Dimacs.{dimacs};
 ghost use Rattle.lrat_model.specs.Runs.{formula_database};
 
-use crate::question::Question;
-use crate::reply::{Reply, Text};
+use crate::question::{Origin, Question};
+use crate::reply::{Reply, says};
 use crate::status::Status;
 use clause_encoder::{EncodeError, VarMap, encode, write_dimacs};
 use clause_store::Store;
 use fbas_core::System;
 use name_set::NodeSet;
 use std::alloc::{AllocError, Global};
-
-fn says(alloc: Global, status: Status, text: &str) -> Result<Reply, AllocError>
-    ensures { IfOk result (λ a. a ≡ record { status = status; text = text.now }) }
-{
-    Ok(Reply::new(status, Vec::from_slice(alloc, text.as_bytes())?))
-}
 
 fn show(alloc: Global, system: &System) -> Result<Reply, AllocError>
     ensures { IfOk result (says (shown system.now)) }
@@ -94,7 +88,7 @@ fn vblocks(alloc: Global, system: &System, node: u32, set: &NodeSet) -> Result<R
 fn formula_text(
     alloc: Global,
     system: &System,
-    head: &Text,
+    origin: &Origin,
     faulty: &NodeSet,
     store: &Store,
     map: &VarMap,
@@ -102,10 +96,10 @@ fn formula_text(
     requires same_n { length faulty.now ≡ length system.now.sets }
     requires places { length map.now.greatest ≡ length system.now.names }
     ensures { (clauses : List (List Literal)) → store.now ≡ formula_database clauses
-        → IfOk result (says (exported head.now system.now.names faulty.now (dimacs system.now.names map.now clauses))) }
+        → IfOk result (says (exported origin.now system.now.names faulty.now (dimacs system.now.names map.now clauses))) }
 {
     let dimacs = write_dimacs(alloc, store, map, system)?;
-    let text = report::exported(alloc, head.bytes(), system, faulty, &dimacs)?;
+    let text = report::exported(alloc, origin, system, faulty, &dimacs)?;
     Ok(Reply::new(Status::Yes, text))
 }
 
@@ -113,7 +107,7 @@ fn formula_text(
 fn formula(
     alloc: Global,
     system: &System,
-    head: &Text,
+    origin: &Origin,
     faulty: &NodeSet,
     greatest: &NodeSet,
 ) -> Result<Reply, AllocError>
@@ -121,10 +115,10 @@ fn formula(
     requires same_n { length greatest.now ≡ length system.now.sets }
     requires same_names { length greatest.now ≡ length system.now.names }
     requires greatest { IsGreatestQuorum system.now.sets (members faulty.now) (all_nodes system.now.sets) (members greatest.now) }
-    ensures { IfOk result (λ a. a ≡ export_answer system.now head.now faulty.now greatest.now) }
+    ensures { IfOk result (λ a. a ≡ export_answer system.now origin.now faulty.now greatest.now) }
 {
     match encode(alloc, system, faulty, greatest) {
-        Ok((store, map)) => formula_text(alloc, system, head, faulty, &store, &map),
+        Ok((store, map)) => formula_text(alloc, system, origin, faulty, &store, &map),
         Err(EncodeError::TooLarge(vars)) => {
             let text = report::too_large(alloc, vars)?;
             Ok(Reply::new(Status::TooLarge, text))
@@ -136,16 +130,16 @@ fn formula(
 fn export(
     alloc: Global,
     system: &System,
-    head: &Text,
+    origin: &Origin,
     faulty: &NodeSet,
 ) -> Result<Reply, AllocError>
     requires { length faulty.now ≡ length system.now.sets }
-    ensures { IfOk result (AnswersExport system.now head.now faulty.now) }
+    ensures { IfOk result (AnswersExport system.now origin.now faulty.now) }
 {
     let mut quorum = NodeSet::new(alloc, system.len())?;
     quorum.fill();
     greatest_quorum::shrink(system, &mut quorum, faulty);
-    formula(alloc, system, head, faulty, &quorum)
+    formula(alloc, system, origin, faulty, &quorum)
 }
 
 /// The answer to a question about a system.
@@ -159,7 +153,7 @@ pub fn solve(alloc: Global, system: &System, question: &Question) -> Result<Repl
         Question::Greatest(faulty) => greatest(alloc, system, faulty),
         Question::Available(set) => available(alloc, system, set),
         Question::Blocks(set, faulty) => blocks(alloc, system, set, faulty),
-        Question::Export(head, faulty) => export(alloc, system, head, faulty),
+        Question::Export(origin, faulty) => export(alloc, system, origin, faulty),
         Question::Vblocks(node, set) => vblocks(alloc, system, *node, set),
     }
 }

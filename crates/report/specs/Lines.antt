@@ -179,8 +179,8 @@ abbrev pub export_head : List ℕ → Option Name → Text
 export_head digest from = line (worded (codes "c config") (encode_lower digest)) ++ line (worded_if_any (codes "c from") from)
 
 -- an exported formula: its comment lines, the faulty nodes the last of them, and its DIMACS text
-abbrev pub exported : Text → List Name → Table → Text → Text
-exported head names faulty dimacs = with_list head (codes "c faulty") names faulty ++ dimacs
+abbrev pub exported : List ℕ → Option Name → List Name → Table → Text → Text
+exported digest from names faulty dimacs = with_list (export_head digest from) (codes "c faulty") names faulty ++ dimacs
 
 -- a formula with this many variables is not written
 abbrev pub too_large : ℕ → Text

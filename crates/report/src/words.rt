@@ -1,5 +1,5 @@
 // Words, numbers and names, one behind another.
-ghost use Rattle.std.specs.Prelude.{◌≡◌, ◌<◌, ◌++◌, ◌∷◌, [], length, decimal, codes, option_map, string_bytes, OnOk, IfOk};
+ghost use Rattle.std.specs.Prelude.{◌≡◌, ◌<◌, ◌++◌, ◌∷◌, [], length, decimal, codes, option_map, OnOk, IfOk};
 ghost use Rattle.report.specs.Lines.{numbered, worded, list, listed, line, word_if_any, accepted as spec_accepted, accepted_kind, with_list as spec_with_list, counts as spec_counts, export_head as spec_export_head, exported as spec_exported, too_large as spec_too_large, name_at as spec_name_at};
 
 use certificate_file::{Accepted, Answer};
@@ -151,37 +151,39 @@ pub fn counts(alloc: Global, system: &System) -> Result<Vec<u8>, AllocError>
     Ok(text)
 }
 
-/// The first comment lines of an exported formula: the digest of the configuration, and the node of whose trust closure the
-/// formula speaks.
-pub fn export_head(
+// The first comment lines of an exported formula: the digest of the configuration, and the node of whose trust closure the
+// formula speaks.
+fn export_head(
     alloc: Global,
     digest: &[u8; 32],
-    from: &Option<String>,
+    from: Option<&[u8]>,
 ) -> Result<Vec<u8>, AllocError>
-    ensures { IfOk result (λ text. text.items ≡ spec_export_head digest.now (option_map string_bytes from.now)) }
+    ensures { IfOk result (λ text. text.items ≡ spec_export_head digest.now (option_map (λ name. name.now) from)) }
 {
     let mut text = Vec::from_slice(alloc, b"c config")?;
     push_behind(&mut text, digest_text::digits(digest).as_slice())?;
     push_word(&mut text, "\nc from")?;
     if let Some(name) = from {
-        push_behind(&mut text, name.as_bytes())?;
+        push_behind(&mut text, name)?;
     }
     text.push(b'\n')?;
     Ok(text)
 }
 
-/// An exported formula: its comment lines, the faulty nodes the last of them, and its DIMACS text.
+/// An exported formula: its comment lines, and its DIMACS text. The comments name the digest of the configuration, the node of
+/// whose trust closure the formula speaks, and the faulty nodes.
 pub fn exported(
     alloc: Global,
-    head: &[u8],
+    digest: &[u8; 32],
+    from: Option<&[u8]>,
     system: &System,
     faulty: &NodeSet,
     dimacs: &[u8],
 ) -> Result<Vec<u8>, AllocError>
     requires { length faulty.now ≡ length system.now.sets }
-    ensures { IfOk result (λ text. text.items ≡ spec_exported head.now system.now.names faulty.now dimacs.now) }
+    ensures { IfOk result (λ text. text.items ≡ spec_exported digest.now (option_map (λ name. name.now) from) system.now.names faulty.now dimacs.now) }
 {
-    let mut text = Vec::from_slice(alloc, head)?;
+    let mut text = export_head(alloc, digest, from)?;
     push_list(&mut text, "c faulty", system, faulty)?;
     text.extend_from_slice(dimacs)?;
     Ok(text)

@@ -1,12 +1,28 @@
 -- How some command lines are read, computed from the definition.
-use Rattle.std.proofs.Common.{◌≡◌, ◌==◌, ℕ, List, [], ◌∷◌, Some, Result, Ok, Err, codes, refl, if◌then◌else◌}
+use Rattle.std.proofs.Common.{◌≡◌, ◌==◌, ℕ, List, [], ◌∷◌, Option, Some, None, Result, Ok, Err, codes, refl, if◌then◌else◌}
 use Rattle.clap.specs.Words.{Text}
 use Rattle.cli_words.proofs.OnLiterals.{words_on_literals}
-use Rattle.cli_words.specs.Order.{Ordered, nothing_for}
+use Rattle.cli_words.specs.Order.{Ordered}
 use Rattle.cli_words.specs.Words.{order_of}
-use Rattle.cli_words.specs.declared.orders.Command.TheVariants.{Show, Closure, Greatest, Available, Blocks, Vblocks, Check, Export}
+use Rattle.cli_words.specs.declared.orders.Command.{Command}
+use Rattle.cli_words.specs.declared.orders.Command.TheVariants.{Query, Check}
+use Rattle.cli_words.specs.declared.orders.Query.TheVariants.{Show, Closure, Greatest, Available, Blocks, Vblocks, Export}
 use Rattle.cli_words.specs.declared.orders.OrderFault.{OrderFault}
 use Rattle.cli_words.specs.declared.orders.OrderFault.TheVariants.{Words, SamePath}
+
+-- the command without any text
+abbrev nothing_for : Command → Ordered
+nothing_for command = record {
+  command = command;
+  config = [];
+  cert = [];
+  orgs = None;
+  node = None;
+  from = None;
+  faulty = None;
+  faulty_orgs = None;
+  set = None;
+}
 
 abbrev put_first : ℕ → List Text → List Text
 put_first b [] = (b ∷ []) ∷ []
@@ -29,49 +45,49 @@ program_alone = refl
 
 -- ---- the commands
 
-show : typed (codes "show f") ≡ Ok (record (nothing_for Show) { config = codes "f" })
+show : typed (codes "show f") ≡ Ok (record (nothing_for (Query Show)) { config = codes "f" })
 unfolding words_on_literals
 show = refl
 
-closure : typed (codes "closure f --node a") ≡ Ok (record (nothing_for Closure) { config = codes "f"; node = Some (codes "a") })
+closure : typed (codes "closure f --node a") ≡ Ok (record (nothing_for (Query Closure)) { config = codes "f"; node = Some (codes "a") })
 unfolding words_on_literals
 closure = refl
 
-greatest : typed (codes "greatest f") ≡ Ok (record (nothing_for Greatest) { config = codes "f" })
+greatest : typed (codes "greatest f") ≡ Ok (record (nothing_for (Query Greatest)) { config = codes "f" })
 unfolding words_on_literals
 greatest = refl
 
-greatest_faulty : typed (codes "greatest f --faulty a,b") ≡ Ok (record (nothing_for Greatest) { config = codes "f"; faulty = Some (codes "a,b") })
+greatest_faulty : typed (codes "greatest f --faulty a,b") ≡ Ok (record (nothing_for (Query Greatest)) { config = codes "f"; faulty = Some (codes "a,b") })
 unfolding words_on_literals
 greatest_faulty = refl
 
 greatest_common : typed (codes "greatest f --from a --faulty b --orgs o --faulty-orgs c,d")
-    ≡ Ok (record (nothing_for Greatest) { config = codes "f"; orgs = Some (codes "o"); from = Some (codes "a"); faulty = Some (codes "b"); faulty_orgs = Some (codes "c,d") })
+    ≡ Ok (record (nothing_for (Query Greatest)) { config = codes "f"; orgs = Some (codes "o"); from = Some (codes "a"); faulty = Some (codes "b"); faulty_orgs = Some (codes "c,d") })
 unfolding words_on_literals
 greatest_common = refl
 
-available : typed (codes "available f --set a") ≡ Ok (record (nothing_for Available) { config = codes "f"; set = Some (codes "a") })
+available : typed (codes "available f --set a") ≡ Ok (record (nothing_for (Query Available)) { config = codes "f"; set = Some (codes "a") })
 unfolding words_on_literals
 available = refl
 
-available_from : typed (codes "available f --from a --set b") ≡ Ok (record (nothing_for Available) { config = codes "f"; from = Some (codes "a"); set = Some (codes "b") })
+available_from : typed (codes "available f --from a --set b") ≡ Ok (record (nothing_for (Query Available)) { config = codes "f"; from = Some (codes "a"); set = Some (codes "b") })
 unfolding words_on_literals
 available_from = refl
 
-blocks : typed (codes "blocks f --set a") ≡ Ok (record (nothing_for Blocks) { config = codes "f"; set = Some (codes "a") })
+blocks : typed (codes "blocks f --set a") ≡ Ok (record (nothing_for (Query Blocks)) { config = codes "f"; set = Some (codes "a") })
 unfolding words_on_literals
 blocks = refl
 
-blocks_faulty : typed (codes "blocks f --set a --faulty b") ≡ Ok (record (nothing_for Blocks) { config = codes "f"; faulty = Some (codes "b"); set = Some (codes "a") })
+blocks_faulty : typed (codes "blocks f --set a --faulty b") ≡ Ok (record (nothing_for (Query Blocks)) { config = codes "f"; faulty = Some (codes "b"); set = Some (codes "a") })
 unfolding words_on_literals
 blocks_faulty = refl
 
 blocks_common : typed (codes "blocks f --set a --from b --orgs=o --faulty-orgs=")
-    ≡ Ok (record (nothing_for Blocks) { config = codes "f"; orgs = Some (codes "o"); from = Some (codes "b"); faulty_orgs = Some []; set = Some (codes "a") })
+    ≡ Ok (record (nothing_for (Query Blocks)) { config = codes "f"; orgs = Some (codes "o"); from = Some (codes "b"); faulty_orgs = Some []; set = Some (codes "a") })
 unfolding words_on_literals
 blocks_common = refl
 
-vblocks : typed (codes "vblocks f --node v --set a") ≡ Ok (record (nothing_for Vblocks) { config = codes "f"; node = Some (codes "v"); set = Some (codes "a") })
+vblocks : typed (codes "vblocks f --node v --set a") ≡ Ok (record (nothing_for (Query Vblocks)) { config = codes "f"; node = Some (codes "v"); set = Some (codes "a") })
 unfolding words_on_literals
 vblocks = refl
 
@@ -79,7 +95,7 @@ check : typed (codes "check f c") ≡ Ok (record (nothing_for Check) { config = 
 unfolding words_on_literals
 check = refl
 
-export : typed (codes "export f --from a") ≡ Ok (record (nothing_for Export) { config = codes "f"; from = Some (codes "a") })
+export : typed (codes "export f --from a") ≡ Ok (record (nothing_for (Query Export)) { config = codes "f"; from = Some (codes "a") })
 unfolding words_on_literals
 export = refl
 
@@ -159,27 +175,27 @@ both_empty = refl
 
 -- ---- options
 
-joined : typed (codes "blocks f --set=a") ≡ Ok (record (nothing_for Blocks) { config = codes "f"; set = Some (codes "a") })
+joined : typed (codes "blocks f --set=a") ≡ Ok (record (nothing_for (Query Blocks)) { config = codes "f"; set = Some (codes "a") })
 unfolding words_on_literals
 joined = refl
 
-option_first : typed (codes "blocks --set=a f") ≡ Ok (record (nothing_for Blocks) { config = codes "f"; set = Some (codes "a") })
+option_first : typed (codes "blocks --set=a f") ≡ Ok (record (nothing_for (Query Blocks)) { config = codes "f"; set = Some (codes "a") })
 unfolding words_on_literals
 option_first = refl
 
-value_first : typed (codes "blocks --set a f") ≡ Ok (record (nothing_for Blocks) { config = codes "f"; set = Some (codes "a") })
+value_first : typed (codes "blocks --set a f") ≡ Ok (record (nothing_for (Query Blocks)) { config = codes "f"; set = Some (codes "a") })
 unfolding words_on_literals
 value_first = refl
 
-first_equals_parts : typed (codes "blocks f --set=a=b") ≡ Ok (record (nothing_for Blocks) { config = codes "f"; set = Some (codes "a=b") })
+first_equals_parts : typed (codes "blocks f --set=a=b") ≡ Ok (record (nothing_for (Query Blocks)) { config = codes "f"; set = Some (codes "a=b") })
 unfolding words_on_literals
 first_equals_parts = refl
 
-empty_joined : typed (codes "blocks f --set=") ≡ Ok (record (nothing_for Blocks) { config = codes "f"; set = Some [] })
+empty_joined : typed (codes "blocks f --set=") ≡ Ok (record (nothing_for (Query Blocks)) { config = codes "f"; set = Some [] })
 unfolding words_on_literals
 empty_joined = refl
 
-empty_value : typed (codes "blocks f --set ") ≡ Ok (record (nothing_for Blocks) { config = codes "f"; set = Some [] })
+empty_value : typed (codes "blocks f --set ") ≡ Ok (record (nothing_for (Query Blocks)) { config = codes "f"; set = Some [] })
 unfolding words_on_literals
 empty_value = refl
 
@@ -203,11 +219,11 @@ value_with_dash : typed (codes "blocks f --set -x") ≡ Err Words
 unfolding words_on_literals
 value_with_dash = refl
 
-joined_with_dash : typed (codes "blocks f --set=-x") ≡ Ok (record (nothing_for Blocks) { config = codes "f"; set = Some (codes "-x") })
+joined_with_dash : typed (codes "blocks f --set=-x") ≡ Ok (record (nothing_for (Query Blocks)) { config = codes "f"; set = Some (codes "-x") })
 unfolding words_on_literals
 joined_with_dash = refl
 
-dash_as_value : typed (codes "blocks f --set -") ≡ Ok (record (nothing_for Blocks) { config = codes "f"; set = Some (codes "-") })
+dash_as_value : typed (codes "blocks f --set -") ≡ Ok (record (nothing_for (Query Blocks)) { config = codes "f"; set = Some (codes "-") })
 unfolding words_on_literals
 dash_as_value = refl
 
@@ -225,7 +241,7 @@ empty_path : typed (codes "check  c") ≡ Ok (record (nothing_for Check) { confi
 unfolding words_on_literals
 empty_path = refl
 
-show_empty_path : typed (codes "show ") ≡ Ok (record (nothing_for Show) { config = [] })
+show_empty_path : typed (codes "show ") ≡ Ok (record (nothing_for (Query Show)) { config = [] })
 unfolding words_on_literals
 show_empty_path = refl
 
