@@ -2,8 +2,9 @@ mod NameLists
 mod Places
 pub mod ListLaws
 mod KeptNames
-pub mod WordLaws
-pub mod WordMixes
-pub mod WordFinds
-pub mod WordCounts
-pub mod WordFill
+mod WordLaws
+mod WordMixes
+mod WordFinds
+mod WordCounts
+mod WordFill
+mod SetOrder

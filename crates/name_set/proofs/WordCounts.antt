@@ -1,9 +1,7 @@
 -- How many numbers the words of a set have.
-use Rattle.std.proofs.Common.{◌≡◌, ℕ, zero, suc, ◌+◌, ◌-◌, ◌*◌, ◌/◌, ◌%◌, ◌^◌, ◌<◌, ◌≤◌, ◌==◌, Bool, true, false, List, [], ◌∷◌, ◌++◌, length, cond, refl, sym, ◌∙◌, ap, ap₂, subst, arith, get_or}
+use Rattle.std.proofs.Common.{◌≡◌, ℕ, zero, suc, ◌+◌, ◌-◌, ◌*◌, ◌/◌, ◌%◌, ◌^◌, ◌<◌, ◌≤◌, ◌==◌, Bool, true, false, List, ◌∷◌, ◌++◌, cond, refl, sym, ◌∙◌, ap, arith, get_or}
 use Rattle.std.proofs.Math.Nat.{pow-suc}
 use lib.Count.{ones, ones_step, ones-le}
-use Rattle.std.specs.Int.{bit_at}
-use Rattle.std.proofs.lemmas.Bool.{cases_Bool, eqb-true, eq-eqb, both_ways}
 use Rattle.std.proofs.lemmas.List.Sums.{sum_by-append}
 use Rattle.std.proofs.lemmas.Nat.Bits.{bit_at-suc, bit_at_lowest}
 use Rattle.fbas_model.specs.Nodes.{Nodes, Table, size}
@@ -44,8 +42,8 @@ size-word v (suc k) x s fits each =
     let first : s v ≡ (x % 2 == 1) = ap s at ∙ each 0 (omega arith) ∙ ap (λ d. d == 1) (bit_at_lowest x) in
     size-first (s v) (table_from (v + 1) k s) (x % 2) (omega arith) first
     ∙ ap (λ n. x % 2 + n) (size-word (v + 1) k (x / 2) s half (λ j low.
-      let e : v + 1 + j ≡ v + suc j = omega arith in
-      ap s e ∙ each (suc j) (omega arith) ∙ ap (λ d. d == 1) (bit_at-suc x j)))
+    let e : v + 1 + j ≡ v + suc j = omega arith in
+    ap s e ∙ each (suc j) (omega arith) ∙ ap (λ d. d == 1) (bit_at-suc x j)))
     ∙ sym (ones_step x)
 
 -- no number of an empty part is counted

@@ -1,10 +1,10 @@
 -- Words that are filled, one after another, up to the last number.
-use Rattle.std.proofs.Common.{◌≡◌, ℕ, ◌+◌, ◌-◌, ◌*◌, ◌/◌, ◌%◌, ◌^◌, ◌<◌, ◌≤◌, ◌==◌, Bool, true, false, ltb, List, length, refl, sym, ◌∙◌, ap, subst, arith, inl, inr, get_or, set}
+use Rattle.std.proofs.Common.{◌≡◌, ℕ, ◌-◌, ◌*◌, ◌/◌, ◌%◌, ◌^◌, ◌<◌, ◌≤◌, ◌==◌, true, false, ltb, List, length, sym, ◌∙◌, ap, arith, inl, inr, get_or, set}
 use mathlib.Core.Path.{fun_ext}
 use Rattle.std.proofs.lemmas.Bool.{cases_Bool, cases_lt, both_ways, eqb-true, eq-eqb, lt-ltb, ltb-true, false_from_ne_true}
 use Rattle.std.proofs.lemmas.Nat.{one_shl}
 use Rattle.std.proofs.lemmas.Nat.Bits.{bit_at_ones, bit_at_ones_above}
-use Rattle.fbas_model.specs.Nodes.{Nodes, Table, members}
+use Rattle.fbas_model.specs.Nodes.{members}
 use Rattle.name_set.specs.Words.{bit, set_of, table_of, AreWordsOf}
 use Rattle.name_set.proofs.WordLaws.{set_of-same, set_of-other, known_words, members-known}
 

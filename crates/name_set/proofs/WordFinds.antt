@@ -1,11 +1,11 @@
 -- What is found in the words of sets, one after another.
-use Rattle.std.proofs.Common.{◌≡◌, ℕ, ◌+◌, ◌-◌, ◌*◌, ◌/◌, ◌%◌, ◌^◌, ◌<◌, ◌≤◌, ◌==◌, Bool, true, false, not, ◌&&◌, ◌||◌, List, refl, sym, ◌∙◌, ap, ap₂, subst, arith, inl, inr, get_or, w64, bit_and}
+use Rattle.std.proofs.Common.{◌≡◌, ℕ, ◌+◌, ◌-◌, ◌*◌, ◌/◌, ◌%◌, ◌^◌, ◌<◌, ◌≤◌, ◌==◌, Bool, true, false, not, List, refl, sym, ◌∙◌, ap, ap₂, subst, arith, inl, inr, get_or, w64, bit_and}
 use mathlib.Core.Path.{fun_ext}
 use Rattle.std.specs.Int.{bit_at, bit_not, trailing_zeros}
-use Rattle.std.proofs.lemmas.Bool.{cases_Bool, cases_lt, both_ways, and_from, and_parts, false_from_ne_true, eqb-true, eq-eqb}
+use Rattle.std.proofs.lemmas.Bool.{cases_Bool, cases_lt, both_ways, and_from, and_parts, eqb-true, eq-eqb}
 use Rattle.std.proofs.lemmas.Nat.{shr-shr, and_le_l}
 use Rattle.std.proofs.lemmas.Nat.Bits.{bit_at-lt, bit_at-trailing_zeros, bit_at_above, same_from_bits_below}
-use Rattle.fbas_model.specs.Nodes.{Nodes, Table, members, ◌∈◌, ◌⊆◌, ∅, Meets, IsInhabited, IsLeast, HasNoneFrom, IsLeastFrom}
+use Rattle.fbas_model.specs.Nodes.{Nodes, Table, members, ◌∈◌, ◌⊆◌, ∅, Meets, IsInhabited, HasNoneFrom, IsLeastFrom}
 use Rattle.fbas_model.specs.Restriction.{table_from}
 use Rattle.name_set.specs.Words.{bit, set_of, table_of, AreWordsOf}
 use Rattle.name_set.proofs.WordLaws.{bit-zero, bit-and, bit-without, same-members}
@@ -32,7 +32,7 @@ set_of-at words i j low =
     let place : (64 * i + j) % 64 ≡ j = omega arith in
     ap₂ (λ (k l : ℕ). bit (get_or words k 0) l) word place
 
-set_of-split : (words : List ℕ) (v : ℕ) → set_of words v ≡ bit (get_or words (v / 64) 0) (v % 64)
+pub set_of-split : (words : List ℕ) (v : ℕ) → set_of words v ≡ bit (get_or words (v / 64) 0) (v % 64)
 unfolding set_of
 set_of-split words v = refl
 
@@ -144,18 +144,21 @@ module _ (size n : ℕ) (a : List ℕ) (t : Table) (are : AreWordsOf size n a) (
       let x = get_or a i 0 in
       let j = trailing_zeros w64 x in
       let low = lowest x some fits in
-      let s = same-members size n a t are d in
-      (omega arith, ap (λ (r : Nodes). r (64 * i + j)) s ∙ set_of-at a i j low.below ∙ low.set, λ w above is.
-        let at : set_of a w ≡ true = sym (ap (λ (r : Nodes). r w) s) ∙ is in
-        elim (cases_lt w (64 * i + j)) [
-          | inr le ↦ le
-          | inl lt ↦ elim (cases_lt (w / 64) i) [
-            | inl early ↦ absurd (not-both (set_of a w) at (set_of-zero a w (none (w / 64) (omega arith) early)))
-            | inr here ↦
-                let same : w / 64 ≡ i = omega arith in
-                absurd (not-both (set_of a w) at (set_of-split a w ∙ ap (λ (k : ℕ). bit (get_or a k 0) (w % 64)) same ∙ low.others (w % 64) (omega arith)))
-          ]
-        ])
+      let s = same-members size n a t are d in (
+        omega arith,
+        ap (λ (r : Nodes). r (64 * i + j)) s ∙ set_of-at a i j low.below ∙ low.set,
+        λ w above is.
+            let at : set_of a w ≡ true = sym (ap (λ (r : Nodes). r w) s) ∙ is in
+            elim (cases_lt w (64 * i + j)) [
+              | inr le ↦ le
+              | inl lt ↦ elim (cases_lt (w / 64) i) [
+                | inl early ↦ absurd (not-both (set_of a w) at (set_of-zero a w (none (w / 64) (omega arith) early)))
+                | inr here ↦
+                    let same : w / 64 ≡ i = omega arith in
+                    absurd (not-both (set_of a w) at (set_of-split a w ∙ ap (λ (k : ℕ). bit (get_or a k 0) (w % 64)) same ∙ low.others (w % 64) (omega arith)))
+              ]
+            ],
+      )
 
   -- there is none where the words are 0 as far as the set goes
   pub least_nowhere : (from i : ℕ) → n ≤ 64 * i → ((k : ℕ) → from ≤ k → k < i → get_or a k 0 ≡ 0) → HasNoneFrom (members t) (64 * from)
@@ -186,16 +189,19 @@ module _ (size n : ℕ) (a : List ℕ) (t : Table) (are : AreWordsOf size n a) (
       let s = same-members size n a t are d in
       let here : bit x (k + j) ≡ true = sym (rest_bit x k j) ∙ low.set in
       let inside : k + j < 64 = elim (cases_lt (k + j) 64) [ inl lt ↦ lt | inr le ↦ absurd (not-both (bit x (k + j)) here (ap (λ b. b == 1) (bit_at_above x 64 (k + j) fits le))) ] in
-      let place : at + j ≡ 64 * i + (k + j) = omega arith in
-      (omega arith, ap (λ (r : Nodes). r (at + j)) s ∙ ap (set_of a) place ∙ set_of-at a i (k + j) inside ∙ here, λ w above is.
-        let is_set : set_of a w ≡ true = sym (ap (λ (r : Nodes). r w) s) ∙ is in
-        elim (cases_lt w (at + j)) [
-          | inr le ↦ le
-          | inl lt ↦
-              let word : w / 64 ≡ i = omega arith in
-              let bit_is : w % 64 ≡ k + (w - at) = omega arith in
-              absurd (not-both (set_of a w) is_set (set_of-split a w ∙ ap₂ (λ (y z : ℕ). bit (get_or a y 0) z) word bit_is ∙ sym (rest_bit x k (w - at)) ∙ low.others (w - at) (omega arith)))
-        ])
+      let place : at + j ≡ 64 * i + (k + j) = omega arith in (
+        omega arith,
+        ap (λ (r : Nodes). r (at + j)) s ∙ ap (set_of a) place ∙ set_of-at a i (k + j) inside ∙ here,
+        λ w above is.
+            let is_set : set_of a w ≡ true = sym (ap (λ (r : Nodes). r w) s) ∙ is in
+            elim (cases_lt w (at + j)) [
+              | inr le ↦ le
+              | inl lt ↦
+                  let word : w / 64 ≡ i = omega arith in
+                  let bit_is : w % 64 ≡ k + (w - at) = omega arith in
+                  absurd (not-both (set_of a w) is_set (set_of-split a w ∙ ap₂ (λ (y z : ℕ). bit (get_or a y 0) z) word bit_is ∙ sym (rest_bit x k (w - at)) ∙ low.others (w - at) (omega arith)))
+            ],
+      )
 
   -- there is none in a rest that is 0
   none_in_rest : (at w : ℕ) → get_or a (at / 64) 0 / 2 ^ (at % 64) ≡ 0 → at ≤ w → w < 64 * (at / 64 + 1) → members t w ≡ false
@@ -207,11 +213,14 @@ module _ (size n : ℕ) (a : List ℕ) (t : Table) (are : AreWordsOf size n a) (
 
   -- so that it is the least of the words behind
   pub least_behind : (at v : ℕ) → get_or a (at / 64) 0 / 2 ^ (at % 64) ≡ 0 → IsLeastFrom (members t) (64 * (at / 64 + 1)) v → IsLeastFrom (members t) at v
-  least_behind at v none least =
-      (omega (arith, least.0), least.1, λ w above is. elim (cases_lt w (64 * (at / 64 + 1))) [
-        | inl lt ↦ absurd (not-both (members t w) is (none_in_rest at w none above lt))
-        | inr le ↦ least.2 w le is
-      ])
+  least_behind at v none least = (
+    omega (arith, least.0),
+    least.1,
+    λ w above is. elim (cases_lt w (64 * (at / 64 + 1))) [
+      | inl lt ↦ absurd (not-both (members t w) is (none_in_rest at w none above lt))
+      | inr le ↦ least.2 w le is
+    ],
+  )
 
   pub none_behind : (at : ℕ) → get_or a (at / 64) 0 / 2 ^ (at % 64) ≡ 0 → HasNoneFrom (members t) (64 * (at / 64 + 1)) → HasNoneFrom (members t) at
   none_behind at none behind w above = elim (cases_lt w (64 * (at / 64 + 1))) [

@@ -1,5 +1,5 @@
 -- Sets whose words are mixed with those of another set, one after another.
-use Rattle.std.proofs.Common.{◌≡◌, ℕ, ◌+◌, ◌*◌, ◌/◌, ◌%◌, ◌^◌, ◌<◌, ◌≤◌, Bool, false, not, ◌&&◌, ◌||◌, List, refl, sym, ◌∙◌, ap, ap₂, arith, inl, inr, get_or, w64, bit_and, bit_or}
+use Rattle.std.proofs.Common.{◌≡◌, ℕ, ◌*◌, ◌/◌, ◌%◌, ◌^◌, ◌<◌, ◌≤◌, Bool, false, not, ◌&&◌, ◌||◌, List, refl, sym, ◌∙◌, ap, ap₂, arith, inl, inr, get_or, w64, bit_and, bit_or}
 use mathlib.Core.Path.{fun_ext}
 use Rattle.std.specs.Int.{bit_not}
 use Rattle.std.proofs.lemmas.Bool.{cases_lt}

@@ -1,5 +1,5 @@
 -- A set of numbers as words of 64 bits: the number v is bit v % 64 of word v / 64.
-use Rattle.std.specs.Prelude.{◌≡◌, ℕ, ◌*◌, ◌/◌, ◌%◌, ◌≤◌, ◌==◌, Bool, false, List, slice_index}
+use Rattle.std.specs.Prelude.{◌≡◌, ◌≢◌, ℕ, ◌<◌, ◌*◌, ◌/◌, ◌%◌, ◌≤◌, ◌==◌, false, List, slice_index}
 use Rattle.std.specs.Int.{bit_at}
 use Rattle.fbas_model.specs.Nodes.{Nodes, Table}
 use Rattle.fbas_model.specs.Restriction.{table_from}
@@ -22,3 +22,8 @@ pub record AreWordsOf (size n : ℕ) (words : List ℕ) : Type 0 where
   pub fits : n ≤ 64 * size
   pub few : size ≤ MOST_WORDS
   pub clear : (v : ℕ) → n ≤ v → set_of words v ≡ false
+
+-- the sets have the same numbers below one that stands in one of them alone
+pub record PartAt (s t : Nodes) (at : ℕ) : Type 0 where
+  pub same : (v : ℕ) → v < at → s v ≡ t v
+  pub apart : s at ≢ t at

@@ -1,8 +1,12 @@
 //! Sets of numbers as machine words, 64 numbers a word.
 
 ghost use Rattle.std.specs.Prelude.{◌≡◌, ℕ, ◌+◌, ◌*◌, ◌/◌, ◌<◌, ◌≤◌, ◌↔◌, Bool, List, length, IsTrue, MatchBool, MatchOption, nat_lt};
-ghost use Rattle.fbas_model.specs.Nodes.{Nodes, Table, members, ◌∈◌, ◌⊆◌, ∅, only, ◌∪◌, ◌∖◌, ◌∩◌, Meets, IsInhabited, IsLeast, HasNoneFrom, IsLeastFrom, size};
+ghost use Rattle.fbas_model.specs.Nodes.{Nodes, Table, members, ◌∈◌, ◌⊆◌, ∅, only, ◌∪◌, ◌∖◌, ◌∩◌, Meets, IsInhabited, IsLeast, HasNoneFrom, IsLeastFrom, size, listed_from, set_cmp};
+ghost use Rattle.std.specs.Iterator.{YieldsFirst, item_count};
+ghost use Rattle.name_set.specs.Words.{PartAt};
 
+use fbas_model::MOST_NODES;
+use std::cmp::Ordering;
 use std::marker::Model;
 
 /// The most words that a set may have.
@@ -17,8 +21,11 @@ pub struct NodeWords<const W: usize> {
     n: u32,
 }
 
-/// A set of the nodes of a system, which are at most 4,096.
-pub type NodeSet = NodeWords<64>;
+/// How many words a set of the nodes of a system has.
+pub const NODE_WORDS: usize = MOST_NODES / 64;
+
+/// A set of the nodes of a system.
+pub type NodeSet = NodeWords<NODE_WORDS>;
 
 impl<const W: usize> Model for NodeWords<W> {
     ghost use Rattle.fbas_model.specs.Nodes.{Table};
@@ -235,12 +242,12 @@ impl<const W: usize> NodeWords<W> {
         self.least_in(0)
     }
 
-    /// The least number of the set from `at` on, or none where it has no such: O(1) and the words that are passed over.
+    /// The least number of the set that is `at` or more, or none where it has no such: O(1) and the words that are passed
+    /// over.
     pub fn least_from(&self, at: u32) -> Option<u32>
-        requires { at ≤ length self.now }
         ensures { MatchOption result (HasNoneFrom (members self.now) at) (IsLeastFrom (members self.now) at) }
     {
-        if at == self.n {
+        if at >= self.n {
             return None;
         }
         let i = at as usize / 64;
@@ -249,5 +256,75 @@ impl<const W: usize> NodeWords<W> {
             return Some(at + rest.trailing_zeros());
         }
         self.least_in(i + 1)
+    }
+    /// The numbers of the set, in order: all of them together O(n / 64) and as many steps as there are.
+    pub fn iter(&self) -> Members<'_, W>
+        ensures { result ≡ listed_from 0 self.now }
+    {
+        Members { set: self, from: 0 }
+    }
+}
+
+/// The numbers of a set, in order, seen as the list of those that are left.
+#[derive(Drop)]
+pub struct Members<'a, const W: usize> {
+    set: &'a NodeWords<W>,
+    from: u32,
+}
+
+impl<'a, const W: usize> Model for Members<'a, W> {
+    ghost use Rattle.std.specs.Prelude.{ℕ, ◌≤◌, List, length, drop};
+    ghost use Rattle.fbas_model.specs.Nodes.{listed_from};
+
+    ghost Value = { List ℕ };
+
+    ghost view = { λ m. listed_from m.from (drop m.from m.set.now) };
+
+    ghost invariant = { λ m. m.from ≤ length m.set.now };
+}
+
+impl<'a, const W: usize> Iterator for Members<'a, W> {
+    type Item = u32;
+
+    ghost next_gives = { YieldsFirst (λ rest. rest) };
+
+    ghost remaining = { item_count (λ rest. rest) };
+
+    fn next(&mut self) -> Option<u32> {
+        let set = self.set;
+        let _ = &set.n;
+        match set.least_from(self.from) {
+            Some(number) => {
+                self.from = number + 1;
+                Some(number)
+            }
+            None => None,
+        }
+    }
+}
+
+/// Compares sets as the sorted lists of their numbers, where a prefix comes first: O(W).
+pub fn cmp_sets<const W: usize>(a: &NodeWords<W>, b: &NodeWords<W>) -> Ordering
+    ensures { result ≡ set_cmp a.now b.now }
+{
+    for i in 0..W {
+        let apart = a.words[i] ^ b.words[i];
+        if apart != 0 {
+            return cmp_from(a, b, 64 * i as u32 + apart.trailing_zeros());
+        }
+    }
+    Ordering::Equal
+}
+
+/// Compares sets that have the same numbers below `at`, and of which one has `at` and the other has not.
+fn cmp_from<const W: usize>(a: &NodeWords<W>, b: &NodeWords<W>, at: u32) -> Ordering
+    requires { PartAt (members a.now) (members b.now) at }
+    ensures { result ≡ set_cmp a.now b.now }
+{
+    match (a.least_from(at), b.least_from(at)) {
+        (Some(one), Some(other)) => one.cmp(&other),
+        (Some(_), None) => Ordering::Greater,
+        (None, Some(_)) => Ordering::Less,
+        (None, None) => Ordering::Equal,
     }
 }

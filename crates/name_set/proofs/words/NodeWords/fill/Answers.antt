@@ -1,4 +1,4 @@
-use Rattle.std.proofs.Common.{◌≡◌, ℕ, ◌/◌, ◌<◌, ◌∙◌, ltb, length, ap, sym, subst, arith}
+use Rattle.std.proofs.Common.{◌≡◌, ℕ, ◌/◌, ◌<◌, ◌∙◌, ltb, length, sym, subst, arith}
 use Rattle.fbas_model.specs.Nodes.{Nodes, members}
 use Rattle.name_set.specs.Words.{table_of, AreWordsOf}
 use Rattle.name_set.proofs.WordLaws.{length-table_of, same-length}

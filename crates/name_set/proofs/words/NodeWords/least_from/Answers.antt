@@ -1,6 +1,5 @@
-use Rattle.std.proofs.Common.{◌≡◌, ℕ, ◌+◌, ◌/◌, ◌%◌, ◌^◌, ◌<◌, ◌≤◌, ◌∙◌, Option, Some, None, Fits, w32, w64, get_or, sym, ap, arith}
+use Rattle.std.proofs.Common.{ℕ, ◌/◌, ◌%◌, ◌^◌, ◌∙◌, Option, Some, None, get_or, ap, arith}
 use Rattle.std.specs.Option.{MatchOption}
-use Rattle.std.specs.Int.{trailing_zeros}
 use Rattle.fbas_model.specs.Nodes.{Nodes, members, HasNoneFrom, IsLeastFrom}
 use Rattle.name_set.proofs.WordLaws.{same-length, same-members}
 use Rattle.name_set.proofs.WordFinds.{lowest, least_in_rest, least_behind, none_behind}

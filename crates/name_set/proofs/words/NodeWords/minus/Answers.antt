@@ -1,5 +1,5 @@
-use Rattle.std.proofs.Common.{◌≡◌, ℕ, not, ◌&&◌, length, ◌∙◌, sym, subst, arith}
-use Rattle.fbas_model.specs.Nodes.{Nodes, members}
+use Rattle.std.proofs.Common.{◌≡◌, ℕ, not, ◌&&◌, ◌∙◌, sym, subst, arith}
+use Rattle.fbas_model.specs.Nodes.{members}
 use Rattle.name_set.specs.Words.{table_of, AreWordsOf}
 use Rattle.name_set.proofs.WordLaws.{same-length, same_n, length-table_of}
 use Rattle.name_set.proofs.WordMixes.{mixes-without, without, mixed_words, members-mixed}
