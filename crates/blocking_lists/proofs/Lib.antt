@@ -1,6 +1,5 @@
 pub mod Models
 pub mod Runs
-pub mod Ids
 pub mod Merged
 pub mod Searches
 pub mod Listings

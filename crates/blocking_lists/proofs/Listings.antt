@@ -10,7 +10,8 @@ use Rattle.lrat_model.specs.Steps.{ProofStep}
 use Rattle.lrat_model.specs.Propagation.{Closes}
 use Rattle.lrat_text.specs.Texts.{HasNumbers}
 use Rattle.cdcl_core.specs.Solving.{Solving}
-use Rattle.list_journal.specs.Journals.{JournalLine, Whole, nothing_held, IsWholeJournal, journal_units, blocking_sets, quorum_sets}
+use Rattle.list_journal.specs.Journals.{JournalLine, nothing_held, IsWholeJournal, journal_units, blocking_sets, quorum_sets}
+use Rattle.list_journal.specs.declared.kinds.ListKind.TheVariants.{Whole}
 use Rattle.list_journal.specs.Lists.{IsMinimalBlock, IsLeastQuorum}
 use Rattle.list_journal.proofs.Greatest.{IsGreatest, counted_greatest}
 use Rattle.list_journal.proofs.Whole.{listed_blocks, whole_has_each}

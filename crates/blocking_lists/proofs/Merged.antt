@@ -10,8 +10,8 @@ use Rattle.list_journal.specs.Listed.{list_line}
 use Rattle.list_journal.specs.Journals.{JournalLine, StepLine, blocking_sets, quorum_sets}
 use Rattle.blocking_lists.specs.Lines.{step_lines, merged, AreBetween, blocks_in, quorums_in, block_of, quorum_of, HasLineNumbers}
 use Rattle.blocking_lists.specs.declared.journal.ListLine.{ListLine}
-use Rattle.list_journal.specs.declared.clauses.Listed.{Listed}
-use Rattle.list_journal.specs.declared.clauses.Listed.TheVariants as listed
+use Rattle.list_journal.specs.declared.kinds.Listed.{Listed}
+use Rattle.list_journal.specs.declared.kinds.Listed.TheVariants as listed
 
 -- ---- places
 

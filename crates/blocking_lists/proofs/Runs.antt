@@ -1,4 +1,4 @@
--- Journals that go on.
+-- Journals that go on by the steps of a solver.
 use Rattle.std.proofs.Common.{◌≡◌, ℕ, ◌+◌, List, [], ◌∷◌, ◌++◌, refl, sym, ap, ◌∙◌, subst, arith, append_assoc}
 use Rattle.std.proofs.lemmas.List.Elements.{All-nil, All-cons, All-head, All-tail}
 use Rattle.fbas_model.specs.Nodes.{Nodes, Table, size}
@@ -8,12 +8,11 @@ use Rattle.lrat_model.specs.Runs.{Run}
 use Rattle.lrat_model.specs.declared.step.Progress.TheVariants.{Going, Refuted}
 use Rattle.lrat_model.proofs.News.{useful_is_new}
 use Rattle.cdcl_core.specs.Log.{AreLemmas, units, HasNoEmptyLemma, EndsEmpty}
-use Rattle.list_journal.specs.Journals.{JournalLine, QuorumLine, BlockingLine, StepLine, ListKind, Whole, Partial, after_line, IsNewLine, JournalRun, line_progress, IsOpen, EndsRefuted, journal_units, AreUseful}
+use Rattle.list_journal.specs.Journals.{JournalLine, QuorumLine, BlockingLine, StepLine, after_line, IsNewLine, JournalRun, line_progress, IsOpen, EndsRefuted, journal_units, AreUseful}
+use Rattle.list_journal.specs.declared.kinds.ListKind.{ListKind}
+use Rattle.list_journal.specs.declared.kinds.ListKind.TheVariants.{Whole, Partial}
+use Rattle.list_journal.proofs.Runs.{open_append}
 use Rattle.blocking_lists.specs.Lines.{step_lines}
-
-pub run_append : (kind : ListKind) (f : Fbas) (b : Nodes) (g : Table) (old : Database) (xs ys : List JournalLine) (middle new : Database) → JournalRun kind f b g old xs middle → JournalRun kind f b g middle ys new → JournalRun kind f b g old (xs ++ ys) new
-run_append kind f b g old [] ys middle new one two = subst (λ (d : Database). JournalRun kind f b g d ys new) one two
-run_append kind f b g old (x ∷ xs) ys middle new one two = (one.0, one.1, run_append kind f b g (after_line g old x) xs ys middle new one.2 two)
 
 -- the steps of a solver are a part's lines, unless there is the empty lemma
 pub steps_partial : (f : Fbas) (b : Nodes) (g : Table) (old : Database) (steps : List ProofStep) (new : Database) → Run (size g) old steps new → AreLemmas (size g) old steps → HasNoEmptyLemma steps → JournalRun Partial f b g old (step_lines steps) new
@@ -31,21 +30,7 @@ pub steps_whole : (f : Fbas) (b : Nodes) (g : Table) (old : Database) (steps : L
 steps_whole f b g old [] new run = run
 steps_whole f b g old (step ∷ steps) new run = (run.0, tt, steps_whole f b g (after_step old step) steps new run.1)
 
-new_in_whole : (g : Table) (d : Database) (line : JournalLine) → IsNewLine Partial g d.held line → IsNewLine Whole g d.held line
-new_in_whole g d (QuorumLine id u) h = tt
-new_in_whole g d (BlockingLine id s) h = h
-new_in_whole g d (StepLine step) h = tt
-
--- a part's lines may stand in a whole list
-pub whole_from_partial : (f : Fbas) (b : Nodes) (g : Table) (old : Database) (lines : List JournalLine) (new : Database) → JournalRun Partial f b g old lines new → JournalRun Whole f b g old lines new
-whole_from_partial f b g old [] new run = run
-whole_from_partial f b g old (line ∷ lines) new run = (run.0, new_in_whole g old line run.1, whole_from_partial f b g (after_line g old line) lines new run.2)
-
 -- ---- useful lines
-
-pub useful_append : (kind : ListKind) (f : Fbas) (b : Nodes) (g : Table) (old : Database) (xs ys : List JournalLine) (middle : Database) → JournalRun kind f b g old xs middle → AreUseful g old xs → AreUseful g middle ys → AreUseful g old (xs ++ ys)
-useful_append kind f b g old [] ys middle run one two = subst (λ (d : Database). AreUseful g d ys) run two
-useful_append kind f b g old (x ∷ xs) ys middle run one two = (one.0, useful_append kind f b g (after_line g old x) xs ys middle run.2 one.1 two)
 
 pub steps_useful : (vars : ℕ) (g : Table) (old : Database) (steps : List ProofStep) → AreLemmas vars old steps → HasNoEmptyLemma steps → AreUseful g old (step_lines steps)
 steps_useful vars g old [] lemmas opens = tt
@@ -58,10 +43,6 @@ steps_useful vars g old (Deletion id ids ∷ steps) lemmas opens = absurd lemmas
 
 -- ---- units
 
-pub units_append : (xs ys : List JournalLine) → journal_units (xs ++ ys) ≡ journal_units xs + journal_units ys
-units_append [] ys = omega arith
-units_append (x ∷ xs) ys = omega (arith, units_append xs ys)
-
 pub units_steps : (steps : List ProofStep) → journal_units (step_lines steps) ≡ units steps
 units_steps [] = refl
 units_steps (Addition id lits hints ∷ steps) = omega (arith, units_steps steps)
@@ -72,10 +53,6 @@ units_steps (Deletion id ids ∷ steps) = omega (arith, units_steps steps)
 pub open_steps : (steps : List ProofStep) → HasNoEmptyLemma steps → IsOpen (step_lines steps)
 open_steps [] h = All-nil (λ line. line_progress line ≡ Going)
 open_steps (step ∷ steps) h = All-cons (λ line. line_progress line ≡ Going) (StepLine step) (step_lines steps) (All-head (λ s. progress_of s ≡ Going) step steps h) (open_steps steps (All-tail (λ s. progress_of s ≡ Going) step steps h))
-
-pub open_append : (xs ys : List JournalLine) → IsOpen xs → IsOpen ys → IsOpen (xs ++ ys)
-open_append [] ys one two = two
-open_append (x ∷ xs) ys one two = All-cons (λ line. line_progress line ≡ Going) x (xs ++ ys) (All-head (λ line. line_progress line ≡ Going) x xs one) (open_append xs ys (All-tail (λ line. line_progress line ≡ Going) x xs one) two)
 
 -- behind a log without the empty lemma, the steps of one that ends with it end with it
 nothing_pushed : (before : List ProofStep) (last : ProofStep) → [] ≡ before ++ last ∷ [] → ⊥

@@ -20,7 +20,8 @@ use Rattle.lrat_model.proofs.Runs.{clause_at-more}
 use Rattle.cdcl_core.specs.Log.{AreLemmas, units, HasNoEmptyLemma, EndsEmpty}
 use Rattle.cdcl_core.specs.Solving.{Solving, logged}
 use Rattle.list_journal.specs.Numbering.{variable_in, quorum_clause, blocking_clause}
-use Rattle.list_journal.specs.Journals.{JournalLine, QuorumLine, BlockingLine, StepLine, Whole, Partial, nothing_held, JournalRun, line_progress, IsOpen, EndsRefuted, IsWholeJournal, journal_units, AreUseful}
+use Rattle.list_journal.specs.Journals.{JournalLine, QuorumLine, BlockingLine, StepLine, nothing_held, JournalRun, line_progress, IsOpen, EndsRefuted, IsWholeJournal, journal_units, AreUseful}
+use Rattle.list_journal.specs.declared.kinds.ListKind.TheVariants.{Whole, Partial}
 use Rattle.lrat_text.specs.Texts.{IsId}
 use Rattle.list_journal.specs.Listed.{list_line, clause_for}
 use Rattle.blocking_lists.specs.Lines.{step_lines, merged, AreBetween, quorum_of, quorums_in}
@@ -28,11 +29,12 @@ use Rattle.list_journal.specs.Lists.{IsLeastQuorum}
 use Rattle.blocking_lists.specs.Outcomes.{PartHolds}
 use Rattle.blocking_lists.specs.Search.{HoldsEmpty, IsSearch, IsListing, IsWholeListing}
 use Rattle.blocking_lists.specs.declared.journal.ListLine.{ListLine}
-use Rattle.list_journal.specs.declared.clauses.Listed.{Listed}
-use Rattle.list_journal.specs.declared.clauses.Listed.TheVariants as listed
+use Rattle.list_journal.specs.declared.kinds.Listed.{Listed}
+use Rattle.list_journal.specs.declared.kinds.Listed.TheVariants as listed
 use Rattle.blocking_lists.proofs.Models.{new_where_false, useful_where_false, empty_closes}
-use Rattle.blocking_lists.proofs.Runs.{run_append, steps_partial, steps_whole, whole_from_partial, useful_append, steps_useful, units_append, units_steps, open_steps, open_append, ends_in_steps, ends_refuted}
-use Rattle.blocking_lists.proofs.Ids.{AreBelow, below_run, found_new}
+use Rattle.list_journal.proofs.Runs.{run_append, whole_from_partial, useful_append, units_append, open_append}
+use Rattle.blocking_lists.proofs.Runs.{steps_partial, steps_whole, steps_useful, units_steps, open_steps, ends_in_steps, ends_refuted}
+use Rattle.list_journal.proofs.Ids.{AreBelow, below_run, found_new}
 use Rattle.blocking_lists.proofs.Merged.{between_more, between_push, merged_steps, merged_line}
 use Rattle.list_journal.proofs.Places.{next_place, same_place}
 

@@ -9,8 +9,8 @@ use Rattle.list_journal.specs.Journals.{JournalLine, QuorumLine, BlockingLine, S
 use Rattle.blocking_lists.specs.declared.journal.Line.{Line}
 use Rattle.blocking_lists.specs.declared.journal.Line.TheVariants as line
 use Rattle.blocking_lists.specs.declared.journal.ListLine.{ListLine}
-use Rattle.list_journal.specs.declared.clauses.Listed.{Listed}
-use Rattle.list_journal.specs.declared.clauses.Listed.TheVariants as listed
+use Rattle.list_journal.specs.declared.kinds.Listed.{Listed}
+use Rattle.list_journal.specs.declared.kinds.Listed.TheVariants as listed
 
 -- what a line that is lent says
 abbrev pub line_of : Line → JournalLine

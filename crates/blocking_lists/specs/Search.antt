@@ -10,7 +10,8 @@ use Rattle.list_journal.specs.Numbering.{variable_in}
 use Rattle.lrat_text.specs.Texts.{IsId}
 use Rattle.blocking_lists.specs.Lines.{merged, AreBetween, quorums_in}
 use Rattle.list_journal.specs.Lists.{IsLeastQuorum}
-use Rattle.list_journal.specs.Journals.{JournalLine, Partial, nothing_held, JournalRun, IsOpen, IsWholeJournal, journal_units, AreUseful}
+use Rattle.list_journal.specs.Journals.{JournalLine, nothing_held, JournalRun, IsOpen, IsWholeJournal, journal_units, AreUseful}
+use Rattle.list_journal.specs.declared.kinds.ListKind.TheVariants.{Partial}
 use Rattle.blocking_lists.specs.declared.journal.ListLine.{ListLine}
 
 -- the empty clause is held

@@ -10,8 +10,8 @@ use Rattle.lrat_model.specs.Literal.{Literal, Plus, Minus, variable_of}
 use Rattle.lrat_model.specs.Ranges.{IsInRange}
 use Rattle.list_journal.specs.Numbering.{variable_in}
 use Rattle.list_journal.specs.Listed.{signed, clause_for}
-use Rattle.list_journal.specs.declared.clauses.Listed.{Listed}
-use Rattle.list_journal.specs.declared.clauses.Listed.TheVariants as listed
+use Rattle.list_journal.specs.declared.kinds.Listed.{Listed}
+use Rattle.list_journal.specs.declared.kinds.Listed.TheVariants as listed
 use Rattle.list_journal.proofs.Places.{next_place, same_place, from_zero}
 
 -- ---- the nodes of a set, listed up to a node

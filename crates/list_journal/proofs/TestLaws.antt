@@ -1,12 +1,9 @@
 -- The tests of lines say what they are named for.
-use Rattle.std.proofs.Common.{◌≡◌, ℕ, zero, suc, Bool, true, false, not, ◌&&◌, ◌||◌, List, [], ◌∷◌, length, cond, Some, None, Option, Result, Ok, refl, sym, ap, ◌∙◌, subst, arith, inl, inr, nat_lt, ◌==◌}
+use Rattle.std.proofs.Common.{◌≡◌, ℕ, zero, suc, Bool, true, false, not, ◌&&◌, ◌||◌, List, [], ◌∷◌, length, cond, Some, None, Option, refl, sym, ap, ◌∙◌, subst, arith, inl, inr, ◌==◌}
 use Rattle.std.specs.List.{list_any}
-use Rattle.std.specs.Prelude.{All}
-use Rattle.std.specs.Option.{option_or}
-use Rattle.std.proofs.lemmas.Bool.{cases_Bool, or_cases, or_left, or_right, and_parts, and_from, both_ways, false≢true, false_from_ne_true, ltb-true, lt-ltb, eqb-true, not_from_false}
-use Rattle.std.proofs.lemmas.List.Elements.{All-head, All-tail}
+use Rattle.std.proofs.lemmas.Bool.{cases_Bool, or_cases, or_left, or_right, and_parts, and_from, both_ways, false≢true, false_from_ne_true, lt-ltb, eqb-true, not_from_false}
 use Rattle.fbas_model.specs.Nodes.{Nodes, Table, members, ◌∈◌, ◌⊆◌, ◌∖◌, Meets, size}
-use Rattle.fbas_model.specs.Fbas.{Fbas, Quorum, Blocks, BlocksMinimally, all_nodes}
+use Rattle.fbas_model.specs.Fbas.{Fbas, Quorum, Blocks, all_nodes}
 use Rattle.fbas_model.specs.Counting.{is_quorum}
 use Rattle.fbas_model.specs.Restriction.{table_from}
 use Rattle.fbas_model.proofs.Tables.{length-table_from}
@@ -15,12 +12,13 @@ use Rattle.fbas_model.proofs.QuorumLaw.{quorum-to, quorum-from}
 use Rattle.lrat_model.specs.Literal.{Literal, IsSubset}
 use Rattle.lrat_model.specs.Clauses.{Held, clause_at}
 use Rattle.lrat_model.specs.Lemmas.{IsNew}
-use Rattle.lrat_model.specs.Steps.{ProofStep, Addition, Deletion, Database, step_fault}
-use Rattle.lrat_model.specs.declared.step.StepFault.{StepFault}
-use Rattle.greatest_quorum.specs.Greatest.{some_set, greatest_of}
+use Rattle.lrat_model.specs.Steps.{ProofStep, Addition, Deletion}
+use Rattle.greatest_quorum.specs.Greatest.{some_set}
 use Rattle.list_journal.specs.Numbering.{quorum_clause, blocking_clause}
-use Rattle.list_journal.specs.Journals.{JournalLine, QuorumLine, BlockingLine, StepLine, ListKind, Whole, Partial, after_line, IsTaken, IsNewLine, IsNewStep, JournalRun}
-use Rattle.list_journal.specs.Tests.{is_within, is_meeting, is_blocking, is_least, is_covered, is_new, ListFault, unless_test, refused, is_new_in, is_new_step, line_fault, next_line, lines_taken, HasPlaces}
+use Rattle.list_journal.specs.Journals.{QuorumLine, BlockingLine, IsNewLine, IsNewStep}
+use Rattle.list_journal.specs.declared.kinds.ListKind.{ListKind}
+use Rattle.list_journal.specs.declared.kinds.ListKind.TheVariants.{Whole, Partial}
+use Rattle.list_journal.specs.Tests.{is_within, is_meeting, is_blocking, is_least, is_covered, is_new, is_new_in, is_new_step}
 use Rattle.greatest_quorum.proofs.GreatestLaws.{some_set-from, table_of}
 
 -- ---- sets of so many nodes
@@ -156,108 +154,31 @@ new_from held clause new = not_from_false (list_any (λ e. is_covered (clause_at
     let c = covered_by (clause_at held k.0) clause k.1 in
     new k.0 c.0 c.1 c.2))
 
--- ---- lines
+-- ---- where the kind asks for it
 
-passed : (t : Bool) (fault : ListFault) (next : Option ListFault) → unless_test t fault next ≡ None → (t ≡ true) × (next ≡ None)
-passed true fault next h = (refl, h)
-passed false fault next h = absurd (cc)
-
-passes : (t : Bool) (fault : ListFault) (next : Option ListFault) → t ≡ true → next ≡ None → unless_test t fault next ≡ None
-passes t fault next h rest = ap (λ (b : Bool). unless_test b fault next) h ∙ rest
-
-nothing_refused : (o : Option StepFault) (next : Option ListFault) → option_or (refused o) next ≡ None → (o ≡ None) × (next ≡ None)
-nothing_refused None next h = (refl, h)
-nothing_refused (Some fault) next h = absurd (cc)
-
-new_step_to : (kind : ListKind) (held : Held) (step : ProofStep) → is_new_step kind held step ≡ true → IsNewStep kind held step
+pub new_step_to : (kind : ListKind) (held : Held) (step : ProofStep) → is_new_step kind held step ≡ true → IsNewStep kind held step
 new_step_to Whole held step h = tt
 new_step_to Partial held (Addition id lits hints) h = new_to held lits h
 new_step_to Partial held (Deletion id ids) h = tt
 
-new_step_from : (kind : ListKind) (held : Held) (step : ProofStep) → IsNewStep kind held step → is_new_step kind held step ≡ true
+pub new_step_from : (kind : ListKind) (held : Held) (step : ProofStep) → IsNewStep kind held step → is_new_step kind held step ≡ true
 new_step_from Whole held (Addition id lits hints) h = refl
 new_step_from Whole held (Deletion id ids) h = refl
 new_step_from Partial held (Addition id lits hints) h = new_from held lits h
 new_step_from Partial held (Deletion id ids) h = refl
 
-new_quorum_to : (kind : ListKind) (g : Table) (held : Held) (id : ℕ) (u : Table) → is_new_in kind held (quorum_clause g u) ≡ true → IsNewLine kind g held (QuorumLine id u)
+pub new_quorum_to : (kind : ListKind) (g : Table) (held : Held) (id : ℕ) (u : Table) → is_new_in kind held (quorum_clause g u) ≡ true → IsNewLine kind g held (QuorumLine id u)
 new_quorum_to Whole g held id u h = tt
 new_quorum_to Partial g held id u h = new_to held (quorum_clause g u) h
 
-new_quorum_from : (kind : ListKind) (g : Table) (held : Held) (id : ℕ) (u : Table) → IsNewLine kind g held (QuorumLine id u) → is_new_in kind held (quorum_clause g u) ≡ true
+pub new_quorum_from : (kind : ListKind) (g : Table) (held : Held) (id : ℕ) (u : Table) → IsNewLine kind g held (QuorumLine id u) → is_new_in kind held (quorum_clause g u) ≡ true
 new_quorum_from Whole g held id u h = refl
 new_quorum_from Partial g held id u h = new_from held (quorum_clause g u) h
 
-new_block : (kind : ListKind) (g : Table) (held : Held) (id : ℕ) (s : Table) → IsNew held (blocking_clause g s) → IsNewLine kind g held (BlockingLine id s)
+pub new_block : (kind : ListKind) (g : Table) (held : Held) (id : ℕ) (s : Table) → IsNew held (blocking_clause g s) → IsNewLine kind g held (BlockingLine id s)
 new_block Whole g held id s h = h
 new_block Partial g held id s h = h
 
-block_new : (kind : ListKind) (g : Table) (held : Held) (id : ℕ) (s : Table) → IsNewLine kind g held (BlockingLine id s) → IsNew held (blocking_clause g s)
+pub block_new : (kind : ListKind) (g : Table) (held : Held) (id : ℕ) (s : Table) → IsNewLine kind g held (BlockingLine id s) → IsNew held (blocking_clause g s)
 block_new Whole g held id s h = h
 block_new Partial g held id s h = h
-
--- a line without a fault is taken, and as new as the kind asks
-pub line_to : (kind : ListKind) (f : Fbas) (b : Table) (d : Database) (line : JournalLine) → length b ≡ length f → HasPlaces (length f) line → line_fault kind f b d line ≡ None
-    → IsTaken f (members b) (greatest_of f b) d line × IsNewLine kind (greatest_of f b) d.held line
-line_to kind f b d (QuorumLine id u) same places h =
-    let g = greatest_of f b in
-    let t1 : Option ListFault = unless_test (is_new_in kind d.held (quorum_clause g u)) ListFault.NotNew None in
-    let one = passed (nat_lt d.last id) (ListFault.NotAbove d.last id) (unless_test (is_quorum f b u) ListFault.NotQuorum t1) h in
-    let two = passed (is_quorum f b u) ListFault.NotQuorum t1 one.1 in
-    let three = passed (is_new_in kind d.held (quorum_clause g u)) ListFault.NotNew None two.1 in
-    ((ltb-true d.last id one.0, places, quorum-to f b u two.0), new_quorum_to kind g d.held id u three.0)
-line_to kind f b d (BlockingLine id s) same places h =
-    let g = greatest_of f b in
-    let t2 : Option ListFault = unless_test (is_new d.held (blocking_clause g s)) ListFault.NotNew None in
-    let t1 : Option ListFault = unless_test (is_least f b s) ListFault.NotMinimal t2 in
-    let one = passed (nat_lt d.last id) (ListFault.NotAbove d.last id) (unless_test (is_blocking f b s) ListFault.NotBlocking t1) h in
-    let two = passed (is_blocking f b s) ListFault.NotBlocking t1 one.1 in
-    let three = passed (is_least f b s) ListFault.NotMinimal t2 two.1 in
-    let four = passed (is_new d.held (blocking_clause g s)) ListFault.NotNew None three.1 in
-    let is : BlocksMinimally f (members b) (members s) = record { blocks = blocks_to f b s same places two.0; least = least_to f b s three.0 } in
-    ((ltb-true d.last id one.0, places, is), new_block kind g d.held id s (new_to d.held (blocking_clause g s) four.0))
-line_to kind f b d (StepLine step) same places h =
-    let g = greatest_of f b in
-    let one = nothing_refused (step_fault (size g) d step) (unless_test (is_new_step kind d.held step) ListFault.NotNew None) h in
-    let two = passed (is_new_step kind d.held step) ListFault.NotNew None one.1 in
-    (one.0, new_step_to kind d.held step two.0)
-
-pub line_from : (kind : ListKind) (f : Fbas) (b : Table) (d : Database) (line : JournalLine) → length b ≡ length f → IsTaken f (members b) (greatest_of f b) d line → IsNewLine kind (greatest_of f b) d.held line → line_fault kind f b d line ≡ None
-line_from kind f b d (QuorumLine id u) same taken new =
-    let g = greatest_of f b in
-    passes (nat_lt d.last id) (ListFault.NotAbove d.last id) (unless_test (is_quorum f b u) ListFault.NotQuorum (unless_test (is_new_in kind d.held (quorum_clause g u)) ListFault.NotNew None)) (lt-ltb d.last id taken.0)
-    (passes (is_quorum f b u) ListFault.NotQuorum (unless_test (is_new_in kind d.held (quorum_clause g u)) ListFault.NotNew None) (quorum-from f b u (same ∙ sym taken.1) (sym taken.1) taken.2)
-    (passes (is_new_in kind d.held (quorum_clause g u)) ListFault.NotNew None (new_quorum_from kind g d.held id u new) refl))
-line_from kind f b d (BlockingLine id s) same taken new =
-    let g = greatest_of f b in
-    let t2 : Option ListFault = unless_test (is_new d.held (blocking_clause g s)) ListFault.NotNew None in
-    let t1 : Option ListFault = unless_test (is_least f b s) ListFault.NotMinimal t2 in
-    passes (nat_lt d.last id) (ListFault.NotAbove d.last id) (unless_test (is_blocking f b s) ListFault.NotBlocking t1) (lt-ltb d.last id taken.0)
-    (passes (is_blocking f b s) ListFault.NotBlocking t1 (blocks_from f b s taken.2.blocks)
-    (passes (is_least f b s) ListFault.NotMinimal t2 (least_from f b s same taken.2.least)
-    (passes (is_new d.held (blocking_clause g s)) ListFault.NotNew None (new_from d.held (blocking_clause g s) (block_new kind g d.held id s new)) refl)))
-line_from kind f b d (StepLine step) same taken new =
-    ap (λ (o : Option StepFault). option_or (refused o) (unless_test (is_new_step kind d.held step) ListFault.NotNew None)) taken
-    ∙ passes (is_new_step kind d.held step) ListFault.NotNew None (new_step_from kind d.held step new) refl
-
--- ---- runs
-
-next_ok : (o : Option ListFault) (rest : Result Database ListFault) (new : Database) → next_line o rest ≡ Ok new → (o ≡ None) × (rest ≡ Ok new)
-next_ok None rest new h = (refl, h)
-next_ok (Some fault) rest new h = absurd (cc)
-
-ok_same : (a b : Database) → (let x : Result Database ListFault = Ok a in x) ≡ Ok b → b ≡ a
-ok_same a b h = cc
-
-pub taken_to : (kind : ListKind) (f : Fbas) (b : Table) (d : Database) (lines : List JournalLine) (new : Database) → length b ≡ length f → All (HasPlaces (length f)) lines → lines_taken kind f b d lines ≡ Ok new → JournalRun kind f (members b) (greatest_of f b) d lines new
-taken_to kind f b d [] new same places h = ok_same d new h
-taken_to kind f b d (line ∷ lines) new same places h =
-    let one = next_ok (line_fault kind f b d line) (lines_taken kind f b (after_line (greatest_of f b) d line) lines) new h in
-    let two = line_to kind f b d line same (All-head (HasPlaces (length f)) line lines places) one.0 in
-    (two.0, two.1, taken_to kind f b (after_line (greatest_of f b) d line) lines new same (All-tail (HasPlaces (length f)) line lines places) one.1)
-
-pub taken_from : (kind : ListKind) (f : Fbas) (b : Table) (d : Database) (lines : List JournalLine) (new : Database) → length b ≡ length f → JournalRun kind f (members b) (greatest_of f b) d lines new → lines_taken kind f b d lines ≡ Ok new
-taken_from kind f b d [] new same run = ap Ok (sym run)
-taken_from kind f b d (line ∷ lines) new same run =
-    ap (λ (o : Option ListFault). next_line o (lines_taken kind f b (after_line (greatest_of f b) d line) lines)) (line_from kind f b d line same run.0 run.1)
-    ∙ taken_from kind f b (after_line (greatest_of f b) d line) lines new same run.2

@@ -1,8 +1,8 @@
 -- A journal that runs to the empty lemma has each minimal blocking set: one that it lacks would satisfy every clause.
-use Rattle.std.proofs.Common.{◌≡◌, ℕ, zero, suc, ◌<◌, Bool, true, false, not, ◌&&◌, List, [], ◌∷◌, ◌++◌, length, slice_index_or, refl, sym, ap, ◌∙◌, subst, arith, inl, inr, ◌⊎◌, ⊎_elim, Contains}
+use Rattle.std.proofs.Common.{◌≡◌, ℕ, zero, suc, ◌<◌, Bool, true, false, not, ◌&&◌, List, [], ◌∷◌, ◌++◌, length, refl, sym, ap, ◌∙◌, subst, arith, inl, inr, ◌⊎◌, ⊎_elim, Contains}
 use Rattle.std.specs.Prelude.{All}
 use Rattle.std.proofs.lemmas.Bool.{and_parts, and_from, cases_Bool, cases_lt, both_ways, false≢true, false_from_ne_true}
-use Rattle.std.proofs.lemmas.List.Elements.{All-nil, All-cons, All-contains, Contains-append_right, Contains-append_cases}
+use Rattle.std.proofs.lemmas.List.Elements.{All-nil, All-cons, All-contains}
 use Rattle.fbas_model.specs.Nodes.{Nodes, Table, members, ◌⊆◌, size}
 use Rattle.fbas_model.specs.Fbas.{Fbas, Quorum, Blocks, BlocksMinimally, all_nodes}
 use Rattle.fbas_model.proofs.Sizes.{member_lt}
@@ -13,9 +13,12 @@ use Rattle.lrat_model.specs.Steps.{Database, after_step}
 use Rattle.lrat_model.specs.declared.step.Progress.TheVariants.{Refuted}
 use Rattle.lrat_model.proofs.Runs.{clause_at-with_clause, Satisfies-step, refuted}
 use Rattle.list_journal.specs.Numbering.{quorum_clause, blocking_clause, assignment_of}
-use Rattle.list_journal.specs.Journals.{JournalLine, QuorumLine, BlockingLine, StepLine, ListKind, Whole, nothing_held, after_line, JournalRun, line_progress, IsWholeJournal, blocking_sets}
+use Rattle.list_journal.specs.Journals.{JournalLine, QuorumLine, BlockingLine, StepLine, nothing_held, after_line, JournalRun, line_progress, IsWholeJournal, blocking_sets}
+use Rattle.list_journal.specs.declared.kinds.ListKind.{ListKind}
+use Rattle.list_journal.specs.declared.kinds.ListKind.TheVariants.{Whole}
 use Rattle.list_journal.specs.Lists.{IsMinimalBlock, AreMinimalBlocks}
 use Rattle.list_journal.proofs.Greatest.{IsGreatest}
+use Rattle.list_journal.proofs.Elements.{nothing_in, first_in, later_in, cons_cases}
 use Rattle.list_journal.proofs.ClauseTruth.{quorum_clause_true, blocking_clause_true}
 
 -- ---- deciding
@@ -62,17 +65,13 @@ same_table (x ∷ xs) (y ∷ ys) = elim (same_mark x y) [
   | inr other ↦ inr (λ e. other (cc))
 ]
 
-only_one : (x t : Table) (k : ℕ) → k < 1 → slice_index_or (x ∷ []) k t ≡ t → x ≡ t
-only_one x t zero h e = e
-only_one x t (suc k) h e = absurd (omega arith)
-
 pub contains_or_not : (xs : List Table) (t : Table) → Contains xs t ⊎ (Contains xs t → ⊥)
-contains_or_not [] t = inr (λ c. let h : c.0 < 0 = c.1 in absurd (omega arith))
+contains_or_not [] t = inr (nothing_in t)
 contains_or_not (x ∷ xs) t = elim (same_table x t) [
-  | inl e ↦ inl (0, omega arith, e)
+  | inl e ↦ inl (subst (λ (y : Table). Contains (x ∷ xs) y) e (first_in x xs))
   | inr other ↦ elim (contains_or_not xs t) [
-    | inl there ↦ inl (Contains-append_right (x ∷ []) xs t there)
-    | inr absent ↦ inr (λ c. ⊎_elim (λ one. other (only_one x t one.0 one.1 one.2)) absent (Contains-append_cases (x ∷ []) xs t c))
+    | inl there ↦ inl (later_in x xs t there)
+    | inr absent ↦ inr (λ c. ⊎_elim other absent (cons_cases x xs t c))
   ]
 ]
 
@@ -120,7 +119,7 @@ blocking_line_true f b g s t greatest is other differ = elim (within_or_not t s)
 ]
 
 later_line : (t s : Table) (xs : List Table) → (Contains (t ∷ xs) s → ⊥) → Contains xs s → ⊥
-later_line t s xs absent c = absent (Contains-append_right (t ∷ []) xs s c)
+later_line t s xs absent c = absent (later_in t xs s c)
 
 -- a run of which no blocking line has the set does not come to the empty lemma
 no_refutation : (kind : ListKind) (f : Fbas) (b : Nodes) (g s : Table) → IsGreatest f b g → IsMinimalBlock f b s → (old : Database) (before : List JournalLine) (last : JournalLine) (new : Database)

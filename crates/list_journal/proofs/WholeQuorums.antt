@@ -1,7 +1,6 @@
 -- A journal that runs to the empty lemma has each minimal quorum: outside one that it lacks, every clause would be satisfied.
 use Rattle.std.proofs.Common.{◌≡◌, ℕ, Bool, true, false, not, ◌&&◌, List, [], ◌∷◌, ◌++◌, length, refl, sym, ap, ◌∙◌, subst, arith, inl, inr, Contains}
 use Rattle.std.proofs.lemmas.Bool.{and_parts, and_from, cases_Bool, both_ways, false_from_ne_true, not_from_false}
-use Rattle.std.proofs.lemmas.List.Elements.{Contains-append_right}
 use Rattle.fbas_model.specs.Nodes.{Nodes, Table, members, ◌∖◌, size}
 use Rattle.fbas_model.specs.Fbas.{Fbas, Quorum, IsMinimalQuorum, BlocksMinimally, all_nodes}
 use Rattle.fbas_model.specs.Restriction.{table_from}
@@ -12,8 +11,11 @@ use Rattle.lrat_model.specs.Steps.{Database, after_step}
 use Rattle.lrat_model.specs.declared.step.Progress.TheVariants.{Refuted}
 use Rattle.lrat_model.proofs.Runs.{Satisfies-step, refuted}
 use Rattle.list_journal.specs.Numbering.{quorum_clause, blocking_clause, assignment_of}
-use Rattle.list_journal.specs.Journals.{JournalLine, QuorumLine, BlockingLine, StepLine, ListKind, Whole, nothing_held, after_line, JournalRun, line_progress, IsWholeJournal, quorum_sets}
+use Rattle.list_journal.specs.Journals.{JournalLine, QuorumLine, BlockingLine, StepLine, nothing_held, after_line, JournalRun, line_progress, IsWholeJournal, quorum_sets}
+use Rattle.list_journal.specs.declared.kinds.ListKind.{ListKind}
+use Rattle.list_journal.specs.declared.kinds.ListKind.TheVariants.{Whole}
 use Rattle.list_journal.proofs.Greatest.{IsGreatest}
+use Rattle.list_journal.proofs.Elements.{later_in}
 use Rattle.list_journal.proofs.ClauseTruth.{quorum_clause_true, blocking_clause_true}
 use Rattle.greatest_quorum.proofs.GreatestLaws.{table_of}
 use Rattle.list_journal.proofs.Whole.{within_or_not, contains_or_not, quorum_within, satisfies_more}
@@ -77,7 +79,7 @@ module _ (f : Fbas) (b : Nodes) (g u : Table) (greatest : IsGreatest f b g) (pla
   lines_true kind old [] new run absent = tt
   lines_true kind old (QuorumLine id q ∷ lines) new run absent = (
     quorum_true q run.0.1 run.0.2 (λ same. absent (0, omega arith, same)),
-    lines_true kind (after_line g old (QuorumLine id q)) lines new run.2 (λ c. absent (Contains-append_right (q ∷ []) (quorum_sets lines) u c)),
+    lines_true kind (after_line g old (QuorumLine id q)) lines new run.2 (λ c. absent (later_in q (quorum_sets lines) u c)),
   )
   lines_true kind old (BlockingLine id s ∷ lines) new run absent = (block_true s run.0.2, lines_true kind (after_line g old (BlockingLine id s)) lines new run.2 absent)
   lines_true kind old (StepLine step ∷ lines) new run absent = (tt, lines_true kind (after_step old step) lines new run.2 absent)

@@ -7,6 +7,8 @@ use Rattle.lrat_model.specs.Lemmas.{IsNew, IsUseful}
 use Rattle.lrat_model.specs.Steps.{ProofStep, Addition, Deletion, Database, step_fault, after_step, progress_of}
 use Rattle.lrat_model.specs.declared.step.Progress.{Progress}
 use Rattle.lrat_model.specs.declared.step.Progress.TheVariants.{Going, Refuted}
+use Rattle.list_journal.specs.declared.kinds.ListKind.{ListKind}
+use Rattle.list_journal.specs.declared.kinds.ListKind.TheVariants.{Whole, Partial}
 use Rattle.list_journal.specs.Numbering.{quorum_clause, blocking_clause}
 
 -- a line: a quorum or a minimal blocking set, under the id of its clause, or a step
@@ -14,11 +16,6 @@ pub data JournalLine : Type 0 where
   QuorumLine : (id : ℕ) (set : Table) → JournalLine
   BlockingLine : (id : ℕ) (set : Table) → JournalLine
   StepLine : (step : ProofStep) → JournalLine
-
--- the journal of a whole list, or of a part of one
-pub data ListKind : Type 0 where
-  Whole : ListKind
-  Partial : ListKind
 
 -- no clause, and the last id 0
 abbrev pub nothing_held : Database

@@ -3,3 +3,4 @@ pub mod Journals
 pub mod Listed
 pub mod Lists
 pub mod Tests
+pub mod Order

@@ -4,8 +4,8 @@ use Rattle.fbas_model.specs.Nodes.{Table}
 use Rattle.lrat_model.specs.Literal.{Literal, Plus, Minus}
 use Rattle.list_journal.specs.Numbering.{quorum_clause, blocking_clause}
 use Rattle.list_journal.specs.Journals.{JournalLine, QuorumLine, BlockingLine}
-use Rattle.list_journal.specs.declared.clauses.Listed.{Listed}
-use Rattle.list_journal.specs.declared.clauses.Listed.TheVariants as listed
+use Rattle.list_journal.specs.declared.kinds.Listed.{Listed}
+use Rattle.list_journal.specs.declared.kinds.Listed.TheVariants as listed
 
 -- the line of a set under an id: of a quorum, or of a minimal blocking set
 abbrev pub list_line : Listed → ℕ → Table → JournalLine

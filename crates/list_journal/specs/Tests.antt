@@ -1,17 +1,17 @@
 -- Whether a line may stand in a journal, by computing: by trying all sets of nodes.
-use Rattle.std.specs.Prelude.{◌≡◌, ℕ, List, [], ◌∷◌, length, Bool, true, false, not, ◌&&◌, ◌||◌, nat_lt, Option, Some, None, Result, Ok, Err}
+use Rattle.std.specs.Prelude.{List, [], ◌∷◌, length, Bool, true, false, not, ◌&&◌, ◌||◌, Option, Some, None}
 use Rattle.std.specs.List.{list_all, list_any}
-use Rattle.std.specs.Option.{option_or}
-use Rattle.fbas_model.specs.Nodes.{Table, size}
+use Rattle.fbas_model.specs.Nodes.{Table}
 use Rattle.fbas_model.specs.Fbas.{Fbas}
 use Rattle.fbas_model.specs.Counting.{is_quorum}
 use Rattle.lrat_model.specs.Literal.{Literal, has}
 use Rattle.lrat_model.specs.Clauses.{Held, clause_at}
-use Rattle.lrat_model.specs.Steps.{ProofStep, Addition, Deletion, Database, step_fault}
-use Rattle.lrat_model.specs.declared.step.StepFault.{StepFault}
-use Rattle.greatest_quorum.specs.Greatest.{some_set, greatest_of}
-use Rattle.list_journal.specs.Numbering.{quorum_clause, blocking_clause}
-use Rattle.list_journal.specs.Journals.{JournalLine, QuorumLine, BlockingLine, StepLine, ListKind, Whole, Partial, after_line}
+use Rattle.lrat_model.specs.Steps.{ProofStep, Addition, Deletion}
+use Rattle.greatest_quorum.specs.Greatest.{some_set}
+use Rattle.list_journal.specs.declared.kinds.ListKind.{ListKind}
+use Rattle.list_journal.specs.declared.kinds.ListKind.TheVariants.{Whole, Partial}
+use Rattle.list_journal.specs.declared.kinds.Listed.{Listed}
+use Rattle.list_journal.specs.declared.kinds.Listed.TheVariants as listed
 
 -- ---- sets
 
@@ -46,61 +46,19 @@ is_covered (Some other) clause = list_all (has clause) other
 abbrev pub is_new : Held → List Literal → Bool
 is_new held clause = not (list_any (λ e. is_covered (clause_at held e.0) clause) held)
 
--- ---- lines
-
--- why a line may not stand there
-pub data ListFault : Type 0 where
-  NotAbove : (last id : ℕ) → ListFault
-  NotQuorum : ListFault
-  NotBlocking : ListFault
-  NotMinimal : ListFault
-  Refused : (fault : StepFault) → ListFault
-  NotNew : ListFault
-
--- the fault where the test fails, or else what follows
-abbrev pub unless_test : Bool → ListFault → Option ListFault → Option ListFault
-unless_test true fault next = next
-unless_test false fault next = Some fault
-
-abbrev pub refused : Option StepFault → Option ListFault
-refused None = None
-refused (Some fault) = Some (Refused fault)
+-- ---- where the kind asks for it
 
 -- in a part, whether a clause is new; in a whole list it need not be
 abbrev pub is_new_in : ListKind → Held → List Literal → Bool
 is_new_in Whole held clause = true
 is_new_in Partial held clause = is_new held clause
 
+-- and whether a lemma is
 abbrev pub is_new_step : ListKind → Held → ProofStep → Bool
 is_new_step kind held (Addition id lits hints) = is_new_in kind held lits
 is_new_step kind held (Deletion id ids) = true
 
--- the first fault of a line, once the nodes b are deleted
-abbrev pub line_fault : ListKind → Fbas → Table → Database → JournalLine → Option ListFault
-line_fault kind f b d (QuorumLine id u) =
-    unless_test (nat_lt d.last id) (NotAbove d.last id)
-    (unless_test (is_quorum f b u) NotQuorum
-    (unless_test (is_new_in kind d.held (quorum_clause (greatest_of f b) u)) NotNew None))
-line_fault kind f b d (BlockingLine id s) =
-    unless_test (nat_lt d.last id) (NotAbove d.last id)
-    (unless_test (is_blocking f b s) NotBlocking
-    (unless_test (is_least f b s) NotMinimal
-    (unless_test (is_new d.held (blocking_clause (greatest_of f b) s)) NotNew None)))
-line_fault kind f b d (StepLine step) =
-    option_or (refused (step_fault (size (greatest_of f b)) d step))
-    (unless_test (is_new_step kind d.held step) NotNew None)
-
--- what is held after the lines, or the first fault
-abbrev pub next_line : Option ListFault → Result Database ListFault → Result Database ListFault
-next_line None rest = rest
-next_line (Some fault) rest = Err fault
-
-abbrev pub lines_taken : ListKind → Fbas → Table → Database → List JournalLine → Result Database ListFault
-lines_taken kind f b d [] = Ok d
-lines_taken kind f b d (line ∷ lines) = next_line (line_fault kind f b d line) (lines_taken kind f b (after_line (greatest_of f b) d line) lines)
-
--- the set of a line has a place for each node
-abbrev pub HasPlaces : ℕ → JournalLine → Type 0
-HasPlaces n (QuorumLine id u) = length u ≡ n
-HasPlaces n (BlockingLine id s) = length s ≡ n
-HasPlaces n (StepLine step) = Unit {0}
+-- and whether the clause of a set is; that of a blocking set always has to be
+abbrev pub is_new_set : ListKind → Listed → Held → List Literal → Bool
+is_new_set kind listed.Quorum held clause = is_new_in kind held clause
+is_new_set kind listed.Blocking held clause = is_new held clause

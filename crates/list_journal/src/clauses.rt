@@ -4,16 +4,10 @@ ghost use Rattle.fbas_model.specs.Nodes.{members, ◌⊆◌, size};
 ghost use Rattle.lrat_model.specs.Ranges.{IsInRange};
 ghost use Rattle.list_journal.specs.Listed.{signed, clause_for};
 
+use crate::kinds::Listed;
 use lrat_model::Lit;
 use name_set::NodeSet;
 use std::alloc::{AllocError, Global};
-
-/// What a listed set is: a quorum, or a minimal blocking set.
-#[derive(Clone, Copy, Drop)]
-pub enum Listed {
-    Quorum,
-    Blocking,
-}
 
 /// The literal of a variable in the clause of a quorum, or of a minimal blocking set.
 fn literal(which: Listed, variable: u32) -> Lit

@@ -5,20 +5,22 @@
 //! that it does not hold. So a proof of the empty clause shows that no minimal blocking set, and no minimal quorum, is missing.
 #![tactic(auto)]
 
-ghost use Rattle.std.specs.Prelude.{◌≡◌, ◌↔◌, List, length, All, Contains, Ok};
+ghost use Rattle.std.specs.Prelude.{◌≡◌, List, length, Contains};
 ghost use Rattle.fbas_model.specs.Nodes.{Table, members};
 ghost use Rattle.fbas_model.specs.Fbas.{Fbas};
 ghost use Rattle.greatest_quorum.specs.Greatest.{greatest_of};
-ghost use Rattle.lrat_model.specs.Steps.{Database};
-ghost use Rattle.list_journal.specs.Journals.{JournalLine, ListKind, JournalRun, nothing_held, IsWholeJournal, blocking_sets, quorum_sets};
-ghost use Rattle.list_journal.specs.Tests.{HasPlaces, lines_taken};
+ghost use Rattle.list_journal.specs.Journals.{JournalLine, IsWholeJournal, blocking_sets, quorum_sets};
 ghost use Rattle.list_journal.specs.Lists.{AreMinimalBlocks, IsLeastQuorum};
 
 mod clauses;
+mod deciding;
+mod kinds;
 mod order;
 
-pub use clauses::{Listed, clause_of};
-pub use order::rising;
+pub use clauses::clause_of;
+pub use deciding::{is_blocking, is_least};
+pub use kinds::{ListKind, Listed};
+pub use order::{SetList, rising};
 
 /// The sets of the blocking lines of a whole journal are the minimal blocking sets and no others: one that is not listed would
 /// satisfy every clause.
@@ -30,9 +32,4 @@ pub fn a_whole_journal_has_each_minimal_blocking_set()
 /// clause.
 pub fn a_whole_journal_has_each_minimal_quorum()
     ensures { (f : Fbas) (b u : Table) (journal : List JournalLine) → length b ≡ length f → IsLeastQuorum f (members b) u → IsWholeJournal f (members b) (greatest_of f b) journal → Contains (quorum_sets journal) u }
-{}
-
-/// The lines that are taken one by one, by computing, are a run of the journal, and no others.
-pub fn a_run_is_taken_line_by_line()
-    ensures { (kind : ListKind) (f : Fbas) (b : Table) (lines : List JournalLine) (new : Database) → length b ≡ length f → All (HasPlaces (length f)) lines → lines_taken kind f b nothing_held lines ≡ Ok new ↔ JournalRun kind f (members b) (greatest_of f b) nothing_held lines new }
 {}

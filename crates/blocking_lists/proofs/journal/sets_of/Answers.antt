@@ -1,7 +1,7 @@
 use Rattle.std.proofs.Common.{◌≡◌, ◌+◌, List, [], ◌∷◌, ◌++◌, take, sym, ap, ◌∙◌}
 use Rattle.std.proofs.lemmas.List.{append-nil}
 use Rattle.fbas_model.specs.Nodes.{Table}
-use Rattle.list_journal.specs.declared.clauses.Listed.{Listed}
+use Rattle.list_journal.specs.declared.kinds.Listed.{Listed}
 use Rattle.blocking_lists.specs.Lines.{blocks_in, block_of}
 use Rattle.blocking_lists.proofs.Merged.{blocks_more}
 use Rattle.blocking_lists.proofs.journal.sets_of.Goals as goal

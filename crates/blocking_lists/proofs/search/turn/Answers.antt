@@ -4,7 +4,7 @@ use Rattle.greatest_quorum.specs.Greatest.{greatest_of}
 use Rattle.greatest_quorum.proofs.GreatestLaws.{length-greatest_of}
 use Rattle.cdcl_core.specs.Solving.{assignment}
 use Rattle.fbas_model.specs.Fbas.{Fbas}
-use Rattle.list_journal.specs.declared.clauses.Listed.TheVariants as listed
+use Rattle.list_journal.specs.declared.kinds.Listed.TheVariants as listed
 use Rattle.list_journal.proofs.Greatest.{greatest_by_counting}
 use Rattle.list_journal.proofs.Whole.{quorum_within}
 use Rattle.blocking_lists.proofs.Turns.{quorum_out, blocking_out, apart_from_set, model_left}

@@ -12,7 +12,8 @@ use Rattle.lrat_model.specs.Propagation.{propagate}
 use Rattle.lrat_model.specs.Steps.{Addition, Deletion, Database, step_fault, after_step, literal_fault, outcome_fault}
 use Rattle.lrat_model.specs.declared.step.StepFault.TheVariants.{IdOrder}
 use Rattle.lrat_model.proofs.Runs.{clause_at-without}
-use Rattle.list_journal.specs.Journals.{JournalLine, QuorumLine, BlockingLine, StepLine, ListKind, after_line, JournalRun}
+use Rattle.list_journal.specs.Journals.{JournalLine, QuorumLine, BlockingLine, StepLine, after_line, JournalRun}
+use Rattle.list_journal.specs.declared.kinds.ListKind.{ListKind}
 use Rattle.list_journal.specs.Numbering.{quorum_clause, blocking_clause}
 
 -- no clause is held under an id above the last
