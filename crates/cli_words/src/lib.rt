@@ -5,11 +5,14 @@ ghost use Rattle.std.specs.Prelude.{◌≡◌, ◌⊎◌, map, Ok, Err, IfOk, If
 ghost use Rattle.cli_words.specs.Words.{order_by, order_of, command_named as spec_command_named};
 ghost use Rattle.cli_words.specs.Order.{order_view, has_same_path as spec_has_same_path, has_certificate as spec_has_certificate, is_path as spec_is_path};
 
+mod budget;
 mod commands;
 mod orders;
 
-use commands::{arguments_of, matched, order_from};
-pub use orders::{Command, Order, OrderFault, Query};
+use budget::budget_of;
+pub use budget::{MOST_BUDGET, USUAL_BUDGET};
+use commands::{arguments_of, matched, order_from, text_at};
+pub use orders::{Command, Order, OrderFault, Query, Search};
 use std::alloc::Global;
 
 /// The order that the words give, or why they give none. The words begin with the program's name, and a
@@ -56,6 +59,15 @@ fn command_named(name: &str) -> Option<Command>
     if name == "vblocks" {
         return Some(Command::Query(Query::Vblocks));
     }
+    if name == "intersect" {
+        return Some(Command::Search(Search::Intersect));
+    }
+    if name == "dset" {
+        return Some(Command::Search(Search::Dset));
+    }
+    if name == "splits" {
+        return Some(Command::Search(Search::Splits));
+    }
     if name == "check" {
         return Some(Command::Check);
     }
@@ -74,7 +86,10 @@ fn command_order(alloc: Global, command: Command, words: &[String]) -> Result<Or
 {
     let arguments = arguments_of(alloc, command)?;
     let matches = matched(arguments, words)?;
-    let order = order_from(alloc, command, &matches)?;
+    let Some(budget) = budget_of(command, text_at(&matches, "budget")) else {
+        return Err(OrderFault::Words);
+    };
+    let order = order_from(alloc, command, budget, &matches)?;
     if has_same_path(&order) {
         return Err(OrderFault::SamePath);
     }
@@ -91,7 +106,7 @@ fn has_same_path(order: &Order) -> bool
 fn has_certificate(command: Command) -> bool
     ensures { result ≡ spec_has_certificate command }
 {
-    matches!(command, Command::Check)
+    matches!(command, Command::Search(_) | Command::Check)
 }
 
 fn is_path(given: &Option<String>, path: &String) -> bool
@@ -244,7 +259,7 @@ mod tests {
             ("available f --set a --faulty b", OrderFault::Words),
             ("closure f", OrderFault::Words),
             ("check f c --from a", OrderFault::Words),
-            ("intersect f c", OrderFault::Words),
+            ("interse f c", OrderFault::Words),
         ] {
             let words = words_of(rt.alloc(), line).expect(&rt, "words");
             assert_eq!(rt;

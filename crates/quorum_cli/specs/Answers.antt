@@ -17,10 +17,12 @@ use Rattle.node_json.specs.Organisations.{Org, orgs_of}
 use Rattle.node_json.specs.declared.faults.OrgFault.{OrgFault}
 use Rattle.certificate_file.specs.Acceptance.{checked}
 use Rattle.certificate_file.specs.declared.places.Accepted.{Accepted}
+use Rattle.certificate_file.specs.declared.places.Answer.{Answer as Shown}
+use Rattle.certificate_file.specs.declared.places.Answer.TheVariants.{Partial}
 use Rattle.certificate_file.specs.declared.faults.CertError.{CertError}
 use Rattle.certificate_file.specs.declared.faults.CertError.TheVariants.{TooLarge as TooManyVariables}
 use Rattle.report.specs.Lines.{Text, usage, same_path, config_too_long, config_refused, orgs_too_long, orgs_refused, cert_refused, accepted}
-use Rattle.quorum_cli.specs.declared.status.Status.TheVariants.{Yes, Usage, ConfigRefused, CertRefused, TooLarge}
+use Rattle.quorum_cli.specs.declared.status.Status.TheVariants.{Yes, Unknown, Usage, ConfigRefused, CertRefused, TooLarge}
 use Rattle.quorum_cli.specs.declared.status.Status.{Status}
 use Rattle.quorum_cli.specs.declared.reply.Reply.{Reply as Answer}
 use Rattle.quorum_cli.specs.declared.early.Early.{Early}
@@ -69,9 +71,14 @@ abbrev pub cert_status : CertError → Status
 cert_status (TooManyVariables vars) = TooLarge
 cert_status fault = CertRefused
 
+-- how it ends where a certificate is accepted: a partial one leaves the question open
+abbrev pub accepted_status : Shown → Status
+accepted_status (Partial units) = Unknown
+accepted_status shown = Yes
+
 -- a certificate is accepted, or its first fault is named
 abbrev pub checked_answer : List Name → Result Accepted CertError → Answer
-checked_answer names (Ok a) = record { status = Yes; text = accepted names a }
+checked_answer names (Ok a) = record { status = accepted_status a.answer; text = accepted names a }
 checked_answer names (Err e) = record { status = cert_status e; text = cert_refused names e }
 
 -- what `check` says of a file
