@@ -5,9 +5,9 @@ use Rattle.cli_words.proofs.OnLiterals.{words_on_literals}
 use Rattle.cli_words.specs.Order.{Ordered}
 use Rattle.cli_words.specs.Words.{order_of}
 use Rattle.cli_words.specs.declared.orders.Command.{Command}
-use Rattle.cli_words.specs.declared.orders.Command.TheVariants.{Query, Search as Searching, Check}
-use Rattle.cli_words.specs.declared.orders.Search.{Search}
-use Rattle.cli_words.specs.declared.orders.Search.TheVariants.{Intersect, Dset, Splits}
+use Rattle.cli_words.specs.declared.orders.Command.TheVariants.{Query, Search, Check}
+use Rattle.cli_words.specs.declared.orders.Goal.{Goal}
+use Rattle.cli_words.specs.declared.orders.Goal.TheVariants.{Intersect, Dset, Splits}
 use Rattle.cli_words.specs.declared.orders.Query.TheVariants.{Show, Closure, Greatest, Available, Blocks, Vblocks, Export}
 use Rattle.cli_words.specs.declared.orders.OrderFault.{OrderFault}
 use Rattle.cli_words.specs.declared.orders.OrderFault.TheVariants.{Words, SamePath}
@@ -27,8 +27,8 @@ nothing_for command = record {
   budget = 0;
 }
 
-abbrev search_of : Search → ℕ → Ordered
-search_of search units = record (nothing_for (Searching search)) { config = codes "f"; cert = codes "c"; budget = units }
+abbrev search_of : Goal → ℕ → Ordered
+search_of goal units = record (nothing_for (Search goal)) { config = codes "f"; cert = codes "c"; budget = units }
 
 abbrev put_first : ℕ → List Text → List Text
 put_first b [] = (b ∷ []) ∷ []

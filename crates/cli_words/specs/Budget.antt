@@ -23,5 +23,5 @@ budget_in (Some text) = units_in text
 
 -- a command that does not search has none
 abbrev pub budget_of : Command → Option (List ℕ) → Option ℕ
-budget_of (Search search) text = budget_in text
+budget_of (Search goal) text = budget_in text
 budget_of command text = Some 0

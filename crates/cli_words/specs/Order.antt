@@ -35,7 +35,7 @@ order_view o = record {
 
 -- the commands with a certificate, which all have a configuration too
 abbrev pub has_certificate : Command → Bool
-has_certificate (Search search) = true
+has_certificate (Search goal) = true
 has_certificate Check = true
 has_certificate command = false
 

@@ -4,7 +4,7 @@ ghost use Rattle.clap.specs.Words.{kind_of, app_of, rule_of, found_of, rows_of, 
 ghost use Rattle.cli_words.specs.Words.{positional as positional_rule, needed as needed_rule, optional as optional_rule, app_for, app_with, with_rules, common_options, is_taken, text_of, order_in};
 ghost use Rattle.cli_words.specs.Order.{order_view};
 
-use crate::orders::{Command, Order, OrderFault, Query, Search};
+use crate::orders::{Command, Goal, Order, OrderFault, Query};
 use clap::error::ErrorKind;
 use clap::{Arg, ArgMatches};
 use std::alloc::{AllocError, Global};
@@ -57,9 +57,9 @@ pub fn arguments_of<'a>(alloc: Global, command: Command) -> Result<clap::Command
         Command::Query(Query::Blocks) => blocks_arguments(alloc),
         Command::Query(Query::Vblocks) => vblocks_arguments(alloc),
         Command::Query(Query::Export) => export_arguments(alloc),
-        Command::Search(Search::Intersect) => intersect_arguments(alloc),
-        Command::Search(Search::Dset) => dset_arguments(alloc),
-        Command::Search(Search::Splits) => splits_arguments(alloc),
+        Command::Search(Goal::Intersect) => intersect_arguments(alloc),
+        Command::Search(Goal::Dset) => dset_arguments(alloc),
+        Command::Search(Goal::Splits) => splits_arguments(alloc),
         Command::Check => check_arguments(alloc),
     }
 }
@@ -129,7 +129,7 @@ fn with_paths<'a>(alloc: Global, name: &'a str) -> Result<clap::Command<'a>, All
 
 #[tactic(auto, unfolding(crate::specs::Words::app_for))]
 fn intersect_arguments<'a>(alloc: Global) -> Result<clap::Command<'a>, AllocError>
-    ensures { IfOk result (λ c. app_of c ≡ app_for (Command.Search Search.Intersect)) }
+    ensures { IfOk result (λ c. app_of c ≡ app_for (Command.Search Goal.Intersect)) }
 {
     let command = with_paths(alloc, "intersect")?;
     with_common(alloc, command)?.arg(optional(alloc, "budget"))
@@ -137,7 +137,7 @@ fn intersect_arguments<'a>(alloc: Global) -> Result<clap::Command<'a>, AllocErro
 
 #[tactic(auto, unfolding(crate::specs::Words::app_for))]
 fn dset_arguments<'a>(alloc: Global) -> Result<clap::Command<'a>, AllocError>
-    ensures { IfOk result (λ c. app_of c ≡ app_for (Command.Search Search.Dset)) }
+    ensures { IfOk result (λ c. app_of c ≡ app_for (Command.Search Goal.Dset)) }
 {
     with_paths(alloc, "dset")?
         .arg(needed(alloc, "set"))?
@@ -147,7 +147,7 @@ fn dset_arguments<'a>(alloc: Global) -> Result<clap::Command<'a>, AllocError>
 
 #[tactic(auto, unfolding(crate::specs::Words::app_for))]
 fn splits_arguments<'a>(alloc: Global) -> Result<clap::Command<'a>, AllocError>
-    ensures { IfOk result (λ c. app_of c ≡ app_for (Command.Search Search.Splits)) }
+    ensures { IfOk result (λ c. app_of c ≡ app_for (Command.Search Goal.Splits)) }
 {
     let command = with_paths(alloc, "splits")?.arg(needed(alloc, "set"))?;
     with_common(alloc, command)?.arg(optional(alloc, "budget"))
@@ -236,7 +236,8 @@ pub fn order_from(
     budget: u64,
     matches: &ArgMatches<'_>,
 ) -> Result<Order, AllocError>
-    ensures { IfOk result (λ o. order_view o ≡ order_in command budget (rows_of (found_of matches.now))) }
+    ensures texts { IfOk result (λ o. order_view o ≡ order_in command budget (rows_of (found_of matches.now))) }
+    ensures budget { IfOk result (λ o. o.budget ≡ budget) }
 {
     Ok(Order {
         command,

@@ -1,9 +1,10 @@
 //! The words of the command line, read to an order.
 #![tactic(auto)]
 
-ghost use Rattle.std.specs.Prelude.{◌≡◌, ◌⊎◌, map, Ok, Err, IfOk, IfErr, string_bytes, option_map};
+ghost use Rattle.std.specs.Prelude.{◌≡◌, ◌⊎◌, ◌≤◌, map, Ok, Err, IfOk, IfErr, string_bytes, option_map};
 ghost use Rattle.cli_words.specs.Words.{order_by, order_of, command_named as spec_command_named};
 ghost use Rattle.cli_words.specs.Order.{order_view, has_same_path as spec_has_same_path, has_certificate as spec_has_certificate, is_path as spec_is_path};
+ghost use Rattle.cli_words.specs.declared.budget.TheConstants.{MOST_BUDGET};
 
 mod budget;
 mod commands;
@@ -12,7 +13,7 @@ mod orders;
 use budget::budget_of;
 pub use budget::{MOST_BUDGET, USUAL_BUDGET};
 use commands::{arguments_of, matched, order_from, text_at};
-pub use orders::{Command, Order, OrderFault, Query, Search};
+pub use orders::{Command, Goal, Order, OrderFault, Query};
 use std::alloc::Global;
 
 /// The order that the words give, or why they give none. The words begin with the program's name, and a
@@ -24,6 +25,7 @@ pub fn order(alloc: Global, words: &[String]) -> Result<Order, OrderFault>
     ensures ok { IfOk result (λ o. order_of (map string_bytes words.now) ≡ Ok (order_view o)) }
     ensures err { IfErr result (λ e. (e ≡ OrderFault.Memory)
         ⊎ (order_of (map string_bytes words.now) ≡ Err e)) }
+    ensures few { IfOk result (λ o. o.budget ≤ MOST_BUDGET) }
 {
     let [_, rest @ ..] = words else {
         return Err(OrderFault::Words);
@@ -60,13 +62,13 @@ fn command_named(name: &str) -> Option<Command>
         return Some(Command::Query(Query::Vblocks));
     }
     if name == "intersect" {
-        return Some(Command::Search(Search::Intersect));
+        return Some(Command::Search(Goal::Intersect));
     }
     if name == "dset" {
-        return Some(Command::Search(Search::Dset));
+        return Some(Command::Search(Goal::Dset));
     }
     if name == "splits" {
-        return Some(Command::Search(Search::Splits));
+        return Some(Command::Search(Goal::Splits));
     }
     if name == "check" {
         return Some(Command::Check);
@@ -83,6 +85,7 @@ fn command_order(alloc: Global, command: Command, words: &[String]) -> Result<Or
         ≡ Ok (order_view o)) }
     ensures err { IfErr result (λ e. (e ≡ OrderFault.Memory)
         ⊎ (order_by command (map string_bytes words.now) ≡ Err e)) }
+    ensures few { IfOk result (λ o. o.budget ≤ MOST_BUDGET) }
 {
     let arguments = arguments_of(alloc, command)?;
     let matches = matched(arguments, words)?;

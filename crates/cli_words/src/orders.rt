@@ -26,9 +26,9 @@ pub enum Query {
     Export,
 }
 
-/// A question about a system that is searched, within a budget. The evidence for the answer is written to a certificate.
+/// What a search finds out, within a budget. The evidence for the answer is written to a certificate.
 #[derive(Clone, Copy, Debug, PartialEq, Eq)]
-pub enum Search {
+pub enum Goal {
     /// `intersect CONFIG CERT [COMMON] [--budget UNITS]`
     Intersect,
     /// `dset CONFIG CERT --set NAMES [--from NAME] [--budget UNITS]`
@@ -43,7 +43,7 @@ pub enum Command {
     /// A question is answered at once.
     Query(Query),
     /// A question is searched.
-    Search(Search),
+    Search(Goal),
     /// `check CONFIG CERT`
     Check,
 }

@@ -23,9 +23,9 @@ returns-in_default-clause-err c =
 pub returns-then-has_same_path-clause-err : goal.returns-then-has_same_path-clause-err
 returns-then-has_same_path-clause-err c =
     inr (order_by-same c.args.command (map string_bytes c.args.words.now) (app_of c.in_ok-arguments.arguments) (rows_of (found_of c.in_ok-matches.matches)) c.in-Some.budget (order_view c.in_ok-order.order)
-    (record { is = c.in_ok-arguments.ensures; taken = c.in_ok-matches.ensures.taken; rows_are = c.in_ok-matches.ensures.rows }) (ap (budget_of c.args.command) (sym c.text_at.ensures) ∙ sym c.budget_of.ensures.value ∙ c.in-Some.is) c.in_ok-order.ensures (sym c.if-has_same_path.ensures))
+    (record { is = c.in_ok-arguments.ensures; taken = c.in_ok-matches.ensures.taken; rows_are = c.in_ok-matches.ensures.rows }) (ap (budget_of c.args.command) (sym c.text_at.ensures) ∙ sym c.budget_of.ensures.value ∙ c.in-Some.is) c.in_ok-order.ensures.texts (sym c.if-has_same_path.ensures))
 
 pub returns-clause-ok : goal.returns-clause-ok
 returns-clause-ok c =
     order_by-other c.args.command (map string_bytes c.args.words.now) (app_of c.in_ok-arguments.arguments) (rows_of (found_of c.in_ok-matches.matches)) c.in-Some.budget (order_view c.in_ok-order.order)
-    (record { is = c.in_ok-arguments.ensures; taken = c.in_ok-matches.ensures.taken; rows_are = c.in_ok-matches.ensures.rows }) (ap (budget_of c.args.command) (sym c.text_at.ensures) ∙ sym c.budget_of.ensures.value ∙ c.in-Some.is) c.in_ok-order.ensures (sym c.if-has_same_path.ensures)
+    (record { is = c.in_ok-arguments.ensures; taken = c.in_ok-matches.ensures.taken; rows_are = c.in_ok-matches.ensures.rows }) (ap (budget_of c.args.command) (sym c.text_at.ensures) ∙ sym c.budget_of.ensures.value ∙ c.in-Some.is) c.in_ok-order.ensures.texts (sym c.if-has_same_path.ensures)
