@@ -10,10 +10,12 @@ mod question;
 mod reading;
 mod reply;
 mod run;
+mod searches;
 mod solving;
 mod status;
 #[cfg(test)]
 mod tests;
+mod word;
 
 ghost use Rattle.std.specs.Prelude.{◌≡◌, [], IfOk, IsErr, IsOk};
 

@@ -87,7 +87,7 @@ fn from_of(origin: &Origin) -> Option<&[u8]>
     ensures { option_map (λ name. name.now) result ≡ origin.now.from }
 {
     match &origin.from {
-        Some(name) => Some(name.bytes()),
+        Some(name) => Some(name.as_str().as_bytes()),
         None => None,
     }
 }

@@ -17,8 +17,8 @@ use Rattle.node_json.specs.declared.faults.OrgFault.TheVariants.{NotJson as NoTr
 use Rattle.lrat_model.specs.Literal.{Literal, Plus, Minus}
 use Rattle.lrat_model.specs.declared.step.StepFault.{StepFault}
 use Rattle.lrat_model.specs.declared.step.StepFault.TheVariants.{IdOrder, BadLiteral, Tautology, NoSuchClause, NotUnit, NoConflict, RatStep, Memory as NoStep}
-use Rattle.certificate_file.specs.declared.faults.CertError.{CertError}
-use Rattle.certificate_file.specs.declared.faults.CertError.TheVariants.{BadLine, LineTooLong, TooManyLines, Digest, UnknownNode, NotQuorum, Overlap, Formula, Step, NotNew, NotRefuted, TooLarge, Truncated, Trailing, Read, Memory as NoMemory}
+use Rattle.cert_lines.specs.declared.faults.CertError.{CertError}
+use Rattle.cert_lines.specs.declared.faults.CertError.TheVariants.{BadLine, LineTooLong, TooManyLines, Digest, UnknownNode, NotQuorum, Overlap, Formula, Step, NotNew, NotRefuted, TooLarge, Truncated, Trailing, Read, Memory as NoMemory}
 use Rattle.certificate_file.specs.declared.places.Accepted.{Accepted}
 use Rattle.witness_pair.specs.declared.Pair.{Pair}
 use Rattle.certificate_file.specs.declared.places.Answer.{Answer}
@@ -61,7 +61,7 @@ name_at names v = unwrap_or (slice_get names v) []
 -- ---- refusals
 
 abbrev pub usage : Text
-usage = codes "usage: quorum_cli COMMAND\nshow CONFIG\nclosure CONFIG --node NAME\ngreatest CONFIG [COMMON]\navailable CONFIG --set NAMES [--from NAME]\nblocks CONFIG --set NAMES [COMMON]\nvblocks CONFIG --node NAME --set NAMES\ncheck CONFIG CERT\nexport CONFIG [COMMON]\nCOMMON: --from NAME --faulty NAMES --orgs ORGS --faulty-orgs IDS\n"
+usage = codes "usage: quorum_cli COMMAND\nshow CONFIG\nclosure CONFIG --node NAME\ngreatest CONFIG [COMMON]\nintersect CONFIG CERT [COMMON] [--budget UNITS]\navailable CONFIG --set NAMES [--from NAME]\ndset CONFIG CERT --set NAMES [--from NAME] [--budget UNITS]\nblocks CONFIG --set NAMES [COMMON]\nvblocks CONFIG --node NAME --set NAMES\nsplits CONFIG CERT --set NAMES [COMMON] [--budget UNITS]\ncheck CONFIG CERT\nexport CONFIG [COMMON]\nCOMMON: --from NAME --faulty NAMES --orgs ORGS --faulty-orgs IDS\n"
 
 abbrev pub same_path : Text
 same_path = codes "usage same-path\n"
