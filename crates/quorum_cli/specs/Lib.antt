@@ -3,6 +3,7 @@ pub mod Reading
 pub mod Questions
 pub mod Searches
 pub mod Replies
+pub mod Searching
 pub mod Answers
 pub mod Putting
 pub mod Printing

@@ -6,11 +6,14 @@ mod early;
 mod files;
 mod names;
 mod parts;
+mod printing;
 mod question;
 mod reading;
+mod replies;
 mod reply;
 mod run;
 mod searches;
+mod searching;
 mod solving;
 mod status;
 #[cfg(test)]
