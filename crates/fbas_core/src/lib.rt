@@ -1,9 +1,10 @@
-// A system: the nodes' names and quorum sets, with its slices and quorums.
+//! A system: the nodes' names and quorum sets, with its slices and quorums.
 #![tactic(auto)]
 
 ghost use Rattle.std.specs.Prelude.{◌≡◌, ℕ, ◌<◌, ◌≤◌, ◌↔◌, length, map, IsTrue, IfSome, MatchOption, Contains, slice_get, option_copied, Some, count_by, is_none};
 ghost use Rattle.fbas_model.specs.Nodes.{members, ∅, ◌∖◌};
-ghost use Rattle.fbas_model.specs.Names.{place_of};
+ghost use Rattle.std.specs.List.Sorted.{IsStrictlySortedBy};
+ghost use Rattle.fbas_model.specs.Names.{name_cmp, place_of};
 ghost use Rattle.fbas_model.specs.QuorumSets.{all_entries, IsBelow};
 ghost use Rattle.fbas_model.specs.Systems.{System as Whole, IsSystem, entries_in, unset_in};
 ghost use Rattle.fbas_model.specs.Fbas.{HasSliceWithin, Quorum, BlocksNode, all_nodes};
@@ -11,6 +12,7 @@ ghost use Rattle.fbas_model.specs.Fbas.{HasSliceWithin, Quorum, BlocksNode, all_
 mod restriction;
 mod trust;
 
+use fbas_model::{MOST_ENTRIES, MOST_NODES};
 use name_set::{Names, NodeSet};
 use quorum_set::QuorumSet;
 use std::marker::Model;
@@ -58,9 +60,11 @@ impl System {
     pub fn len(&self) -> u32
         ensures names { result ≡ length self.now.names }
         ensures sets { result ≡ length self.now.sets }
-        ensures few { result ≤ 4096 }
+        ensures few { result ≤ MOST_NODES }
         ensures system { IsSystem self.now.names self.now.sets }
+        ensures sorted { IsStrictlySortedBy name_cmp self.now.names }
     {
+        self.names.rise();
         self.names.len()
     }
 
@@ -87,7 +91,7 @@ impl System {
     pub fn quorum_set(&self, v: u32) -> Option<&QuorumSet>
         requires { v < length self.now.sets }
         ensures set { slice_get self.now.sets v ≡ Some (option_copied result) }
-        ensures small { IfSome result (λ q. all_entries q.now ≤ 1000000) }
+        ensures small { IfSome result (λ q. all_entries q.now ≤ MOST_ENTRIES) }
         ensures below { IfSome result (λ q. IsBelow (length self.now.sets) q.now) }
     {
         match &self.sets[v as usize] {
