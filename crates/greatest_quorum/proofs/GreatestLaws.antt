@@ -11,14 +11,14 @@ use Rattle.fbas_model.proofs.QuorumLaw.{quorum-to, quorum-from}
 use Rattle.fbas_model.proofs.Unions.{slice_wider}
 use Rattle.greatest_quorum.specs.Greatest.{some_set, in_some_quorum, greatest_of}
 
-some_set-has : (n : ℕ) (test : Table → Bool) → some_set n test ≡ true → (u : Table) × (test u ≡ true)
+pub some_set-has : (n : ℕ) (test : Table → Bool) → some_set n test ≡ true → (u : Table) × (test u ≡ true)
 some_set-has zero test h = ([], h)
 some_set-has (suc n) test h = elim (or_cases (some_set n (λ u. test (false ∷ u))) (some_set n (λ u. test (true ∷ u))) h) [
   | inl e ↦ let r = some_set-has n (λ u. test (false ∷ u)) e in (false ∷ r.0, r.1)
   | inr e ↦ let r = some_set-has n (λ u. test (true ∷ u)) e in (true ∷ r.0, r.1)
 ]
 
-some_set-from : (u : Table) (test : Table → Bool) → test u ≡ true → some_set (length u) test ≡ true
+pub some_set-from : (u : Table) (test : Table → Bool) → test u ≡ true → some_set (length u) test ≡ true
 some_set-from [] test h = h
 some_set-from (false ∷ u) test h = ap (λ (b : Bool). b || some_set (length u) (λ w. test (true ∷ w))) (some_set-from u (λ w. test (false ∷ w)) h)
 some_set-from (true ∷ u) test h =
@@ -47,7 +47,7 @@ table_at f w low v = elim (cases_Bool (all_nodes f v)) [
   ]
 ]
 
-table_of : (f : Fbas) (w : Nodes) → w ⊆ all_nodes f → members (table_from 0 (length f) w) ≡ w
+pub table_of : (f : Fbas) (w : Nodes) → w ⊆ all_nodes f → members (table_from 0 (length f) w) ≡ w
 table_of f w low = λ i v. table_at f w low v i
 
 left_nodes : (f : Fbas) (b w : Nodes) → Quorum f b w → w ⊆ all_nodes f
@@ -63,7 +63,7 @@ member_of_some f b w v same q at =
     let test = λ (u : Table). is_quorum f b u && members u v in
     subst (λ (n : ℕ). some_set n test ≡ true) size (some_set-from t test (and_from (is_quorum f b t) (members t v) counted there))
 
-length-greatest_of : (f : Fbas) (b : Table) → length (greatest_of f b) ≡ length f
+pub length-greatest_of : (f : Fbas) (b : Table) → length (greatest_of f b) ≡ length f
 unfolding greatest_of
 length-greatest_of f b = length-table_from 0 (length f) (in_some_quorum f b)
 

@@ -1,8 +1,8 @@
 //! The checker.
-ghost use Rattle.std.specs.Prelude.{◌≡◌, ◌≢◌, ◌<◌, ◌^◌, [], ◌∷◌, Some, None, Err, IfOk, IfErr, OnErr, OnOk, MatchBool};
+ghost use Rattle.std.specs.Prelude.{◌≡◌, ◌≢◌, ℕ, ◌<◌, ◌^◌, [], ◌∷◌, Some, None, Err, IfOk, IfErr, OnErr, OnOk, MatchBool};
 ghost use Rattle.std.specs.List.{list_all};
 ghost use Rattle.lrat_model.specs.Literal.{has};
-ghost use Rattle.lrat_model.specs.Clauses.{with_clause, without};
+ghost use Rattle.lrat_model.specs.Clauses.{clause_at, with_clause, without};
 ghost use Rattle.lrat_model.specs.Steps.{step_of, step_fault, addition_fault, deletion_fault, after_step, progress_of, progress_at};
 ghost use Rattle.lrat_model.specs.declared.step.StepFault.TheVariants.{Memory};
 ghost use Rattle.lrat_model.specs.Ranges.{IsInRange, AreInRange};
@@ -50,7 +50,8 @@ impl Checker {
 
     /// The last id that was taken.
     pub fn last(&self) -> u64
-        ensures { result ≡ self.now.database.last }
+        ensures value { result ≡ self.now.database.last }
+        ensures none_above { (k : ℕ) → self.now.database.last < k → clause_at self.now.database.held k ≡ None }
     {
         self.store.last()
     }

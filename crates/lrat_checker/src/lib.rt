@@ -3,6 +3,7 @@
 
 mod checker;
 mod hint;
+mod status;
 
 pub use checker::Checker;
 pub use clause_store::Store;
