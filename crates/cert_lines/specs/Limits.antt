@@ -19,6 +19,11 @@ unless e false r = Err e
 abbrev pub within_limits : {A : Type 0} → ℕ → List ℕ → Result A CertError → Result A CertError
 within_limits l text r = unless TooManyLines (nat_le l MAX_LINES) (unless (LineTooLong l) (nat_le (length text) MAX_LINE_BYTES) r)
 
+-- the bytes that were read and belong to lines not taken yet, and the number of the next line
+pub record Unread : Type 0 where
+  pub unread : List ℕ
+  pub number : ℕ
+
 -- a line, and what follows it
 pub record Taken : Type 0 where
   pub text : List ℕ

@@ -1,7 +1,6 @@
 -- What shows the answer to a question.
-use Rattle.std.specs.Prelude.{◌≡◌, ℕ, ◌<◌, ◌≤◌, List, length, All}
-use Rattle.fbas_model.specs.Nodes.{Table, members, ◌∪◌}
-use Rattle.fbas_model.specs.Restriction.{table_from}
+use Rattle.std.specs.Prelude.{◌≡◌, ℕ, ◌≤◌, List, length, All}
+use Rattle.fbas_model.specs.Nodes.{Table, members}
 use Rattle.fbas_model.specs.Fbas.{Fbas, Intersects}
 use Rattle.greatest_quorum.specs.Greatest.{greatest_of}
 use Rattle.lrat_model.specs.Literal.{Literal}
@@ -18,10 +17,6 @@ use Rattle.witness_pair.specs.declared.Pair.{Pair}
 use Rattle.quorum_questions.specs.declared.answers.Size.{Size}
 use Rattle.quorum_questions.specs.declared.answers.Answer.{Answer}
 use Rattle.quorum_questions.specs.declared.answers.Answer.TheVariants.{Yes, No, Spent}
-
--- the nodes of both sets
-abbrev pub union : Table → Table → Table
-union s t = table_from 0 (length s) (members s ∪ members t)
 
 -- the intersection formula once b is deleted: its variables, and its clauses
 abbrev pub vars_of : Fbas → Table → ℕ

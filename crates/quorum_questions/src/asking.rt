@@ -3,7 +3,8 @@ ghost use Rattle.std.specs.Prelude.{◌≡◌, ℕ, ◌<◌, ◌≤◌, length, 
 ghost use Rattle.fbas_model.specs.Nodes.{members};
 ghost use Rattle.fbas_model.specs.Fbas.{Available, AreUnmet};
 ghost use Rattle.clause_encoder.specs.declared.limits.TheConstants.{MOST_VARS};
-ghost use Rattle.quorum_questions.specs.Evidence.{union, vars_of, Shows};
+ghost use Rattle.fbas_model.specs.Restriction.{union};
+ghost use Rattle.quorum_questions.specs.Evidence.{vars_of, Shows};
 
 use crate::answers::{Answer, AskError};
 use crate::searching::{Search, start, values_of, witness};
@@ -11,7 +12,7 @@ use cdcl_core::{Budget, Verdict};
 use fbas_core::System;
 use greatest_quorum::available;
 use name_set::NodeSet;
-use std::alloc::{AllocError, Global};
+use std::alloc::Global;
 
 /// The most units that a question may have.
 pub const MOST_UNITS: u64 = 4_000_000_000;
@@ -42,25 +43,22 @@ pub fn intersect(
     match solver.solve(&mut units)? {
         Verdict::Sat => {
             let values = values_of(alloc, &solver, size.vars)?;
-            let pair = witness(alloc, system, faulty, &map, &values)?;
-            Ok(Answer::No(pair))
+            Ok(Answer::No(witness(system, faulty, &map, &values)))
         }
         Verdict::Unsat => Ok(Answer::Yes(solver.into_log(), size)),
         Verdict::Spent => Ok(Answer::Spent(solver.into_log(), size)),
     }
 }
 
-/// Both sets as one. O(n).
-fn union(alloc: Global, system: &System, s: &NodeSet, t: &NodeSet) -> Result<NodeSet, AllocError>
-    requires same_s { length s.now ≡ length system.now.sets }
-    requires same_t { length t.now ≡ length system.now.sets }
-    ensures same_n { IfOk result (λ u. length u ≡ length system.now.sets) }
-    ensures union { IfOk result (λ u. u ≡ union s.now t.now) }
+/// Both sets as one: O(n / 64).
+fn union(s: &NodeSet, t: &NodeSet) -> NodeSet
+    requires { length s.now ≡ length t.now }
+    ensures same_n { length result ≡ length s.now }
+    ensures union { result ≡ union s.now t.now }
 {
-    let mut both = NodeSet::new(alloc, system.len())?;
-    both.copy_from(s);
+    let mut both = s.copy();
     both.join(t);
-    Ok(both)
+    both
 }
 
 /// Whether two quorums share no node once the faulty nodes and those of `s` are deleted: the answer of `intersect` with both
@@ -79,7 +77,7 @@ pub fn splits(
     ensures small { OnOk result (vars_of system.now.sets (union faulty.now s.now) ≤ MOST_VARS) }
     ensures too_large { (vars : ℕ) → result ≡ Err (AskError.TooLarge vars) → (vars ≡ vars_of system.now.sets (union faulty.now s.now)) × (MOST_VARS < vars) }
 {
-    let both = union(alloc, system, faulty, s)?;
+    let both = union(faulty, s);
     intersect(alloc, system, &both, budget)
 }
 
@@ -100,7 +98,7 @@ pub fn dset(
     ensures small { OnOk result (vars_of system.now.sets b.now ≤ MOST_VARS) }
     ensures too_large { (vars : ℕ) → result ≡ Err (AskError.TooLarge vars) → (vars ≡ vars_of system.now.sets b.now) × (MOST_VARS < vars) }
 {
-    let mut unmet = NodeSet::new(alloc, system.len())?;
+    let mut unmet = NodeSet::new(system.len());
     let is_available = available(system, b, &mut unmet);
     match intersect(alloc, system, b, budget) {
         Ok(answer) => Ok((is_available, unmet, answer)),

@@ -31,7 +31,7 @@ pub fn start(alloc: Global, system: &System, faulty: &NodeSet) -> Result<Search,
     ensures started { IfOk result (IsStarted system.now.sets faulty.now) }
     ensures too_large { (vars : ℕ) → result ≡ Err (AskError.TooLarge vars) → (vars ≡ vars_of system.now.sets faulty.now) × (MOST_VARS < vars) }
 {
-    let greatest = greatest(alloc, system, faulty)?;
+    let greatest = greatest(system, faulty);
     match encode(alloc, system, faulty, &greatest) {
         Ok((store, map)) => {
             let size = Size {
@@ -59,23 +59,17 @@ pub fn values_of(alloc: Global, solver: &Solver, vars: u64) -> Result<Vec<bool>,
 }
 
 /// The two quorums that a satisfying assignment tells.
-pub fn witness(
-    alloc: Global,
-    system: &System,
-    faulty: &NodeSet,
-    map: &VarMap,
-    values: &[bool],
-) -> Result<Pair, AllocError>
+pub fn witness(system: &System, faulty: &NodeSet, map: &VarMap, values: &[bool]) -> Pair
     requires same_n { length faulty.now ≡ length system.now.sets }
     requires places { length map.now.greatest ≡ length system.now.sets }
     requires greatest { IsGreatestQuorum system.now.sets (members faulty.now) (all_nodes system.now.sets) (members map.now.greatest) }
     requires values { length values.now ≡ map.now.count }
     requires satisfied { Satisfies (value_of values.now) (numbered 1 (formula_clauses system.now.sets faulty.now map.now.greatest)) }
-    ensures { IfOk result (IsWitness system.now.sets faulty.now) }
+    ensures { IsWitness system.now.sets faulty.now result }
 {
-    let (first, second) = map.pair(alloc, values)?;
+    let (first, second) = map.pair(values);
     match make_pair(system, faulty, first, second) {
-        Ok(pair) => Ok(pair),
+        Ok(pair) => pair,
         Err(_) => unreachable!(),
     }
 }

@@ -5,7 +5,7 @@ use Rattle.quorum_questions.specs.Evidence.{vars_of}
 use Rattle.quorum_questions.proofs.asking.splits.Goals as goal
 
 pub returns-clause-small : goal.returns-clause-small
-returns-clause-small c = subst (λ (u : Table). OnOk c.intersect.result (vars_of c.args.system.now.sets u ≤ MOST_VARS)) c.in_ok-both.ensures.union c.intersect.ensures.small
+returns-clause-small c = subst (λ (u : Table). OnOk c.intersect.result (vars_of c.args.system.now.sets u ≤ MOST_VARS)) c.union-both.ensures.union c.intersect.ensures.small
 
 pub returns-clause-too_large : goal.returns-clause-too_large
-returns-clause-too_large c = λ vars e. subst (λ (u : Table). (vars ≡ vars_of c.args.system.now.sets u) × (MOST_VARS < vars)) c.in_ok-both.ensures.union (c.intersect.ensures.too_large vars e)
+returns-clause-too_large c = λ vars e. subst (λ (u : Table). (vars ≡ vars_of c.args.system.now.sets u) × (MOST_VARS < vars)) c.union-both.ensures.union (c.intersect.ensures.too_large vars e)
