@@ -5,7 +5,9 @@ use Rattle.cli_words.proofs.OnLiterals.{words_on_literals}
 use Rattle.cli_words.specs.Order.{Ordered}
 use Rattle.cli_words.specs.Words.{order_of}
 use Rattle.cli_words.specs.declared.orders.Command.{Command}
-use Rattle.cli_words.specs.declared.orders.Command.TheVariants.{Query, Check}
+use Rattle.cli_words.specs.declared.orders.Command.TheVariants.{Query, Search, Check}
+use Rattle.cli_words.specs.declared.orders.Goal.{Goal}
+use Rattle.cli_words.specs.declared.orders.Goal.TheVariants.{Intersect, Dset, Splits}
 use Rattle.cli_words.specs.declared.orders.Query.TheVariants.{Show, Closure, Greatest, Available, Blocks, Vblocks, Export}
 use Rattle.cli_words.specs.declared.orders.OrderFault.{OrderFault}
 use Rattle.cli_words.specs.declared.orders.OrderFault.TheVariants.{Words, SamePath}
@@ -22,7 +24,11 @@ nothing_for command = record {
   faulty = None;
   faulty_orgs = None;
   set = None;
+  budget = 0;
 }
+
+abbrev search_of : Goal → ℕ → Ordered
+search_of goal units = record (nothing_for (Search goal)) { config = codes "f"; cert = codes "c"; budget = units }
 
 abbrev put_first : ℕ → List Text → List Text
 put_first b [] = (b ∷ []) ∷ []
@@ -99,7 +105,55 @@ export : typed (codes "export f --from a") ≡ Ok (record (nothing_for (Query Ex
 unfolding words_on_literals
 export = refl
 
-unknown_command : typed (codes "intersect f c") ≡ Err Words
+intersect : typed (codes "intersect f c") ≡ Ok (search_of Intersect 1000000)
+unfolding words_on_literals
+intersect = refl
+
+intersect_budget : typed (codes "intersect f c --faulty a --budget 0") ≡ Ok (record (search_of Intersect 0) { faulty = Some (codes "a") })
+unfolding words_on_literals
+intersect_budget = refl
+
+dset : typed (codes "dset f c --set a --from b --budget 4000000000") ≡ Ok (record (search_of Dset 4000000000) { from = Some (codes "b"); set = Some (codes "a") })
+unfolding words_on_literals
+dset = refl
+
+splits : typed (codes "splits f c --set a --orgs o --budget=10") ≡ Ok (record (search_of Splits 10) { orgs = Some (codes "o"); set = Some (codes "a") })
+unfolding words_on_literals
+splits = refl
+
+budget_too_large : typed (codes "intersect f c --budget 4000000001") ≡ Err Words
+unfolding words_on_literals
+budget_too_large = refl
+
+budget_with_sign : typed (codes "intersect f c --budget +1") ≡ Err Words
+unfolding words_on_literals
+budget_with_sign = refl
+
+budget_with_leading_zero : typed (codes "intersect f c --budget 01") ≡ Err Words
+unfolding words_on_literals
+budget_with_leading_zero = refl
+
+budget_empty : typed (codes "intersect f c --budget=") ≡ Err Words
+unfolding words_on_literals
+budget_empty = refl
+
+budget_of_greatest : typed (codes "greatest f --budget 1") ≡ Err Words
+unfolding words_on_literals
+budget_of_greatest = refl
+
+set_of_dset_is_needed : typed (codes "dset f c") ≡ Err Words
+unfolding words_on_literals
+set_of_dset_is_needed = refl
+
+certificate_over_the_organisations : typed (codes "intersect f c --orgs c") ≡ Err SamePath
+unfolding words_on_literals
+certificate_over_the_organisations = refl
+
+bad_budget_before_same_path : typed (codes "intersect f f --budget x") ≡ Err Words
+unfolding words_on_literals
+bad_budget_before_same_path = refl
+
+unknown_command : typed (codes "interse f c") ≡ Err Words
 unfolding words_on_literals
 unknown_command = refl
 

@@ -1,12 +1,14 @@
 -- Which words are taken, and the order that they give. Options, positionals and their refusals are those that clap states.
-use Rattle.std.specs.Prelude.{List, [], ◌∷◌, Bool, true, Option, Some, None, unwrap_or, Result, Ok, Err, codes, if◌then◌else◌}
+use Rattle.std.specs.Prelude.{ℕ, List, [], ◌∷◌, ◌++◌, Bool, true, Option, Some, None, unwrap_or, Result, Ok, Err, codes, if◌then◌else◌}
 use Rattle.std.specs.Str.{bytes_eq}
 use Rattle.clap.specs.Words.{App, Row, Rule, Text, fault_of, first_of, matches_of, new_rule, with_rule}
 use Rattle.clap.specs.Walk.{is_empty}
 use Rattle.clap.specs.Simple.{new_shape}
+use Rattle.cli_words.specs.Budget.{budget_of}
 use Rattle.cli_words.specs.Order.{Ordered, has_same_path}
 use Rattle.cli_words.specs.declared.orders.Command.{Command}
-use Rattle.cli_words.specs.declared.orders.Command.TheVariants.{Query, Check}
+use Rattle.cli_words.specs.declared.orders.Command.TheVariants.{Query, Search, Check}
+use Rattle.cli_words.specs.declared.orders.Goal.TheVariants.{Intersect, Dset, Splits}
 use Rattle.cli_words.specs.declared.orders.Query.TheVariants.{Show, Closure, Greatest, Available, Blocks, Vblocks, Export}
 use Rattle.cli_words.specs.declared.orders.OrderFault.{OrderFault}
 use Rattle.cli_words.specs.declared.orders.OrderFault.TheVariants.{Words, SamePath}
@@ -46,6 +48,9 @@ app_for (Query Greatest) = app_with (codes "greatest") (positional (codes "confi
 app_for (Query Available) = app_with (codes "available") (positional (codes "config") ∷ needed (codes "set") ∷ optional (codes "from") ∷ [])
 app_for (Query Blocks) = app_with (codes "blocks") (positional (codes "config") ∷ needed (codes "set") ∷ common_options)
 app_for (Query Vblocks) = app_with (codes "vblocks") (positional (codes "config") ∷ needed (codes "node") ∷ needed (codes "set") ∷ [])
+app_for (Search Intersect) = app_with (codes "intersect") (positional (codes "config") ∷ positional (codes "cert") ∷ (common_options ++ optional (codes "budget") ∷ []))
+app_for (Search Dset) = app_with (codes "dset") (positional (codes "config") ∷ positional (codes "cert") ∷ needed (codes "set") ∷ optional (codes "from") ∷ optional (codes "budget") ∷ [])
+app_for (Search Splits) = app_with (codes "splits") (positional (codes "config") ∷ positional (codes "cert") ∷ needed (codes "set") ∷ (common_options ++ optional (codes "budget") ∷ []))
 app_for Check = app_with (codes "check") (positional (codes "config") ∷ positional (codes "cert") ∷ [])
 app_for (Query Export) = app_with (codes "export") (positional (codes "config") ∷ common_options)
 
@@ -60,8 +65,8 @@ abbrev pub text_of : Text → List Row → Text
 text_of id rows = unwrap_or (first_of id rows) []
 
 -- the texts of a command: what it does not have, or what was not given, is among no rows
-abbrev pub order_in : Command → List Row → Ordered
-order_in command rows = record {
+abbrev pub order_in : Command → ℕ → List Row → Ordered
+order_in command budget rows = record {
   command = command;
   config = text_of (codes "config") rows;
   cert = text_of (codes "cert") rows;
@@ -71,15 +76,25 @@ order_in command rows = record {
   faulty = first_of (codes "faulty") rows;
   faulty_orgs = first_of (codes "faulty-orgs") rows;
   set = first_of (codes "set") rows;
+  budget = budget;
 }
 
 -- one path for both files is refused
 abbrev pub path_checked : Ordered → Result Ordered OrderFault
 path_checked o = if has_same_path o then Err SamePath else Ok o
 
+-- the order of a command's texts with this budget, if it is one
+abbrev pub order_with : Command → List Row → Option ℕ → Result Ordered OrderFault
+order_with command rows None = Err Words
+order_with command rows (Some budget) = path_checked (order_in command budget rows)
+
+-- the order of a command's texts
+abbrev pub order_among : Command → List Row → Result Ordered OrderFault
+order_among command rows = order_with command rows (budget_of command (first_of (codes "budget") rows))
+
 -- the order that a command's own words give, which begin with its name
 unfoldable pub order_by : Command → List Text → Result Ordered OrderFault
-order_by command words = if is_taken (app_for command) words then path_checked (order_in command (matches_of (app_for command) words)) else Err Words
+order_by command words = if is_taken (app_for command) words then order_among command (matches_of (app_for command) words) else Err Words
 
 -- ---- the command line
 
@@ -91,8 +106,11 @@ command_named name = if bytes_eq name (codes "show") then Some (Query Show)
     else (if bytes_eq name (codes "available") then Some (Query Available)
     else (if bytes_eq name (codes "blocks") then Some (Query Blocks)
     else (if bytes_eq name (codes "vblocks") then Some (Query Vblocks)
+    else (if bytes_eq name (codes "intersect") then Some (Search Intersect)
+    else (if bytes_eq name (codes "dset") then Some (Search Dset)
+    else (if bytes_eq name (codes "splits") then Some (Search Splits)
     else (if bytes_eq name (codes "check") then Some Check
-    else (if bytes_eq name (codes "export") then Some (Query Export) else None)))))))
+    else (if bytes_eq name (codes "export") then Some (Query Export) else None))))))))))
 
 -- the order of a command, if there is one
 abbrev pub order_if_any : Option Command → List Text → Result Ordered OrderFault

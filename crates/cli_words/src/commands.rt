@@ -1,10 +1,10 @@
 //! What clap reads for each command, and the order that its matches give.
-ghost use Rattle.std.specs.Prelude.{◌≡◌, ◌≢◌, ◌⊎◌, true, false, map, IfOk, IfErr, codes, string_bytes, option_map};
+ghost use Rattle.std.specs.Prelude.{◌≡◌, ◌≢◌, ◌⊎◌, [], ◌∷◌, true, false, map, IfOk, IfErr, codes, string_bytes, option_map};
 ghost use Rattle.clap.specs.Words.{kind_of, app_of, rule_of, found_of, rows_of, matches_of, is_simple_and_free, first_of};
-ghost use Rattle.cli_words.specs.Words.{positional as positional_rule, needed as needed_rule, optional as optional_rule, app_for, with_rules, common_options, is_taken, text_of, order_in};
+ghost use Rattle.cli_words.specs.Words.{positional as positional_rule, needed as needed_rule, optional as optional_rule, app_for, app_with, with_rules, common_options, is_taken, text_of, order_in};
 ghost use Rattle.cli_words.specs.Order.{order_view};
 
-use crate::orders::{Command, Order, OrderFault, Query};
+use crate::orders::{Command, Goal, Order, OrderFault, Query};
 use clap::error::ErrorKind;
 use clap::{Arg, ArgMatches};
 use std::alloc::{AllocError, Global};
@@ -57,6 +57,9 @@ pub fn arguments_of<'a>(alloc: Global, command: Command) -> Result<clap::Command
         Command::Query(Query::Blocks) => blocks_arguments(alloc),
         Command::Query(Query::Vblocks) => vblocks_arguments(alloc),
         Command::Query(Query::Export) => export_arguments(alloc),
+        Command::Search(Goal::Intersect) => intersect_arguments(alloc),
+        Command::Search(Goal::Dset) => dset_arguments(alloc),
+        Command::Search(Goal::Splits) => splits_arguments(alloc),
         Command::Check => check_arguments(alloc),
     }
 }
@@ -115,13 +118,46 @@ fn vblocks_arguments<'a>(alloc: Global) -> Result<clap::Command<'a>, AllocError>
         .arg(needed(alloc, "set"))
 }
 
+// A command that has the paths of a configuration and of a certificate.
+fn with_paths<'a>(alloc: Global, name: &'a str) -> Result<clap::Command<'a>, AllocError>
+    ensures { IfOk result (λ c. app_of c ≡ app_with name.now (positional_rule (codes "config") ∷ positional_rule (codes "cert") ∷ [])) }
+{
+    clap::Command::new(alloc, name)
+        .arg(positional(alloc, "config"))?
+        .arg(positional(alloc, "cert"))
+}
+
+#[tactic(auto, unfolding(crate::specs::Words::app_for))]
+fn intersect_arguments<'a>(alloc: Global) -> Result<clap::Command<'a>, AllocError>
+    ensures { IfOk result (λ c. app_of c ≡ app_for (Command.Search Goal.Intersect)) }
+{
+    let command = with_paths(alloc, "intersect")?;
+    with_common(alloc, command)?.arg(optional(alloc, "budget"))
+}
+
+#[tactic(auto, unfolding(crate::specs::Words::app_for))]
+fn dset_arguments<'a>(alloc: Global) -> Result<clap::Command<'a>, AllocError>
+    ensures { IfOk result (λ c. app_of c ≡ app_for (Command.Search Goal.Dset)) }
+{
+    with_paths(alloc, "dset")?
+        .arg(needed(alloc, "set"))?
+        .arg(optional(alloc, "from"))?
+        .arg(optional(alloc, "budget"))
+}
+
+#[tactic(auto, unfolding(crate::specs::Words::app_for))]
+fn splits_arguments<'a>(alloc: Global) -> Result<clap::Command<'a>, AllocError>
+    ensures { IfOk result (λ c. app_of c ≡ app_for (Command.Search Goal.Splits)) }
+{
+    let command = with_paths(alloc, "splits")?.arg(needed(alloc, "set"))?;
+    with_common(alloc, command)?.arg(optional(alloc, "budget"))
+}
+
 #[tactic(auto, unfolding(crate::specs::Words::app_for))]
 fn check_arguments<'a>(alloc: Global) -> Result<clap::Command<'a>, AllocError>
     ensures { IfOk result (λ c. app_of c ≡ app_for Command.Check) }
 {
-    clap::Command::new(alloc, "check")
-        .arg(positional(alloc, "config"))?
-        .arg(positional(alloc, "cert"))
+    with_paths(alloc, "check")
 }
 
 #[tactic(auto, unfolding(crate::specs::Words::app_for))]
@@ -163,7 +199,8 @@ fn fault(e: &clap::Error) -> OrderFault
     }
 }
 
-fn text_at<'a>(matches: &ArgMatches<'a>, id: &str) -> Option<&'a str>
+/// The first text of an argument.
+pub fn text_at<'a>(matches: &ArgMatches<'a>, id: &str) -> Option<&'a str>
     ensures { option_map (λ s. s.now) result ≡ first_of id.now (rows_of (found_of matches.now)) }
 {
     matches.get_str(id)
@@ -196,9 +233,11 @@ fn text_if_any(
 pub fn order_from(
     alloc: Global,
     command: Command,
+    budget: u64,
     matches: &ArgMatches<'_>,
 ) -> Result<Order, AllocError>
-    ensures { IfOk result (λ o. order_view o ≡ order_in command (rows_of (found_of matches.now))) }
+    ensures texts { IfOk result (λ o. order_view o ≡ order_in command budget (rows_of (found_of matches.now))) }
+    ensures budget { IfOk result (λ o. o.budget ≡ budget) }
 {
     Ok(Order {
         command,
@@ -210,5 +249,6 @@ pub fn order_from(
         faulty: text_if_any(alloc, matches, "faulty")?,
         faulty_orgs: text_if_any(alloc, matches, "faulty-orgs")?,
         set: text_if_any(alloc, matches, "set")?,
+        budget,
     })
 }

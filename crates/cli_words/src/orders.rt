@@ -26,11 +26,24 @@ pub enum Query {
     Export,
 }
 
+/// What a search finds out, within a budget. The evidence for the answer is written to a certificate.
+#[derive(Clone, Copy, Debug, PartialEq, Eq)]
+pub enum Goal {
+    /// `intersect CONFIG CERT [COMMON] [--budget UNITS]`
+    Intersect,
+    /// `dset CONFIG CERT --set NAMES [--from NAME] [--budget UNITS]`
+    Dset,
+    /// `splits CONFIG CERT --set NAMES [COMMON] [--budget UNITS]`
+    Splits,
+}
+
 /// What the program is to do, by the command's name and arguments.
 #[derive(Clone, Copy, Debug, PartialEq, Eq)]
 pub enum Command {
-    /// One question is answered.
+    /// A question is answered at once.
     Query(Query),
+    /// A question is searched.
+    Search(Goal),
     /// `check CONFIG CERT`
     Check,
 }
@@ -70,6 +83,8 @@ pub struct Order {
     pub faulty_orgs: Option<String>,
     /// The list of names that `--set` gives.
     pub set: Option<String>,
+    /// How many units a search may take, 0 where the command does not search.
+    pub budget: u64,
 }
 
 impl From<AllocError> for OrderFault {

@@ -1,2 +1,1 @@
-pub mod YesLaws
 pub mod Unions

@@ -17,10 +17,12 @@ use Rattle.node_json.specs.Organisations.{Org, orgs_of}
 use Rattle.node_json.specs.declared.faults.OrgFault.{OrgFault}
 use Rattle.certificate_file.specs.Acceptance.{checked}
 use Rattle.certificate_file.specs.declared.places.Accepted.{Accepted}
-use Rattle.certificate_file.specs.declared.faults.CertError.{CertError}
-use Rattle.certificate_file.specs.declared.faults.CertError.TheVariants.{TooLarge as TooManyVariables}
+use Rattle.certificate_file.specs.declared.places.Answer.{Answer as Shown}
+use Rattle.certificate_file.specs.declared.places.Answer.TheVariants.{Partial}
+use Rattle.cert_lines.specs.declared.faults.CertError.{CertError}
+use Rattle.cert_lines.specs.declared.faults.CertError.TheVariants.{TooLarge as TooManyVariables}
 use Rattle.report.specs.Lines.{Text, usage, same_path, config_too_long, config_refused, orgs_too_long, orgs_refused, cert_refused, accepted}
-use Rattle.quorum_cli.specs.declared.status.Status.TheVariants.{Yes, Usage, ConfigRefused, CertRefused, TooLarge}
+use Rattle.quorum_cli.specs.declared.status.Status.TheVariants.{Yes, Unknown, Usage, ConfigRefused, CertRefused, TooLarge}
 use Rattle.quorum_cli.specs.declared.status.Status.{Status}
 use Rattle.quorum_cli.specs.declared.reply.Reply.{Reply as Answer}
 use Rattle.quorum_cli.specs.declared.early.Early.{Early}
@@ -30,6 +32,7 @@ use Rattle.quorum_cli.specs.declared.reading.Asked.TheVariants as asked
 use Rattle.quorum_cli.specs.declared.question.Inquiry.{Inquiry}
 use Rattle.quorum_cli.specs.Reading.{◌>>=◌}
 use Rattle.quorum_cli.specs.Questions.{question_of, part_of, FitsQuestion}
+use Rattle.quorum_cli.specs.Searches.{search_of, FitsSearch}
 
 abbrev pub words_of : List (String Global) → List (List ℕ)
 words_of words = map string_bytes words
@@ -69,9 +72,14 @@ abbrev pub cert_status : CertError → Status
 cert_status (TooManyVariables vars) = TooLarge
 cert_status fault = CertRefused
 
+-- how it ends where a certificate is accepted: a partial one leaves the question open
+abbrev pub accepted_status : Shown → Status
+accepted_status (Partial units) = Unknown
+accepted_status shown = Yes
+
 -- a certificate is accepted, or its first fault is named
 abbrev pub checked_answer : List Name → Result Accepted CertError → Answer
-checked_answer names (Ok a) = record { status = Yes; text = accepted names a }
+checked_answer names (Ok a) = record { status = accepted_status a.answer; text = accepted names a }
 checked_answer names (Err e) = record { status = cert_status e; text = cert_refused names e }
 
 -- what `check` says of a file
@@ -93,6 +101,10 @@ command_asked (command.Query q) o f config files = do
   orgs ← orgs_given f.names files o.orgs
   inquiry ← question_of q f config orgs o
   Ok (asked_about f inquiry)
+command_asked (command.Search goal) o f config files = do
+  orgs ← orgs_given f.names files o.orgs
+  search ← search_of goal f config orgs o
+  Ok (asked.Search search)
 
 -- what an order asks, or its early answer
 abbrev pub order_asked : Ordered → Files → Result Asked Early
@@ -121,3 +133,4 @@ asked_of words files = do
 -- what is asked fits the system
 abbrev pub FitsAsked : Asked → Type 0
 FitsAsked (asked.Question f question) = FitsQuestion (length f.sets) question
+FitsAsked (asked.Search s) = FitsSearch s

@@ -1,5 +1,5 @@
 -- What an order asks of a system, and what answers it.
-use Rattle.std.specs.Prelude.{◌≡◌, ◌⊎◌, ◌<◌, ℕ, List, [], length, Option, Some, None, unwrap_or, Result, Ok, Err, codes, nat_le, if◌then◌else◌}
+use Rattle.std.specs.Prelude.{◌≡◌, ◌⊎◌, ◌<◌, ℕ, List, [], length, Option, Some, None, option_map, unwrap_or, Result, Ok, Err, codes, nat_le, if◌then◌else◌}
 use Rattle.fbas_model.specs.Nodes.{Table, members}
 use Rattle.fbas_model.specs.Names.{Name}
 use Rattle.fbas_model.specs.Systems.{System}
@@ -58,12 +58,18 @@ faulty_named f orgs o = do
   listed ← orgs_named (length f.sets) orgs (codes "--faulty-orgs") o.faulty_orgs
   Ok (union named listed)
 
--- the trust closure of the node that `--from` names, or none where the option is not given
-abbrev pub closure_named : System → Option Text → Result (Option Table) Early
-closure_named f None = Ok None
-closure_named f (Some name) = do
+-- the node that `--from` names, if the option is given
+abbrev pub from_named : System → Option Text → Result (Option ℕ) Early
+from_named f None = Ok None
+from_named f (Some name) = do
   v ← node_named f.names (codes "--from") (Some name)
-  Ok (Some (closure_of f.sets v))
+  Ok (Some v)
+
+-- its trust closure
+abbrev pub closure_named : System → Option Text → Result (Option Table) Early
+closure_named f from = do
+  node ← from_named f from
+  Ok (option_map (λ v. closure_of f.sets v) node)
 
 -- the system restricted to a trust closure, or the whole system
 abbrev pub part_of : System → Option Table → System

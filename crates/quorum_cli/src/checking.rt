@@ -4,7 +4,7 @@ ghost use Rattle.sha2.specs.Sha256.{sha256};
 ghost use Rattle.desk_io.specs.State.{OnlyReads, left_of};
 ghost use Rattle.desk_io.specs.Faults.{ReadFails};
 ghost use Rattle.certificate_file.specs.Acceptance.{checked};
-ghost use Rattle.quorum_cli.specs.Answers.{check_in, checked_answer, cert_status as spec_cert_status};
+ghost use Rattle.quorum_cli.specs.Answers.{check_in, checked_answer, cert_status as spec_cert_status, accepted_status as spec_accepted_status};
 ghost use Rattle.quorum_cli.specs.Meaning.{Shows, HasCert};
 ghost use Rattle.quorum_cli.specs.Reading.{GivesReading};
 ghost use Rattle.quorum_cli.specs.Status.{is_answer};
@@ -12,7 +12,7 @@ ghost use Rattle.quorum_cli.specs.Status.{is_answer};
 use crate::early::Early;
 use crate::reply::Reply;
 use crate::status::Status;
-use certificate_file::{Accepted, CertError};
+use certificate_file::{Accepted, Answer, CertError};
 use desk_io::{Desk, Which};
 use digest_text::digest;
 use fbas_core::System;
@@ -38,14 +38,25 @@ fn refuse(alloc: Global, system: &System, fault: &CertError) -> Result<Reply, Al
     Ok(Reply::new(cert_status(fault), text))
 }
 
+// How the program ends where a certificate is accepted.
+fn accepted_status(answer: &Answer) -> Status
+    ensures value { result ≡ spec_accepted_status answer.now }
+    ensures answer { IsTrue (is_answer result) }
+{
+    match answer {
+        Answer::Pair(_) | Answer::Refutation => Status::Yes,
+        Answer::Partial(_) => Status::Unknown,
+    }
+}
+
 // The answer to a certificate that is accepted.
 fn accept(alloc: Global, system: &System, accepted: &Accepted) -> Result<Reply, AllocError>
     requires { length accepted.now.header.faulty ≡ length system.now.sets }
     ensures ok { IfOk result (λ a. a ≡ checked_answer system.now.names (Ok accepted.now)) }
-    ensures accepted { IfOk result (λ a. a.status ≡ Status.Yes) }
+    ensures answers { IfOk result (λ a. IsTrue (is_answer a.status)) }
 {
     let text = report::accepted(alloc, system, accepted)?;
-    Ok(Reply::new(Status::Yes, text))
+    Ok(Reply::new(accepted_status(&accepted.answer), text))
 }
 
 // What is said of the begun certificate.

@@ -6,14 +6,19 @@ mod early;
 mod files;
 mod names;
 mod parts;
+mod printing;
 mod question;
 mod reading;
+mod replies;
 mod reply;
 mod run;
+mod searches;
+mod searching;
 mod solving;
 mod status;
 #[cfg(test)]
 mod tests;
+mod word;
 
 ghost use Rattle.std.specs.Prelude.{◌≡◌, [], IfOk, IsErr, IsOk};
 

@@ -1,6 +1,7 @@
 //! The part of a system that is asked about: the whole, or the trust closure of a node.
-ghost use Rattle.std.specs.Prelude.{◌≡◌, IfOk, IfErr, length, option_map, string_bytes};
-ghost use Rattle.quorum_cli.specs.Questions.{closure_named, part_of as spec_part_of, cut_to, FitsClosure};
+ghost use Rattle.std.specs.Prelude.{◌≡◌, ◌<◌, IfOk, IfErr, IfSome, length, option_map, string_bytes};
+ghost use Rattle.quorum_cli.specs.Questions.{from_named as from_by_option, closure_named, part_of as spec_part_of, cut_to, FitsClosure};
+ghost use Rattle.fbas_model.specs.Restriction.{closure_of};
 ghost use Rattle.quorum_cli.specs.Reading.{Gives, IsRefusal};
 
 use crate::early::Early;
@@ -8,6 +9,39 @@ use crate::names::node_named;
 use fbas_core::System;
 use name_set::NodeSet;
 use std::alloc::{AllocError, Global};
+
+/// The node that `--from` names, if the option is given.
+pub fn from_named(
+    alloc: Global,
+    system: &System,
+    from: &Option<String>,
+) -> Result<Option<u32>, Early>
+    ensures gives { Gives result (from_by_option system.now (option_map string_bytes from.now)) }
+    ensures refused { IfErr result IsRefusal }
+    ensures below { IfOk result (λ node. IfSome node (λ v. v < length system.now.sets)) }
+{
+    if from.is_none() {
+        return Ok(None);
+    }
+    let node = node_named(alloc, system, "--from", from)?;
+    Ok(Some(node))
+}
+
+// The trust closure of a node, or none where there is no node.
+fn closure_from(
+    alloc: Global,
+    system: &System,
+    node: Option<u32>,
+) -> Result<Option<NodeSet>, AllocError>
+    requires { IfSome node (λ v. v < length system.now.sets) }
+    ensures closure { IfOk result (λ c. c ≡ option_map (λ v. closure_of system.now.sets v) node) }
+    ensures fits { IfOk result (FitsClosure system.now) }
+{
+    match node {
+        Some(node) => Ok(Some(system.closure(alloc, node)?)),
+        None => Ok(None),
+    }
+}
 
 /// The trust closure of the node that `--from` names, or none where the option is not given.
 pub fn closure_named(
@@ -19,11 +53,8 @@ pub fn closure_named(
     ensures refused { IfErr result IsRefusal }
     ensures fits { IfOk result (FitsClosure system.now) }
 {
-    if from.is_none() {
-        return Ok(None);
-    }
-    let node = node_named(alloc, system, "--from", from)?;
-    Ok(Some(system.closure(alloc, node)?))
+    let node = from_named(alloc, system, from)?;
+    Ok(closure_from(alloc, system, node)?)
 }
 
 /// The nodes of a set that are in the part, by their numbers there.

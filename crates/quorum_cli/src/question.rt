@@ -1,5 +1,5 @@
 //! What is asked of a system.
-ghost use Rattle.std.specs.Prelude.{◌≡◌, None, [], All, IfOk, IfErr, Ok, length, option_map, string_bytes};
+ghost use Rattle.std.specs.Prelude.{◌≡◌, None, [], All, IfOk, IfErr, length};
 ghost use Rattle.cli_words.specs.Order.{order_view};
 ghost use Rattle.quorum_cli.specs.Questions.{question_of, FitsInquiry};
 ghost use Rattle.quorum_cli.specs.Reading.{Gives, IsRefusal};
@@ -7,13 +7,13 @@ ghost use Rattle.quorum_cli.specs.Reading.{Gives, IsRefusal};
 use crate::early::Early;
 use crate::names::{faulty_named, node_named, set_named};
 use crate::parts::{closure_named, cut_to};
-use crate::reply::Text;
+use crate::word::{Word, word_if_any};
 use cli_words::{Order, Query};
 use digest_text::digest;
 use fbas_core::System;
 use name_set::NodeSet;
 use node_json::Orgs;
-use std::alloc::{AllocError, Global};
+use std::alloc::Global;
 
 /// Where an exported formula comes from.
 #[derive(Drop)]
@@ -21,7 +21,7 @@ pub struct Origin {
     /// The digest of the configuration.
     pub digest: [u8; 32],
     /// The node of whose trust closure the formula speaks, if it is one.
-    pub from: Option<Text>,
+    pub from: Option<Word>,
 }
 
 /// A question about a system, with the sets of nodes that it speaks of.
@@ -57,16 +57,6 @@ fn of_the_whole(question: Question) -> Inquiry
     Inquiry {
         closure: None,
         question,
-    }
-}
-
-// The name behind `--from`, if the option is given.
-fn name_of(alloc: Global, from: &Option<String>) -> Result<Option<Text>, AllocError>
-    ensures { IfOk result (λ name. name ≡ option_map string_bytes from.now) }
-{
-    match from {
-        Some(name) => Ok(Some(Text::of(Vec::from_slice(alloc, name.as_bytes())?))),
-        None => Ok(None),
     }
 }
 
@@ -160,7 +150,7 @@ fn export_asked(
     let closure = closure_named(alloc, system, &order.from)?;
     let named = faulty_named(alloc, system, orgs, order)?;
     let faulty = cut_to(alloc, system, &closure, named)?;
-    let from = name_of(alloc, &order.from)?;
+    let from = word_if_any(alloc, &order.from)?;
     let origin = Origin {
         digest: digest(config),
         from,

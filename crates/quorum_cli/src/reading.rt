@@ -1,9 +1,10 @@
 //! What the words ask, once everything that they name was read.
-ghost use Rattle.std.specs.Prelude.{◌≡◌, All, Ok, IsTrue, IfOk, IfErr, IsOk, IsErr, IsErrOf, length, option_map, string_bytes};
+ghost use Rattle.std.specs.Prelude.{◌≡◌, ◌≤◌, All, Ok, IsTrue, IfOk, IfErr, IsOk, IsErr, IsErrOf, length, option_map, string_bytes};
 ghost use Rattle.desk_io.specs.State.{OnlyReads};
 ghost use Rattle.desk_io.specs.Faults.{ReadFails};
 ghost use Rattle.cli_words.specs.Order.{order_view};
 ghost use Rattle.cli_words.specs.Words.{order_of};
+ghost use Rattle.cli_words.specs.declared.budget.TheConstants.{MOST_BUDGET};
 ghost use Rattle.report.specs.Lines.{config_refused, orgs_refused};
 ghost use Rattle.node_json.specs.Organisations.{orgs_of};
 ghost use Rattle.quorum_cli.specs.Answers.{words_of, asked_of, or_words_refused, order_asked, command_asked, asked_about, system_in, or_orgs_refused, orgs_given, FitsAsked};
@@ -17,8 +18,9 @@ use crate::files::read_file;
 use crate::parts::part_of;
 use crate::question::{Inquiry, Question, question_asked};
 use crate::reply::{Reply, says};
+use crate::searches::{Search, search_asked};
 use crate::status::Status;
-use cli_words::{Command, Order, OrderFault, Query};
+use cli_words::{Command, Goal, Order, OrderFault, Query};
 use desk_io::{Desk, Which};
 use fbas_core::System;
 use node_json::{ConfigFault, OrgFault, Orgs, read_config, read_orgs};
@@ -29,12 +31,15 @@ use std::alloc::{AllocError, Global};
 pub enum Asked {
     /// A question about a part of the system.
     Question(System, Question),
+    /// A search over the system.
+    Search(Search),
 }
 
 // The order of the words, or their refusal.
 fn order_in(alloc: Global, words: &[String]) -> Result<Order, Early>
     ensures ok { IfOk result (λ o. order_of (words_of words.now) ≡ Ok (order_view o)) }
     ensures err { IfErr result (λ e. Fails e (or_words_refused (order_of (words_of words.now)))) }
+    ensures few { IfOk result (λ o. o.budget ≤ MOST_BUDGET) }
     ensures refused { IfErr result IsUsage }
 {
     match cli_words::order(alloc, words) {
@@ -42,7 +47,7 @@ fn order_in(alloc: Global, words: &[String]) -> Result<Order, Early>
         Err(OrderFault::Words) => Err(Early::Told(says(
             alloc,
             Status::Usage,
-            "usage: quorum_cli COMMAND\nshow CONFIG\nclosure CONFIG --node NAME\ngreatest CONFIG [COMMON]\navailable CONFIG --set NAMES [--from NAME]\nblocks CONFIG --set NAMES [COMMON]\nvblocks CONFIG --node NAME --set NAMES\ncheck CONFIG CERT\nexport CONFIG [COMMON]\nCOMMON: --from NAME --faulty NAMES --orgs ORGS --faulty-orgs IDS\n",
+            "usage: quorum_cli COMMAND\nshow CONFIG\nclosure CONFIG --node NAME\ngreatest CONFIG [COMMON]\nintersect CONFIG CERT [COMMON] [--budget UNITS]\navailable CONFIG --set NAMES [--from NAME]\ndset CONFIG CERT --set NAMES [--from NAME] [--budget UNITS]\nblocks CONFIG --set NAMES [COMMON]\nvblocks CONFIG --node NAME --set NAMES\nsplits CONFIG CERT --set NAMES [COMMON] [--budget UNITS]\ncheck CONFIG CERT\nexport CONFIG [COMMON]\nCOMMON: --from NAME --faulty NAMES --orgs ORGS --faulty-orgs IDS\n",
         )?)),
         Err(OrderFault::SamePath) => Err(Early::Told(says(
             alloc,
@@ -154,6 +159,28 @@ fn ask<D: Desk>(
     ask_about(alloc, query, order, system, config, &orgs)
 }
 
+// What an order with this goal asks over a configuration that was read.
+fn seek<D: Desk>(
+    alloc: Global,
+    goal: Goal,
+    order: &Order,
+    system: System,
+    config: &[u8],
+    desk: &mut D,
+) -> Result<Asked, Early>
+    requires { order.now.budget ≤ MOST_BUDGET }
+    ensures gives { IsTrue D.tells → GivesReading (D.state desk.old).plain result
+        (command_asked (Command.Search goal) (order_view order.now) system config.now (D.state desk.old).files) }
+    ensures refused { IfErr result IsRefusal }
+    ensures fits { IfOk result FitsAsked }
+    ensures reads { IsTrue D.tells → OnlyReads (D.state desk.old) (D.state desk.new) }
+    ensures faults { ReadFails (D.faults desk.old) (D.faults desk.new) (IsErrOf result Early.Read) }
+{
+    let orgs = orgs_for(alloc, &system, desk, &order.orgs)?;
+    let search = search_asked(alloc, goal, order, system, config, &orgs)?;
+    Ok(Asked::Search(search))
+}
+
 // What a command asks over a configuration that was read.
 fn command<D: Desk>(
     alloc: Global,
@@ -162,6 +189,7 @@ fn command<D: Desk>(
     config: &[u8],
     desk: &mut D,
 ) -> Result<Asked, Early>
+    requires { order.now.budget ≤ MOST_BUDGET }
     ensures gives { IsTrue D.tells → GivesReading (D.state desk.old).plain result
         (command_asked order.now.command (order_view order.now) system config.now (D.state desk.old).files) }
     ensures answers { IfErr result IsAnswer }
@@ -178,6 +206,7 @@ fn command<D: Desk>(
             Err(Early::Told(reply))
         }
         Command::Query(query) => ask(alloc, query, order, system, config, desk),
+        Command::Search(goal) => seek(alloc, goal, order, system, config, desk),
     }
 }
 
@@ -188,6 +217,7 @@ fn over_config<D: Desk>(
     config: &[u8],
     desk: &mut D,
 ) -> Result<Asked, Early>
+    requires { order.now.budget ≤ MOST_BUDGET }
     ensures gives { IsTrue D.tells → GivesReading (D.state desk.old).plain result
         (system_in config.now >>= λ f. command_asked order.now.command (order_view order.now) f config.now (D.state desk.old).files) }
     ensures answers { IfErr result IsAnswer }
@@ -204,6 +234,7 @@ fn over_config<D: Desk>(
 
 // What an order asks.
 fn carry_out<D: Desk>(alloc: Global, order: &Order, desk: &mut D) -> Result<Asked, Early>
+    requires { order.now.budget ≤ MOST_BUDGET }
     ensures gives { IsTrue D.tells → GivesReading (D.state desk.old).plain result (order_asked (order_view order.now) (D.state desk.old).files) }
     ensures answers { IfErr result IsAnswer }
     ensures fits { IfOk result FitsAsked }

@@ -5,7 +5,7 @@ use crate::status::Status;
 use std::alloc::{AllocError, Global};
 use std::marker::Model;
 
-/// Bytes of printed text, or of a name in it.
+/// Printed text, seen as its bytes.
 #[derive(Drop)]
 pub struct Text {
     bytes: Vec<u8>,

@@ -9,28 +9,13 @@ ghost use Rattle.quorum_cli.specs.Meaning.{NamesAccepted, IsCheck};
 ghost use Rattle.quorum_cli.specs.Printing.{PrintsAnswer, PrintsAnswerPart, PrintsAsked, PrintsAskedPart, LacksRoomAsked, Prints, PrintsPart, LacksRoom};
 
 use crate::early::Early;
+use crate::printing::print;
 use crate::reading::{Asked, ask_by_words};
-use crate::reply::Reply;
+use crate::searching::search;
 use crate::solving::solve;
 use crate::status::Status;
-use desk_io::{Desk, To, WriteFailed, put_all};
+use desk_io::Desk;
 use std::alloc::{AllocError, Global};
-
-// Puts the text of the answer to the output.
-fn print<D: Desk>(desk: &mut D, reply: &Reply) -> Status
-    requires { IsTrue (is_answer reply.now.status) }
-    ensures printed { IsTrue D.tells → IsTrue (is_answer result) → PrintsAnswer reply.now (D.state desk.old) (D.state desk.new) result }
-    ensures part { IsTrue D.tells → result ≡ Status.WriteFault → PrintsAnswerPart reply.now (D.state desk.old) (D.state desk.new) }
-    ensures status { (result ≡ reply.now.status) ⊎ (result ≡ Status.WriteFault) }
-    ensures room { IsTrue D.tells → IsTrue (D.state desk.old).plain → result ≡ Status.WriteFault → (D.state desk.old).room < length reply.now.text }
-    ensures left { IsTrue D.tells → (D.state desk.new).left ≡ (D.state desk.old).left }
-    ensures faults { WriteFails (D.faults desk.old) (D.faults desk.new) (result ≡ Status.WriteFault) }
-{
-    match put_all(desk, To::Out, reply.text.bytes()) {
-        Ok(()) => reply.status,
-        Err(WriteFailed) => Status::WriteFault,
-    }
-}
 
 // Puts the answer to what is asked.
 fn answer<D: Desk>(alloc: Global, desk: &mut D, asked: &Asked) -> Status
@@ -47,6 +32,7 @@ fn answer<D: Desk>(alloc: Global, desk: &mut D, asked: &Asked) -> Status
             Ok(reply) => print(desk, &reply),
             Err(AllocError) => Status::Memory,
         },
+        Asked::Search(sought) => search(alloc, desk, sought),
     }
 }
 

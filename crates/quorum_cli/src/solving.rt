@@ -1,5 +1,5 @@
 //! The answer to a question.
-ghost use Rattle.std.specs.Prelude.{◌≡◌, ◌⊎◌, ◌<◌, List, IfOk, length};
+ghost use Rattle.std.specs.Prelude.{◌≡◌, ◌⊎◌, ◌<◌, List, IfOk, length, option_map};
 ghost use Rattle.quorum_cli.specs.Questions.{Answers, FitsQuestion, AnswersClosure, AnswersGreatest, SaysAvailable, SaysUnavailable, SaysBlocks, SaysNotBlocks, AnswersVblocks, AnswersExport, export_answer, says};
 ghost use Rattle.fbas_model.specs.Nodes.{members};
 ghost use Rattle.fbas_model.specs.Fbas.{IsGreatestQuorum, all_nodes};
@@ -36,9 +36,7 @@ fn greatest(alloc: Global, system: &System, faulty: &NodeSet) -> Result<Reply, A
     requires { length faulty.now ≡ length system.now.sets }
     ensures { IfOk result (AnswersGreatest system.now faulty.now) }
 {
-    let mut quorum = NodeSet::new(alloc, system.len())?;
-    quorum.fill();
-    greatest_quorum::shrink(system, &mut quorum, faulty);
+    let quorum = greatest_quorum::greatest(alloc, system, faulty)?;
     let text = report::with_list(alloc, "", "greatest", system, &quorum)?;
     Ok(Reply::new(Status::Yes, text))
 }
@@ -84,6 +82,16 @@ fn vblocks(alloc: Global, system: &System, node: u32, set: &NodeSet) -> Result<R
     says(alloc, Status::No, "vblocks no\n")
 }
 
+// The name of the node of whose trust closure an exported formula speaks, if it speaks of one.
+fn from_of(origin: &Origin) -> Option<&[u8]>
+    ensures { option_map (λ name. name.now) result ≡ origin.now.from }
+{
+    match &origin.from {
+        Some(name) => Some(name.as_str().as_bytes()),
+        None => None,
+    }
+}
+
 // The answer to a formula that was made.
 fn formula_text(
     alloc: Global,
@@ -96,10 +104,17 @@ fn formula_text(
     requires same_n { length faulty.now ≡ length system.now.sets }
     requires places { length map.now.greatest ≡ length system.now.names }
     ensures { (clauses : List (List Literal)) → store.now ≡ formula_database clauses
-        → IfOk result (says (exported origin.now system.now.names faulty.now (dimacs system.now.names map.now clauses))) }
+        → IfOk result (says (exported origin.now.digest origin.now.from system.now.names faulty.now (dimacs system.now.names map.now clauses))) }
 {
     let dimacs = write_dimacs(alloc, store, map, system)?;
-    let text = report::exported(alloc, origin, system, faulty, &dimacs)?;
+    let text = report::exported(
+        alloc,
+        &origin.digest,
+        from_of(origin),
+        system,
+        faulty,
+        &dimacs,
+    )?;
     Ok(Reply::new(Status::Yes, text))
 }
 
@@ -120,7 +135,7 @@ fn formula(
     match encode(alloc, system, faulty, greatest) {
         Ok((store, map)) => formula_text(alloc, system, origin, faulty, &store, &map),
         Err(EncodeError::TooLarge(vars)) => {
-            let text = report::too_large(alloc, vars)?;
+            let text = report::counted(alloc, "too-large", vars)?;
             Ok(Reply::new(Status::TooLarge, text))
         }
         Err(EncodeError::Memory) => Err(AllocError),
@@ -136,9 +151,7 @@ fn export(
     requires { length faulty.now ≡ length system.now.sets }
     ensures { IfOk result (AnswersExport system.now origin.now faulty.now) }
 {
-    let mut quorum = NodeSet::new(alloc, system.len())?;
-    quorum.fill();
-    greatest_quorum::shrink(system, &mut quorum, faulty);
+    let quorum = greatest_quorum::greatest(alloc, system, faulty)?;
     formula(alloc, system, origin, faulty, &quorum)
 }
 

@@ -12,6 +12,8 @@ pub enum Status {
     Yes,
     /// No.
     No,
+    /// The budget is spent, or a partial certificate is accepted.
+    Unknown,
     /// The command line is refused.
     Usage,
     /// The configuration is refused.
@@ -35,6 +37,7 @@ fn code(status: Status) -> u8
     match status {
         Status::Yes => 0,
         Status::No => 1,
+        Status::Unknown => 2,
         Status::Usage => 3,
         Status::ConfigRefused => 4,
         Status::CertRefused => 5,
