@@ -105,12 +105,7 @@ fn splits_ready(
     }
 }
 
-fn dset_ready(
-    alloc: Global,
-    part: &System,
-    set: &NodeSet,
-    budget: u64,
-) -> Result<Ready, AllocError>
+fn dset_ready(alloc: Global, part: &System, set: &NodeSet, budget: u64) -> Result<Ready, AllocError>
     requires same_n { length set.now ≡ length part.now.sets }
     requires few { budget ≤ MOST_UNITS }
     ensures { IfOk result (FitsReady Goal.Dset part.now set.now budget) }
