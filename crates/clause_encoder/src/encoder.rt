@@ -2,6 +2,7 @@
 ghost use Rattle.std.specs.Prelude.{◌≡◌, ℕ, Bool, true, false, ◌+◌, ◌*◌, ◌<◌, ◌≤◌, ◌^◌, ◌↔◌, All, IfOk, Err, length};
 ghost use Rattle.fbas_model.specs.Nodes.{Nodes, Table, members, size, listed_from, Meets, ◌∈◌};
 ghost use Rattle.fbas_model.specs.Fbas.{Fbas, Quorum, Intersects, IsGreatestQuorum, all_nodes};
+ghost use Rattle.fbas_model.specs.declared.TheConstants.{MOST_NODES};
 ghost use Rattle.lrat_model.specs.Literal.{formula_true};
 ghost use Rattle.lrat_model.specs.Clauses.{numbered, Satisfies, IsUnsatisfiable};
 ghost use Rattle.lrat_model.specs.Ranges.{AreInRange};
@@ -50,7 +51,7 @@ impl From<AllocError> for EncodeError {
 
 /// How many variables the formula over these members has: linear in the entries of their circuits.
 fn count_vars(nodes: &[u32], circuits: &[Circuit]) -> u64
-    requires few { length nodes.now ≤ 4096 }
+    requires few { length nodes.now ≤ MOST_NODES }
     requires nodes { All (λ v. v < length circuits.now) nodes.now }
     requires writable { All (λ c. IsWritable (length circuits.now) (circuit_view c)) circuits.now }
     ensures { result ≡ 2 * (length nodes.now + gate_variables_of (circuit_in circuits.now) nodes.now) }
@@ -72,7 +73,7 @@ fn encode_within(
     circuits: &[Circuit],
 ) -> Result<Store, AllocError>
     requires n { n ≡ length greatest.now }
-    requires few { n ≤ 4096 }
+    requires few { n ≤ MOST_NODES }
     requires nodes { nodes.now ≡ listed_from 0 greatest.now }
     requires same_n { length circuits.now ≡ n }
     requires writable { All (λ c. IsWritable n (circuit_view c)) circuits.now }
@@ -122,14 +123,14 @@ pub fn encode(
     ensures told { (u w : Nodes) → AreDisjointQuorums system.now.sets (members faulty.now) u w → IfOk result (λ r. Tells r.0.held greatest.now u w) }
 {
     let n = system.len();
-    let nodes = members_of(alloc, greatest, n)?;
+    let nodes = members_of(alloc, greatest)?;
     let circuits = circuits_of(alloc, system, faulty, greatest)?;
     let vars = count_vars(&nodes, &circuits);
     if vars > MOST_VARS {
         return Err(EncodeError::TooLarge(vars));
     }
     let store = encode_within(alloc, greatest, n, vars as u32, &nodes, &circuits)?;
-    let map = VarMap::of(alloc, greatest, n, vars)?;
+    let map = VarMap::of(greatest, n, vars);
     Ok((store, map))
 }
 

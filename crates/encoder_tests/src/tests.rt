@@ -25,8 +25,8 @@ const INNER_SET: &str =
 /// The DIMACS text of a configuration's formula after deletion of some nodes.
 fn text(alloc: Global, config: &str, faulty: &str) -> Result<Vec<u8>, Fail> {
     let system = read_config(alloc, config.as_bytes())?;
-    let faulty = read_names(alloc, faulty.as_bytes(), system.names())?;
-    let greatest = greatest(alloc, &system, &faulty)?;
+    let faulty = read_names(faulty.as_bytes(), system.names())?;
+    let greatest = greatest(&system, &faulty);
     let (store, map) = encode(alloc, &system, &faulty, &greatest)?;
     Ok(write_dimacs(alloc, &store, &map, &system)?)
 }
@@ -97,8 +97,8 @@ fn system(alloc: Global, config: &str) -> Result<System, Fail> {
 fn an_assignment_tells_two_quorums(rt: HostRuntime) -> Result<(), Fail> {
     let alloc = rt.alloc();
     let system = system(alloc, TWO_OF_THREE)?;
-    let faulty = read_names(alloc, b"a", system.names())?;
-    let greatest = greatest(alloc, &system, &faulty)?;
+    let faulty = read_names(b"a", system.names())?;
+    let greatest = greatest(&system, &faulty);
     let (store, map) = encode(alloc, &system, &faulty, &greatest)?;
     // b alone on side a, c alone on side b
     let values = [true, false, false, true, true, false, false, true];
@@ -106,7 +106,7 @@ fn an_assignment_tells_two_quorums(rt: HostRuntime) -> Result<(), Fail> {
     if map.vars() != 8 {
         return Err("it has 8 variables".into());
     }
-    let (first, second) = map.pair(alloc, &values)?;
+    let (first, second) = map.pair(&values);
     assert_eq!(rt; (first.least(), first.count()), (Some(1), 1));
     assert_eq!(rt; (second.least(), second.count()), (Some(2), 1));
     assert!(rt; system.is_quorum(&first, &faulty) && system.is_quorum(&second, &faulty));
@@ -129,14 +129,14 @@ fn values_of(alloc: Global, solver: &Solver, vars: u64) -> Result<Vec<bool>, All
 fn the_solvers_own_assignment_tells_two_quorums(rt: HostRuntime) -> Result<(), Fail> {
     let alloc = rt.alloc();
     let system = system(alloc, TWO_OF_THREE)?;
-    let faulty = read_names(alloc, b"a", system.names())?;
-    let greatest = greatest(alloc, &system, &faulty)?;
+    let faulty = read_names(b"a", system.names())?;
+    let greatest = greatest(&system, &faulty);
     let (store, map) = encode(alloc, &system, &faulty, &greatest)?;
     let mut solver = Solver::start(alloc, &store, map.vars())?;
     let mut budget = Budget::of(6561);
     assert_eq!(rt; solver.solve(&mut budget)?, Verdict::Sat);
     let values = values_of(alloc, &solver, map.vars())?;
-    let (first, second) = map.pair(alloc, &values)?;
+    let (first, second) = map.pair(&values);
     // b alone on one side, c alone on the other
     assert_eq!(rt; (first.count(), second.count()), (1, 1));
     let pair = (first.least(), second.least());
