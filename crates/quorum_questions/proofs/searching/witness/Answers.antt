@@ -6,5 +6,5 @@ pub unreachable-requires : goal.unreachable-requires
 unreachable-requires c =
     let f = c.args.system.now.sets in
     let b = c.args.faulty.now in
-    no_fault f (members b) (members c.pair.result.0) (members c.pair.result.1) c.in-Err.field-0
-    (c.pair.ensures.quorums f b c.requires.greatest c.requires.satisfied) c.in-Err.ensures.fault
+    no_fault f (members b) (members c.pair-first.result.0) (members c.pair-first.result.1) c.in-Err.field-0
+    (c.pair-first.ensures.quorums f b c.requires.greatest c.requires.satisfied) c.in-Err.ensures.fault
