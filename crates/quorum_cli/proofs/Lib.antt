@@ -1,1 +1,4 @@
 pub mod Unions
+pub mod Files
+pub mod Replied
+pub mod Headlines

@@ -4,8 +4,8 @@ use Rattle.fbas_model.specs.Nodes.{Table, members}
 use Rattle.fbas_model.specs.Names.{Name}
 use Rattle.fbas_model.specs.Systems.{System}
 use Rattle.fbas_model.specs.Fbas.{all_nodes, IsClosed, IsClosure, IsGreatestQuorum, Available, AreUnmet, MeetsQuorums, BlocksNode}
-use Rattle.fbas_model.specs.Nodes.{◌∖◌, ◌∪◌}
-use Rattle.fbas_model.specs.Restriction.{closure_of, kept, restricted, table_from}
+use Rattle.fbas_model.specs.Nodes.{◌∖◌}
+use Rattle.fbas_model.specs.Restriction.{closure_of, kept, restricted, union}
 use Rattle.name_set.specs.Lists.{names_read, name_read}
 use Rattle.name_set.specs.declared.lists.NameFault.{NameFault}
 use Rattle.clause_encoder.specs.Formula.{formula_vars, formula_clauses}
@@ -46,10 +46,6 @@ node_named names option name = or_refused option (name_read (unwrap_or name []) 
 -- the set that an option's list of organisations stands for: an option that is not given is the empty list
 abbrev pub orgs_named : ℕ → List Org → Text → Option Text → Result Table Early
 orgs_named n orgs option list = or_refused option (ids_read (unwrap_or list []) orgs n)
-
--- the nodes of both sets
-abbrev pub union : Table → Table → Table
-union s t = table_from 0 (length s) (members s ∪ members t)
 
 -- the faulty nodes: those of both lists
 abbrev pub faulty_named : System → List Org → Ordered → Result Table Early

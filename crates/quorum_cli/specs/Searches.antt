@@ -3,7 +3,7 @@ use Rattle.std.specs.Prelude.{◌≡◌, ◌≤◌, ℕ, List, Option, Some, Non
 use Rattle.sha2.specs.Sha256.{sha256}
 use Rattle.fbas_model.specs.Nodes.{Table}
 use Rattle.fbas_model.specs.Systems.{System}
-use Rattle.fbas_model.specs.Restriction.{closure_of}
+use Rattle.fbas_model.specs.Restriction.{closure_of, union}
 use Rattle.witness_pair.specs.Making.{shared}
 use Rattle.cert_writer.specs.Promises.{IsHeader}
 use Rattle.node_json.specs.Organisations.{Org}
@@ -14,7 +14,7 @@ use Rattle.cli_words.specs.declared.orders.Goal.TheVariants.{Intersect, Dset, Sp
 use Rattle.quorum_cli.specs.declared.early.Early.{Early}
 use Rattle.quorum_cli.specs.declared.searches.Search.{Search}
 use Rattle.quorum_cli.specs.Reading.{◌>>=◌}
-use Rattle.quorum_cli.specs.Questions.{union, set_named, faulty_named, from_named}
+use Rattle.quorum_cli.specs.Questions.{set_named, faulty_named, from_named}
 
 -- the nodes that are deleted: the faulty ones, those of the set, or both
 abbrev pub deleted_by : Goal → System → List Org → Ordered → Result Table Early

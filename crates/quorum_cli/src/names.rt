@@ -1,6 +1,7 @@
 //! The nodes that the options name.
-ghost use Rattle.std.specs.Prelude.{◌≡◌, ◌<◌, All, IfOk, IfErr, length, option_map, string_bytes};
+ghost use Rattle.std.specs.Prelude.{◌≡◌, ◌≤◌, ◌<◌, All, IfOk, IfErr, length, option_map, string_bytes};
 ghost use Rattle.cli_words.specs.Order.{order_view};
+ghost use Rattle.fbas_model.specs.declared.TheConstants.{MOST_NODES};
 ghost use Rattle.quorum_cli.specs.Questions.{names_refusal, set_named as set_by_option, node_named as node_by_option, orgs_named as orgs_by_option, faulty_named as faulty_by_options};
 ghost use Rattle.quorum_cli.specs.Reading.{Gives, IsRefusal};
 
@@ -32,13 +33,13 @@ pub fn set_named(
     ensures refused { IfErr result IsRefusal }
     ensures fits { IfOk result (λ s. length s ≡ length system.now.sets) }
 {
+    let _ = system.len();
     let list = match list {
         Some(list) => list.as_str(),
         None => "",
     };
-    match read_names(alloc, list.as_bytes(), system.names()) {
+    match read_names(list.as_bytes(), system.names()) {
         Ok(set) => Ok(set),
-        Err(NameFault::Memory) => Err(Early::Memory),
         Err(fault) => Err(Early::Told(refuse_names(alloc, option, fault)?)),
     }
 }
@@ -72,7 +73,8 @@ fn orgs_named(
     option: &str,
     list: &Option<String>,
 ) -> Result<NodeSet, Early>
-    requires { All (λ org. length org.members ≡ n) orgs.now }
+    requires sized { All (λ org. length org.members ≡ n) orgs.now }
+    requires few { n ≤ MOST_NODES }
     ensures gives { Gives result (orgs_by_option n orgs.now option.now (option_map string_bytes list.now)) }
     ensures refused { IfErr result IsRefusal }
     ensures fits { IfOk result (λ s. length s ≡ n) }
@@ -81,9 +83,8 @@ fn orgs_named(
         Some(list) => list.as_str(),
         None => "",
     };
-    match read_ids(alloc, list.as_bytes(), orgs, n) {
+    match read_ids(list.as_bytes(), orgs, n) {
         Ok(set) => Ok(set),
-        Err(NameFault::Memory) => Err(Early::Memory),
         Err(fault) => Err(Early::Told(refuse_names(alloc, option, fault)?)),
     }
 }

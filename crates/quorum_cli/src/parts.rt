@@ -28,18 +28,14 @@ pub fn from_named(
 }
 
 // The trust closure of a node, or none where there is no node.
-fn closure_from(
-    alloc: Global,
-    system: &System,
-    node: Option<u32>,
-) -> Result<Option<NodeSet>, AllocError>
+fn closure_from(system: &System, node: Option<u32>) -> Option<NodeSet>
     requires { IfSome node (λ v. v < length system.now.sets) }
-    ensures closure { IfOk result (λ c. c ≡ option_map (λ v. closure_of system.now.sets v) node) }
-    ensures fits { IfOk result (FitsClosure system.now) }
+    ensures closure { result ≡ option_map (λ v. closure_of system.now.sets v) node }
+    ensures fits { FitsClosure system.now result }
 {
     match node {
-        Some(node) => Ok(Some(system.closure(alloc, node)?)),
-        None => Ok(None),
+        Some(node) => Some(system.closure(node)),
+        None => None,
     }
 }
 
@@ -54,24 +50,19 @@ pub fn closure_named(
     ensures fits { IfOk result (FitsClosure system.now) }
 {
     let node = from_named(alloc, system, from)?;
-    Ok(closure_from(alloc, system, node)?)
+    Ok(closure_from(system, node))
 }
 
 /// The nodes of a set that are in the part, by their numbers there.
-pub fn cut_to(
-    alloc: Global,
-    system: &System,
-    closure: &Option<NodeSet>,
-    set: NodeSet,
-) -> Result<NodeSet, AllocError>
+pub fn cut_to(system: &System, closure: &Option<NodeSet>, set: NodeSet) -> NodeSet
     requires fits { FitsClosure system.now closure.now }
     requires same_n { length set ≡ length system.now.sets }
-    ensures cut { IfOk result (λ s. s ≡ cut_to closure.now set) }
-    ensures places { IfOk result (λ s. length s ≡ length (spec_part_of system.now closure.now).sets) }
+    ensures cut { result ≡ cut_to closure.now set }
+    ensures places { length result ≡ length (spec_part_of system.now closure.now).sets }
 {
     match closure {
-        Some(closure) => system.cut(alloc, &set, closure),
-        None => Ok(set),
+        Some(closure) => system.cut(&set, closure),
+        None => set,
     }
 }
 

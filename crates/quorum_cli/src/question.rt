@@ -84,7 +84,7 @@ fn greatest_asked(
 {
     let closure = closure_named(alloc, system, &order.from)?;
     let named = faulty_named(alloc, system, orgs, order)?;
-    let faulty = cut_to(alloc, system, &closure, named)?;
+    let faulty = cut_to(system, &closure, named);
     let question = Question::Greatest(faulty);
     Ok(Inquiry { closure, question })
 }
@@ -97,7 +97,7 @@ fn available_asked(alloc: Global, order: &Order, system: &System) -> Result<Inqu
 {
     let closure = closure_named(alloc, system, &order.from)?;
     let named = set_named(alloc, system, "--set", &order.set)?;
-    let set = cut_to(alloc, system, &closure, named)?;
+    let set = cut_to(system, &closure, named);
     let question = Question::Available(set);
     Ok(Inquiry { closure, question })
 }
@@ -117,8 +117,8 @@ fn blocks_asked(
     let closure = closure_named(alloc, system, &order.from)?;
     let named_faulty = faulty_named(alloc, system, orgs, order)?;
     let named = set_named(alloc, system, "--set", &order.set)?;
-    let faulty = cut_to(alloc, system, &closure, named_faulty)?;
-    let set = cut_to(alloc, system, &closure, named)?;
+    let faulty = cut_to(system, &closure, named_faulty);
+    let set = cut_to(system, &closure, named);
     let question = Question::Blocks(set, faulty);
     Ok(Inquiry { closure, question })
 }
@@ -149,7 +149,7 @@ fn export_asked(
 {
     let closure = closure_named(alloc, system, &order.from)?;
     let named = faulty_named(alloc, system, orgs, order)?;
-    let faulty = cut_to(alloc, system, &closure, named)?;
+    let faulty = cut_to(system, &closure, named);
     let from = word_if_any(alloc, &order.from)?;
     let origin = Origin {
         digest: digest(config),

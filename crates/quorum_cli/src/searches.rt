@@ -3,7 +3,7 @@ ghost use Rattle.std.specs.Prelude.{◌≡◌, ◌≤◌, ◌<◌, All, IfOk, If
 ghost use Rattle.cli_words.specs.Order.{order_view};
 ghost use Rattle.cli_words.specs.declared.budget.TheConstants.{MOST_BUDGET};
 ghost use Rattle.quorum_cli.specs.Questions.{set_named as set_by_option, faulty_named as faulty_by_options};
-ghost use Rattle.quorum_cli.specs.Searches.{deleted_by, cut_within, search_of, FitsSearch};
+ghost use Rattle.quorum_cli.specs.Searches.{deleted_by, cut_within as spec_cut_within, search_of, FitsSearch};
 ghost use Rattle.quorum_cli.specs.Reading.{Gives, IsRefusal};
 
 use crate::early::Early;
@@ -16,7 +16,7 @@ use digest_text::digest;
 use fbas_core::System;
 use name_set::NodeSet;
 use node_json::Orgs;
-use std::alloc::{AllocError, Global};
+use std::alloc::Global;
 
 /// A search over a system, and where its certificate goes.
 #[derive(Drop)]
@@ -55,12 +55,7 @@ fn deleted(
 }
 
 // The faulty nodes and those of the set.
-fn both_named(
-    alloc: Global,
-    system: &System,
-    orgs: &Orgs,
-    order: &Order,
-) -> Result<NodeSet, Early>
+fn both_named(alloc: Global, system: &System, orgs: &Orgs, order: &Order) -> Result<NodeSet, Early>
     requires { All (λ org. length org.members ≡ length system.now.names) orgs.now }
     ensures gives { Gives result (deleted_by Goal.Splits system.now orgs.now (order_view order.now)) }
     ensures refused { IfErr result IsRefusal }
@@ -73,24 +68,17 @@ fn both_named(
 }
 
 // The nodes of a set that are in the part, the whole system or the trust closure of a node.
-fn cut_within(
-    alloc: Global,
-    system: &System,
-    from: Option<u32>,
-    set: NodeSet,
-) -> Result<NodeSet, AllocError>
+fn cut_within(system: &System, from: Option<u32>, set: NodeSet) -> NodeSet
     requires node { IfSome from (λ v. v < length system.now.sets) }
     requires same_n { length set ≡ length system.now.sets }
-    ensures cut { IfOk result (λ s. s ≡ cut_within system.now from set) }
+    ensures cut { result ≡ spec_cut_within system.now from set }
+    ensures places { length result ≡ length system.now.sets }
 {
-    match from {
-        Some(node) => {
-            let mut set = set;
-            set.meet(&system.closure(alloc, node)?);
-            Ok(set)
-        }
-        None => Ok(set),
+    let mut set = set;
+    if let Some(node) = from {
+        set.meet(&system.closure(node));
     }
+    set
 }
 
 /// What an order with this goal asks of the system of a configuration. The names are read in the order of the options `--from`,
@@ -111,7 +99,7 @@ pub fn search_asked(
 {
     let from = from_named(alloc, &system, &order.from)?;
     let named = deleted(alloc, goal, &system, orgs, order)?;
-    let faulty = cut_within(alloc, &system, from, named)?;
+    let faulty = cut_within(&system, from, named);
     Ok(Search {
         goal,
         path: Word::of(alloc, &order.cert)?,

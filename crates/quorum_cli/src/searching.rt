@@ -105,12 +105,7 @@ fn splits_ready(
     }
 }
 
-fn dset_ready(
-    alloc: Global,
-    part: &System,
-    set: &NodeSet,
-    budget: u64,
-) -> Result<Ready, AllocError>
+fn dset_ready(alloc: Global, part: &System, set: &NodeSet, budget: u64) -> Result<Ready, AllocError>
     requires same_n { length set.now ≡ length part.now.sets }
     requires few { budget ≤ MOST_UNITS }
     ensures { IfOk result (FitsReady Goal.Dset part.now set.now budget) }
@@ -150,6 +145,7 @@ fn ready(
 // Creates the certificate's file, writes it whole, and puts the text to the output.
 fn put_both<D: Desk>(
     desk: &mut D,
+    path: &str,
     search: &Search,
     part: &System,
     writer: &mut CertWriter,
@@ -160,12 +156,12 @@ fn put_both<D: Desk>(
     requires header { IsHeader search.now.whole search.now.header }
     requires part { part.now ≡ part_of search.now.whole search.now.header.from }
     requires found { CanBeWritten (length part.now.names) found.now }
-    ensures all { OnOk result (IsTrue D.tells → D.state desk.new ≡ put_whole search.now.path (cert_over search.now.whole search.now.digest search.now.header found.now) text.now (D.state desk.old)) }
-    ensures part { OnErr result (IsTrue D.tells → PutsSome search.now.path (cert_over search.now.whole search.now.digest search.now.header found.now) text.now (D.state desk.old) (D.state desk.new)) }
-    ensures plain { OnErr result (IsTrue D.tells → IsTrue (D.state desk.old).plain → LacksPlace search.now.path (cert_over search.now.whole search.now.digest search.now.header found.now) text.now (D.state desk.old)) }
+    ensures all { OnOk result (IsTrue D.tells → D.state desk.new ≡ put_whole path.now (cert_over search.now.whole search.now.digest search.now.header found.now) text.now (D.state desk.old)) }
+    ensures part { OnErr result (IsTrue D.tells → PutsSome path.now (cert_over search.now.whole search.now.digest search.now.header found.now) text.now (D.state desk.old) (D.state desk.new)) }
+    ensures plain { OnErr result (IsTrue D.tells → IsTrue (D.state desk.old).plain → LacksPlace path.now (cert_over search.now.whole search.now.digest search.now.header found.now) text.now (D.state desk.old)) }
     ensures faults { WriteFails (D.faults desk.old) (D.faults desk.new) (IsErr result) }
 {
-    desk.create(search.path.as_str())?;
+    desk.create(path)?;
     write_found(
         writer,
         desk,
@@ -197,7 +193,15 @@ fn put_found<D: Desk>(desk: &mut D, search: &Search, part: &System, held: Held) 
         reply,
         mut writer,
     } = held;
-    match put_both(desk, search, part, &mut writer, &found, reply.text.bytes()) {
+    match put_both(
+        desk,
+        search.path.as_str(),
+        search,
+        part,
+        &mut writer,
+        &found,
+        reply.text.bytes(),
+    ) {
         Ok(()) => reply.status,
         Err(WriteFailed) => Status::WriteFault,
     }

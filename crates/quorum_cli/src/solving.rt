@@ -27,7 +27,7 @@ fn closure(alloc: Global, system: &System, node: u32) -> Result<Reply, AllocErro
     requires { node < length system.now.sets }
     ensures { IfOk result (AnswersClosure system.now node) }
 {
-    let closure = system.closure(alloc, node)?;
+    let closure = system.closure(node);
     let text = report::with_list(alloc, "", "closure", system, &closure)?;
     Ok(Reply::new(Status::Yes, text))
 }
@@ -36,7 +36,7 @@ fn greatest(alloc: Global, system: &System, faulty: &NodeSet) -> Result<Reply, A
     requires { length faulty.now ≡ length system.now.sets }
     ensures { IfOk result (AnswersGreatest system.now faulty.now) }
 {
-    let quorum = greatest_quorum::greatest(alloc, system, faulty)?;
+    let quorum = greatest_quorum::greatest(system, faulty);
     let text = report::with_list(alloc, "", "greatest", system, &quorum)?;
     Ok(Reply::new(Status::Yes, text))
 }
@@ -45,7 +45,7 @@ fn available(alloc: Global, system: &System, set: &NodeSet) -> Result<Reply, All
     requires { length set.now ≡ length system.now.sets }
     ensures { IfOk result (λ a. SaysAvailable system.now set.now a ⊎ SaysUnavailable system.now set.now a) }
 {
-    let mut unmet = NodeSet::new(alloc, system.len())?;
+    let mut unmet = NodeSet::new(system.len());
     if greatest_quorum::available(system, set, &mut unmet) {
         return says(alloc, Status::Yes, "available yes\n");
     }
@@ -63,7 +63,7 @@ fn blocks(
     requires faulty { length faulty.now ≡ length system.now.sets }
     ensures { IfOk result (λ a. SaysBlocks system.now set.now faulty.now a ⊎ SaysNotBlocks system.now set.now faulty.now a) }
 {
-    let mut quorum = NodeSet::new(alloc, system.len())?;
+    let mut quorum = NodeSet::new(system.len());
     if greatest_quorum::blocks(system, set, faulty, &mut quorum) {
         return says(alloc, Status::Yes, "blocks yes\n");
     }
@@ -151,7 +151,7 @@ fn export(
     requires { length faulty.now ≡ length system.now.sets }
     ensures { IfOk result (AnswersExport system.now origin.now faulty.now) }
 {
-    let quorum = greatest_quorum::greatest(alloc, system, faulty)?;
+    let quorum = greatest_quorum::greatest(system, faulty);
     formula(alloc, system, origin, faulty, &quorum)
 }
 

@@ -7,7 +7,7 @@ use Rattle.fbas_model.specs.Systems.{System, entries_in, unset_in}
 use Rattle.fbas_model.specs.Fbas.{Fbas}
 use Rattle.quorum_set.specs.Findings.{Found, bad_threshold, repeated, findings_of}
 use Rattle.name_set.specs.declared.lists.NameFault.{NameFault}
-use Rattle.name_set.specs.declared.lists.NameFault.TheVariants.{Empty, BadKey as BadName, Unknown, Memory as NoNames}
+use Rattle.name_set.specs.declared.lists.NameFault.TheVariants.{Empty, BadKey as BadName, Unknown}
 use Rattle.node_json.specs.declared.faults.SetFault.{SetFault}
 use Rattle.node_json.specs.declared.faults.SetFault.TheVariants.{Shape, Threshold, Validators, Inner}
 use Rattle.node_json.specs.declared.faults.ConfigFault.{ConfigFault}
@@ -66,12 +66,10 @@ usage = codes "usage: quorum_cli COMMAND\nshow CONFIG\nclosure CONFIG --node NAM
 abbrev pub same_path : Text
 same_path = codes "usage same-path\n"
 
--- a want of memory is no refusal of a list, and is not printed
 abbrev pub names_fault : Text → NameFault → Text
 names_fault option (Empty at) = numbered (worded (codes "usage empty-name") option) at
 names_fault option (BadName at) = numbered (worded (codes "usage bad-name") option) at
 names_fault option (Unknown at) = numbered (worded (codes "usage unknown-name") option) at
-names_fault option NoNames = []
 
 -- the list of names behind this option is refused
 abbrev pub names_refused : Text → NameFault → Text

@@ -199,7 +199,6 @@ fn names_words(alloc: Global, option: &str, fault: NameFault) -> Result<Vec<u8>,
         NameFault::Empty(at) => name_words(alloc, "usage empty-name", option, at),
         NameFault::BadKey(at) => name_words(alloc, "usage bad-name", option, at),
         NameFault::Unknown(at) => name_words(alloc, "usage unknown-name", option, at),
-        NameFault::Memory => Ok(Vec::new(alloc)),
     }
 }
 
