@@ -72,6 +72,7 @@ impl System {
     pub fn names(&self) -> &Names
         ensures names { result.now ≡ self.now.names }
         ensures places { length self.now.names ≡ length self.now.sets }
+        ensures few { length self.now.names ≤ MOST_NODES }
     {
         &self.names
     }

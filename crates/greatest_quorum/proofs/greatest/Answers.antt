@@ -1,4 +1,4 @@
-use Rattle.std.proofs.Common.{ℕ, length, nat_lt, ap, subst, ◌∙◌}
+use Rattle.std.proofs.Common.{ℕ, nat_lt, ap, subst, ◌∙◌}
 use Rattle.fbas_model.specs.Nodes.{Nodes, members}
 use Rattle.fbas_model.specs.Fbas.{IsGreatestQuorum}
 use Rattle.greatest_quorum.proofs.GreatestLaws.{greatest_only}
