@@ -1,5 +1,5 @@
 -- What is known of a list from line to line.
-use Rattle.std.proofs.Common.{◌≡◌, ℕ, ◌<◌, ◌+◌, List, [], ◌∷◌, ◌++◌, map, length, Bool, true, false, not, ◌&&◌, nat_lt, nat_le, Option, Some, None, ok_or, Result, Ok, Err, refl, sym, ap, ◌∙◌, subst, arith, inl, inr, codes, ℤ}
+use Rattle.std.proofs.Common.{◌≡◌, ℕ, ◌<◌, List, [], ◌∷◌, ◌++◌, map, length, Bool, true, false, not, ◌&&◌, nat_lt, nat_le, Option, Some, None, ok_or, Result, Ok, refl, sym, ap, ◌∙◌, subst, arith, inl, inr, codes}
 use Rattle.std.specs.Prelude.{All}
 use Rattle.std.specs.Str.{bytes_eq}
 use Rattle.std.proofs.lemmas.Bool.{cases_Bool, cases_lt, both_ways, ltb-true, leb-false}
@@ -15,14 +15,14 @@ use Rattle.fbas_model.specs.Systems.{System}
 use Rattle.fbas_model.specs.Restriction.{kept}
 use Rattle.fbas_model.proofs.QuorumLaw.{quorum-to}
 use Rattle.lrat_model.specs.Literal.{Literal, IsSubset}
-use Rattle.lrat_model.specs.Clauses.{Held, clause_at, with_clause}
+use Rattle.lrat_model.specs.Clauses.{clause_at, with_clause}
 use Rattle.lrat_model.specs.Steps.{ProofStep, Addition, Deletion, Database, step_fault, after_step, progress_of}
 use Rattle.lrat_model.specs.declared.step.StepFault.{StepFault}
 use Rattle.lrat_model.specs.declared.step.StepFault.TheVariants.{IdOrder}
 use Rattle.lrat_model.specs.declared.step.Progress.{Progress}
 use Rattle.lrat_model.specs.declared.step.Progress.TheVariants.{Going as going, Refuted}
 use Rattle.lrat_text.specs.Lines.{step_in}
-use Rattle.list_journal.specs.Journals.{JournalLine, QuorumLine, BlockingLine, StepLine, JournalRun, IsTaken, IsNewLine, IsNewStep, IsOpen, line_progress, nothing_held, after_line, blocking_sets}
+use Rattle.list_journal.specs.Journals.{JournalLine, QuorumLine, BlockingLine, StepLine, JournalRun, IsTaken, IsNewLine, IsOpen, line_progress, nothing_held, after_line, blocking_sets}
 use Rattle.list_journal.specs.Listed.{list_line as listed_line, clause_for}
 use Rattle.list_journal.specs.Tests.{is_blocking, is_least}
 use Rattle.list_journal.specs.declared.kinds.ListKind.{ListKind}
@@ -39,7 +39,7 @@ use Rattle.cert_lines.specs.Words.{words_of}
 use Rattle.cert_lines.specs.Saying.{or_bad_line}
 use Rattle.cert_lines.specs.declared.faults.CertError.{CertError}
 use Rattle.cert_lines.specs.declared.faults.CertError.TheVariants.{BadLine, UnknownNode, NotQuorum, NotBlocking, NotMinimal, NotNew, Step}
-use Rattle.certificate_file.specs.Acceptance.{and_then, all_among, nodes_of, others, within, adds_covered, is_covered, counted, list_part, no_listing, listed_by, Numbered, numbered_in, right_set, asks_new, is_old, new_set, with_block, with_listed, list_set, set_line, literal_in, is_old_step, with_step, after_list_step, list_step_unless, list_step, list_end, list_text, list_line}
+use Rattle.certificate_file.specs.Acceptance.{and_then, all_among, nodes_of, others, within, adds_covered, is_covered, no_listing, listed_by, Numbered, numbered_in, right_set, asks_new, is_old, new_set, with_block, with_listed, list_set, set_line, literal_in, is_old_step, with_step, after_list_step, list_step_unless, list_step, list_end, list_text, list_line}
 use Rattle.certificate_file.specs.Known.{IsSubject, IsPartSet, IsList, IsKnownState}
 use Rattle.certificate_file.specs.declared.places.Subject.{Subject}
 use Rattle.certificate_file.specs.declared.places.Listing.{Listing}
@@ -212,11 +212,14 @@ step_goes f s k step p is none off progress = by_progress p progress
   where
     g : Table
     g = k.part.greatest
+
     taken : step_fault (size g) k.checker.database step ≡ None
     taken = subst (λ (n : ℕ). step_fault n k.checker.database step ≡ None) is.vars none
+
     run : JournalRun k.kind k.part.system.sets (members k.part.faulty) g nothing_held (is.journal ++ StepLine step ∷ []) (after_step k.checker.database step)
     run = run_append k.kind k.part.system.sets (members k.part.faulty) g nothing_held is.journal (StepLine step ∷ []) k.checker.database (after_step k.checker.database step) is.run
         (taken, new_step k.kind g k.checker.vars k.checker.database step (held_below f s k is) none off, refl)
+
     by_progress : (q : Progress) → progress_of step ≡ q → IsKnownState f (after_list_step s (with_step k step) q)
     by_progress going is_going = record {
       subject = is.subject;

@@ -1,14 +1,14 @@
 -- What a list shows that came to the empty lemma.
-use Rattle.std.proofs.Common.{◌≡◌, ℕ, List, [], ◌∷◌, ◌++◌, map, length, refl, sym, ap, ◌∙◌, subst, Less, Equal, Greater, Contains, ⊎_elim}
-use Rattle.std.specs.Prelude.{All, ◌↔◌}
+use Rattle.std.proofs.Common.{◌≡◌, List, [], ◌∷◌, ◌++◌, map, length, refl, sym, ◌∙◌, subst, Less, Equal, Greater, Contains, ⊎_elim}
+use Rattle.std.specs.Prelude.{All}
 use Rattle.std.proofs.lemmas.List.{append-nil}
 use Rattle.std.proofs.lemmas.List.Elements.{All-nil, All-cons, All-head, All-tail, All-contains}
-use Rattle.fbas_model.specs.Nodes.{Table, members, ◌⊆◌, size, set_cmp}
+use Rattle.fbas_model.specs.Nodes.{Table, members, size, set_cmp}
 use Rattle.fbas_model.specs.Systems.{System}
-use Rattle.fbas_model.specs.Restriction.{kept, restricted_sets}
+use Rattle.fbas_model.specs.Restriction.{kept}
 use Rattle.fbas_model.proofs.Kept.{length-kept}
 use Rattle.fbas_model.proofs.Renumbered.{length-restricted_sets}
-use Rattle.lrat_model.specs.Steps.{ProofStep, Database, after_step, progress_of}
+use Rattle.lrat_model.specs.Steps.{ProofStep, Database, progress_of}
 use Rattle.lrat_model.specs.declared.step.Progress.TheVariants.{Refuted}
 use Rattle.list_journal.specs.Journals.{JournalLine, StepLine, JournalRun, IsOpen, IsWholeJournal, nothing_held, blocking_sets}
 use Rattle.list_journal.specs.Lists.{AreMinimalBlocks}
@@ -21,7 +21,7 @@ use Rattle.list_journal.proofs.OrderLaws.{HavePlaces, ordered_rising, ordered_ha
 use Rattle.list_journal.proofs.Runs.{whole_from_partial, sets_append}
 use Rattle.list_journal.proofs.Whole.{whole_has_each}
 use Rattle.certificate_file.specs.Acceptance.{list_part}
-use Rattle.certificate_file.specs.Meaning.{ListHolds, BlocksOfPart}
+use Rattle.certificate_file.specs.Meaning.{BlocksOfPart}
 use Rattle.certificate_file.specs.Known.{IsSubject, IsPartSet, IsShown}
 use Rattle.certificate_file.specs.declared.places.Subject.{Subject}
 use Rattle.certificate_file.specs.declared.places.Answer.TheVariants.{Blocking}
@@ -84,7 +84,7 @@ list_shown f s kind journal step after sets is opens refuted run blocks places =
     } in
     let same : blocking_sets (journal ++ StepLine step ∷ []) ≡ map (kept s.nodes) sets = sets_append journal (StepLine step ∷ []) ∙ append-nil (blocking_sets journal) ∙ blocks in
     let each : AreMinimalBlocks p.system.sets (members p.faulty) (map (kept s.nodes) sets) =
-      subst (λ (xs : List Table). AreMinimalBlocks p.system.sets (members p.faulty) xs) same (whole_has_each p.system.sets (members p.faulty) p.greatest (journal ++ StepLine step ∷ []) (part_greatest f s is) whole) in
+    subst (λ (xs : List Table). AreMinimalBlocks p.system.sets (members p.faulty) xs) same (whole_has_each p.system.sets (members p.faulty) p.greatest (journal ++ StepLine step ∷ []) (part_greatest f s is) whole) in
     let of_part : (u : Table) → Contains sets u → IsPartSet f s.nodes u = λ u there. All-contains (IsPartSet f s.nodes) sets u places there in
     let sizes : HavePlaces (length f.sets) sets = λ u there. (of_part u there).places in
     let nodes_are = is.part.same in (

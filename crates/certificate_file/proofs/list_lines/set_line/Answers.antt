@@ -9,10 +9,9 @@ use Rattle.cert_lines.specs.Limits.{unless}
 use Rattle.cert_lines.specs.Words.{names_in}
 use Rattle.cert_lines.specs.declared.faults.CertError.{CertError}
 use Rattle.cert_lines.specs.declared.faults.CertError.TheVariants.{BadLine, Step}
-use Rattle.certificate_file.specs.Acceptance.{and_then, nodes_of, within, list_set, set_line}
+use Rattle.certificate_file.specs.Acceptance.{and_then, nodes_of, within, list_set}
 use Rattle.certificate_file.specs.declared.places.Subject.{Subject}
 use Rattle.certificate_file.specs.declared.places.Listing.{Listing}
-use Rattle.certificate_file.specs.declared.places.State.{State}
 use Rattle.certificate_file.proofs.ListKnown.{part_set}
 use Rattle.certificate_file.proofs.list_lines.set_line.Goals as goal
 

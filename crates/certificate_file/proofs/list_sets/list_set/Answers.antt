@@ -1,4 +1,4 @@
-use Rattle.std.proofs.Common.{length, sym, ◌∙◌, ap, List}
+use Rattle.std.proofs.Common.{length, sym, ◌∙◌, ap}
 use Rattle.fbas_model.specs.Nodes.{Table}
 use Rattle.certificate_file.proofs.ListKnown.{set_fits, faulty_fits, greatest_fits, right_within}
 use Rattle.certificate_file.proofs.list_sets.list_set.Goals as goal
