@@ -5,9 +5,9 @@
 //! numbers of its nodes.
 #![tactic(auto)]
 
-mod shown;
+mod printing;
 
-use crate::shown::{counts_of, print_quorums, print_sets};
+use crate::printing::{counts_of, print_quorums, print_sets};
 use anyhow::{Context, Result, bail};
 use blocking_lists::{Journal, ListOutcome, list};
 use cdcl_core::Budget;
