@@ -1,0 +1,169 @@
+#!/usr/bin/env python3
+"""Holds `list` against trying everything, and times it beside clasp: bench/lists.py [random | times] [SEED].
+
+Builds crates/lists_bench (with its proofs, some minutes the first time). `random` makes a thousand random systems of up to 12
+nodes, finds the minimal blocking sets of each by trying all sets of nodes, and compares. `times` lists those of networks of
+20 to 60 nodes in organisations, and lets clasp (Debian packages clasp and gringo) enumerate the subset-minimal sets that meet
+the minimal quorums which the list found: the times are processor times of a run, without gringo's and without the finding of
+the quorums for clasp. Both numbers of sets are compared.
+"""
+import json
+import os
+import random
+import resource
+import subprocess
+import sys
+
+TOP = os.path.dirname(os.path.dirname(os.path.abspath(__file__)))
+CRATE = os.path.join(TOP, "crates", "lists_bench")
+PROGRAM = os.path.join(CRATE, "out", "lists_bench")
+UNITS = "1000000000"
+SYSTEMS = 1000
+LIMIT = 600
+
+
+# ---- systems: for each node a quorum set (threshold, nodes, inner sets) or None
+
+def satisfied(qset, nodes):
+    threshold, validators, inner = qset
+    met = sum(1 for v in validators if nodes >> v & 1) + sum(1 for q in inner if satisfied(q, nodes))
+    return met >= threshold
+
+
+def greatest(system, nodes):
+    while True:
+        left = nodes
+        for v, qset in enumerate(system):
+            if left >> v & 1 and (qset is None or not satisfied(qset, left)):
+                left &= ~(1 << v)
+        if left == nodes:
+            return nodes
+        nodes = left
+
+
+def minimal_blocks(system):
+    n = len(system)
+    everyone = (1 << n) - 1
+    found = []
+    for size in range(n + 1):
+        for s in sets_of(n, size):
+            if any(s & t == t for t in found):
+                continue
+            if not greatest(system, everyone & ~s):
+                found.append(s)
+    return found
+
+
+def sets_of(n, size):
+    return [s for s in range(1 << n) if bin(s).count("1") == size]
+
+
+def as_json(system):
+    def of(qset):
+        threshold, validators, inner = qset
+        return {"threshold": threshold, "validators": ["n%03d" % v for v in validators], "innerQuorumSets": [of(q) for q in inner]}
+
+    return json.dumps([{"publicKey": "n%03d" % v, "quorumSet": None if q is None else of(q)} for v, q in enumerate(system)])
+
+
+def random_set(random, n, depth):
+    validators = random.sample(range(n), random.randint(0, min(n, 6)))
+    inner = [random_set(random, n, depth - 1) for _ in range(random.randint(0, 2))] if depth else []
+    if not validators and not inner:
+        validators = [random.randrange(n)]
+    return random.randint(1, len(validators) + len(inner)), validators, inner
+
+
+def random_system(random):
+    n = random.randint(1, 12)
+    if random.random() < 0.5:
+        shared = [random_set(random, n, 1) for _ in range(2)]
+        return [random.choice(shared) if random.random() < 0.9 else None for _ in range(n)]
+    return [None if random.random() < 0.1 else random_set(random, n, 1) for _ in range(n)]
+
+
+def organisations(count, needed, size, threshold):
+    inner = [(threshold, [size * o + v for v in range(size)], []) for o in range(count)]
+    return [(needed, [], inner) for _ in range(count * size)]
+
+
+# ---- runs
+
+def timed(words, text):
+    def limit():
+        resource.setrlimit(resource.RLIMIT_CPU, (LIMIT, LIMIT + 1))
+
+    before = resource.getrusage(resource.RUSAGE_CHILDREN)
+    run = subprocess.run(words, input=text, capture_output=True, text=True, preexec_fn=limit)
+    after = resource.getrusage(resource.RUSAGE_CHILDREN)
+    return run.stdout, after.ru_utime + after.ru_stime - before.ru_utime - before.ru_stime
+
+
+def listed(system, word):
+    out, seconds = timed([PROGRAM, UNITS] + ([word] if word else []), as_json(system))
+    lines = out.splitlines()
+    if not lines:
+        return [], "did not end", seconds
+    sets = [sum(1 << int(v) for v in line.split()) for line in lines[:-1]]
+    return sets, lines[-1], seconds
+
+
+def random_systems(seed):
+    source = random.Random(seed)
+    sets = 0
+    for i in range(SYSTEMS):
+        system = random_system(source)
+        found, last, _ = listed(system, "sets")
+        wanted = minimal_blocks(system)
+        in_order = sorted(wanted, key=lambda s: [v for v in range(len(system)) if s >> v & 1])
+        if found != in_order or not last.startswith("whole, sets %d," % len(wanted)):
+            sys.exit("system %d differs: %s\n%s\nfound %s\nwanted %s" % (i, as_json(system), last, found, in_order))
+        sets += len(wanted)
+    print("%d systems of up to 12 nodes, %d minimal blocking sets: all as by trying everything" % (SYSTEMS, sets))
+
+
+def clasp(n, quorums):
+    text = "{v(0..%d)}.\n#show v/1.\n" % (n - 1)
+    text += "".join(":- " + ", ".join("not v(%d)" % v for v in range(n) if q >> v & 1) + ".\n" for q in quorums)
+    ground = subprocess.run(["gringo"], input=text, capture_output=True, text=True, check=True).stdout
+    out, seconds = timed(["clasp", "0", "--quiet=2", "--heuristic=Domain", "--enum-mode=domRec", "--dom-mod=false,show"], ground)
+    models = [line.split(":")[1].strip() for line in out.splitlines() if line.startswith("Models")]
+    return (models[0] if models else "did not end"), seconds
+
+
+NETWORKS = [
+    ("7 organisations (5 needed), 2 of 3 each", organisations(7, 5, 3, 2)),
+    ("8 organisations (6 needed), 2 of 3 each", organisations(8, 6, 3, 2)),
+    ("9 organisations (7 needed), 2 of 3 each", organisations(9, 7, 3, 2)),
+    ("6 organisations (4 needed), 3 of 5 each", organisations(6, 4, 5, 3)),
+    ("10 organisations (9 needed), 2 of 3 each", organisations(10, 9, 3, 2)),
+    ("20 organisations (20 needed), 2 of 3 each", organisations(20, 20, 3, 2)),
+]
+
+
+def times():
+    print("| network | nodes | sets | minimal quorums | steps | time | clasp's sets | its time |")
+    print("|---|---|---|---|---|---|---|---|")
+    for name, system in NETWORKS:
+        _, last, seconds = listed(system, "")
+        if not last.startswith("whole"):
+            print("| %s | %d | did not end in %d s | | | | | |" % (name, len(system), LIMIT), flush=True)
+            continue
+        words = last.replace(",", "").split()
+        quorums, _, _ = listed(system, "quorums")
+        models, its = clasp(len(system), quorums)
+        print("| %s | %d | %s | %s | %s | %.2f s | %s | %.2f s |" % (name, len(system), words[2], words[5], words[10], seconds, models, its), flush=True)
+
+
+def main():
+    build = subprocess.run(["rt", "run", "--", UNITS], cwd=CRATE, stdin=open(os.path.join(CRATE, "stdin")), capture_output=True)
+    if not os.path.exists(PROGRAM):
+        sys.exit(build.stderr.decode()[-2000:])
+    task = sys.argv[1] if len(sys.argv) > 1 else ""
+    if task != "times":
+        random_systems(int(sys.argv[2]) if len(sys.argv) > 2 else 1)
+    if task != "random":
+        times()
+
+
+main()
