@@ -3,6 +3,7 @@ use Rattle.std.specs.Prelude.{ℕ, List, [], ◌∷◌, ◌++◌, map, codes, �
 use Rattle.std.specs.Fmt.{decimal, signed_decimal}
 use Rattle.lrat_text.specs.Words.{Word}
 use Rattle.lrat_text.specs.Texts.{literal_text}
+use Rattle.lrat_text.specs.Lent.{lent_hints}
 use Rattle.lrat_text.specs.declared.writing.Left.{Left}
 use Rattle.lrat_text.specs.declared.writing.Left.TheVariants.{Literals, Hints, Mark, Ids, Nothing}
 
@@ -14,8 +15,8 @@ ids_left ids = map decimal ids ++ codes "0" ∷ []
 
 -- the words that are left
 abbrev pub words_left : Left → List Word
-words_left (Literals lits hints) = map literal_text lits.now ++ codes "0" ∷ hints_left hints.now
-words_left (Hints hints) = hints_left hints.now
+words_left (Literals lits hints) = map literal_text lits.now ++ codes "0" ∷ hints_left (lent_hints hints)
+words_left (Hints hints) = hints_left (lent_hints hints)
 words_left (Mark ids) = codes "d" ∷ ids_left ids.now
 words_left (Ids ids) = ids_left ids.now
 words_left Nothing = []

@@ -3,3 +3,4 @@ pub mod Numbers
 pub mod Lines
 pub mod Texts
 pub mod Left
+pub mod Lent

@@ -8,6 +8,7 @@ ghost use Rattle.lrat_text.specs.Lines.{step_in};
 ghost use Rattle.lrat_text.specs.Texts.{words_for, line_of, HasNumbers, HasLiterals};
 
 mod faults;
+mod lent;
 mod log;
 mod numbers;
 mod reading;
@@ -17,11 +18,12 @@ mod words;
 mod writing;
 
 pub use faults::LineFault;
+pub use lent::{HintsRef, StepRef};
 pub use log::Log;
 pub use lrat_model::{Lit, Step};
 pub use numbers::read_id;
 pub use reading::read_step;
-pub use writing::{StepBytes, write_step};
+pub use writing::{StepBytes, write_lent, write_step};
 
 /// A line is read as a step exactly where its words are those of the step and the step's numbers are in range.
 /// So the line of a step reads back as the step, and no number has a second spelling.

@@ -1,9 +1,11 @@
 //! Logs of steps.
-ghost use Rattle.std.specs.Prelude.{◌≡◌, [], ◌∷◌, ◌++◌, length, map, option_map, slice_get, All, OnOk, OnErr};
-ghost use Rattle.lrat_model.specs.Steps.{step_of};
+ghost use Rattle.std.specs.Prelude.{◌≡◌, ◌<◌, [], ◌∷◌, ◌++◌, length, map, slice_index_or, All, OnOk, OnErr};
+ghost use Rattle.lrat_model.specs.Steps.{Addition, step_of};
+ghost use Rattle.lrat_text.specs.Lent.{lent_step};
 ghost use Rattle.lrat_text.specs.Texts.{HasNumbers};
 
-use lrat_model::Step;
+use crate::lent::StepRef;
+use lrat_model::{Lit, Step};
 use std::alloc::{AllocError, Global};
 use std::marker::Model;
 
@@ -39,6 +41,27 @@ impl Log {
     {
         self.steps.push(step)?;
         Ok(())
+    }
+
+    /// Adds a lemma behind the other steps, as `push` does, without a step of its own: linear in its numbers, amortised.
+    pub fn push_addition(&mut self, id: u64, lits: &[Lit], hints: &[i64]) -> Result<(), AllocError>
+        ensures pushed { OnOk result (self.new ≡ self.old ++ Addition id lits.now hints.now ∷ []) }
+        ensures unchanged { OnErr result (self.new ≡ self.old) }
+    {
+        let alloc = *self.steps.allocator();
+        self.push(Step::Add {
+            id,
+            lits: Vec::from_slice(alloc, lits)?,
+            hints: Vec::from_slice(alloc, hints)?,
+        })
+    }
+
+    /// Lends the step at this place, from 0: O(1).
+    pub fn step(&self, place: usize) -> StepRef<'_>
+        requires { place < length self.now }
+        ensures { lent_step result ≡ slice_index_or self.now place (lent_step result) }
+    {
+        StepRef::of(&self.steps[place])
     }
 
     /// The number of steps: O(1).

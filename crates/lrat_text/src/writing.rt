@@ -6,8 +6,10 @@ ghost use Rattle.std.specs.Fmt.{decimal, signed_decimal};
 ghost use Rattle.lrat_model.specs.Steps.{step_of};
 ghost use Rattle.lrat_text.specs.Texts.{line_of, HasNumbers, IsLiteral};
 ghost use Rattle.lrat_text.specs.Lines.{step_in};
+ghost use Rattle.lrat_text.specs.Lent.{lent_step};
 ghost use Rattle.lrat_text.specs.Left.{words_left};
 
+use crate::lent::{HintsRef, StepRef};
 use itoa::write_digits;
 use lrat_model::{Lit, Step};
 use std::marker::Model;
@@ -20,16 +22,25 @@ pub fn write_step(step: &Step) -> StepBytes<'_>
     ensures line { result ≡ line_of (step_of step.now) }
     ensures read_back { step_in result ≡ Ok (step_of step.now) }
 {
+    write_lent(StepRef::of(step))
+}
+
+/// The line of a step that is lent, as `write_step` makes it.
+pub fn write_lent(step: StepRef<'_>) -> StepBytes<'_>
+    requires { HasNumbers (lent_step step) }
+    ensures line { result ≡ line_of (lent_step step.entry) }
+    ensures read_back { step_in result ≡ Ok (lent_step step.entry) }
+{
     match step {
-        Step::Add { id, lits, hints } => {
+        StepRef::Add { id, lits, hints } => {
             look_at(lits);
             StepBytes {
-                word: Digits::natural(*id),
+                word: Digits::natural(id),
                 left: Left::Literals(lits, hints),
             }
         }
-        Step::Delete { id, ids } => StepBytes {
-            word: Digits::natural(*id),
+        StepRef::Delete { id, ids } => StepBytes {
+            word: Digits::natural(id),
             left: Left::Mark(ids),
         },
     }
@@ -79,8 +90,8 @@ impl<'a> Iterator for StepBytes<'a> {
 /// What comes after the word that is being written.
 #[derive(Drop)]
 enum Left<'a> {
-    Literals(&'a [Lit], &'a [i64]),
-    Hints(&'a [i64]),
+    Literals(&'a [Lit], HintsRef<'a>),
+    Hints(HintsRef<'a>),
     Mark(&'a [u64]),
     Ids(&'a [u64]),
     Nothing,
@@ -100,8 +111,16 @@ impl<'a> Left<'a> {
                     Left::Literals(lits, hints),
                 )
             }
-            Left::Hints([]) => (Digits::byte(b'0'), Left::Nothing),
-            Left::Hints([hint, hints @ ..]) => (Digits::integer(*hint), Left::Hints(hints)),
+            Left::Hints(HintsRef::Short([]) | HintsRef::Wide([])) => {
+                (Digits::byte(b'0'), Left::Nothing)
+            }
+            Left::Hints(HintsRef::Short([id, ids @ ..])) => (
+                Digits::natural(u64::from(*id)),
+                Left::Hints(HintsRef::Short(ids)),
+            ),
+            Left::Hints(HintsRef::Wide([hint, hints @ ..])) => {
+                (Digits::integer(*hint), Left::Hints(HintsRef::Wide(hints)))
+            }
             Left::Mark(ids) => (Digits::byte(b'd'), Left::Ids(ids)),
             Left::Ids([]) => (Digits::byte(b'0'), Left::Nothing),
             Left::Ids([id, ids @ ..]) => (Digits::natural(*id), Left::Ids(ids)),
