@@ -1,5 +1,5 @@
 -- A search that goes back to a decision, and one that holds more clauses while nothing is decided.
-use Rattle.std.proofs.Common.{◌≡◌, ◌≢◌, ℕ, zero, suc, ◌+◌, ◌^◌, ◌<◌, ◌≤◌, true, false, cond, List, [], ◌∷◌, ◌++◌, sym, ap, ◌∙◌, subst, arith, length, take, length-take, get_or, Some, refl}
+use Rattle.std.proofs.Common.{◌≡◌, ◌≢◌, ℕ, zero, suc, ◌+◌, ◌^◌, ◌<◌, true, false, cond, List, [], ◌∷◌, sym, ap, ◌∙◌, subst, arith, length, take, length-take, get_or, Some}
 use Rattle.std.specs.Prelude.{◌==◌, slice_index, All, AllPairs}
 use Rattle.std.proofs.lemmas.List.{get_or-take, get_or_default, take_all, take_more}
 use Rattle.lrat_model.specs.Literal.{Literal}

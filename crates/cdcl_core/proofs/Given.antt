@@ -1,14 +1,12 @@
 -- A clause that is given while nothing is decided.
-use Rattle.std.proofs.Common.{◌≡◌, ◌≢◌, ℕ, ◌+◌, ◌*◌, ◌^◌, ◌<◌, ◌≤◌, true, false, List, [], ◌∷◌, ◌++◌, ⊎_elim, inl, inr, refl, sym, ap, ◌∙◌, subst, arith, length, get_or, take, length-append, Some}
+use Rattle.std.proofs.Common.{◌≡◌, ◌≢◌, ℕ, ◌^◌, ◌<◌, true, false, List, [], ◌∷◌, ◌++◌, ⊎_elim, inl, inr, sym, ap, ◌∙◌, subst, arith, length, get_or, take, length-append}
 use Rattle.std.specs.Prelude.{◌⊎◌, slice_index, All}
 use Rattle.std.proofs.lemmas.List.{take_all}
 use Rattle.std.proofs.lemmas.Bool.{true≢false, cases_lt}
 use Rattle.std.proofs.Math.ListN.{get_or-append}
 use Rattle.std.proofs.Math.Seq.{get_or-append_seam}
 use Rattle.lrat_model.specs.Literal.{Literal, negated, same, has}
-use Rattle.lrat_model.specs.Clauses.{Held, clause_at, with_clause}
-use Rattle.lrat_model.specs.Propagation.{status}
-use Rattle.lrat_model.specs.declared.step.ClauseStatus.TheVariants.{Forces}
+use Rattle.lrat_model.specs.Clauses.{Held, with_clause}
 use Rattle.lrat_model.proofs.Literals.{has-first, has-push}
 use Rattle.cdcl_core.specs.Search.{IsState, IsClosed}
 use Rattle.cdcl_core.specs.Trail.{IsVariable}
@@ -16,7 +14,7 @@ use Rattle.cdcl_core.proofs.States.{state_back, state_push}
 use Rattle.cdcl_core.proofs.Jumps.{not_so}
 use Rattle.cdcl_core.proofs.Tops.{take_within}
 use Rattle.cdcl_core.specs.declared.watches.Pair.{Pair}
-use Rattle.cdcl_core.specs.Watches.{IsKept, IsTrueIn, AreKept, IsQueued}
+use Rattle.cdcl_core.specs.Watches.{IsKept, IsQueued}
 use Rattle.cdcl_core.proofs.Visits.{queued_more}
 use Rattle.cdcl_core.proofs.Forced.{forces_only}
 use Rattle.cdcl_core.proofs.Grows.{queued_with}

@@ -1,10 +1,10 @@
 -- A search that goes on by one lemma.
-use Rattle.std.proofs.Common.{◌≡◌, ◌≢◌, ℕ, Option, Some, None, append-nil, ◌+◌, ◌-◌, ◌<◌, ◌≤◌, ◌^◌, ◌++◌, ◌∷◌, [], true, false, List, ℤ, sym, ap, ◌∙◌, subst, arith, refl, length}
+use Rattle.std.proofs.Common.{◌≡◌, ◌≢◌, ℕ, Option, Some, None, append-nil, ◌+◌, ◌-◌, ◌<◌, ◌≤◌, ◌^◌, [], true, false, List, ℤ, sym, ap, subst, arith, refl, length}
 use Rattle.std.specs.Prelude.{◌==◌, All, AllPairs, IfSome, slice_index}
 use Rattle.cdcl_core.specs.declared.watches.Pair.{Pair}
 use Rattle.lrat_model.specs.Literal.{Literal}
-use Rattle.lrat_model.specs.Clauses.{Held, with_clause, IsUnsatisfiable}
-use Rattle.lrat_model.specs.Steps.{ProofStep, Addition, Database}
+use Rattle.lrat_model.specs.Clauses.{Held, IsUnsatisfiable}
+use Rattle.lrat_model.specs.Steps.{ProofStep, Addition}
 use Rattle.lrat_text.specs.Texts.{HasNumbers}
 use Rattle.cdcl_core.specs.declared.search.Search.{Search}
 use Rattle.cdcl_core.specs.Guides.{IsGuide}

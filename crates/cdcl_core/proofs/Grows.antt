@@ -1,6 +1,6 @@
 -- A jump back, and one clause more.
-use Rattle.std.proofs.Common.{◌≡◌, ◌≢◌, ℕ, zero, suc, ◌+◌, ◌*◌, ◌<◌, ◌≤◌, Bool, true, false, ◌||◌, List, [], ◌∷◌, ◌++◌, ⊎_elim, inl, inr, refl, sym, ap, ◌∙◌, subst, arith, length, get_or, set, take, length-append, length-take, get_or-set_same, get_or-set_other}
-use Rattle.std.specs.Prelude.{◌⊎◌, ◌==◌, slice_index, All}
+use Rattle.std.proofs.Common.{◌≡◌, ◌≢◌, ℕ, zero, suc, ◌+◌, ◌<◌, ◌≤◌, true, false, List, [], ◌∷◌, ◌++◌, ⊎_elim, inl, refl, sym, ap, ◌∙◌, subst, arith, length, get_or, set, take, length-append, length-take, get_or-set_same, get_or-set_other}
+use Rattle.std.specs.Prelude.{◌==◌, slice_index, All}
 use Rattle.std.proofs.Math.ListN.{get_or-append}
 use Rattle.std.proofs.Math.Seq.{get_or-append_seam}
 use Rattle.std.proofs.lemmas.List.{length-set, get_or-take}
@@ -8,10 +8,10 @@ use Rattle.std.proofs.lemmas.List.Folds.{list_any-append}
 use Rattle.std.proofs.lemmas.List.Elements.{All-nil, All-push, All-weaker}
 use Rattle.std.proofs.lemmas.Bool.{cases_lt, eq-eqb, or_left, or_right, false≢true, true≢false}
 use Rattle.lrat_model.specs.Literal.{Literal, Plus, Minus, variable_of, negated, same, has}
-use Rattle.lrat_model.specs.Clauses.{Held, with_clause}
+use Rattle.lrat_model.specs.Clauses.{Held}
 use Rattle.cdcl_core.specs.declared.watches.Watch.{Watch}
 use Rattle.cdcl_core.specs.declared.watches.Pair.{Pair}
-use Rattle.cdcl_core.specs.Watches.{index_of, list_at, lits_at, pair_at, mentions, IsTrueIn, IsOpenPair, IsKept, AreKept, IsSound, IsListed, IsWatched, IsQueued}
+use Rattle.cdcl_core.specs.Watches.{index_of, list_at, lits_at, pair_at, mentions, IsKept, AreKept, IsSound, IsListed, IsWatched, IsQueued}
 use Rattle.cdcl_core.proofs.Visits.{index-apart, same_or_not, same_at}
 use Rattle.cdcl_core.specs.Trail.{IsTrail}
 use Rattle.cdcl_core.proofs.Walks.{has-at}

@@ -1,12 +1,12 @@
 -- A lemma that is held: the trail is cut, and its asserting literal made true.
-use Rattle.std.proofs.Common.{◌≡◌, ◌≢◌, ℕ, ◌+◌, ◌*◌, ◌^◌, ◌<◌, ◌≤◌, true, false, List, [], ◌∷◌, ◌++◌, ⊎_elim, inl, inr, refl, sym, ap, ◌∙◌, subst, cond, arith, length, get_or, take, length-append, length-take, Some, None}
-use Rattle.std.specs.Prelude.{◌⊎◌, ◌==◌, slice_index, All}
+use Rattle.std.proofs.Common.{◌≡◌, ℕ, ◌+◌, ◌^◌, ◌<◌, ◌≤◌, false, List, [], ◌∷◌, ◌++◌, ⊎_elim, inl, inr, refl, sym, ap, ◌∙◌, subst, cond, arith, length, get_or, take, length-append, length-take, Some, None}
+use Rattle.std.specs.Prelude.{◌==◌, slice_index, All}
 use Rattle.std.proofs.Math.ListN.{get_or-append}
 use Rattle.std.proofs.Math.Seq.{get_or-append_seam}
 use Rattle.std.proofs.lemmas.List.{get_or-take, take-append-le}
 use Rattle.std.proofs.lemmas.Bool.{cases_lt, eq-eqb, ne_eqb, true≢false}
 use Rattle.std.proofs.lemmas.List.Elements.{All-head, All-tail}
-use Rattle.lrat_model.specs.Literal.{Literal, variable_of, negated, same, has}
+use Rattle.lrat_model.specs.Literal.{Literal, negated, has}
 use Rattle.lrat_model.specs.Clauses.{Held, clause_at, with_clause}
 use Rattle.lrat_model.proofs.Literals.{has-first, has-push, negated-negated, variable_of-negated}
 use Rattle.cdcl_core.specs.Search.{IsState, IsClosed}
@@ -15,8 +15,8 @@ use Rattle.cdcl_core.proofs.States.{state_back, state_push}
 use Rattle.cdcl_core.proofs.Jumps.{not_so, take_mono}
 use Rattle.cdcl_core.proofs.Tops.{take_within}
 use Rattle.cdcl_core.specs.declared.watches.Pair.{Pair}
-use Rattle.cdcl_core.specs.Watches.{IsKept, AreKept, IsQueued, IsAsserting, index_of}
-use Rattle.cdcl_core.proofs.Visits.{queued_more, index_within}
+use Rattle.cdcl_core.specs.Watches.{IsKept, IsQueued, IsAsserting}
+use Rattle.cdcl_core.proofs.Visits.{queued_more}
 use Rattle.cdcl_core.proofs.Forced.{forces_only}
 use Rattle.cdcl_core.proofs.Grows.{take_take, queued_back, queued_with}
 

@@ -1,5 +1,5 @@
 -- The first two literals that a walk keeps: the implication point, and the highest of the others.
-use Rattle.std.proofs.Common.{◌≡◌, ◌≢◌, ℕ, zero, suc, ◌+◌, ◌-◌, ◌<◌, ◌≤◌, Bool, true, false, cond, List, [], ◌∷◌, ◌++◌, ⊎_elim, inl, inr, refl, sym, ap, ◌∙◌, subst, arith, length, get_or, take, reverse, length-append, ◌||◌}
+use Rattle.std.proofs.Common.{◌≡◌, ◌≢◌, ℕ, zero, suc, ◌+◌, ◌-◌, ◌<◌, ◌≤◌, Bool, true, false, cond, List, [], ◌∷◌, ◌++◌, ⊎_elim, inl, inr, refl, sym, ap, ◌∙◌, subst, arith, length, get_or, take, reverse, ◌||◌}
 use Rattle.std.proofs.lemmas.Grind.{reverse_onto}
 use Rattle.std.proofs.lemmas.List.{length-reverse}
 use Rattle.std.specs.Prelude.{◌⊎◌, ◌==◌, slice_index, if◌then◌else◌, Option, None, Some, IfSome}
@@ -10,7 +10,7 @@ use Rattle.lrat_model.proofs.Literals.{has-cons, has-first, has-rest, has-push, 
 use Rattle.cdcl_core.specs.Trail.{IsTrail, IsForced}
 use Rattle.cdcl_core.proofs.Jumps.{not_so, take_mono}
 use Rattle.cdcl_core.proofs.Walks.{has-at}
-use Rattle.cdcl_core.proofs.Tops.{below, take_within}
+use Rattle.cdcl_core.proofs.Tops.{below}
 use Rattle.cdcl_core.specs.declared.watches.Pair.{Pair}
 use Rattle.cdcl_core.specs.Watches.{IsAsserting, IsPairOf}
 

@@ -1,6 +1,6 @@
 -- A list that is taken out and put in again, and the queue's end.
-use Rattle.std.proofs.Common.{◌≡◌, ◌≢◌, ℕ, zero, suc, ◌+◌, ◌*◌, ◌<◌, ◌≤◌, Bool, true, false, not, cond, List, [], ◌∷◌, ◌++◌, ⊎_elim, inl, inr, refl, sym, ap, ◌∙◌, subst, arith, length, get_or, set, take, get_or-set_same, get_or-set_other, Some, None}
-use Rattle.std.specs.Prelude.{◌⊎◌, ◌==◌, All}
+use Rattle.std.proofs.Common.{◌≡◌, ◌≢◌, ℕ, suc, ◌+◌, ◌*◌, ◌<◌, ◌≤◌, true, false, not, cond, List, [], ◌∷◌, ◌++◌, ⊎_elim, inl, inr, refl, sym, ap, ◌∙◌, subst, arith, length, get_or, set, take, get_or-set_same, get_or-set_other, Some}
+use Rattle.std.specs.Prelude.{◌==◌, All}
 use Rattle.std.specs.List.{list_all}
 use Rattle.std.proofs.lemmas.List.{take_all}
 use Rattle.std.proofs.lemmas.List.Folds.{list_any-append}
@@ -18,7 +18,7 @@ use Rattle.lrat_model.proofs.Literals.{has-cons, same-true, same-itself, has-fil
 use Rattle.cdcl_core.specs.Fixpoint.{IsQuiet, IsFixpoint}
 use Rattle.cdcl_core.specs.declared.watches.Watch.{Watch}
 use Rattle.cdcl_core.specs.declared.watches.Pair.{Pair}
-use Rattle.cdcl_core.specs.Watches.{index_of, list_at, lits_at, pair_at, mentions, IsTrueIn, IsOpenPair, IsKept, AreKept, IsSound, IsListed, IsWatched, IsQueued, IsVisiting}
+use Rattle.cdcl_core.specs.Watches.{index_of, list_at, lits_at, pair_at, mentions, IsKept, AreKept, IsSound, IsListed, IsWatched, IsQueued, IsVisiting}
 use Rattle.cdcl_core.proofs.Visits.{kept_next, index-apart, same_or_not, same_at, index_within}
 
 module _ (held : Held) (pairs : List Pair) (lists : List (List Watch)) (trues : List Literal) (reasons : List ℕ) (head : ℕ) (l : Literal) (inside_l : index_of l < length lists) where
@@ -33,7 +33,7 @@ module _ (held : Held) (pairs : List Pair) (lists : List (List Watch)) (trues : 
   take_out d within is w q =
       let at : (p : ℕ) (k : Literal) → IsListed lists l [] p k → mentions (list_at lists k) p ≡ true = λ p k h. ⊎_elim (λ m. m) (λ none. absurd (false≢true none.1)) h in
       let move : (p : ℕ) (k : Literal) → IsListed lists l [] p k → IsListed (set lists (index_of l) []) l (list_at lists l) p k =
-          λ p k h. ⊎_elim (λ e. inr (e, subst (λ x. mentions (list_at lists x) p ≡ true) e (at p k h))) (λ e. inl (subst (λ ws. mentions ws p ≡ true) (sym (at_others [] k e)) (at p k h))) (same_or_not l k) in
+      λ p k h. ⊎_elim (λ e. inr (e, subst (λ x. mentions (list_at lists x) p ≡ true) e (at p k h))) (λ e. inl (subst (λ ws. mentions ws p ≡ true) (sym (at_others [] k e)) (at p k h))) (same_or_not l k) in
       record {
         watched = record {
           long = w.long;
@@ -65,9 +65,9 @@ module _ (held : Held) (pairs : List Pair) (lists : List (List Watch)) (trues : 
   put_in spare w none k =
       let new : List (List Watch) = set lists (index_of l) spare in
       let move : (p : ℕ) (m : Literal) → IsListed lists l spare p m → IsListed new k [] p m =
-          λ p m h. ⊎_elim
-          (λ at. ⊎_elim (λ e. absurd (false≢true (sym (ap (λ ws. mentions ws p) (ap (λ x. list_at lists x) e ∙ none)) ∙ at))) (λ e. inl (subst (λ ws. mentions ws p ≡ true) (sym (at_others spare m e)) at)) (same_or_not l m))
-          (λ own. inl (subst (λ x. mentions (list_at new x) p ≡ true) (sym own.0) (subst (λ ws. mentions ws p ≡ true) (sym (at_own spare)) own.1))) h in
+      λ p m h. ⊎_elim
+      (λ at. ⊎_elim (λ e. absurd (false≢true (sym (ap (λ ws. mentions ws p) (ap (λ x. list_at lists x) e ∙ none)) ∙ at))) (λ e. inl (subst (λ ws. mentions ws p ≡ true) (sym (at_others spare m e)) at)) (same_or_not l m))
+      (λ own. inl (subst (λ x. mentions (list_at new x) p ≡ true) (sym own.0) (subst (λ ws. mentions ws p ≡ true) (sym (at_own spare)) own.1))) h in
       record {
         long = w.long;
         inside = w.inside;

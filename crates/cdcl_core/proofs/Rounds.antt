@@ -1,5 +1,5 @@
 -- Marks by rounds.
-use Rattle.std.proofs.Common.{◌≡◌, ℕ, ◌<◌, ◌≤◌, Bool, true, false, List, length, map, set, get_or, sym, ap, ◌∙◌, subst, arith, refl, ◌+◌, ⊎_elim, get_or-set_same, get_or-set_other}
+use Rattle.std.proofs.Common.{◌≡◌, ℕ, ◌<◌, ◌≤◌, Bool, true, false, List, length, map, set, get_or, ap, ◌∙◌, arith, refl, ◌+◌, ⊎_elim, get_or-set_same, get_or-set_other}
 use Rattle.std.specs.Prelude.{◌==◌, All}
 use Rattle.std.proofs.lemmas.Bool.{eq-eqb, ne_eqb, cases_eq, cases_lt}
 use Rattle.std.proofs.lemmas.List.{map-set, get_or-map, get_or_default, length-map}

@@ -1,6 +1,6 @@
 -- What the search's loop carries.
-use Rattle.std.proofs.Common.{◌≡◌, ◌≢◌, ℕ, zero, suc, ◌+◌, ◌^◌, ◌<◌, ◌≤◌, true, false, cond, List, [], ◌∷◌, ◌++◌, ⊎_elim, refl, sym, ap, ◌∙◌, subst, arith, length, get_or, take, drop, Some, length-append}
-use Rattle.std.specs.Prelude.{◌==◌, All, AllPairs, slice_index_or, ℤ, pos, negsuc}
+use Rattle.std.proofs.Common.{◌≡◌, ℕ, ◌+◌, ◌^◌, ◌<◌, ◌≤◌, true, false, cond, List, [], ◌∷◌, ◌++◌, ⊎_elim, refl, sym, ap, ◌∙◌, subst, arith, length, get_or, take, drop, Some, length-append}
+use Rattle.std.specs.Prelude.{◌==◌, All, AllPairs, ℤ, pos, negsuc}
 use Rattle.std.proofs.Math.Seq.{take-append_seam, get_or-append_seam}
 use Rattle.std.proofs.Math.ListN.{get_or-append}
 use Rattle.std.proofs.lemmas.Bool.{eqb-true, ne_eqb, cases_lt, true≢false}

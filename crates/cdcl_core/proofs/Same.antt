@@ -1,5 +1,5 @@
 -- Searches whose variables, clauses and log are the same.
-use Rattle.std.proofs.Common.{◌≡◌, ℕ, ◌<◌, ◌≤◌, ◌^◌, List, sym, ap, ◌∙◌, subst}
+use Rattle.std.proofs.Common.{◌<◌, ◌≤◌, ◌^◌, sym, ◌∙◌, subst}
 use Rattle.std.specs.Prelude.{All, AllPairs}
 use Rattle.lrat_model.specs.Clauses.{Held}
 use Rattle.cdcl_core.specs.declared.search.Search.{Search}

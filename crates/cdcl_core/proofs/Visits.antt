@@ -6,15 +6,15 @@ use Rattle.std.proofs.Math.Seq.{get_or-append_seam, take-append_seam}
 use Rattle.std.proofs.lemmas.List.{take-append-le, take_more, length-set}
 use Rattle.std.proofs.lemmas.List.Folds.{list_any-append}
 use Rattle.std.proofs.lemmas.List.Elements.{All-head, All-tail, All-cons, All-push}
-use Rattle.std.proofs.lemmas.Bool.{cases_eq, cases_lt, eqb-true, eq-eqb, ne_eqb, or_cases, or_left, or_right, true≢false, false≢true}
+use Rattle.std.proofs.lemmas.Bool.{cases_eq, cases_lt, eqb-true, eq-eqb, or_cases, or_left, or_right, true≢false}
 use Rattle.lrat_model.specs.Literal.{Literal, Plus, Minus, variable_of, negated, same, has}
 use Rattle.lrat_model.specs.Clauses.{Held}
-use Rattle.lrat_model.proofs.Literals.{has-cons, has-push, has-first, negated-negated, same-true, same-itself}
+use Rattle.lrat_model.proofs.Literals.{has-cons, has-push, negated-negated, same-true, same-itself}
 use Rattle.cdcl_core.proofs.Jumps.{not_so}
 use Rattle.cdcl_core.proofs.Tops.{take_within}
 use Rattle.cdcl_core.specs.declared.watches.Watch.{Watch}
 use Rattle.cdcl_core.specs.declared.watches.Pair.{Pair}
-use Rattle.cdcl_core.specs.Watches.{index_of, list_at, lits_at, pair_at, mentions, IsTrueIn, IsOpenPair, IsKept, AreKept, IsSound, IsListed, IsWatched, IsQueued, IsVisiting}
+use Rattle.cdcl_core.specs.Watches.{index_of, list_at, lits_at, pair_at, mentions, IsKept, AreKept, IsSound, IsListed, IsQueued, IsVisiting}
 
 -- a clause that is kept stays so where more is true
 pub kept_more : (visited trues more clause : List Literal) (pair : Pair) → IsKept visited trues clause pair → IsKept visited (trues ++ more) clause pair
@@ -113,7 +113,7 @@ module _ (held : Held) (pairs : List Pair) (lists : List (List Watch)) (trues : 
         let now : Watch = record { place = watch.place; blocker = b } in
         let split : (done ++ now ∷ []) ++ coming ≡ done ++ now ∷ coming = append_assoc done (now ∷ []) coming in
         let alike : (p : ℕ) → mentions (done ++ watch ∷ coming) p ≡ true → mentions ((done ++ now ∷ []) ++ coming) p ≡ true =
-            λ p m. ap (λ ws. mentions ws p) split ∙ mentions-middle done coming now p ∙ sym (mentions-middle done coming watch p) ∙ m in
+        λ p m. ap (λ ws. mentions ws p) split ∙ mentions-middle done coming now p ∙ sym (mentions-middle done coming watch p) ∙ m in
         let place_in : watch.place < length held = (All-middle (IsSound held) done coming watch v.watched.sound_spare).0 in
         record {
           watched = record {
@@ -146,9 +146,9 @@ module _ (held : Held) (pairs : List Pair) (lists : List (List Watch)) (trues : 
         listed = λ p w differ.
             let both = v.watched.listed p w differ in
             let keep : (k : Literal) → (watch.place ≡ p → k ≢ l) → IsListed lists l (done ++ watch ∷ coming) p k → IsListed lists l (done ++ coming) p k =
-                λ k not_l at. ⊎_elim (λ h. inl h) (λ h. inr (h.0, ⊎_elim (λ own. absurd (not_l (eqb-true watch.place p own) h.0)) (λ rest. rest) (or_cases (watch.place == p) (mentions (done ++ coming) p) (sym (mentions-middle done coming watch p) ∙ h.1)))) at in
+            λ k not_l at. ⊎_elim (λ h. inl h) (λ h. inr (h.0, ⊎_elim (λ own. absurd (not_l (eqb-true watch.place p own) h.0)) (λ rest. rest) (or_cases (watch.place == p) (mentions (done ++ coming) p) (sym (mentions-middle done coming watch p) ∙ h.1)))) at in
             let own : watch.place ≡ p → ((pair_at pairs p).first ≢ l) × ((pair_at pairs p).second ≢ l) =
-                λ e. subst (λ k. same (pair_at pairs k).first (pair_at pairs k).second ≡ false → ((pair_at pairs k).first ≢ l) × ((pair_at pairs k).second ≢ l)) e others differ in
+            λ e. subst (λ k. same (pair_at pairs k).first (pair_at pairs k).second ≡ false → ((pair_at pairs k).first ≢ l) × ((pair_at pairs k).second ≢ l)) e others differ in
             (keep (pair_at pairs p).first (λ e. (own e).0) both.0, keep (pair_at pairs p).second (λ e. (own e).1) both.1);
         sound = v.watched.sound;
         sound_spare = All-without (IsSound held) done coming watch v.watched.sound_spare;
@@ -254,7 +254,7 @@ module _ (held : Held) (pairs : List Pair) (lists : List (List Watch)) (trues : 
       listed_o =
           let both = v.watched.listed place place_in differ in
           let from : (k : Literal) → k ≡ o → IsListed lists l (done ++ watch ∷ coming) place k → mentions (list_at lists o) place ≡ true =
-              λ k e at. ⊎_elim (λ h. subst (λ x. mentions (list_at lists x) place ≡ true) e h) (λ h. absurd (o_not_l (sym e ∙ h.0))) at in
+          λ k e at. ⊎_elim (λ h. subst (λ x. mentions (list_at lists x) place ≡ true) e h) (λ h. absurd (o_not_l (sym e ∙ h.0))) at in
           ⊎_elim (λ h. from (pair_at pairs place).second h.1 both.1) (λ h. from (pair_at pairs place).first h.1 both.0) pair_is
 
       listed_here : IsListed new_lists l (done ++ coming) place o × IsListed new_lists l (done ++ coming) place m

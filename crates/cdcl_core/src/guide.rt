@@ -43,7 +43,8 @@ impl Guide {
         ensures marks { self.new.marks ≡ self.old.marks }
     {
         self.order.raise(self.marks.listed());
-        self.minimiser.begin(reasons, self.marks.listed(), places, last)
+        self.minimiser
+            .begin(reasons, self.marks.listed(), places, last)
     }
 
     /// Whether the literal at a place below the last decision follows from marked ones.

@@ -1,4 +1,3 @@
-use Rattle.std.proofs.Common.{◌≡◌, ◌++◌, ◌∷◌, [], ◌∙◌, List, subst, sym, ap, length, refl, set}
 use Rattle.cdcl_core.proofs.Grows.{watched_with}
 use Rattle.cdcl_core.proofs.growth.attach.Goals as goal
 

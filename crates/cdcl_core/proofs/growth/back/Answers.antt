@@ -1,5 +1,3 @@
-use Rattle.std.proofs.Common.{subst, sym, take}
-use Rattle.cdcl_core.specs.Watches.{IsQueued}
 use Rattle.cdcl_core.proofs.Grows.{queued_back, variables_apart}
 use Rattle.cdcl_core.proofs.growth.back.Goals as goal
 

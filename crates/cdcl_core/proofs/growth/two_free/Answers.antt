@@ -1,4 +1,4 @@
-use Rattle.std.proofs.Common.{◌≤◌, ◌∙◌, ap, subst, sym, arith}
+use Rattle.std.proofs.Common.{◌≤◌, ◌∙◌, ap, subst, sym}
 use Rattle.lrat_model.specs.Literal.{variable_of}
 use Rattle.lrat_model.proofs.Literals.{variable_of-negated}
 use Rattle.cdcl_core.proofs.Walks.{has-at}

@@ -1,6 +1,4 @@
-use Rattle.std.proofs.Common.{◌≡◌, ◌⊎◌, true, false, take}
-use Rattle.std.specs.Prelude.{MatchOption}
-use Rattle.lrat_model.specs.Literal.{Literal, has, negated}
+use Rattle.std.proofs.Common.{take}
 use Rattle.cdcl_core.specs.Watches.{IsFoundFree}
 use Rattle.cdcl_core.proofs.growth.two_free.Given as goal
 

@@ -1,7 +1,5 @@
-use Rattle.std.proofs.Common.{◌≡◌, ◌<◌, ◌≤◌, ◌++◌, ◌∷◌, [], ◌∙◌, List, length, sym, ap, subst, arith, true, false, refl, inl}
-use Rattle.lrat_model.specs.Literal.{Literal, negated, has, same}
-use Rattle.lrat_model.specs.Clauses.{Held}
-use Rattle.cdcl_core.specs.declared.watches.Pair.{Pair}
+use Rattle.std.proofs.Common.{◌≡◌, ◌∙◌, length, sym, false, refl, inl}
+use Rattle.lrat_model.specs.Literal.{has}
 use Rattle.cdcl_core.proofs.Visits.{index_within}
 use Rattle.cdcl_core.proofs.Forced.{falsified_all}
 use Rattle.cdcl_core.proofs.Given.{undecided_more, given_state, given_two, given_queued, given_forced_state, given_forced_queued}

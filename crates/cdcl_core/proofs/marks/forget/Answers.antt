@@ -1,6 +1,5 @@
-use Rattle.std.proofs.Common.{◌≡◌, ◌≤◌, arith, refl}
-use Rattle.std.proofs.lemmas.List.{length-set}
-use Rattle.cdcl_core.proofs.Rounds.{zero_up_to, zero_more}
+use Rattle.std.proofs.Common.{arith}
+use Rattle.cdcl_core.proofs.Rounds.{zero_up_to}
 use Rattle.cdcl_core.proofs.marks.forget.Goals as goal
 
 pub returns-clause-none : goal.returns-clause-none

@@ -1,10 +1,10 @@
-use Rattle.std.proofs.Common.{◌≡◌, ◌≤◌, ◌<◌, ◌+◌, ◌++◌, ◌∷◌, [], List, true, take, drop, length, set, get_or, sym, ap, ◌∙◌, subst, arith, append_assoc, length-append, refl, None, Ok, Some}
+use Rattle.std.proofs.Common.{◌≡◌, ◌<◌, ◌++◌, [], List, length, get_or, sym, ap, ◌∙◌, subst, arith, append_assoc, length-append, Ok}
 use Rattle.std.proofs.lemmas.List.{length-set, append-nil}
-use Rattle.lrat_model.specs.Literal.{Literal, negated, has, Plus}
+use Rattle.lrat_model.specs.Literal.{Literal, negated, Plus}
 use Rattle.cdcl_core.specs.Search.{IsState}
 use Rattle.cdcl_core.proofs.States.{state_on_variables}
 use Rattle.cdcl_core.specs.declared.watches.Watch.{Watch}
-use Rattle.cdcl_core.specs.Watches.{IsVisiting, IsWatched, IsQueued, IsSound, index_of, list_at}
+use Rattle.cdcl_core.specs.Watches.{IsVisiting, IsWatched, index_of, list_at}
 use Rattle.cdcl_core.proofs.Queues.{take_out, put_in, queued_next, kept_fixpoint, kept_at_end, index_of_false}
 use Rattle.cdcl_core.proofs.propagation.propagate.Goals as goal
 

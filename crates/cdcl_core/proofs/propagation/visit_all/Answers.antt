@@ -1,4 +1,4 @@
-use Rattle.std.proofs.Common.{◌≡◌, ◌≤◌, ◌<◌, ◌+◌, ◌++◌, ◌∷◌, [], List, true, take, drop, length, set, get_or, sym, ap, ◌∙◌, subst, arith, append_assoc, length-append}
+use Rattle.std.proofs.Common.{◌≡◌, ◌≤◌, ◌<◌, ◌+◌, ◌++◌, ◌∷◌, [], List, true, take, drop, length, get_or, sym, ap, ◌∙◌, subst, arith, append_assoc, length-append}
 use Rattle.std.specs.Global.{Vec}
 use Rattle.std.proofs.lemmas.List.{drop_more, drop-set-lt, take_more_set, length-set}
 use Rattle.std.proofs.Math.ListN.{get_or-append}
@@ -43,7 +43,7 @@ loop-i-preserved c =
     let before = subst (λ (ws : List Watch). IsVisiting held s.pairs s.lists s.assignment.trues s.reasons.items c.args.head c.args.l done ws) at inv.visiting in
     let within : c.args.head < length s.assignment.trues = omega (arith, c.requires.head, ap (λ (ls : List Literal). length ls) inv.longer.1, length-append c.args.assignment.now.trues inv.longer.0) in
     let l_is : c.args.l ≡ negated (get_or s.assignment.trues c.args.head c.args.l) =
-        c.requires.l c.args.l ∙ ap negated (sym (ap (λ (ls : List Literal). get_or ls c.args.head c.args.l) inv.longer.1 ∙ get_or-append c.args.assignment.now.trues inv.longer.0 c.args.l c.args.head c.requires.head)) in
+    c.requires.l c.args.l ∙ ap negated (sym (ap (λ (ls : List Literal). get_or ls c.args.head c.args.l) inv.longer.1 ∙ get_or-append c.args.assignment.now.trues inv.longer.0 c.args.l c.args.head c.requires.head)) in
     let Now = λ (done coming : List Watch). IsVisiting held c.visit.new.pairs c.visit.new.lists c.visit.new.assignment.trues c.visit.new.reasons.items c.args.head c.args.l done coming in
     let both : (br.kept ≤ s.i + 1) × (s.i + 1 ≤ length br.list.items) × Now (take br.kept br.list.items) (drop (s.i + 1) br.list.items) = elim br.branch [
       | in-Stays b ↦

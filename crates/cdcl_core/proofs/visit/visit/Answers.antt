@@ -1,14 +1,13 @@
-use Rattle.std.proofs.Common.{◌≡◌, ◌≢◌, ◌<◌, ◌++◌, ◌∷◌, [], ◌∙◌, ⊎_elim, List, true, false, ap, subst, sym, arith, refl, length, get_or, Some}
+use Rattle.std.proofs.Common.{◌≡◌, ◌≢◌, ◌++◌, ◌∷◌, [], ◌∙◌, ⊎_elim, List, true, false, ap, subst, sym, arith, refl, length}
 use Rattle.std.specs.Prelude.{◌⊎◌, slice_set}
-use Rattle.lrat_model.specs.Literal.{Literal, variable_of, has, negated, same}
+use Rattle.lrat_model.specs.Literal.{Literal, has, negated, same}
 use Rattle.lrat_model.specs.Clauses.{clause_at}
 use Rattle.lrat_model.specs.Propagation.{status}
-use Rattle.lrat_model.specs.declared.step.ClauseStatus.TheVariants.{Falsified, Forces}
+use Rattle.lrat_model.specs.declared.step.ClauseStatus.TheVariants.{Forces}
 use Rattle.cdcl_core.proofs.States.{state_push}
-use Rattle.cdcl_core.specs.Search.{IsState}
 use Rattle.cdcl_core.specs.declared.watches.Watch.{Watch}
 use Rattle.cdcl_core.specs.declared.watches.Pair.{Pair}
-use Rattle.cdcl_core.specs.Watches.{IsVisiting, index_of, list_at, lits_at, id_at, pair_at}
+use Rattle.cdcl_core.specs.Watches.{IsVisiting, lits_at, id_at, pair_at}
 use Rattle.cdcl_core.proofs.Visits.{visiting_true, visiting_stale, visiting_moved, visiting_push, pair_found, has_other, index_within}
 use Rattle.lrat_model.proofs.Literals.{has-push, has-first}
 use Rattle.cdcl_core.proofs.Forced.{forces_only, falsified_all}

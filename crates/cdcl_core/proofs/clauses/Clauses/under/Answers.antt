@@ -1,10 +1,8 @@
 use Rattle.std.proofs.Common.{◌≡◌, ◌<◌, sym, ap, ◌∙◌, subst, arith, length, List, Some, None, ◌≢◌, get_or}
 use Rattle.std.specs.Prelude.{AllPairs, All}
-use Rattle.lrat_model.specs.Literal.{Literal}
 use Rattle.lrat_model.specs.Clauses.{Held, clause_at}
 use Rattle.cdcl_core.specs.declared.clauses.Place.{Place}
-use Rattle.cdcl_core.specs.Arena.{shown_in}
-use Rattle.cdcl_core.specs.Watches.{lits_at, id_at}
+use Rattle.cdcl_core.specs.Watches.{id_at}
 use Rattle.cdcl_core.proofs.Arenas.{found_under, none_in, id_in, length-shown, rise_in}
 use Rattle.cdcl_core.proofs.clauses.Clauses.under.Goals as goal
 

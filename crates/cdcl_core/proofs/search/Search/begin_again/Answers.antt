@@ -1,12 +1,4 @@
-use Rattle.std.proofs.Common.{◌≡◌, ◌≢◌, ℕ, ◌<◌, ◌≤◌, ◌+◌, ◌-◌, ◌*◌, ◌^◌, ◌++◌, ◌∷◌, [], ◌∙◌, true, false, List, sym, ap, subst, arith, refl, length, take, drop, Ok, Some, None}
-use Rattle.lrat_model.specs.Literal.{Literal, Plus, negated, has, variable_of}
-use Rattle.lrat_model.specs.Clauses.{Held, clause_at, with_clause}
-use Rattle.cdcl_core.specs.declared.search.Search.{Search}
-use Rattle.cdcl_core.specs.declared.watches.Pair.{Pair}
-use Rattle.cdcl_core.specs.Search.{IsState, IsLearntClause}
-use Rattle.cdcl_core.specs.Searching.{HasSame, HasLemma, IsHolding, IsSearching, IsStuck, IsUndecided}
-use Rattle.cdcl_core.specs.Trail.{InRange, IsVariable, open_count}
-use Rattle.cdcl_core.specs.Watches.{AreKept, IsAsserting, IsQueued, IsWatched, id_at, lits_at}
+use Rattle.std.proofs.Common.{◌∙◌}
 use Rattle.cdcl_core.proofs.Fronts.{state_cut}
 use Rattle.cdcl_core.proofs.search.Search.begin_again.Goals as goal
 

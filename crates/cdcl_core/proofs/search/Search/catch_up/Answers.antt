@@ -1,15 +1,8 @@
-use Rattle.std.proofs.Common.{◌≡◌, ◌≢◌, ℕ, ◌<◌, ◌≤◌, ◌+◌, ◌-◌, ◌*◌, ◌^◌, ◌++◌, ◌∷◌, [], ◌∙◌, true, false, List, sym, ap, subst, arith, refl, length, take, drop, Ok, Some, None}
-use Rattle.lrat_model.specs.Literal.{Literal, Plus, negated, has, variable_of}
-use Rattle.lrat_model.specs.Clauses.{Held, clause_at, with_clause}
-use Rattle.cdcl_core.specs.declared.search.Search.{Search}
+use Rattle.std.proofs.Common.{◌≡◌, ◌∙◌, sym, ap, subst, length, take}
+use Rattle.lrat_model.specs.Clauses.{Held}
 use Rattle.cdcl_core.specs.declared.watches.Pair.{Pair}
-use Rattle.cdcl_core.specs.Search.{IsState, IsLearntClause}
-use Rattle.cdcl_core.specs.Searching.{HasSame, HasLemma, IsHolding, IsSearching, IsStuck, IsUndecided}
-use Rattle.cdcl_core.specs.Trail.{InRange, IsVariable, open_count}
-use Rattle.cdcl_core.specs.Watches.{AreKept, IsAsserting, IsQueued, IsWatched, id_at, lits_at}
+use Rattle.cdcl_core.specs.Searching.{IsSearching}
 use Rattle.std.specs.Global.{Vec}
-use Rattle.std.proofs.lemmas.List.{take_all}
-use Rattle.cdcl_core.proofs.Same.{same_more, holding_same}
 use Rattle.cdcl_core.proofs.search.Search.catch_up.Goals as goal
 
 pub watch_rest-requires-clause-searching : goal.watch_rest-requires-clause-searching

@@ -1,13 +1,6 @@
-use Rattle.std.proofs.Common.{◌≡◌, ◌≢◌, ℕ, ◌<◌, ◌≤◌, ◌+◌, ◌-◌, ◌*◌, ◌^◌, ◌++◌, ◌∷◌, [], ◌∙◌, true, false, List, sym, ap, subst, arith, refl, length, take, drop, Ok, Some, None}
-use Rattle.lrat_model.specs.Literal.{Literal, Plus, negated, has, variable_of}
-use Rattle.lrat_model.specs.Clauses.{Held, clause_at, with_clause}
-use Rattle.cdcl_core.specs.declared.search.Search.{Search}
-use Rattle.cdcl_core.specs.declared.watches.Pair.{Pair}
-use Rattle.cdcl_core.specs.Search.{IsState, IsLearntClause}
-use Rattle.cdcl_core.specs.Searching.{HasSame, HasLemma, IsHolding, IsSearching, IsStuck, IsUndecided}
-use Rattle.cdcl_core.specs.Trail.{InRange, IsVariable, open_count}
-use Rattle.cdcl_core.specs.Watches.{AreKept, IsAsserting, IsQueued, IsWatched, id_at, lits_at}
-use Rattle.cdcl_core.proofs.Lemmas.{first_open, first_range, lemma_state, lemma_queued, clause_at-last}
+use Rattle.std.proofs.Common.{◌+◌, ◌∙◌, sym, arith}
+use Rattle.lrat_model.specs.Literal.{Plus}
+use Rattle.cdcl_core.proofs.Lemmas.{first_open, lemma_state, lemma_queued, clause_at-last}
 use Rattle.cdcl_core.proofs.Runs.{below_next}
 use Rattle.cdcl_core.proofs.search.Search.learn.Goals as goal
 

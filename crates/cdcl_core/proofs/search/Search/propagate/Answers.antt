@@ -1,12 +1,9 @@
-use Rattle.std.proofs.Common.{◌≡◌, ◌≢◌, ℕ, ◌<◌, ◌≤◌, ◌+◌, ◌-◌, ◌*◌, ◌^◌, ◌++◌, ◌∷◌, [], ◌∙◌, true, false, List, sym, ap, subst, arith, refl, length, take, drop, Ok, Some, None}
-use Rattle.lrat_model.specs.Literal.{Literal, Plus, negated, has, variable_of}
-use Rattle.lrat_model.specs.Clauses.{Held}
-use Rattle.cdcl_core.specs.declared.search.Search.{Search}
+use Rattle.std.proofs.Common.{◌≡◌, ◌+◌, ◌*◌, ◌++◌, [], ◌∙◌, List, sym, ap, subst, arith, length, take, drop}
+use Rattle.lrat_model.specs.Literal.{Literal, Plus}
 use Rattle.cdcl_core.specs.declared.watches.Pair.{Pair}
-use Rattle.cdcl_core.specs.Search.{IsState, IsLearntClause}
-use Rattle.cdcl_core.specs.Searching.{HasSame, HasLemma, IsHolding, IsSearching, IsStuck, IsUndecided}
-use Rattle.cdcl_core.specs.Trail.{InRange, IsVariable, open_count}
-use Rattle.cdcl_core.specs.Watches.{AreKept, IsAsserting, IsQueued, IsWatched}
+use Rattle.cdcl_core.specs.Search.{IsState}
+use Rattle.cdcl_core.specs.Trail.{InRange, open_count}
+use Rattle.cdcl_core.specs.Watches.{AreKept, IsQueued, IsWatched}
 use Rattle.cdcl_core.proofs.OpenCounts.{open_count-append}
 use Rattle.cdcl_core.proofs.Runs.{written_back, each_id}
 use Rattle.cdcl_core.proofs.search.Search.propagate.Goals as goal

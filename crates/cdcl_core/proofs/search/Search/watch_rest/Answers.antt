@@ -1,19 +1,16 @@
-use Rattle.std.proofs.Common.{◌≡◌, ◌≢◌, ℕ, ◌<◌, ◌≤◌, ◌+◌, ◌-◌, ◌*◌, ◌^◌, ◌++◌, ◌∷◌, [], ◌∙◌, true, false, List, sym, ap, subst, arith, refl, length, take, drop, Ok, Some, None}
-use Rattle.lrat_model.specs.Literal.{Literal, Plus, negated, has, variable_of}
+use Rattle.std.proofs.Common.{◌≡◌, ◌<◌, ◌+◌, [], ◌∙◌, true, List, sym, ap, subst, arith, length, take, Ok}
+use Rattle.lrat_model.specs.Literal.{Literal, Plus, has}
 use Rattle.lrat_model.specs.Clauses.{Held, clause_at, with_clause}
-use Rattle.cdcl_core.specs.declared.search.Search.{Search}
-use Rattle.cdcl_core.specs.declared.watches.Pair.{Pair}
-use Rattle.cdcl_core.specs.Search.{IsState, IsLearntClause}
-use Rattle.cdcl_core.specs.Searching.{HasSame, HasLemma, IsHolding, IsSearching, IsStuck, IsUndecided}
-use Rattle.cdcl_core.specs.Trail.{InRange, IsVariable, open_count}
-use Rattle.cdcl_core.specs.Watches.{AreKept, IsAsserting, IsQueued, IsWatched, id_at, lits_at}
+use Rattle.cdcl_core.specs.Search.{IsState}
+use Rattle.cdcl_core.specs.Searching.{IsSearching}
+use Rattle.cdcl_core.specs.Trail.{IsVariable}
+use Rattle.cdcl_core.specs.Watches.{IsQueued, IsWatched, id_at, lits_at}
 use Rattle.std.proofs.lemmas.List.{take_all}
 use Rattle.std.specs.Prelude.{All}
 use Rattle.lrat_model.specs.Propagation.{status}
-use Rattle.lrat_model.specs.declared.step.ClauseStatus.TheVariants.{Falsified}
 use Rattle.cdcl_core.proofs.Fronts.{clause_at-take, front_below, state_more, take_next}
 use Rattle.cdcl_core.proofs.Runs.{each_id}
-use Rattle.cdcl_core.proofs.Same.{same_more, holding_same}
+use Rattle.cdcl_core.proofs.Same.{holding_same}
 use Rattle.cdcl_core.proofs.search.Search.watch_rest.Goals as goal
 
 pub watch_next-requires-clause-range : goal.watch_next-requires-clause-range
