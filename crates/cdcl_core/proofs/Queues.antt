@@ -140,11 +140,3 @@ false_at trues more head l within is =
 pub index_of_false : (n : ℕ) (held : Held) (trues : List Literal) (reasons : List ℕ) (room head : ℕ) (t l : Literal) → IsState n held trues reasons → head < length trues → t ≡ get_or trues head t → l ≡ negated t → room ≡ 2 * (n + 1) → index_of l < room
 index_of_false n held trues reasons room head t l s within is l_is long =
     index_within l n room (subst (λ k. k ≤ n) (sym (ap variable_of l_is ∙ variable_of-negated t)) (s.range t (has-at trues head t within is)).1) long
-
--- what the queue keeps makes the trail before each decision a fixpoint
-pub queued_closed : (held : Held) (pairs : List Pair) (trues : List Literal) (reasons : List ℕ) (head : ℕ) → IsQueued held pairs trues reasons head → ((l : Literal) → has trues l ≡ true → has trues (negated l) ≡ false)
-    → ((p : ℕ) → p < length held → (has (lits_at held p) (pair_at pairs p).first ≡ true) × (has (lits_at held p) (pair_at pairs p).second ≡ true)) → IsClosed held trues reasons
-queued_closed held pairs trues reasons head q consistent inside place within decided =
-    kept_fixpoint held pairs (take place trues)
-    (λ l h. not_so (has (take place trues) (negated l)) (λ there. true≢false (sym (take_within place trues (negated l) there) ∙ consistent l (take_within place trues l h))))
-    inside (q.at_decisions place within decided)

@@ -43,10 +43,6 @@ rise_push held id lits rise below = all_pairs_push (λ (e f : ℕ × List Litera
 pub below_next : (held : Held) (last : ℕ) → All (λ e. (0 < e.0) × (e.0 ≤ last)) held → All (λ e. e.0 < last + 1) held
 below_next held last ids k d less = omega (arith, (ids k d less).1)
 
-pub some_there : (ls : List Literal) → (ls ≡ [] → ⊥) → 0 < length ls
-some_there [] h = absurd (h refl)
-some_there (l ∷ ls) h = omega arith
-
 pub not_empty : (ls : List Literal) → 0 < length ls → (length ls == 0) ≡ false
 not_empty [] h = absurd (omega arith)
 not_empty (l ∷ ls) h = ne_eqb (length (l ∷ ls)) 0 (λ e. absurd (omega (arith, e)))
@@ -67,6 +63,3 @@ module _ (held : Held) (last : ℕ) (ids : All (λ e. (0 < e.0) × (e.0 ≤ last
       let own : IsId (last + 1) = (omega arith, omega (arith, small)) in
       subst (λ (steps : List ProofStep). All HasNumbers steps) (sym is)
       (All-push HasNumbers log (Addition (last + 1) lits hints) numbers (own, recursion_from_All IsHint hints (All-weaker (NamesClause held) IsHint named_in_range hints named)))
-
-pub below_id : (held : Held) (last id : ℕ) → All (λ e. (0 < e.0) × (e.0 ≤ last)) held → last < id → All (λ e. e.0 < id) held
-below_id held last id ids more k d less = omega (arith, (ids k d less).1, more)
