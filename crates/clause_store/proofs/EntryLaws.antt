@@ -254,3 +254,11 @@ rising-drop start es up = λ i j d lt within.
 pub above-drop : (start id : ℕ) (es : List Entry) → AllWithin (λ e. id < e.id) es start (length es) → All (λ e. id < e.id) (drop start es)
 above-drop start id es above = λ k d within.
     rw (get_or-drop start es k d) (above (start + k) d (omega arith) (omega (arith, within, length-drop start es)))
+
+-- entries up to the place of an id, and past it
+module _ (es : List Entry) (id place : ℕ) (up : IsRising es) (within : place < length es) (is : (d : Entry) → (get_or es place d).id ≡ id) where
+  pub up_to : AllWithin (λ e. e.id ≤ id) es 0 (place + 1)
+  up_to = λ k d low high. (let below : (get_or es k d).id ≤ (get_or es place d).id = non_decreasing es up k place d (omega arith) within in omega (arith, below, is d))
+
+  pub past : AllWithin (λ e. id < e.id) es (place + 1) (length es)
+  past = λ k d low high. (let above : (get_or es place d).id < (get_or es k d).id = up place k d (omega arith) high in omega (arith, above, is d))

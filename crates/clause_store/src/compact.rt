@@ -6,6 +6,7 @@ ghost use Rattle.clause_store.specs.Index.{IsWithin, IsIndex};
 ghost use Rattle.clause_store.specs.Shown.{held_in};
 ghost use Rattle.clause_store.specs.Packed.{moved, packed, literals_of};
 
+use crate::guess::Guesses;
 use crate::index::Entry;
 use lrat_model::Lit;
 
@@ -62,7 +63,13 @@ fn compact(arena: &mut Vec<Lit>, entries: &mut Vec<Entry>)
 
 /// Counts room that was removed, and takes it all away once it is more than half of the whole: so each removed literal
 /// and entry pays for one that is moved.
-pub fn reclaim(arena: &mut Vec<Lit>, entries: &mut Vec<Entry>, removed: &mut usize, room: usize)
+pub fn reclaim(
+    arena: &mut Vec<Lit>,
+    entries: &mut Vec<Entry>,
+    guesses: &mut Guesses,
+    removed: &mut usize,
+    room: usize,
+)
     requires { (last : ℕ) × IsIndex (length arena.old.items) entries.old.items last }
     ensures held { held_in arena.new.items entries.new.items ≡ held_in arena.old.items entries.old.items }
     ensures index { (last : ℕ) → IsIndex (length arena.old.items) entries.old.items last → IsIndex (length arena.new.items) entries.new.items last }
@@ -70,6 +77,7 @@ pub fn reclaim(arena: &mut Vec<Lit>, entries: &mut Vec<Entry>, removed: &mut usi
     *removed = removed.saturating_add(room);
     if *removed > arena.len() / 2 + entries.len() / 2 {
         compact(arena, entries);
+        guesses.see_all(entries);
         *removed = 0;
     }
 }

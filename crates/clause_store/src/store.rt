@@ -1,13 +1,16 @@
 //! The store.
-ghost use Rattle.std.specs.Prelude.{◌≡◌, ℕ, ◌<◌, [], ◌∷◌, Some, None, OnOk, OnErr, IfErr, IfSome, AllPairs, is_some};
+ghost use Rattle.std.specs.Prelude.{◌≡◌, ◌≢◌, ℕ, ◌<◌, List, [], ◌∷◌, length, Some, None, OnOk, OnErr, IfErr, IfSome, AllPairs, is_some};
 ghost use Rattle.std.specs.Option.{option_copied};
+ghost use Rattle.lrat_model.specs.Literal.{Literal};
 ghost use Rattle.lrat_model.specs.Clauses.{clause_at, with_clause, without};
 ghost use Rattle.lrat_model.specs.Steps.{deletion_fault};
 ghost use Rattle.lrat_model.specs.declared.step.StepFault.TheVariants.{NoSuchClause};
 ghost use Rattle.clause_store.specs.Nearest.{IsFirstAbove};
 
 use crate::compact::reclaim;
+use crate::guess::Guesses;
 use crate::index::{Entry, mark, mark_removed, place_above, place_of};
+use crate::view::ClauseRef;
 use lrat_model::Lit;
 use std::alloc::{AllocError, Global};
 use std::marker::Model;
@@ -21,6 +24,7 @@ use std::marker::Model;
 pub struct Store {
     arena: Vec<Lit>,
     entries: Vec<Entry>,
+    guesses: Guesses,
     // The room of removed clauses, in literals and entries: it says only when to move what is held.
     removed: usize,
     last: u64,
@@ -47,6 +51,7 @@ impl Store {
         Store {
             arena: Vec::new(alloc),
             entries: Vec::new(alloc),
+            guesses: Guesses::new(alloc),
             removed: 0,
             last: 0,
         }
@@ -79,27 +84,34 @@ impl Store {
             end,
             is_held: true,
         })?;
+        self.guesses.see_last(&self.entries);
         self.last = id;
         Ok(())
     }
 
-    /// Takes the clause of an id out, and gives whether there was one. O(log n) for n clauses held, and O(its literals),
+    /// Takes the clause of an id out, and gives whether there was one. Finds it as `lits` does, and O(its literals),
     /// amortised.
     pub fn remove(&mut self, id: u64) -> bool
         ensures found { result ≡ is_some (clause_at self.old.held id) }
         ensures held { self.new.held ≡ without self.old.held (id ∷ []) }
         ensures last { self.new.last ≡ self.old.last }
     {
-        let Some(literals) = mark(&mut self.entries, id, false) else {
+        let Some(literals) = mark(&mut self.entries, &self.guesses, id, false) else {
             return false;
         };
         let room = literals.saturating_add(1);
-        reclaim(&mut self.arena, &mut self.entries, &mut self.removed, room);
+        reclaim(
+            &mut self.arena,
+            &mut self.entries,
+            &mut self.guesses,
+            &mut self.removed,
+            room,
+        );
         true
     }
 
     /// Takes the clauses of these ids out, or none of them: `Err` has the first id that is not held,
-    /// a second time in the list among them. O(k log n) for k ids and n clauses held, and O(their literals),
+    /// a second time in the list among them. Finds each as `lits` does, and O(their literals),
     /// amortised.
     pub fn remove_all(&mut self, ids: &[u64]) -> Result<(), u64>
         ensures ok { OnOk result (deletion_fault self.old.held [] ids.now ≡ None) }
@@ -108,17 +120,23 @@ impl Store {
         ensures missing { IfErr result (λ id. deletion_fault self.old.held [] ids.now ≡ Some (NoSuchClause id)) }
         ensures unchanged { OnErr result (self.new ≡ self.old) }
     {
-        let literals = mark_removed(&mut self.entries, ids)?;
+        let literals = mark_removed(&mut self.entries, &self.guesses, ids)?;
         let room = literals.saturating_add(ids.len());
-        reclaim(&mut self.arena, &mut self.entries, &mut self.removed, room);
+        reclaim(
+            &mut self.arena,
+            &mut self.entries,
+            &mut self.guesses,
+            &mut self.removed,
+            room,
+        );
         Ok(())
     }
 
-    /// The literals under an id. O(log n) for n clauses held.
+    /// The literals under an id. O(1) where ids are dense, and else mostly; O(log n) for n clauses held at worst.
     pub fn lits(&self, id: u64) -> Option<&[Lit]>
         ensures { option_copied result ≡ clause_at self.now.held id }
     {
-        let Some(place) = place_of(&self.entries, id) else {
+        let Some(place) = place_of(&self.entries, &self.guesses, id) else {
             return None;
         };
         let entry = self.entries[place];
@@ -129,14 +147,27 @@ impl Store {
         }
     }
 
+    /// The clause under an id, where it has K literals. As `lits` finds it.
+    pub fn view<const K: usize>(&self, id: u64) -> Option<ClauseRef<'_, K>>
+        ensures some { IfSome result (λ clause. clause_at self.now.held id ≡ Some clause) }
+        ensures width { IfSome result (λ clause. length clause ≡ K) }
+        ensures none { result ≡ None → (clause : List Literal) → clause_at self.now.held id ≡ Some clause → length clause ≢ K }
+    {
+        match self.lits(id) {
+            Some(lits) if lits.len() == K => Some(ClauseRef::of(lits)),
+            _ => None,
+        }
+    }
+
     /// The least id above this one that is held, and its literals: with `first_above(0)` first, each
-    /// clause in the order of ids. O(log n) for n clauses held, and O(1) for each removed one that stands between.
+    /// clause in the order of ids. O(1) where the id is that of a clause, and O(1) for each removed one that stands between;
+    /// else O(log n) for n clauses held.
     pub fn first_above(&self, id: u64) -> Option<(u64, &[Lit])>
         ensures some { IfSome result (λ e. IsFirstAbove self.now.held id e.0 e.1.now) }
         ensures none { result ≡ None → (k : ℕ) → id < k → clause_at self.now.held k ≡ None }
         ensures none_at_zero { clause_at self.now.held 0 ≡ None }
     {
-        let start = place_above(&self.entries, id);
+        let start = place_above(&self.entries, &self.guesses, id);
         for entry in &self.entries[start..] {
             if entry.is_held {
                 return Some((entry.id, &self.arena[entry.start..entry.end]));
@@ -149,6 +180,7 @@ impl Store {
 #[cfg(test)]
 mod tests {
     use super::*;
+    use crate::view::{ClauseView, LongRef};
     use std::test::Fail;
 
     const PUSHED: [(u64, &[i32]); 4] = [(2, &[1, -2]), (5, &[]), (9, &[3]), (10, &[-1, -3, 2])];
@@ -215,6 +247,43 @@ mod tests {
             );
             assert_eq!(rt; shown(alloc, &store)?.as_str(), want, "{ids:?}");
         }
+        Ok(())
+    }
+
+    fn numbers<V: ClauseView>(alloc: Global, clause: &V) -> Result<String, AllocError> {
+        let mut text = String::new(alloc);
+        for i in 0..clause.len() {
+            text.push_str(&format!(in alloc; " {}", clause.at(i))?)?;
+        }
+        Ok(text)
+    }
+
+    fn viewed<const K: usize>(
+        alloc: Global,
+        store: &Store,
+        id: u64,
+    ) -> Result<Option<String>, AllocError> {
+        match store.view::<K>(id) {
+            Some(clause) => Ok(Some(numbers(alloc, &clause)?)),
+            _ => Ok(None),
+        }
+    }
+
+    // The first three clauses of the intersection formula of three nodes of which each needs two.
+    #[test]
+    fn clauses_of_a_width(rt: HostRuntime) -> Result<(), Fail> {
+        let alloc = rt.alloc();
+        let mut store = Store::new(alloc);
+        store.push(1, &[Lit::of(1), Lit::of(2), Lit::of(3)])?;
+        store.push(2, &[Lit::of(4), Lit::of(5), Lit::of(6)])?;
+        store.push(3, &[Lit::of(-1), Lit::of(-4)])?;
+        assert_eq!(rt; viewed::<3>(alloc, &store, 1)?.as_deref(), Some(" 1 2 3"));
+        assert_eq!(rt; viewed::<2>(alloc, &store, 1)?.as_deref(), None);
+        assert_eq!(rt; viewed::<2>(alloc, &store, 3)?.as_deref(), Some(" -1 -4"));
+        let lits = [Lit::of(5), Lit::of(-7)];
+        assert_eq!(rt; numbers(alloc, &LongRef::of(&lits))?.as_str(), " 5 -7");
+        assert!(rt; store.remove(3));
+        assert_eq!(rt; viewed::<2>(alloc, &store, 3)?.as_deref(), None);
         Ok(())
     }
 

@@ -3,3 +3,4 @@ pub mod RangeLaws
 pub mod HintLaws
 pub mod LemmaLaws
 pub mod FaultLaws
+pub mod SubsetLaws

@@ -2,3 +2,4 @@ pub mod Hints
 pub mod Covers
 pub mod Checking
 pub mod State
+pub mod Subsets

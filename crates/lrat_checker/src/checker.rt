@@ -1,8 +1,6 @@
 //! The checker.
-ghost use Rattle.std.specs.Prelude.{◌≡◌, ◌≢◌, ◌<◌, ◌^◌, [], ◌∷◌, Some, None, Err, IfOk, IfErr, OnErr, OnOk, MatchBool};
-ghost use Rattle.std.specs.List.{list_all};
-ghost use Rattle.lrat_model.specs.Literal.{has};
-ghost use Rattle.lrat_model.specs.Clauses.{with_clause, without};
+ghost use Rattle.std.specs.Prelude.{◌≡◌, ◌≢◌, ℕ, ◌<◌, ◌^◌, [], ◌∷◌, Some, None, Err, IfOk, IfErr, OnErr, OnOk, MatchBool};
+ghost use Rattle.lrat_model.specs.Clauses.{clause_at, with_clause, without};
 ghost use Rattle.lrat_model.specs.Steps.{step_of, step_fault, addition_fault, deletion_fault, after_step, progress_of, progress_at};
 ghost use Rattle.lrat_model.specs.declared.step.StepFault.TheVariants.{Memory};
 ghost use Rattle.lrat_model.specs.Ranges.{IsInRange, AreInRange};
@@ -10,6 +8,7 @@ ghost use Rattle.lrat_checker.specs.Covers.{Covers};
 ghost use Rattle.lrat_checker.specs.Checking.{IsAddition};
 
 use crate::hint::lemma_fault;
+use crate::subsets::{SubsetIndex, scan, with_clause, without};
 use clause_store::Store;
 use lrat_model::{Lit, Progress, Step, StepFault};
 use partial_assignment::Assignment;
@@ -21,6 +20,7 @@ use std::marker::Model;
 pub struct Checker {
     store: Store,
     assignment: Assignment,
+    subsets: Option<SubsetIndex>,
 }
 
 impl Model for Checker {
@@ -45,12 +45,17 @@ impl Checker {
         ensures vars { IfOk result (λ c. c.vars ≡ vars) }
     {
         let assignment = Assignment::new(alloc, vars)?;
-        Ok(Checker { store, assignment })
+        Ok(Checker {
+            store,
+            assignment,
+            subsets: None,
+        })
     }
 
     /// The last id that was taken.
     pub fn last(&self) -> u64
-        ensures { result ≡ self.now.database.last }
+        ensures value { result ≡ self.now.database.last }
+        ensures none_above { (k : ℕ) → self.now.database.last < k → clause_at self.now.database.held k ≡ None }
     {
         self.store.last()
     }
@@ -85,25 +90,29 @@ impl Checker {
         ensures unchanged { OnErr result (self.new ≡ self.old) }
         ensures vars { self.new.vars ≡ self.old.vars }
     {
-        self.store.push(id, lits)
+        self.store.push(id, lits)?;
+        self.subsets = with_clause(self.subsets.take(), id, lits);
+        Ok(())
+    }
+
+    /// Makes ready for many `covers`: from now on each clause stands in an index, under one of its literals, and a `covers`
+    /// looks at few of them. O(literals held), and O(literals) for each later clause. Where memory for the index runs out,
+    /// now or later, or a clause without a literal comes, there is none any more, and a `covers` looks at all clauses.
+    pub fn expect_covers(&mut self, alloc: Global)
+        ensures { self.new ≡ self.old }
+    {
+        self.subsets = SubsetIndex::of(alloc, &self.store);
     }
 
     /// Whether a clause held under a smaller id is a subset of the list.
-    /// O(literals held under smaller ids x literals of the list).
+    /// O(literals held under smaller ids x literals of the list), where `expect_covers` made no index.
     pub fn covers(&self, id: u64, lits: &[Lit]) -> bool
         ensures { MatchBool result (Covers self.now.database.held id lits.now) (¬ Covers self.now.database.held id lits.now) }
     {
-        let mut above = 0;
-        while let Some((next, clause)) = self.store.first_above(above) {
-            if next >= id {
-                return false;
-            }
-            if is_subset(clause, lits) {
-                return true;
-            }
-            above = next;
+        match &self.subsets {
+            Some(index) => index.covers(&self.store, id, lits),
+            None => scan(&self.store, id, lits),
         }
-        false
     }
 
     fn add(&mut self, id: u64, lits: &[Lit], hints: &[i64]) -> Result<Progress, StepFault>
@@ -123,7 +132,7 @@ impl Checker {
         if let Some(fault) = lemma_fault(&self.store, &mut self.assignment, lits, hints) {
             return Err(fault);
         }
-        if self.store.push(id, lits).is_err() {
+        if self.give(id, lits).is_err() {
             return Err(StepFault::Memory);
         }
         Ok(if lits.is_empty() {
@@ -144,24 +153,13 @@ impl Checker {
         ensures vars { self.new.vars ≡ self.old.vars }
     {
         match self.store.remove_all(ids) {
-            Ok(()) => Ok(Progress::Going),
+            Ok(()) => {
+                self.subsets = without(self.subsets.take(), &self.store, ids.len());
+                Ok(Progress::Going)
+            }
             Err(id) => Err(StepFault::NoSuchClause(id)),
         }
     }
-}
-
-/// Whether the literal is in the list.
-fn has(literals: &[Lit], l: Lit) -> bool
-    ensures { result ≡ has literals.now l }
-{
-    literals.iter().any(|m| l.same(*m))
-}
-
-/// Whether each literal of the one is in the other.
-fn is_subset(small: &[Lit], large: &[Lit]) -> bool
-    ensures { result ≡ list_all (has large.now) small.now }
-{
-    small.iter().all(|l| has(large, *l))
 }
 
 #[cfg(test)]
@@ -259,6 +257,32 @@ mod tests {
         Ok(())
     }
 
+    // Whether the checker takes the deletion of an id.
+    fn delete(alloc: Global, checker: &mut Checker, id: u64) -> Result<bool, AllocError> {
+        let ids = Vec::from_slice(alloc, &[id])?;
+        Ok(is_going(checker.step(&Step::Delete { id: 1, ids })))
+    }
+
+    // The index learns of lemmas that are added, and of clauses that are deleted.
+    #[test]
+    fn covered_after_changes(rt: HostRuntime) -> Result<(), Fail> {
+        let alloc = rt.alloc();
+        let mut checker = checker(alloc)?;
+        checker.expect_covers(alloc);
+        let (one, two) = (lits(alloc, &[8, -1])?, lits(alloc, &[-4, -2, 7])?);
+        assert!(rt; !checker.covers(18, &one) && checker.covers(18, &two));
+        let lemma = addition(alloc, 17, &[-1], &[7, 6, 3, 4, 2])?;
+        assert!(rt; is_going(checker.step(&lemma)));
+        assert!(rt; checker.covers(18, &one) && !checker.covers(17, &one));
+        for id in 1..17_u64 {
+            assert!(rt; delete(alloc, &mut checker, id)?);
+        }
+        assert!(rt; checker.covers(18, &one) && !checker.covers(18, &two));
+        assert!(rt; delete(alloc, &mut checker, 17)?);
+        assert!(rt; !checker.covers(18, &one));
+        Ok(())
+    }
+
     fn is_going(answer: Result<Progress, StepFault>) -> bool {
         matches!(answer, Ok(Progress::Going))
     }
@@ -317,8 +341,13 @@ mod tests {
         let answer = checker.step(&step);
         assert_eq!(rt; shown(alloc, answer)?.as_str(), "no-such-clause 7");
         let list = lits(alloc, &[-4, 5, -2, -3])?;
-        for (id, want) in [(4, false), (5, true), (17, true)] {
+        let cases = [(4, false), (5, true), (17, true)];
+        for (id, want) in cases {
             assert_eq!(rt; checker.covers(id, &list), want, "{id}");
+        }
+        checker.expect_covers(alloc);
+        for (id, want) in cases {
+            assert_eq!(rt; checker.covers(id, &list), want, "{id} by the index");
         }
         Ok(())
     }

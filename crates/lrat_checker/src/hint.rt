@@ -8,9 +8,10 @@ ghost use Rattle.lrat_model.specs.Ranges.{IsInRange, AreInRange};
 ghost use Rattle.lrat_model.specs.Alike.{Alike};
 ghost use Rattle.lrat_checker.specs.Hints.{Took, id_of};
 
+use crate::status::status;
 use clause_store::Store;
 use lrat_model::{Lit, StepFault};
-use partial_assignment::{Assignment, ClauseStatus, status};
+use partial_assignment::{Assignment, ClauseStatus};
 
 /// Where a hint leads, if it is no fault: on, or to a clause with all literals false.
 #[derive(Clone, Copy)]

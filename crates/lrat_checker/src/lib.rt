@@ -3,6 +3,8 @@
 
 mod checker;
 mod hint;
+mod status;
+mod subsets;
 
 pub use checker::Checker;
 pub use clause_store::Store;

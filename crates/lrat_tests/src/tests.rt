@@ -5,7 +5,7 @@ use cdcl_core::{Budget, Solver, Verdict};
 use clause_store::Store;
 use lrat_checker::Checker;
 use lrat_model::{Lit, Progress};
-use lrat_text::write_step;
+use lrat_text::write_lent;
 use std::alloc::{AllocError, Global};
 use std::test::Fail;
 
@@ -85,8 +85,10 @@ fn is_refutation(alloc: Global, store: Store, vars: u64, solver: &Solver) -> Res
 {
     let mut checker = Checker::start(alloc, store, vars)?;
     let mut progress = Progress::Going;
-    for step in solver.log().as_slice() {
-        match checker.step(step) {
+    let log = solver.log();
+    for place in 0..log.len() {
+        let step = log.step(place).to_step(alloc)?;
+        match checker.step(&step) {
             Ok(next) => progress = next,
             Err(_) => return Ok(false),
         }
@@ -97,8 +99,9 @@ fn is_refutation(alloc: Global, store: Store, vars: u64, solver: &Solver) -> Res
 // The lines of the steps that were logged.
 fn lines(alloc: Global, solver: &Solver) -> Result<Vec<u8>, AllocError> {
     let mut lines = Vec::new(alloc);
-    for step in solver.log().as_slice() {
-        for byte in write_step(step) {
+    let log = solver.log();
+    for place in 0..log.len() {
+        for byte in write_lent(log.step(place)) {
             lines.push(byte)?;
         }
         lines.push(b'\n')?;

@@ -5,3 +5,4 @@ pub mod TextLaws
 pub mod BackLaws
 pub mod DigitLaws
 pub mod SaysLaws
+pub mod LogLaws

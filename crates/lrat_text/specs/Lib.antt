@@ -4,3 +4,6 @@ pub mod Lines
 pub mod Texts
 pub mod Left
 pub mod Lent
+pub mod Spans
+pub mod Entries
+pub mod Logged

@@ -7,6 +7,8 @@ ghost use Rattle.lrat_text.specs.Words.{words_of};
 ghost use Rattle.lrat_text.specs.Lines.{step_in};
 ghost use Rattle.lrat_text.specs.Texts.{words_for, line_of, HasNumbers, HasLiterals};
 
+mod arena;
+mod entry;
 mod faults;
 mod lent;
 mod log;

@@ -122,21 +122,41 @@ fn a_deletion_is_written(rt: HostRuntime) -> Result<(), Fail> {
     Ok(())
 }
 
+// What a log lends, as a step of its own.
+fn lent(alloc: Global, log: &Log, place: usize) -> Result<String, AllocError> {
+    if place < log.len() {
+        format!(in alloc; "{:?}", log.step(place).to_step(alloc)?)
+    } else {
+        String::from_str(alloc, "none")
+    }
+}
+
 #[test]
 fn steps_are_logged(rt: HostRuntime) -> Result<(), Fail> {
     let alloc = rt.alloc();
     let mut log = Log::new(alloc);
-    for line in ["1 2 0 0", "1 d 1 0"] {
+    for line in [
+        "3 2 -1 0 4294967295 1 0",
+        "4 0 3 4294967296 0",
+        "4 d 1 3 0",
+        "5 0 0",
+    ] {
         let Ok(step) = read_step(alloc, line.as_bytes()) else {
             continue;
         };
         log.push(step)?;
     }
-    assert_eq!(rt; log.len(), 2);
-    assert!(rt;
-        log.as_slice()
-            .iter()
-            .any(|step| matches!(step, Step::Delete { .. }))
-    );
+    for (place, want) in [
+        "Add { id: 3, lits: [Lit(2), Lit(-1)], hints: [4294967295, 1] }",
+        "Add { id: 4, lits: [], hints: [3, 4294967296] }",
+        "Delete { id: 4, ids: [1, 3] }",
+        "Add { id: 5, lits: [], hints: [] }",
+        "none",
+    ]
+    .into_iter()
+    .enumerate()
+    {
+        assert_eq!(rt; lent(alloc, &log, place)?.as_str(), want);
+    }
     Ok(())
 }

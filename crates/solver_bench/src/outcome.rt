@@ -59,8 +59,10 @@ fn is_refutation(
 {
     let mut checker = Checker::start(alloc, store, vars)?;
     let mut progress = Progress::Going;
-    for step in solver.log().as_slice() {
-        match checker.step(step) {
+    let log = solver.log();
+    for place in 0..log.len() {
+        let step = log.step(place).to_step(alloc)?;
+        match checker.step(&step) {
             Ok(next) => progress = next,
             Err(_) => return Ok(false),
         }

@@ -1,15 +1,12 @@
-use Rattle.std.proofs.Common.{rules, of_calls, leb}
-use Rattle.std.proofs.lemmas.Bool.{leb-true, leb-false}
-use Rattle.std.proofs.lemmas.List.Sorted.{IsPartitionPoint-from_clause, IsPartitionedBy-leb}
-use Rattle.clause_store.proofs.EntryLaws.{non_decreasing}
+use Rattle.clause_store.proofs.EntryLaws.{up_to, past}
 use Rattle.clause_store.proofs.index.place_above.Goals as goal
 
-pub returns-clause-below : goal.returns-clause-below
-returns-clause-below c =
-    let point = IsPartitionPoint-from_clause (λ e. leb e.id c.args.id) c.args.entries.now c.partition_point.result c.partition_point.ensures.partitioned (IsPartitionedBy-leb (λ e. e.id) c.args.entries.now c.args.id (non_decreasing c.args.entries.now c.requires)) (λ a r f k. search (rules, of_calls)) in
-    λ k d low high. leb-true _ _ (point.0 k d low high)
+pub returns-then-stands_at-clause-below : goal.returns-then-stands_at-clause-below
+returns-then-stands_at-clause-below c =
+    let here = simp c.if-stands_at.true at c.stands_at.ensures in
+    up_to c.args.entries.now c.args.id c.place-guess.result c.requires here.0 here.1
 
-pub returns-clause-above : goal.returns-clause-above
-returns-clause-above c =
-    let point = IsPartitionPoint-from_clause (λ e. leb e.id c.args.id) c.args.entries.now c.partition_point.result c.partition_point.ensures.partitioned (IsPartitionedBy-leb (λ e. e.id) c.args.entries.now c.args.id (non_decreasing c.args.entries.now c.requires)) (λ a r f k. search (rules, of_calls)) in
-    λ k d low high. leb-false _ _ (point.1 k d low high)
+pub returns-then-stands_at-clause-above : goal.returns-then-stands_at-clause-above
+returns-then-stands_at-clause-above c =
+    let here = simp c.if-stands_at.true at c.stands_at.ensures in
+    past c.args.entries.now c.args.id c.place-guess.result c.requires here.0 here.1
