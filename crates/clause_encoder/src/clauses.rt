@@ -1,12 +1,14 @@
 //! Clauses as they are written.
-ghost use Rattle.std.specs.Prelude.{◌≡◌, [], ◌∷◌, ◌++◌, OnOk};
+ghost use Rattle.std.specs.Prelude.{◌≡◌, ◌≤◌, [], ◌∷◌, ◌++◌, OnOk};
 ghost use Rattle.lrat_model.specs.Runs.{formula_database};
+ghost use Rattle.clause_encoder.specs.declared.limits.TheConstants.{MOST_CLAUSES};
 
+use crate::limits::MOST_CLAUSES;
 use clause_store::{Lit, Store};
 use std::alloc::{AllocError, Global};
 use std::marker::Model;
 
-/// A store of clauses under the ids from 1 on in order, seen as the list of its clauses.
+/// A store of at most `MOST_CLAUSES` clauses under the ids from 1 on in order, seen as the list of its clauses.
 #[derive(Drop)]
 pub struct Clauses {
     store: Store,
@@ -35,12 +37,12 @@ impl Clauses {
         }
     }
 
-    /// One more clause behind the others: O(literals), amortised. Where the ids run out there is no memory for it either.
+    /// One more clause behind the others: O(literals), amortised. Above `MOST_CLAUSES` there is no memory for it either.
     pub fn push(&mut self, lits: &[Lit]) -> Result<(), AllocError>
         ensures { OnOk result (self.new ≡ self.old ++ lits.now ∷ []) }
     {
         let last = self.store.last();
-        if last == u64::MAX {
+        if last >= MOST_CLAUSES {
             return Err(AllocError);
         }
         self.store.push(last + 1, lits)?;
@@ -49,7 +51,8 @@ impl Clauses {
 
     /// The store.
     pub fn into_store(self) -> Store
-        ensures { result ≡ formula_database self }
+        ensures clauses { result ≡ formula_database self }
+        ensures few { result.last ≤ MOST_CLAUSES }
     {
         self.store
     }

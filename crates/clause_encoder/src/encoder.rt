@@ -2,16 +2,19 @@
 ghost use Rattle.std.specs.Prelude.{◌≡◌, ℕ, Bool, true, false, ◌+◌, ◌*◌, ◌<◌, ◌≤◌, ◌^◌, ◌↔◌, All, IfOk, Err, length};
 ghost use Rattle.fbas_model.specs.Nodes.{Nodes, Table, members, size, listed_from, Meets, ◌∈◌};
 ghost use Rattle.fbas_model.specs.Fbas.{Fbas, Quorum, Intersects, IsGreatestQuorum, all_nodes};
+ghost use Rattle.fbas_model.specs.declared.TheConstants.{MOST_NODES};
 ghost use Rattle.lrat_model.specs.Literal.{formula_true};
 ghost use Rattle.lrat_model.specs.Clauses.{numbered, Satisfies, IsUnsatisfiable};
 ghost use Rattle.lrat_model.specs.Ranges.{AreInRange};
 ghost use Rattle.lrat_model.specs.Runs.{formula_database};
 ghost use Rattle.threshold_circuit.specs.Views.{circuit_view};
+ghost use Rattle.clause_encoder.specs.declared.limits.TheConstants.{MOST_CLAUSES, MOST_VARS};
 ghost use Rattle.clause_encoder.specs.declared.encoder.EncodeError.TheVariants.{TooLarge};
 ghost use Rattle.clause_encoder.specs.Formula.{side_a, side_b, formula_over, circuit_at, formula, formula_clauses as spec_clauses, formula_vars as spec_vars};
 ghost use Rattle.clause_encoder.specs.Meaning.{told, Tells, AreDisjointQuorums};
 ghost use Rattle.clause_encoder.specs.Written.{circuit_in, variables_of as gate_variables_of, IsWritable};
 
+use crate::limits::MOST_VARS;
 use crate::marks::Marks;
 use crate::nodes::{circuits_of, members_of, variables_of};
 use crate::sides::formula_clauses;
@@ -23,13 +26,10 @@ use std::alloc::{AllocError, Global};
 use thiserror::Error;
 use threshold_circuit::Circuit;
 
-/// The most variables that a formula may have.
-const MOST_VARS: u64 = 4_000_000;
-
 /// Why there is no formula.
 #[derive(Clone, Copy, Debug, PartialEq, Eq, Error)]
 pub enum EncodeError {
-    /// It would have so many variables, more than 4,000,000.
+    /// It would have so many variables, more than `MOST_VARS`.
     #[error("the formula has {0} variables")]
     TooLarge(u64),
     /// No memory for it.
@@ -38,6 +38,7 @@ pub enum EncodeError {
 }
 
 impl From<AllocError> for EncodeError {
+    ghost use Rattle.clause_encoder.specs.declared.limits.TheConstants.{MOST_CLAUSES, MOST_VARS};
     ghost use Rattle.clause_encoder.specs.declared.encoder.EncodeError.TheVariants.{Memory};
     ghost use Rattle.std.specs.Prelude.{◌≡◌};
 
@@ -50,7 +51,7 @@ impl From<AllocError> for EncodeError {
 
 /// How many variables the formula over these members has: linear in the entries of their circuits.
 fn count_vars(nodes: &[u32], circuits: &[Circuit]) -> u64
-    requires few { length nodes.now ≤ 4096 }
+    requires few { length nodes.now ≤ MOST_NODES }
     requires nodes { All (λ v. v < length circuits.now) nodes.now }
     requires writable { All (λ c. IsWritable (length circuits.now) (circuit_view c)) circuits.now }
     ensures { result ≡ 2 * (length nodes.now + gate_variables_of (circuit_in circuits.now) nodes.now) }
@@ -72,13 +73,14 @@ fn encode_within(
     circuits: &[Circuit],
 ) -> Result<Store, AllocError>
     requires n { n ≡ length greatest.now }
-    requires few { n ≤ 4096 }
+    requires few { n ≤ MOST_NODES }
     requires nodes { nodes.now ≡ listed_from 0 greatest.now }
     requires same_n { length circuits.now ≡ n }
     requires writable { All (λ c. IsWritable n (circuit_view c)) circuits.now }
-    requires small { vars ≤ 4000000 }
+    requires small { vars ≤ MOST_VARS }
     requires vars { vars ≡ 2 * (length nodes.now + gate_variables_of (circuit_in circuits.now) nodes.now) }
-    ensures { IfOk result (λ s. s ≡ formula_database (formula_over (side_a greatest.now) (side_b greatest.now) (1 + size greatest.now + size greatest.now) (circuit_in circuits.now) nodes.now).clauses) }
+    ensures few { IfOk result (λ s. s.last ≤ MOST_CLAUSES) }
+    ensures clauses { IfOk result (λ s. s ≡ formula_database (formula_over (side_a greatest.now) (side_b greatest.now) (1 + size greatest.now + size greatest.now) (circuit_in circuits.now) nodes.now).clauses) }
 {
     let members = nodes.len() as u32;
     let first = variables_of(alloc, greatest, n, 1)?;
@@ -99,7 +101,7 @@ fn encode_within(
 /// written after those of their entries: where all inputs are wanted a clause for each, where one is wanted one clause, and
 /// else a sequential counter (Sinz 2005).
 ///
-/// `TooLarge` comes where the formula has more than 4,000,000 variables, which are counted before anything is written.
+/// `TooLarge` comes where the formula has more than `MOST_VARS` variables, which are counted before anything is written.
 /// Linear in n, in the entries of the members' quorum sets and in the formula.
 pub fn encode(
     alloc: Global,
@@ -112,22 +114,23 @@ pub fn encode(
     requires greatest { IsGreatestQuorum system.now.sets (members faulty.now) (all_nodes system.now.sets) (members greatest.now) }
     ensures store { IfOk result (λ r. r.0 ≡ formula_database (spec_clauses system.now.sets faulty.now greatest.now)) }
     ensures variables { IfOk result (λ r. r.1 ≡ record { greatest = greatest.now; count = spec_vars system.now.sets faulty.now greatest.now }) }
-    ensures small { IfOk result (λ r. spec_vars system.now.sets faulty.now greatest.now ≤ 4000000) }
-    ensures too_large { (vars : ℕ) → result ≡ Err (TooLarge vars) → (vars ≡ spec_vars system.now.sets faulty.now greatest.now) × (4000000 < vars) }
+    ensures small { IfOk result (λ r. spec_vars system.now.sets faulty.now greatest.now ≤ MOST_VARS) }
+    ensures few { IfOk result (λ r. r.0.last ≤ MOST_CLAUSES) }
+    ensures too_large { (vars : ℕ) → result ≡ Err (TooLarge vars) → (vars ≡ spec_vars system.now.sets faulty.now greatest.now) × (MOST_VARS < vars) }
     ensures in_range { IfOk result (λ r. AreInRange r.1.count r.0.held) }
     ensures exact { IfOk result (λ r. IsUnsatisfiable r.0.held ↔ Intersects system.now.sets (members faulty.now)) }
     ensures tells { (v : ℕ → Bool) → IfOk result (λ r. Satisfies v r.0.held → AreDisjointQuorums system.now.sets (members faulty.now) (told (side_a greatest.now) greatest.now v) (told (side_b greatest.now) greatest.now v)) }
     ensures told { (u w : Nodes) → AreDisjointQuorums system.now.sets (members faulty.now) u w → IfOk result (λ r. Tells r.0.held greatest.now u w) }
 {
     let n = system.len();
-    let nodes = members_of(alloc, greatest, n)?;
+    let nodes = members_of(alloc, greatest)?;
     let circuits = circuits_of(alloc, system, faulty, greatest)?;
     let vars = count_vars(&nodes, &circuits);
     if vars > MOST_VARS {
         return Err(EncodeError::TooLarge(vars));
     }
     let store = encode_within(alloc, greatest, n, vars as u32, &nodes, &circuits)?;
-    let map = VarMap::of(alloc, greatest, n, vars)?;
+    let map = VarMap::of(greatest, n, vars);
     Ok((store, map))
 }
 

@@ -1,14 +1,17 @@
 -- Each stage of the reading of a command's words.
-use Rattle.std.proofs.Common.{◌≡◌, ◌∙◌, ap, List, [], ◌∷◌, true, false, Ok, Err, inl, inr, refl, rules}
-use Rattle.clap.specs.Words.{App, Row, Rule, Text, kind_of, matches_of, is_simple_and_free, with_rule}
+use Rattle.std.proofs.Common.{◌≡◌, ◌∙◌, ap, sym, subst, codes, ℕ, List, [], ◌∷◌, Some, None, true, false, Ok, Err, inl, inr, refl, rules}
+use Rattle.clap.specs.Words.{App, Row, Rule, Text, kind_of, first_of, matches_of, is_simple_and_free, with_rule}
 use Rattle.clap.specs.Walk.{is_empty}
 use Rattle.clap.specs.Kinds.{Kinds, HasKind}
 use Rattle.clap.specs.declared.error.Error.{Error}
 use Rattle.clap.specs.declared.error.kind.ErrorKind.TheVariants.{OutOfMemory}
+use Rattle.cli_words.specs.Budget.{budget_of}
 use Rattle.cli_words.specs.Order.{Ordered, has_same_path}
-use Rattle.cli_words.specs.Words.{app_for, is_taken, order_by, order_in, path_checked}
+use Rattle.cli_words.specs.Words.{app_for, is_taken, order_by, order_in, order_among, order_with, path_checked}
 use Rattle.cli_words.specs.declared.orders.Command.{Command}
-use Rattle.cli_words.specs.declared.orders.Command.TheVariants.{Show, Closure, Greatest, Available, Blocks, Vblocks, Check, Export}
+use Rattle.cli_words.specs.declared.orders.Command.TheVariants.{Query, Search, Check}
+use Rattle.cli_words.specs.declared.orders.Goal.TheVariants.{Intersect, Dset, Splits}
+use Rattle.cli_words.specs.declared.orders.Query.TheVariants.{Show, Closure, Greatest, Available, Blocks, Vblocks, Export}
 use Rattle.cli_words.specs.declared.orders.OrderFault.TheVariants.{Words, SamePath}
 
 -- an error that is not of memory comes only where a kind does
@@ -20,29 +23,44 @@ is_empty-refused (k ∷ ks) e h other = search rules
 -- clap states the matches of each command
 pub is_stated : (k : Command) (app : App) → app ≡ app_for k → is_simple_and_free app ≡ true
 unfolding app_for
-is_stated Show app e = rw e refl
-is_stated Closure app e = rw e refl
-is_stated Greatest app e = rw e refl
-is_stated Available app e = rw e refl
-is_stated Blocks app e = rw e refl
-is_stated Vblocks app e = rw e refl
+is_stated (Query Show) app e = rw e refl
+is_stated (Query Closure) app e = rw e refl
+is_stated (Query Greatest) app e = rw e refl
+is_stated (Query Available) app e = rw e refl
+is_stated (Query Blocks) app e = rw e refl
+is_stated (Query Vblocks) app e = rw e refl
+is_stated (Search Intersect) app e = rw e refl
+is_stated (Search Dset) app e = rw e refl
+is_stated (Search Splits) app e = rw e refl
 is_stated Check app e = rw e refl
-is_stated Export app e = rw e refl
+is_stated (Query Export) app e = rw e refl
 
-pub order_by-taken : (k : Command) (words : List Text) (app : App) (rows : List Row) (o : Ordered) → app ≡ app_for k → is_taken app words ≡ true → rows ≡ matches_of app words → o ≡ order_in k rows
-    → order_by k words ≡ path_checked o
+-- the words are taken, and these are their texts
+pub record Taken (k : Command) (words : List Text) (app : App) (rows : List Row) : Type 0 where
+  pub is : app ≡ app_for k
+  pub taken : is_taken app words ≡ true
+  pub rows_are : rows ≡ matches_of app words
+
+order_by-taken : (k : Command) (words : List Text) (app : App) (rows : List Row) → Taken k words app rows → order_by k words ≡ order_among k rows
 unfolding order_by
-order_by-taken k words app rows o a t r e =
-    let taken : is_taken (app_for k) words ≡ true = rw (← a) t in
-    rw (taken, ← a, ← r, ← e) refl
+order_by-taken k words app rows t =
+    let taken : is_taken (app_for k) words ≡ true = subst (λ (x : App). is_taken x words ≡ true) t.is t.taken in
+    let whole : rows ≡ matches_of (app_for k) words = t.rows_are ∙ ap (λ (x : App). matches_of x words) t.is in
+    rw taken (ap (λ (x : List Row). order_among k x) (sym whole))
 
-pub order_by-same : (k : Command) (words : List Text) (app : App) (rows : List Row) (o : Ordered) → app ≡ app_for k → is_taken app words ≡ true → rows ≡ matches_of app words → o ≡ order_in k rows
+pub order_by-unbudgeted : (k : Command) (words : List Text) (app : App) (rows : List Row) → Taken k words app rows → budget_of k (first_of (codes "budget") rows) ≡ None → order_by k words ≡ Err Words
+order_by-unbudgeted k words app rows t none = order_by-taken k words app rows t ∙ ap (order_with k rows) none
+
+order_by-budgeted : (k : Command) (words : List Text) (app : App) (rows : List Row) (budget : ℕ) (o : Ordered) → Taken k words app rows → budget_of k (first_of (codes "budget") rows) ≡ Some budget → o ≡ order_in k budget rows → order_by k words ≡ path_checked o
+order_by-budgeted k words app rows budget o t some e = order_by-taken k words app rows t ∙ ap (order_with k rows) some ∙ ap path_checked (sym e)
+
+pub order_by-same : (k : Command) (words : List Text) (app : App) (rows : List Row) (budget : ℕ) (o : Ordered) → Taken k words app rows → budget_of k (first_of (codes "budget") rows) ≡ Some budget → o ≡ order_in k budget rows
     → has_same_path o ≡ true → order_by k words ≡ Err SamePath
-order_by-same k words app rows o a t r e same = rw (order_by-taken k words app rows o a t r e, same) refl
+order_by-same k words app rows budget o t some e same = rw (order_by-budgeted k words app rows budget o t some e, same) refl
 
-pub order_by-other : (k : Command) (words : List Text) (app : App) (rows : List Row) (o : Ordered) → app ≡ app_for k → is_taken app words ≡ true → rows ≡ matches_of app words → o ≡ order_in k rows
+pub order_by-other : (k : Command) (words : List Text) (app : App) (rows : List Row) (budget : ℕ) (o : Ordered) → Taken k words app rows → budget_of k (first_of (codes "budget") rows) ≡ Some budget → o ≡ order_in k budget rows
     → has_same_path o ≡ false → order_by k words ≡ Ok o
-order_by-other k words app rows o a t r e other = rw (order_by-taken k words app rows o a t r e, other) refl
+order_by-other k words app rows budget o t some e other = rw (order_by-budgeted k words app rows budget o t some e, other) refl
 
 pub order_by-refused : (k : Command) (words : List Text) (app : App) → app ≡ app_for k → is_taken app words ≡ false → order_by k words ≡ Err Words
 unfolding order_by

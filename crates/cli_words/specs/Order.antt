@@ -1,11 +1,11 @@
 -- The order that a command line gives.
-use Rattle.std.specs.Prelude.{ℕ, List, [], Bool, true, false, ◌&&◌, ◌||◌, Option, Some, None, option_map, string_bytes}
+use Rattle.std.specs.Prelude.{ℕ, List, Bool, true, false, ◌&&◌, ◌||◌, Option, Some, None, option_map, string_bytes}
 use Rattle.std.specs.Str.{bytes_eq}
 use Rattle.cli_words.specs.declared.orders.Command.{Command}
-use Rattle.cli_words.specs.declared.orders.Command.TheVariants.{Check}
+use Rattle.cli_words.specs.declared.orders.Command.TheVariants.{Search, Check}
 use Rattle.cli_words.specs.declared.orders.Order.{Order}
 
--- a command with its texts: a path that the command does not have is empty, an option that it does not have or that was not given is `None`
+-- a command with its texts: a path that the command does not have is empty, an option that it does not have or that was not given is `None`, and a command that does not search has a budget of 0
 pub record Ordered : Type 0 where
   pub command : Command
   pub config : List ℕ
@@ -16,6 +16,7 @@ pub record Ordered : Type 0 where
   pub faulty : Option (List ℕ)
   pub faulty_orgs : Option (List ℕ)
   pub set : Option (List ℕ)
+  pub budget : ℕ
 
 -- the order that a Rust value is
 abbrev pub order_view : Order → Ordered
@@ -29,24 +30,12 @@ order_view o = record {
   faulty = option_map string_bytes o.faulty;
   faulty_orgs = option_map string_bytes o.faulty_orgs;
   set = option_map string_bytes o.set;
-}
-
--- the command without any text
-abbrev pub nothing_for : Command → Ordered
-nothing_for command = record {
-  command = command;
-  config = [];
-  cert = [];
-  orgs = None;
-  node = None;
-  from = None;
-  faulty = None;
-  faulty_orgs = None;
-  set = None;
+  budget = o.budget;
 }
 
 -- the commands with a certificate, which all have a configuration too
 abbrev pub has_certificate : Command → Bool
+has_certificate (Search goal) = true
 has_certificate Check = true
 has_certificate command = false
 

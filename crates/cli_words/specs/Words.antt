@@ -1,12 +1,15 @@
 -- Which words are taken, and the order that they give. Options, positionals and their refusals are those that clap states.
-use Rattle.std.specs.Prelude.{List, [], ◌∷◌, Bool, true, Option, Some, None, unwrap_or, Result, Ok, Err, codes, if◌then◌else◌}
+use Rattle.std.specs.Prelude.{ℕ, List, [], ◌∷◌, ◌++◌, Bool, true, Option, Some, None, unwrap_or, Result, Ok, Err, codes, if◌then◌else◌}
 use Rattle.std.specs.Str.{bytes_eq}
 use Rattle.clap.specs.Words.{App, Row, Rule, Text, fault_of, first_of, matches_of, new_rule, with_rule}
 use Rattle.clap.specs.Walk.{is_empty}
 use Rattle.clap.specs.Simple.{new_shape}
-use Rattle.cli_words.specs.Order.{Ordered, nothing_for, has_same_path}
+use Rattle.cli_words.specs.Budget.{budget_of}
+use Rattle.cli_words.specs.Order.{Ordered, has_same_path}
 use Rattle.cli_words.specs.declared.orders.Command.{Command}
-use Rattle.cli_words.specs.declared.orders.Command.TheVariants.{Show, Closure, Greatest, Available, Blocks, Vblocks, Check, Export}
+use Rattle.cli_words.specs.declared.orders.Command.TheVariants.{Query, Search, Check}
+use Rattle.cli_words.specs.declared.orders.Goal.TheVariants.{Intersect, Dset, Splits}
+use Rattle.cli_words.specs.declared.orders.Query.TheVariants.{Show, Closure, Greatest, Available, Blocks, Vblocks, Export}
 use Rattle.cli_words.specs.declared.orders.OrderFault.{OrderFault}
 use Rattle.cli_words.specs.declared.orders.OrderFault.TheVariants.{Words, SamePath}
 
@@ -39,14 +42,17 @@ app_with name rules = record { top = record (new_shape name) { rules = rules }; 
 
 -- the arguments of a command, as clap reads them
 unfoldable pub app_for : Command → App
-app_for Show = app_with (codes "show") (positional (codes "config") ∷ [])
-app_for Closure = app_with (codes "closure") (positional (codes "config") ∷ needed (codes "node") ∷ [])
-app_for Greatest = app_with (codes "greatest") (positional (codes "config") ∷ common_options)
-app_for Available = app_with (codes "available") (positional (codes "config") ∷ needed (codes "set") ∷ optional (codes "from") ∷ [])
-app_for Blocks = app_with (codes "blocks") (positional (codes "config") ∷ needed (codes "set") ∷ common_options)
-app_for Vblocks = app_with (codes "vblocks") (positional (codes "config") ∷ needed (codes "node") ∷ needed (codes "set") ∷ [])
+app_for (Query Show) = app_with (codes "show") (positional (codes "config") ∷ [])
+app_for (Query Closure) = app_with (codes "closure") (positional (codes "config") ∷ needed (codes "node") ∷ [])
+app_for (Query Greatest) = app_with (codes "greatest") (positional (codes "config") ∷ common_options)
+app_for (Query Available) = app_with (codes "available") (positional (codes "config") ∷ needed (codes "set") ∷ optional (codes "from") ∷ [])
+app_for (Query Blocks) = app_with (codes "blocks") (positional (codes "config") ∷ needed (codes "set") ∷ common_options)
+app_for (Query Vblocks) = app_with (codes "vblocks") (positional (codes "config") ∷ needed (codes "node") ∷ needed (codes "set") ∷ [])
+app_for (Search Intersect) = app_with (codes "intersect") (positional (codes "config") ∷ positional (codes "cert") ∷ (common_options ++ optional (codes "budget") ∷ []))
+app_for (Search Dset) = app_with (codes "dset") (positional (codes "config") ∷ positional (codes "cert") ∷ needed (codes "set") ∷ optional (codes "from") ∷ optional (codes "budget") ∷ [])
+app_for (Search Splits) = app_with (codes "splits") (positional (codes "config") ∷ positional (codes "cert") ∷ needed (codes "set") ∷ (common_options ++ optional (codes "budget") ∷ []))
 app_for Check = app_with (codes "check") (positional (codes "config") ∷ positional (codes "cert") ∷ [])
-app_for Export = app_with (codes "export") (positional (codes "config") ∷ common_options)
+app_for (Query Export) = app_with (codes "export") (positional (codes "config") ∷ common_options)
 
 -- clap takes the words: it has no kind of refusal for them
 unfoldable pub is_taken : App → List Text → Bool
@@ -58,55 +64,53 @@ is_taken app words = is_empty (fault_of app words)
 abbrev pub text_of : Text → List Row → Text
 text_of id rows = unwrap_or (first_of id rows) []
 
--- the texts of the common options
-abbrev pub common_in : Command → List Row → Ordered
-common_in command rows = record (nothing_for command) {
+-- the texts of a command: what it does not have, or what was not given, is among no rows
+abbrev pub order_in : Command → ℕ → List Row → Ordered
+order_in command budget rows = record {
+  command = command;
   config = text_of (codes "config") rows;
+  cert = text_of (codes "cert") rows;
   orgs = first_of (codes "orgs") rows;
+  node = first_of (codes "node") rows;
   from = first_of (codes "from") rows;
   faulty = first_of (codes "faulty") rows;
   faulty_orgs = first_of (codes "faulty-orgs") rows;
-}
-
--- the texts that a command reads
-abbrev pub order_in : Command → List Row → Ordered
-order_in Show rows = record (nothing_for Show) { config = text_of (codes "config") rows }
-order_in Closure rows = record (nothing_for Closure) { config = text_of (codes "config") rows; node = first_of (codes "node") rows }
-order_in Greatest rows = common_in Greatest rows
-order_in Available rows = record (nothing_for Available) {
-  config = text_of (codes "config") rows;
-  from = first_of (codes "from") rows;
   set = first_of (codes "set") rows;
+  budget = budget;
 }
-order_in Blocks rows = record (common_in Blocks rows) { set = first_of (codes "set") rows }
-order_in Vblocks rows = record (nothing_for Vblocks) {
-  config = text_of (codes "config") rows;
-  node = first_of (codes "node") rows;
-  set = first_of (codes "set") rows;
-}
-order_in Check rows = record (nothing_for Check) { config = text_of (codes "config") rows; cert = text_of (codes "cert") rows }
-order_in Export rows = common_in Export rows
 
 -- one path for both files is refused
 abbrev pub path_checked : Ordered → Result Ordered OrderFault
 path_checked o = if has_same_path o then Err SamePath else Ok o
 
+-- the order of a command's texts with this budget, if it is one
+abbrev pub order_with : Command → List Row → Option ℕ → Result Ordered OrderFault
+order_with command rows None = Err Words
+order_with command rows (Some budget) = path_checked (order_in command budget rows)
+
+-- the order of a command's texts
+abbrev pub order_among : Command → List Row → Result Ordered OrderFault
+order_among command rows = order_with command rows (budget_of command (first_of (codes "budget") rows))
+
 -- the order that a command's own words give, which begin with its name
 unfoldable pub order_by : Command → List Text → Result Ordered OrderFault
-order_by command words = if is_taken (app_for command) words then path_checked (order_in command (matches_of (app_for command) words)) else Err Words
+order_by command words = if is_taken (app_for command) words then order_among command (matches_of (app_for command) words) else Err Words
 
 -- ---- the command line
 
 -- the command of a name
-abbrev pub command_named : Text → Option Command
-command_named name = if bytes_eq name (codes "show") then Some Show
-    else (if bytes_eq name (codes "closure") then Some Closure
-    else (if bytes_eq name (codes "greatest") then Some Greatest
-    else (if bytes_eq name (codes "available") then Some Available
-    else (if bytes_eq name (codes "blocks") then Some Blocks
-    else (if bytes_eq name (codes "vblocks") then Some Vblocks
+unfoldable pub command_named : Text → Option Command
+command_named name = if bytes_eq name (codes "show") then Some (Query Show)
+    else (if bytes_eq name (codes "closure") then Some (Query Closure)
+    else (if bytes_eq name (codes "greatest") then Some (Query Greatest)
+    else (if bytes_eq name (codes "available") then Some (Query Available)
+    else (if bytes_eq name (codes "blocks") then Some (Query Blocks)
+    else (if bytes_eq name (codes "vblocks") then Some (Query Vblocks)
+    else (if bytes_eq name (codes "intersect") then Some (Search Intersect)
+    else (if bytes_eq name (codes "dset") then Some (Search Dset)
+    else (if bytes_eq name (codes "splits") then Some (Search Splits)
     else (if bytes_eq name (codes "check") then Some Check
-    else (if bytes_eq name (codes "export") then Some Export else None)))))))
+    else (if bytes_eq name (codes "export") then Some (Query Export) else None))))))))))
 
 -- the order of a command, if there is one
 abbrev pub order_if_any : Option Command → List Text → Result Ordered OrderFault

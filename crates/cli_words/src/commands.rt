@@ -1,10 +1,10 @@
-// What clap reads for each command, and the order that its matches give.
-ghost use Rattle.std.specs.Prelude.{◌≡◌, ◌≢◌, ◌⊎◌, true, false, map, IfOk, IfErr, codes, string_bytes, option_map};
+//! What clap reads for each command, and the order that its matches give.
+ghost use Rattle.std.specs.Prelude.{◌≡◌, ◌≢◌, ◌⊎◌, [], ◌∷◌, true, false, map, IfOk, IfErr, codes, string_bytes, option_map};
 ghost use Rattle.clap.specs.Words.{kind_of, app_of, rule_of, found_of, rows_of, matches_of, is_simple_and_free, first_of};
-ghost use Rattle.cli_words.specs.Words.{positional as positional_rule, needed as needed_rule, optional as optional_rule, app_for, with_rules, common_options, common_in, is_taken, text_of, order_in};
-ghost use Rattle.cli_words.specs.Order.{order_view, nothing_for};
+ghost use Rattle.cli_words.specs.Words.{positional as positional_rule, needed as needed_rule, optional as optional_rule, app_for, app_with, with_rules, common_options, is_taken, text_of, order_in};
+ghost use Rattle.cli_words.specs.Order.{order_view};
 
-use crate::orders::{Command, Order, OrderFault};
+use crate::orders::{Command, Goal, Order, OrderFault, Query};
 use clap::error::ErrorKind;
 use clap::{Arg, ArgMatches};
 use std::alloc::{AllocError, Global};
@@ -45,32 +45,35 @@ fn with_common<'a>(
     Ok(command)
 }
 
-// The arguments that the command takes.
+/// The arguments that the command takes.
 pub fn arguments_of<'a>(alloc: Global, command: Command) -> Result<clap::Command<'a>, AllocError>
     ensures { IfOk result (λ c. app_of c ≡ app_for command) }
 {
     match command {
-        Command::Show => show_arguments(alloc),
-        Command::Closure => closure_arguments(alloc),
-        Command::Greatest => greatest_arguments(alloc),
-        Command::Available => available_arguments(alloc),
-        Command::Blocks => blocks_arguments(alloc),
-        Command::Vblocks => vblocks_arguments(alloc),
+        Command::Query(Query::Show) => show_arguments(alloc),
+        Command::Query(Query::Closure) => closure_arguments(alloc),
+        Command::Query(Query::Greatest) => greatest_arguments(alloc),
+        Command::Query(Query::Available) => available_arguments(alloc),
+        Command::Query(Query::Blocks) => blocks_arguments(alloc),
+        Command::Query(Query::Vblocks) => vblocks_arguments(alloc),
+        Command::Query(Query::Export) => export_arguments(alloc),
+        Command::Search(Goal::Intersect) => intersect_arguments(alloc),
+        Command::Search(Goal::Dset) => dset_arguments(alloc),
+        Command::Search(Goal::Splits) => splits_arguments(alloc),
         Command::Check => check_arguments(alloc),
-        Command::Export => export_arguments(alloc),
     }
 }
 
 #[tactic(auto, unfolding(crate::specs::Words::app_for))]
 fn show_arguments<'a>(alloc: Global) -> Result<clap::Command<'a>, AllocError>
-    ensures { IfOk result (λ c. app_of c ≡ app_for Command.Show) }
+    ensures { IfOk result (λ c. app_of c ≡ app_for (Command.Query Query.Show)) }
 {
     clap::Command::new(alloc, "show").arg(positional(alloc, "config"))
 }
 
 #[tactic(auto, unfolding(crate::specs::Words::app_for))]
 fn closure_arguments<'a>(alloc: Global) -> Result<clap::Command<'a>, AllocError>
-    ensures { IfOk result (λ c. app_of c ≡ app_for Command.Closure) }
+    ensures { IfOk result (λ c. app_of c ≡ app_for (Command.Query Query.Closure)) }
 {
     clap::Command::new(alloc, "closure")
         .arg(positional(alloc, "config"))?
@@ -79,7 +82,7 @@ fn closure_arguments<'a>(alloc: Global) -> Result<clap::Command<'a>, AllocError>
 
 #[tactic(auto, unfolding(crate::specs::Words::app_for))]
 fn greatest_arguments<'a>(alloc: Global) -> Result<clap::Command<'a>, AllocError>
-    ensures { IfOk result (λ c. app_of c ≡ app_for Command.Greatest) }
+    ensures { IfOk result (λ c. app_of c ≡ app_for (Command.Query Query.Greatest)) }
 {
     let command = clap::Command::new(alloc, "greatest").arg(positional(alloc, "config"))?;
     with_common(alloc, command)
@@ -87,7 +90,7 @@ fn greatest_arguments<'a>(alloc: Global) -> Result<clap::Command<'a>, AllocError
 
 #[tactic(auto, unfolding(crate::specs::Words::app_for))]
 fn available_arguments<'a>(alloc: Global) -> Result<clap::Command<'a>, AllocError>
-    ensures { IfOk result (λ c. app_of c ≡ app_for Command.Available) }
+    ensures { IfOk result (λ c. app_of c ≡ app_for (Command.Query Query.Available)) }
 {
     clap::Command::new(alloc, "available")
         .arg(positional(alloc, "config"))?
@@ -97,7 +100,7 @@ fn available_arguments<'a>(alloc: Global) -> Result<clap::Command<'a>, AllocErro
 
 #[tactic(auto, unfolding(crate::specs::Words::app_for))]
 fn blocks_arguments<'a>(alloc: Global) -> Result<clap::Command<'a>, AllocError>
-    ensures { IfOk result (λ c. app_of c ≡ app_for Command.Blocks) }
+    ensures { IfOk result (λ c. app_of c ≡ app_for (Command.Query Query.Blocks)) }
 {
     let command = clap::Command::new(alloc, "blocks")
         .arg(positional(alloc, "config"))?
@@ -107,7 +110,7 @@ fn blocks_arguments<'a>(alloc: Global) -> Result<clap::Command<'a>, AllocError>
 
 #[tactic(auto, unfolding(crate::specs::Words::app_for))]
 fn vblocks_arguments<'a>(alloc: Global) -> Result<clap::Command<'a>, AllocError>
-    ensures { IfOk result (λ c. app_of c ≡ app_for Command.Vblocks) }
+    ensures { IfOk result (λ c. app_of c ≡ app_for (Command.Query Query.Vblocks)) }
 {
     clap::Command::new(alloc, "vblocks")
         .arg(positional(alloc, "config"))?
@@ -115,18 +118,51 @@ fn vblocks_arguments<'a>(alloc: Global) -> Result<clap::Command<'a>, AllocError>
         .arg(needed(alloc, "set"))
 }
 
-#[tactic(auto, unfolding(crate::specs::Words::app_for))]
-fn check_arguments<'a>(alloc: Global) -> Result<clap::Command<'a>, AllocError>
-    ensures { IfOk result (λ c. app_of c ≡ app_for Command.Check) }
+// A command that has the paths of a configuration and of a certificate.
+fn with_paths<'a>(alloc: Global, name: &'a str) -> Result<clap::Command<'a>, AllocError>
+    ensures { IfOk result (λ c. app_of c ≡ app_with name.now (positional_rule (codes "config") ∷ positional_rule (codes "cert") ∷ [])) }
 {
-    clap::Command::new(alloc, "check")
+    clap::Command::new(alloc, name)
         .arg(positional(alloc, "config"))?
         .arg(positional(alloc, "cert"))
 }
 
 #[tactic(auto, unfolding(crate::specs::Words::app_for))]
+fn intersect_arguments<'a>(alloc: Global) -> Result<clap::Command<'a>, AllocError>
+    ensures { IfOk result (λ c. app_of c ≡ app_for (Command.Search Goal.Intersect)) }
+{
+    let command = with_paths(alloc, "intersect")?;
+    with_common(alloc, command)?.arg(optional(alloc, "budget"))
+}
+
+#[tactic(auto, unfolding(crate::specs::Words::app_for))]
+fn dset_arguments<'a>(alloc: Global) -> Result<clap::Command<'a>, AllocError>
+    ensures { IfOk result (λ c. app_of c ≡ app_for (Command.Search Goal.Dset)) }
+{
+    with_paths(alloc, "dset")?
+        .arg(needed(alloc, "set"))?
+        .arg(optional(alloc, "from"))?
+        .arg(optional(alloc, "budget"))
+}
+
+#[tactic(auto, unfolding(crate::specs::Words::app_for))]
+fn splits_arguments<'a>(alloc: Global) -> Result<clap::Command<'a>, AllocError>
+    ensures { IfOk result (λ c. app_of c ≡ app_for (Command.Search Goal.Splits)) }
+{
+    let command = with_paths(alloc, "splits")?.arg(needed(alloc, "set"))?;
+    with_common(alloc, command)?.arg(optional(alloc, "budget"))
+}
+
+#[tactic(auto, unfolding(crate::specs::Words::app_for))]
+fn check_arguments<'a>(alloc: Global) -> Result<clap::Command<'a>, AllocError>
+    ensures { IfOk result (λ c. app_of c ≡ app_for Command.Check) }
+{
+    with_paths(alloc, "check")
+}
+
+#[tactic(auto, unfolding(crate::specs::Words::app_for))]
 fn export_arguments<'a>(alloc: Global) -> Result<clap::Command<'a>, AllocError>
-    ensures { IfOk result (λ c. app_of c ≡ app_for Command.Export) }
+    ensures { IfOk result (λ c. app_of c ≡ app_for (Command.Query Query.Export)) }
 {
     let command = clap::Command::new(alloc, "export").arg(positional(alloc, "config"))?;
     with_common(alloc, command)
@@ -163,7 +199,8 @@ fn fault(e: &clap::Error) -> OrderFault
     }
 }
 
-fn text_at<'a>(matches: &ArgMatches<'a>, id: &str) -> Option<&'a str>
+/// The first text of an argument.
+pub fn text_at<'a>(matches: &ArgMatches<'a>, id: &str) -> Option<&'a str>
     ensures { option_map (λ s. s.now) result ≡ first_of id.now (rows_of (found_of matches.now)) }
 {
     matches.get_str(id)
@@ -192,122 +229,26 @@ fn text_if_any(
     }
 }
 
-fn nothing(alloc: Global, command: Command) -> Order
-    ensures { order_view result ≡ nothing_for command }
-{
-    Order {
-        command,
-        config: String::new(alloc),
-        cert: String::new(alloc),
-        orgs: None,
-        node: None,
-        from: None,
-        faulty: None,
-        faulty_orgs: None,
-        set: None,
-    }
-}
-
-// The order that the command's matches give.
+/// The order that the command's matches give: an option that the command lacks is among no matches.
 pub fn order_from(
     alloc: Global,
     command: Command,
+    budget: u64,
     matches: &ArgMatches<'_>,
 ) -> Result<Order, AllocError>
-    ensures { IfOk result (λ o. order_view o ≡ order_in command (rows_of (found_of matches.now))) }
-{
-    match command {
-        Command::Show => show_order(alloc, matches),
-        Command::Closure => closure_order(alloc, matches),
-        Command::Greatest => common_order(alloc, Command::Greatest, matches),
-        Command::Available => available_order(alloc, matches),
-        Command::Blocks => blocks_order(alloc, matches),
-        Command::Vblocks => vblocks_order(alloc, matches),
-        Command::Check => check_order(alloc, matches),
-        Command::Export => common_order(alloc, Command::Export, matches),
-    }
-}
-
-fn show_order(alloc: Global, matches: &ArgMatches<'_>) -> Result<Order, AllocError>
-    ensures { IfOk result (λ o. order_view o
-        ≡ order_in Command.Show (rows_of (found_of matches.now))) }
+    ensures texts { IfOk result (λ o. order_view o ≡ order_in command budget (rows_of (found_of matches.now))) }
+    ensures budget { IfOk result (λ o. o.budget ≡ budget) }
 {
     Ok(Order {
+        command,
         config: text(alloc, matches, "config")?,
-        ..nothing(alloc, Command::Show)
-    })
-}
-
-fn closure_order(alloc: Global, matches: &ArgMatches<'_>) -> Result<Order, AllocError>
-    ensures { IfOk result (λ o. order_view o
-        ≡ order_in Command.Closure (rows_of (found_of matches.now))) }
-{
-    Ok(Order {
-        config: text(alloc, matches, "config")?,
-        node: text_if_any(alloc, matches, "node")?,
-        ..nothing(alloc, Command::Closure)
-    })
-}
-
-// The configuration and the options that ask about a part of the system and that name faulty nodes.
-fn common_order(
-    alloc: Global,
-    command: Command,
-    matches: &ArgMatches<'_>,
-) -> Result<Order, AllocError>
-    ensures { IfOk result (λ o. order_view o ≡ common_in command (rows_of (found_of matches.now))) }
-{
-    Ok(Order {
-        config: text(alloc, matches, "config")?,
+        cert: text(alloc, matches, "cert")?,
         orgs: text_if_any(alloc, matches, "orgs")?,
+        node: text_if_any(alloc, matches, "node")?,
         from: text_if_any(alloc, matches, "from")?,
         faulty: text_if_any(alloc, matches, "faulty")?,
         faulty_orgs: text_if_any(alloc, matches, "faulty-orgs")?,
-        ..nothing(alloc, command)
-    })
-}
-
-fn available_order(alloc: Global, matches: &ArgMatches<'_>) -> Result<Order, AllocError>
-    ensures { IfOk result (λ o. order_view o
-        ≡ order_in Command.Available (rows_of (found_of matches.now))) }
-{
-    Ok(Order {
-        config: text(alloc, matches, "config")?,
-        from: text_if_any(alloc, matches, "from")?,
         set: text_if_any(alloc, matches, "set")?,
-        ..nothing(alloc, Command::Available)
-    })
-}
-
-fn blocks_order(alloc: Global, matches: &ArgMatches<'_>) -> Result<Order, AllocError>
-    ensures { IfOk result (λ o. order_view o
-        ≡ order_in Command.Blocks (rows_of (found_of matches.now))) }
-{
-    Ok(Order {
-        set: text_if_any(alloc, matches, "set")?,
-        ..common_order(alloc, Command::Blocks, matches)?
-    })
-}
-
-fn vblocks_order(alloc: Global, matches: &ArgMatches<'_>) -> Result<Order, AllocError>
-    ensures { IfOk result (λ o. order_view o
-        ≡ order_in Command.Vblocks (rows_of (found_of matches.now))) }
-{
-    Ok(Order {
-        config: text(alloc, matches, "config")?,
-        node: text_if_any(alloc, matches, "node")?,
-        set: text_if_any(alloc, matches, "set")?,
-        ..nothing(alloc, Command::Vblocks)
-    })
-}
-
-fn check_order(alloc: Global, matches: &ArgMatches<'_>) -> Result<Order, AllocError>
-    ensures { IfOk result (λ o. order_view o
-        ≡ order_in Command.Check (rows_of (found_of matches.now))) }
-{
-    Ok(Order {
-        config: text(alloc, matches, "config")?,
-        cert: text(alloc, matches, "cert")?,
-        ..nothing(alloc, Command::Check)
+        budget,
     })
 }

@@ -1,15 +1,19 @@
-// The words of the command line, read to an order.
+//! The words of the command line, read to an order.
 #![tactic(auto)]
 
-ghost use Rattle.std.specs.Prelude.{◌≡◌, ◌⊎◌, map, Ok, Err, IfOk, IfErr, string_bytes, option_map};
+ghost use Rattle.std.specs.Prelude.{◌≡◌, ◌⊎◌, ◌≤◌, map, Ok, Err, IfOk, IfErr, string_bytes, option_map};
 ghost use Rattle.cli_words.specs.Words.{order_by, order_of, command_named as spec_command_named};
 ghost use Rattle.cli_words.specs.Order.{order_view, has_same_path as spec_has_same_path, has_certificate as spec_has_certificate, is_path as spec_is_path};
+ghost use Rattle.cli_words.specs.declared.budget.TheConstants.{MOST_BUDGET};
 
+mod budget;
 mod commands;
 mod orders;
 
-use commands::{arguments_of, matched, order_from};
-pub use orders::{Command, Order, OrderFault};
+use budget::budget_of;
+pub use budget::{MOST_BUDGET, USUAL_BUDGET};
+use commands::{arguments_of, matched, order_from, text_at};
+pub use orders::{Command, Goal, Order, OrderFault, Query};
 use std::alloc::Global;
 
 /// The order that the words give, or why they give none. The words begin with the program's name, and a
@@ -21,6 +25,7 @@ pub fn order(alloc: Global, words: &[String]) -> Result<Order, OrderFault>
     ensures ok { IfOk result (λ o. order_of (map string_bytes words.now) ≡ Ok (order_view o)) }
     ensures err { IfErr result (λ e. (e ≡ OrderFault.Memory)
         ⊎ (order_of (map string_bytes words.now) ≡ Err e)) }
+    ensures few { IfOk result (λ o. o.budget ≤ MOST_BUDGET) }
 {
     let [_, rest @ ..] = words else {
         return Err(OrderFault::Words);
@@ -34,32 +39,42 @@ pub fn order(alloc: Global, words: &[String]) -> Result<Order, OrderFault>
     }
 }
 
+#[tactic(auto, unfolding(crate::specs::Words::command_named))]
 fn command_named(name: &str) -> Option<Command>
     ensures { result ≡ spec_command_named name.now }
 {
     if name == "show" {
-        return Some(Command::Show);
+        return Some(Command::Query(Query::Show));
     }
     if name == "closure" {
-        return Some(Command::Closure);
+        return Some(Command::Query(Query::Closure));
     }
     if name == "greatest" {
-        return Some(Command::Greatest);
+        return Some(Command::Query(Query::Greatest));
     }
     if name == "available" {
-        return Some(Command::Available);
+        return Some(Command::Query(Query::Available));
     }
     if name == "blocks" {
-        return Some(Command::Blocks);
+        return Some(Command::Query(Query::Blocks));
     }
     if name == "vblocks" {
-        return Some(Command::Vblocks);
+        return Some(Command::Query(Query::Vblocks));
+    }
+    if name == "intersect" {
+        return Some(Command::Search(Goal::Intersect));
+    }
+    if name == "dset" {
+        return Some(Command::Search(Goal::Dset));
+    }
+    if name == "splits" {
+        return Some(Command::Search(Goal::Splits));
     }
     if name == "check" {
         return Some(Command::Check);
     }
     if name == "export" {
-        return Some(Command::Export);
+        return Some(Command::Query(Query::Export));
     }
     None
 }
@@ -70,10 +85,14 @@ fn command_order(alloc: Global, command: Command, words: &[String]) -> Result<Or
         ≡ Ok (order_view o)) }
     ensures err { IfErr result (λ e. (e ≡ OrderFault.Memory)
         ⊎ (order_by command (map string_bytes words.now) ≡ Err e)) }
+    ensures few { IfOk result (λ o. o.budget ≤ MOST_BUDGET) }
 {
     let arguments = arguments_of(alloc, command)?;
     let matches = matched(arguments, words)?;
-    let order = order_from(alloc, command, &matches)?;
+    let Some(budget) = budget_of(command, text_at(&matches, "budget")) else {
+        return Err(OrderFault::Words);
+    };
+    let order = order_from(alloc, command, budget, &matches)?;
     if has_same_path(&order) {
         return Err(OrderFault::SamePath);
     }
@@ -90,7 +109,7 @@ fn has_same_path(order: &Order) -> bool
 fn has_certificate(command: Command) -> bool
     ensures { result ≡ spec_has_certificate command }
 {
-    matches!(command, Command::Check)
+    matches!(command, Command::Search(_) | Command::Check)
 }
 
 fn is_path(given: &Option<String>, path: &String) -> bool
@@ -120,10 +139,18 @@ mod tests {
     #[test]
     fn takes_each_command(rt: HostRuntime) {
         for (line, command, config, cert, node, faulty, set) in [
-            ("show f", Command::Show, "f", "", None, None, None),
+            (
+                "show f",
+                Command::Query(Query::Show),
+                "f",
+                "",
+                None,
+                None,
+                None,
+            ),
             (
                 "closure f --node v",
-                Command::Closure,
+                Command::Query(Query::Closure),
                 "f",
                 "",
                 Some("v"),
@@ -132,7 +159,7 @@ mod tests {
             ),
             (
                 "greatest f --faulty a,b",
-                Command::Greatest,
+                Command::Query(Query::Greatest),
                 "f",
                 "",
                 None,
@@ -141,7 +168,7 @@ mod tests {
             ),
             (
                 "available f --set a",
-                Command::Available,
+                Command::Query(Query::Available),
                 "f",
                 "",
                 None,
@@ -150,7 +177,7 @@ mod tests {
             ),
             (
                 "blocks f --set=",
-                Command::Blocks,
+                Command::Query(Query::Blocks),
                 "f",
                 "",
                 None,
@@ -159,7 +186,7 @@ mod tests {
             ),
             (
                 "blocks --set=-x --faulty b f",
-                Command::Blocks,
+                Command::Query(Query::Blocks),
                 "f",
                 "",
                 None,
@@ -168,7 +195,7 @@ mod tests {
             ),
             (
                 "vblocks f --node v --set a",
-                Command::Vblocks,
+                Command::Query(Query::Vblocks),
                 "f",
                 "",
                 Some("v"),
@@ -178,7 +205,7 @@ mod tests {
             ("check f c", Command::Check, "f", "c", None, None, None),
             (
                 "export f --faulty a",
-                Command::Export,
+                Command::Query(Query::Export),
                 "f",
                 "",
                 None,
@@ -235,7 +262,7 @@ mod tests {
             ("available f --set a --faulty b", OrderFault::Words),
             ("closure f", OrderFault::Words),
             ("check f c --from a", OrderFault::Words),
-            ("intersect f c", OrderFault::Words),
+            ("interse f c", OrderFault::Words),
         ] {
             let words = words_of(rt.alloc(), line).expect(&rt, "words");
             assert_eq!(rt;

@@ -1,14 +1,15 @@
+//! Orders, and why words give none.
 ghost use Rattle.std.specs.Prelude.{◌≡◌};
 ghost use Rattle.cli_words.specs.declared.orders.OrderFault.TheVariants.{Memory};
 
 use std::alloc::AllocError;
 use thiserror::Error;
 
-/// What the program is to do, by the command's name and arguments.
+/// A question about a system that is answered at once.
 ///
 /// `COMMON` stands for `--from NAME --faulty NAMES --orgs ORGS --faulty-orgs IDS`, each of which may be left out.
 #[derive(Clone, Copy, Debug, PartialEq, Eq)]
-pub enum Command {
+pub enum Query {
     /// `show CONFIG`
     Show,
     /// `closure CONFIG --node NAME`
@@ -21,10 +22,30 @@ pub enum Command {
     Blocks,
     /// `vblocks CONFIG --node NAME --set NAMES`
     Vblocks,
-    /// `check CONFIG CERT`
-    Check,
     /// `export CONFIG [COMMON]`
     Export,
+}
+
+/// What a search finds out, within a budget. The evidence for the answer is written to a certificate.
+#[derive(Clone, Copy, Debug, PartialEq, Eq)]
+pub enum Goal {
+    /// `intersect CONFIG CERT [COMMON] [--budget UNITS]`
+    Intersect,
+    /// `dset CONFIG CERT --set NAMES [--from NAME] [--budget UNITS]`
+    Dset,
+    /// `splits CONFIG CERT --set NAMES [COMMON] [--budget UNITS]`
+    Splits,
+}
+
+/// What the program is to do, by the command's name and arguments.
+#[derive(Clone, Copy, Debug, PartialEq, Eq)]
+pub enum Command {
+    /// A question is answered at once.
+    Query(Query),
+    /// A question is searched.
+    Search(Goal),
+    /// `check CONFIG CERT`
+    Check,
 }
 
 /// Why the words give no order.
@@ -62,6 +83,8 @@ pub struct Order {
     pub faulty_orgs: Option<String>,
     /// The list of names that `--set` gives.
     pub set: Option<String>,
+    /// How many units a search may take, 0 where the command does not search.
+    pub budget: u64,
 }
 
 impl From<AllocError> for OrderFault {

@@ -1,4 +1,4 @@
-// How often a desk has failed.
+//! How often a desk has failed.
 ghost use Rattle.std.specs.Prelude.{◌≡◌, ◌≤◌, ◌+◌, ◌-◌, ◌^◌, min};
 
 use crate::desk::{ReadFailed, WriteFailed};

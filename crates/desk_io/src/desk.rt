@@ -1,4 +1,4 @@
-// A desk: the files that the program reads and what it writes.
+//! A desk: the files that the program reads and what it writes.
 ghost use Rattle.std.specs.Prelude.{◌≡◌, ◌<◌, ◌≤◌, Bool, IsTrue, [], length, take, Contains, IsSome, IfOk, OnOk, OnErr, None};
 ghost use Rattle.desk_io.specs.State.{DeskState, left_of, with_left, Begins, Takes, with_certificate, written, CanCreate, CannotPut};
 ghost use Rattle.desk_io.specs.Faults.{Faults, ReadCause, WriteCause};

@@ -1,5 +1,7 @@
-// The machine's files and standard output.
-ghost use Rattle.std.specs.Prelude.{◌≡◌, ◌<◌, ◌≤◌, IfOk, IfSome, IsNone, Some, length};
+//! The machine's files and standard output.
+ghost use Rattle.std.specs.Prelude.{◌≡◌, ◌<◌, ◌≤◌, true, IfOk, IfSome, IsNone, Some, length, take};
+ghost use Rattle.std.specs.Io.KnownBytes.{Appends, Consumes, IsAtEnd, Keeps};
+ghost use Rattle.std.specs.Fs.{new_options};
 
 use crate::counts::FaultCounts;
 use crate::desk::{Desk, ReadFailed, To, Which, WriteFailed};
@@ -24,6 +26,8 @@ pub struct RealDesk<'a, R: Files> {
     faults: FaultCounts,
 }
 
+// The machine's own contract of opening says nothing, so neither does this: a test tells that an interruption is tried again
+// and that another error is a failure.
 fn open_with<R: Files>(rt: &R, options: &OpenOptions, name: &str) -> Option<R::File> {
     for _ in 0..TRIES {
         match options.open(rt, name) {
@@ -35,8 +39,31 @@ fn open_with<R: Files>(rt: &R, options: &OpenOptions, name: &str) -> Option<R::F
     None
 }
 
-fn read_some(file: &mut impl Read, buf: &mut [u8]) -> Option<usize>
-    ensures { IfSome result (λ count. count ≤ length buf.new) }
+// The options of a file that is read.
+fn reading() -> OpenOptions
+    ensures { result ≡ record new_options { read = true } }
+{
+    let mut options = OpenOptions::new();
+    options.read(true);
+    options
+}
+
+// The options of a file that is made, or made empty, and written.
+fn writing() -> OpenOptions
+    ensures { result ≡ record new_options { write = true; create = true; truncate = true } }
+{
+    let mut options = OpenOptions::new();
+    options.write(true).create(true).truncate(true);
+    options
+}
+
+/// `None` where it fails. Where the bytes of the file are known, they are given, and none only at the end; after a failure they
+/// are all still there.
+fn read_some<F: Read>(file: &mut F, buf: &mut [u8]) -> Option<usize>
+    ensures bound { IfSome result (λ count. count ≤ length buf.new) }
+    ensures given { IfSome result (λ count. Consumes (F.remaining file.old) (F.remaining file.new) (take count buf.new)) }
+    ensures ended { IfSome result (λ count. count ≡ 0 → 0 < length buf.new → IsAtEnd (F.remaining file.new)) }
+    ensures kept { IsNone result → Keeps (F.remaining file.old) (F.remaining file.new) }
 {
     for _ in 0..TRIES {
         match file.read(buf) {
@@ -59,10 +86,13 @@ fn read_begun<F: Read>(begun: &mut Option<F>, buf: &mut [u8]) -> Option<usize>
     }
 }
 
-/// `None` where it fails, or where none of some bytes is taken.
-fn write_some(file: &mut impl Write, bytes: &[u8]) -> Option<usize>
+/// `None` where it fails, or where none of some bytes is taken. Where the bytes that the file holds are known, those that are
+/// taken are behind them, and after a failure none.
+fn write_some<F: Write>(file: &mut F, bytes: &[u8]) -> Option<usize>
     ensures bound { IfSome result (λ count. count ≤ length bytes.now) }
     ensures some { IfSome result (λ count. 0 < length bytes.now → 0 < count) }
+    ensures taken { IfSome result (λ count. Appends (F.contents file.old) (F.contents file.new) (take count bytes.now)) }
+    ensures kept { IsNone result → Keeps (F.contents file.old) (F.contents file.new) }
 {
     for _ in 0..TRIES {
         match file.write(bytes) {
@@ -114,7 +144,7 @@ impl<'a, R: Files + Print> RealDesk<'a, R> {
         ensures created { created_of self.new ≡ created_of self.old }
         ensures faults { faults_of self.new ≡ faults_of self.old }
     {
-        let opened = open_with(self.rt, OpenOptions::new().read(true), name);
+        let opened = open_with(self.rt, &reading(), name);
         let begun = opened.is_some();
         match which {
             Which::Config => self.config = opened,
@@ -181,9 +211,7 @@ impl<R: Files + Print> Desk for RealDesk<'_, R> {
         ensures begun { (which : Which) → begun_of which self.new ≡ begun_of which self.old }
         ensures cause { WriteCause (faults_of self.old) (faults_of self.new) result }
     {
-        let mut options = OpenOptions::new();
-        options.write(true).create(true).truncate(true);
-        match open_with(self.rt, &options, name) {
+        match open_with(self.rt, &writing(), name) {
             Some(file) => {
                 self.created = Some(file);
                 Ok(())
@@ -215,29 +243,29 @@ mod tests {
     use super::*;
     use std::io;
 
-    /// Says that it's interrupted as often as this, and then moves a byte.
+    /// Fails with this kind of error as often as this, and then moves a byte.
     #[derive(Drop)]
-    struct Interrupted(u32);
+    struct Failing(ErrorKind, u32);
 
-    impl Interrupted {
+    impl Failing {
         fn turn(&mut self) -> io::Result<usize>
             ensures { IfOk result (λ count. count ≡ 1) }
         {
-            if self.0 == 0 {
+            if self.1 == 0 {
                 return Ok(1);
             }
-            self.0 -= 1;
-            Err(io::Error::from(ErrorKind::Interrupted))
+            self.1 -= 1;
+            Err(io::Error::from(self.0))
         }
     }
 
-    impl Read for Interrupted {
+    impl Read for Failing {
         fn read(&mut self, buf: &mut [u8]) -> io::Result<usize> {
             Ok(self.turn()?.min(buf.len()))
         }
     }
 
-    impl Write for Interrupted {
+    impl Write for Failing {
         fn write(&mut self, bytes: &[u8]) -> io::Result<usize> {
             Ok(self.turn()?.min(bytes.len()))
         }
@@ -248,10 +276,16 @@ mod tests {
     }
 
     #[test]
-    fn the_thousandth_interruption_fails(rt: HostRuntime) {
-        for (times, moved) in [(0, Some(1)), (999, Some(1)), (1_000, None)] {
-            assert_eq!(rt; read_some(&mut Interrupted(times), &mut [0; 4]), moved);
-            assert_eq!(rt; write_some(&mut Interrupted(times), b"text"), moved);
+    fn the_thousandth_interruption_fails_and_any_other_error_at_once(rt: HostRuntime) {
+        for (kind, times, moved) in [
+            (ErrorKind::Interrupted, 0, Some(1)),
+            (ErrorKind::Interrupted, 999, Some(1)),
+            (ErrorKind::Interrupted, 1_000, None),
+            (ErrorKind::StorageFull, 1, None),
+            (ErrorKind::UnexpectedEof, 1, None),
+        ] {
+            assert_eq!(rt; read_some(&mut Failing(kind, times), &mut [0; 4]), moved);
+            assert_eq!(rt; write_some(&mut Failing(kind, times), b"text"), moved);
         }
     }
 }

@@ -1,4 +1,4 @@
-// What no clause says: that calls succeed where memory is ample, and what the machine's files do.
+//! What no clause says: that calls succeed where memory is ample, and what the machine's files do.
 ghost use Rattle.std.specs.Prelude.{◌<◌};
 
 use crate::{Call, Desk, MemDesk, ReadError, RealDesk, To, Which, put_all, read_all};

@@ -1,7 +1,8 @@
-// Whole files and whole texts, over the pieces that a desk gives and takes.
-ghost use Rattle.std.specs.Prelude.{◌≡◌, ◌<◌, ◌≤◌, ℕ, IsTrue, [], length, take, IfOk, OnOk, OnErr, IsErr, IsErrOf};
+//! Whole files and whole texts, over the pieces that a desk gives and takes.
+ghost use Rattle.std.specs.Prelude.{◌≡◌, ◌+◌, ◌<◌, ◌≤◌, ℕ, IsTrue, [], length, take, IfOk, OnOk, OnErr, IsErr, IsErrOf};
 ghost use Rattle.desk_io.specs.State.{left_of, with_left, written, CannotPut};
 ghost use Rattle.desk_io.specs.Faults.{ReadFails, WriteFails};
+ghost use Rattle.desk_io.specs.declared.whole.TheConstants.{PIECE};
 
 use crate::{Desk, To, Which, WriteFailed};
 use std::alloc::Global;
@@ -24,10 +25,18 @@ pub enum ReadError {
 /// Bytes that are asked of the desk at once.
 const PIECE: usize = 16_384;
 
+// How many bytes are asked for where so many may still come: one more, at most a piece.
+fn asked(left: u64) -> usize
+    ensures some { 0 < result }
+    ensures piece { result ≤ PIECE }
+    ensures one_more { result ≤ left + 1 }
+{
+    left.saturating_add(1).min(PIECE as u64) as usize
+}
+
 /// Reads all that is left, to the end of input, where it is at most `limit` bytes.
 ///
-/// `Longer` comes exactly where byte number `limit + 1` came, and nothing is read after it but the rest of its
-/// piece. `Failed` comes exactly where a call of the desk failed. After an `Err` only what is left there has changed.
+/// `Longer` comes exactly where byte number `limit + 1` came, and nothing is read after it. `Failed` comes exactly where a call of the desk failed. After an `Err` only what is left there has changed.
 /// O(bytes read), in pieces of at most 16,384 bytes, and at most `limit + 1` calls of `next`.
 pub fn read_all<D: Desk>(
     alloc: Global,
@@ -43,6 +52,9 @@ pub fn read_all<D: Desk>(
         limit < length (left_of which (D.state desk.old)) }
     ensures rest { IsTrue D.tells →
         D.state desk.new ≡ with_left which (left_of which (D.state desk.new)) (D.state desk.old) }
+    // At most one byte more than the limit is taken.
+    ensures taken { IsTrue D.tells →
+        length (left_of which (D.state desk.old)) ≤ length (left_of which (D.state desk.new)) + (limit + 1) }
     ensures plain { IsErrOf result ReadError.Failed → IsTrue D.tells →
         IsTrue (D.state desk.old).plain → ⊥ }
     ensures faults { ReadFails (D.faults desk.old) (D.faults desk.new)
@@ -51,9 +63,9 @@ pub fn read_all<D: Desk>(
     let mut bytes = Vec::new(alloc);
     let mut buffer = [0u8; PIECE];
     loop {
-        let count = desk
-            .next(which, &mut buffer)
-            .map_err(|_| ReadError::Failed)?;
+        let room = asked(limit - bytes.len() as u64);
+        let piece = &mut buffer[..room];
+        let count = desk.next(which, piece).map_err(|_| ReadError::Failed)?;
         if count == 0 {
             return Ok(bytes);
         }
@@ -61,7 +73,7 @@ pub fn read_all<D: Desk>(
             return Err(ReadError::Longer);
         }
         bytes
-            .extend_from_slice(&buffer[..count])
+            .extend_from_slice(&piece[..count])
             .map_err(|_| ReadError::Memory)?;
     }
 }

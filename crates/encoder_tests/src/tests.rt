@@ -1,15 +1,14 @@
 // The systems are written as configurations, and the formulas as DIMACS text.
 
 ghost use Rattle.std.specs.Prelude.{◌≡◌, length, IfOk};
-ghost use Rattle.fbas_model.specs.Nodes.{members};
-ghost use Rattle.fbas_model.specs.Fbas.{IsGreatestQuorum, all_nodes};
 
+use cdcl_core::{Budget, Solver, Verdict};
 use clause_encoder::{encode, write_dimacs};
 use clause_store::Store;
 use fbas_core::System;
-use greatest_quorum::shrink;
+use greatest_quorum::greatest;
 use lrat_model::Lit;
-use name_set::{NodeSet, read_names};
+use name_set::read_names;
 use node_json::read_config;
 use std::alloc::{AllocError, Global};
 use std::test::Fail;
@@ -23,23 +22,11 @@ const TWO_OF_THREE: &str =
 const INNER_SET: &str =
     r#"[{"publicKey":"x","quorumSet":{"threshold":2,"validators":["x"],"innerQuorumSets":[{"threshold":1,"validators":["x","y"]}]}},{"publicKey":"y","quorumSet":{"threshold":1,"validators":["x","y"]}}]"#;
 
-/// The greatest quorum after deletion of some nodes.
-fn greatest_of(alloc: Global, system: &System, faulty: &NodeSet) -> Result<NodeSet, AllocError>
-    requires { length faulty.now ≡ length system.now.sets }
-    ensures same_n { IfOk result (λ g. length g ≡ length system.now.sets) }
-    ensures greatest { IfOk result (λ g. IsGreatestQuorum system.now.sets (members faulty.now) (all_nodes system.now.sets) (members g)) }
-{
-    let mut greatest = NodeSet::new(alloc, system.len())?;
-    greatest.fill();
-    shrink(system, &mut greatest, faulty);
-    Ok(greatest)
-}
-
 /// The DIMACS text of a configuration's formula after deletion of some nodes.
 fn text(alloc: Global, config: &str, faulty: &str) -> Result<Vec<u8>, Fail> {
     let system = read_config(alloc, config.as_bytes())?;
-    let faulty = read_names(alloc, faulty.as_bytes(), system.names())?;
-    let greatest = greatest_of(alloc, &system, &faulty)?;
+    let faulty = read_names(faulty.as_bytes(), system.names())?;
+    let greatest = greatest(&system, &faulty);
     let (store, map) = encode(alloc, &system, &faulty, &greatest)?;
     Ok(write_dimacs(alloc, &store, &map, &system)?)
 }
@@ -110,8 +97,8 @@ fn system(alloc: Global, config: &str) -> Result<System, Fail> {
 fn an_assignment_tells_two_quorums(rt: HostRuntime) -> Result<(), Fail> {
     let alloc = rt.alloc();
     let system = system(alloc, TWO_OF_THREE)?;
-    let faulty = read_names(alloc, b"a", system.names())?;
-    let greatest = greatest_of(alloc, &system, &faulty)?;
+    let faulty = read_names(b"a", system.names())?;
+    let greatest = greatest(&system, &faulty);
     let (store, map) = encode(alloc, &system, &faulty, &greatest)?;
     // b alone on side a, c alone on side b
     let values = [true, false, false, true, true, false, false, true];
@@ -119,9 +106,40 @@ fn an_assignment_tells_two_quorums(rt: HostRuntime) -> Result<(), Fail> {
     if map.vars() != 8 {
         return Err("it has 8 variables".into());
     }
-    let (first, second) = map.pair(alloc, &values)?;
+    let (first, second) = map.pair(&values);
     assert_eq!(rt; (first.least(), first.count()), (Some(1), 1));
     assert_eq!(rt; (second.least(), second.count()), (Some(2), 1));
     assert!(rt; system.is_quorum(&first, &faulty) && system.is_quorum(&second, &faulty));
+    Ok(())
+}
+
+/// The values that the solver gives to the variables.
+fn values_of(alloc: Global, solver: &Solver, vars: u64) -> Result<Vec<bool>, AllocError>
+    requires { vars ≡ solver.now.vars }
+    ensures { IfOk result (λ values. length values.items ≡ vars) }
+{
+    let mut values = Vec::new(alloc);
+    for before in 0..vars {
+        values.push(solver.model(before + 1))?;
+    }
+    Ok(values)
+}
+
+#[test]
+fn the_solvers_own_assignment_tells_two_quorums(rt: HostRuntime) -> Result<(), Fail> {
+    let alloc = rt.alloc();
+    let system = system(alloc, TWO_OF_THREE)?;
+    let faulty = read_names(b"a", system.names())?;
+    let greatest = greatest(&system, &faulty);
+    let (store, map) = encode(alloc, &system, &faulty, &greatest)?;
+    let mut solver = Solver::start(alloc, &store, map.vars())?;
+    let mut budget = Budget::of(6561);
+    assert_eq!(rt; solver.solve(&mut budget)?, Verdict::Sat);
+    let values = values_of(alloc, &solver, map.vars())?;
+    let (first, second) = map.pair(&values);
+    // b alone on one side, c alone on the other
+    assert_eq!(rt; (first.count(), second.count()), (1, 1));
+    let pair = (first.least(), second.least());
+    assert!(rt; pair == (Some(1), Some(2)) || pair == (Some(2), Some(1)));
     Ok(())
 }

@@ -1,2 +1,1 @@
-pub mod Reaching
 pub mod Ranks

@@ -1,9 +1,10 @@
-// A system: the nodes' names and quorum sets, with its slices and quorums.
+//! A system: the nodes' names and quorum sets, with its slices and quorums.
 #![tactic(auto)]
 
 ghost use Rattle.std.specs.Prelude.{◌≡◌, ℕ, ◌<◌, ◌≤◌, ◌↔◌, length, map, IsTrue, IfSome, MatchOption, Contains, slice_get, option_copied, Some, count_by, is_none};
 ghost use Rattle.fbas_model.specs.Nodes.{members, ∅, ◌∖◌};
-ghost use Rattle.fbas_model.specs.Names.{place_of};
+ghost use Rattle.std.specs.List.Sorted.{IsStrictlySortedBy};
+ghost use Rattle.fbas_model.specs.Names.{name_cmp, place_of};
 ghost use Rattle.fbas_model.specs.QuorumSets.{all_entries, IsBelow};
 ghost use Rattle.fbas_model.specs.Systems.{System as Whole, IsSystem, entries_in, unset_in};
 ghost use Rattle.fbas_model.specs.Fbas.{HasSliceWithin, Quorum, BlocksNode, all_nodes};
@@ -11,6 +12,7 @@ ghost use Rattle.fbas_model.specs.Fbas.{HasSliceWithin, Quorum, BlocksNode, all_
 mod restriction;
 mod trust;
 
+use fbas_model::{MOST_ENTRIES, MOST_NODES};
 use name_set::{Names, NodeSet};
 use quorum_set::QuorumSet;
 use std::marker::Model;
@@ -58,9 +60,11 @@ impl System {
     pub fn len(&self) -> u32
         ensures names { result ≡ length self.now.names }
         ensures sets { result ≡ length self.now.sets }
-        ensures few { result ≤ 4096 }
+        ensures few { result ≤ MOST_NODES }
         ensures system { IsSystem self.now.names self.now.sets }
+        ensures sorted { IsStrictlySortedBy name_cmp self.now.names }
     {
+        self.names.rise();
         self.names.len()
     }
 
@@ -68,6 +72,7 @@ impl System {
     pub fn names(&self) -> &Names
         ensures names { result.now ≡ self.now.names }
         ensures places { length self.now.names ≡ length self.now.sets }
+        ensures few { length self.now.names ≤ MOST_NODES }
     {
         &self.names
     }
@@ -87,7 +92,7 @@ impl System {
     pub fn quorum_set(&self, v: u32) -> Option<&QuorumSet>
         requires { v < length self.now.sets }
         ensures set { slice_get self.now.sets v ≡ Some (option_copied result) }
-        ensures small { IfSome result (λ q. all_entries q.now ≤ 1000000) }
+        ensures small { IfSome result (λ q. all_entries q.now ≤ MOST_ENTRIES) }
         ensures below { IfSome result (λ q. IsBelow (length self.now.sets) q.now) }
     {
         match &self.sets[v as usize] {
@@ -151,10 +156,14 @@ impl System {
         if u.is_empty() || u.meets(faulty) {
             return false;
         }
-        for v in 0..self.names.len() {
-            if u.has(v) && !self.slice_in(v, u, faulty) {
+        // A proof sees the limit on nodes once a field is used.
+        let _ = &self.names;
+        let mut from = 0;
+        while let Some(v) = u.least_from(from) {
+            if !self.slice_in(v, u, faulty) {
                 return false;
             }
+            from = v + 1;
         }
         true
     }

@@ -1,4 +1,4 @@
-// A system that is restricted to a closed set of its nodes.
+//! A system that is restricted to a closed set of its nodes.
 
 ghost use Rattle.std.specs.Prelude.{◌≡◌, ◌<◌, ◌↔◌, length, map, take, All, IfOk, slice_index, option_map};
 ghost use Rattle.fbas_model.specs.Nodes.{Nodes, Table, members, size, ◌⊆◌};
@@ -106,15 +106,17 @@ impl System {
     }
 
     /// The members of the set that are kept, by the numbers that they have in the system restricted to the kept nodes: O(n).
-    pub fn cut(&self, alloc: Global, set: &NodeSet, kept: &NodeSet) -> Result<NodeSet, AllocError>
+    /// Takes no memory.
+    pub fn cut(&self, set: &NodeSet, kept: &NodeSet) -> NodeSet
         requires same_n { length set.now ≡ length self.now.sets }
         requires same_kept { length kept.now ≡ length self.now.sets }
-        ensures part { IfOk result (λ part. part ≡ kept_of kept.now set.now) }
-        ensures size { IfOk result (λ part. length part ≡ size kept.now) }
+        ensures part { result ≡ kept_of kept.now set.now }
+        ensures size { length result ≡ size kept.now }
     {
-        let mut part = NodeSet::new(alloc, kept.count())?;
+        let n = self.len();
+        let mut part = NodeSet::new(kept.count());
         let mut rank = 0;
-        for v in 0..self.len() {
+        for v in 0..n {
             if kept.has(v) {
                 if set.has(v) {
                     part.put(rank);
@@ -122,6 +124,6 @@ impl System {
                 rank += 1;
             }
         }
-        Ok(part)
+        part
     }
 }

@@ -11,3 +11,5 @@ pub mod Kept
 pub mod Renumbered
 pub mod RestrictionLaw
 pub mod Closure
+pub mod Listed
+pub mod WholeLaw

@@ -31,6 +31,16 @@ with_mentioned f t = table_from 0 (length f) (members t ∪ mentioned_from t f)
 unfoldable pub closure_of : Fbas → ℕ → Table
 closure_of f v = iterate (with_mentioned f) (length f) (table_from 0 (length f) (only v))
 
+-- ---- sets of nodes of a system
+
+-- the nodes of both tables, which are as long as the first
+abbrev pub union : Table → Table → Table
+union s t = table_from 0 (length s) (members s ∪ members t)
+
+-- all nodes of the system
+abbrev pub everyone : Fbas → Table
+everyone sets = map (λ _. true) sets
+
 -- ---- the restriction
 
 -- the items at the marked places

@@ -1,8 +1,8 @@
-// Plain, slow programs beside the definitions: each tries everything and counts nothing, and its contract is a definition.
-// Tests on worked examples show by them that the definitions say what was meant.
+//! Plain, slow programs beside the definitions: each tries everything and counts nothing, and its contract is a definition.
+//! Tests on worked examples show by them that the definitions say what was meant.
 #![tactic(auto)]
 
-ghost use Rattle.std.specs.Prelude.{◌≡◌, ℕ, ◌<◌, ◌≤◌, ◌↔◌, length, IsTrue, IfOk};
+ghost use Rattle.std.specs.Prelude.{◌≡◌, ℕ, ◌<◌, ◌≤◌, ◌↔◌, length, IsTrue};
 ghost use Rattle.fbas_model.specs.Nodes.{Nodes, members, ◌∪◌, Meets};
 ghost use Rattle.fbas_model.specs.QuorumSets.{HasChoiceWithin, IsBelow, AreBelow};
 ghost use Rattle.fbas_model.specs.Fbas.{HasSliceWithin, Quorum, MeetsQuorums, Intersects, Available};
@@ -11,7 +11,6 @@ ghost use Rattle.fbas_plain.specs.Plain.{HasPickWithin, IsWellFormed, AgreeBelow
 
 use name_set::NodeSet;
 use quorum_set::QuorumSet;
-use std::alloc::{AllocError, Global};
 
 /// Whether the node is in the one set or in the other.
 fn in_either(node: u32, u: &NodeSet, faulty: &NodeSet) -> bool
@@ -149,19 +148,14 @@ fn meets_each_from(
 }
 
 /// Whether `s` meets every quorum once the faulty nodes are deleted. Every set of nodes is tried: O(2^n) tests of a quorum.
-pub fn meets_quorums(
-    alloc: Global,
-    sets: &[Option<QuorumSet>],
-    s: &NodeSet,
-    faulty: &NodeSet,
-) -> Result<bool, AllocError>
+pub fn meets_quorums(sets: &[Option<QuorumSet>], s: &NodeSet, faulty: &NodeSet) -> bool
     requires formed { IsWellFormed sets.now }
     requires same_n { length s.now ≡ length sets.now }
     requires same_faulty { length faulty.now ≡ length sets.now }
-    ensures { IfOk result (λ b. IsTrue b ↔ MeetsQuorums sets.now (members faulty.now) (members s.now)) }
+    ensures { IsTrue result ↔ MeetsQuorums sets.now (members faulty.now) (members s.now) }
 {
-    let mut u = NodeSet::new(alloc, sets.len() as u32)?;
-    Ok(meets_each_from(sets, s, faulty, 0, &mut u))
+    let mut u = s.copy();
+    meets_each_from(sets, s, faulty, 0, &mut u)
 }
 
 /// Whether `first`, if it is a quorum, meets every quorum. `second` is overwritten.
@@ -213,31 +207,28 @@ fn all_meet_from(
 
 /// Whether every two quorums share a node once the faulty nodes are deleted. Every pair of sets of nodes is tried: O(4^n)
 /// tests of a quorum.
-pub fn intersects(
-    alloc: Global,
-    sets: &[Option<QuorumSet>],
-    faulty: &NodeSet,
-) -> Result<bool, AllocError>
+pub fn intersects(sets: &[Option<QuorumSet>], faulty: &NodeSet) -> bool
     requires formed { IsWellFormed sets.now }
     requires same_faulty { length faulty.now ≡ length sets.now }
-    ensures { IfOk result (λ b. IsTrue b ↔ Intersects sets.now (members faulty.now)) }
+    ensures { IsTrue result ↔ Intersects sets.now (members faulty.now) }
 {
-    let mut first = NodeSet::new(alloc, sets.len() as u32)?;
-    let mut second = NodeSet::new(alloc, sets.len() as u32)?;
-    Ok(all_meet_from(sets, faulty, 0, &mut first, &mut second))
+    let mut first = faulty.copy();
+    let mut second = faulty.copy();
+    all_meet_from(sets, faulty, 0, &mut first, &mut second)
 }
 
 /// Whether no node is outside `b`, or the nodes outside `b` are a quorum of the whole system. Costs what `is_quorum` does.
-pub fn available(alloc: Global, sets: &[Option<QuorumSet>], b: &NodeSet) -> Result<bool, AllocError>
+pub fn available(sets: &[Option<QuorumSet>], b: &NodeSet) -> bool
     requires formed { IsWellFormed sets.now }
     requires same_n { length b.now ≡ length sets.now }
-    ensures { IfOk result (λ yes. IsTrue yes ↔ Available sets.now (members b.now)) }
+    ensures { IsTrue result ↔ Available sets.now (members b.now) }
 {
-    let none = NodeSet::new(alloc, sets.len() as u32)?;
-    let mut rest = NodeSet::new(alloc, sets.len() as u32)?;
+    let mut none = b.copy();
+    none.clear();
+    let mut rest = none.copy();
     rest.fill();
     rest.minus(b);
-    Ok(rest.is_empty() || is_quorum(sets, &rest, &none))
+    rest.is_empty() || is_quorum(sets, &rest, &none)
 }
 
 #[cfg(test)]

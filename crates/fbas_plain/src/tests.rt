@@ -1,4 +1,4 @@
-// Worked examples, with the values that Mazières' definitions give by hand.
+//! Worked examples, with the values that Mazières' definitions give by hand.
 
 ghost use Rattle.std.specs.Prelude.{◌≡◌, ◌<◌, ◌≤◌, ◌↔◌, length, All, IfOk, IfSome, IsTrue};
 ghost use Rattle.fbas_model.specs.Names.{is_key};
@@ -100,17 +100,17 @@ struct Example<'a> {
     rest_is_quorum: bool,
 }
 
-fn node_set(alloc: Global, n: u32, nodes: u32) -> Result<NodeSet, AllocError>
+fn node_set(n: u32, nodes: u32) -> NodeSet
     requires { n ≤ 4 }
-    ensures { IfOk result (λ set. length set ≡ n) }
+    ensures { length result ≡ n }
 {
-    let mut set = NodeSet::new(alloc, n)?;
+    let mut set = NodeSet::new(n);
     for v in 0..n {
         if (nodes >> v) & 1 == 1 {
             set.put(v);
         }
     }
-    Ok(set)
+    set
 }
 
 fn are_below(nodes: &[u32], n: u32) -> bool
@@ -202,7 +202,7 @@ fn choices_take_entries_at_different_places(rt: HostRuntime) -> Result<(), Fail>
         (ONE_OF_NO_CHOICE, A | B, false),
     ] {
         let set = quorum_set(&rt, alloc, 4, choices)?;
-        let u = node_set(alloc, 4, u)?;
+        let u = node_set(4, u);
         assert_eq!(rt; has_choice_within(&set, &u), met);
         assert_eq!(rt; set.satisfied(&u), met);
     }
@@ -210,28 +210,23 @@ fn choices_take_entries_at_different_places(rt: HostRuntime) -> Result<(), Fail>
 }
 
 /// Whether the quorums are those that are listed, and each set of nodes meets all of them where it should.
-fn is_as_listed(
-    alloc: Global,
-    sets: &[Option<QuorumSet>],
-    faulty: &NodeSet,
-    quorums: &[u32],
-) -> Result<bool, AllocError>
+fn is_as_listed(sets: &[Option<QuorumSet>], faulty: &NodeSet, quorums: &[u32]) -> bool
     requires few { length sets.now ≤ 4 }
     requires formed { IsWellFormed sets.now }
     requires same_faulty { length faulty.now ≡ length sets.now }
 {
     let n = sets.len() as u32;
     for nodes in 0..1 << n {
-        let u = node_set(alloc, n, nodes)?;
+        let u = node_set(n, nodes);
         if is_quorum(sets, &u, faulty) != quorums.contains(&nodes) {
-            return Ok(false);
+            return false;
         }
         let meets_all = quorums.iter().all(|other| other & nodes != 0);
-        if meets_quorums(alloc, sets, &u, faulty)? != meets_all {
-            return Ok(false);
+        if meets_quorums(sets, &u, faulty) != meets_all {
+            return false;
         }
     }
-    Ok(true)
+    true
 }
 
 #[test]
@@ -389,18 +384,18 @@ fn definitions_say_what_was_meant(rt: HostRuntime) -> Result<(), Fail> {
     ];
     for (at, example) in examples.iter().enumerate() {
         let sets = system(&rt, alloc, example.sets)?;
-        let faulty = node_set(alloc, sets.len() as u32, example.faulty)?;
+        let faulty = node_set(sets.len() as u32, example.faulty);
         assert!(rt;
-            is_as_listed(alloc, &sets, &faulty, example.quorums)?,
+            is_as_listed(&sets, &faulty, example.quorums),
             "example {at}"
         );
         assert_eq!(rt;
-            intersects(alloc, &sets, &faulty)?,
+            intersects(&sets, &faulty),
             example.all_meet,
             "example {at}"
         );
         assert_eq!(rt;
-            available(alloc, &sets, &faulty)?,
+            available(&sets, &faulty),
             example.rest_is_quorum,
             "example {at}"
         );
@@ -462,20 +457,19 @@ fn names(rt: &impl Abort, alloc: Global) -> Result<Names, AllocError>
 
 fn agree_on(
     rt: &impl Abort,
-    alloc: Global,
     system: &System,
     sets: &[Option<QuorumSet>],
     u: &NodeSet,
     faulty: &NodeSet,
-) -> Result<(), AllocError>
+)
     requires same_system { length system.now.sets ≡ 3 }
     requires formed { IsWellFormed sets.now }
     requires nodes { length sets.now ≡ 3 }
     requires same_n { length u.now ≡ 3 }
     requires same_faulty { length faulty.now ≡ 3 }
 {
-    let mut scratch = NodeSet::new(alloc, 3)?;
-    let meets = meets_quorums(alloc, sets, u, faulty)?;
+    let mut scratch = NodeSet::new(3);
+    let meets = meets_quorums(sets, u, faulty);
     assert_eq!(rt; blocks(system, u, faulty, &mut scratch), meets);
     assert_eq!(rt; system.is_quorum(u, faulty), is_quorum(sets, u, faulty));
     for set in sets {
@@ -486,25 +480,18 @@ fn agree_on(
             );
         }
     }
-    Ok(())
 }
 
-fn agree(
-    rt: &impl Abort,
-    alloc: Global,
-    system: &System,
-    sets: &[Option<QuorumSet>],
-) -> Result<(), AllocError>
+fn agree(rt: &impl Abort, system: &System, sets: &[Option<QuorumSet>])
     requires same_system { length system.now.sets ≡ 3 }
     requires formed { IsWellFormed sets.now }
     requires nodes { length sets.now ≡ 3 }
 {
     for pair in 0..64 {
-        let u = node_set(alloc, 3, pair % 8)?;
-        let faulty = node_set(alloc, 3, pair / 8)?;
-        agree_on(rt, alloc, system, sets, &u, &faulty)?;
+        let u = node_set(3, pair % 8);
+        let faulty = node_set(3, pair / 8);
+        agree_on(rt, system, sets, &u, &faulty);
     }
-    Ok(())
 }
 
 #[test]
@@ -514,7 +501,7 @@ fn fast_calls_agree(rt: HostRuntime) -> Result<(), Fail> {
         let thresholds = [code % 5, code / 5 % 5, code / 25];
         let sets = family(alloc, thresholds)?;
         let system = System::of(names(&rt, alloc)?, family(alloc, thresholds)?);
-        agree(&rt, alloc, &system, &sets)?;
+        agree(&rt, &system, &sets);
     }
     Ok(())
 }

@@ -1,4 +1,4 @@
-// Worked systems, on which the calls of the crates below are tried.
+//! Worked systems, on which the calls of the crates below are tried.
 #![tactic(auto)]
 
 #[cfg(test)]

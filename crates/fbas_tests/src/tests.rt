@@ -1,4 +1,4 @@
-// The systems are written as configurations, and sets of nodes as lists of names.
+//! The systems are written as configurations, and sets of nodes as lists of names.
 
 ghost use Rattle.std.specs.Prelude.{◌≡◌, length, IfOk};
 ghost use Rattle.fbas_model.specs.Nodes.{members};
@@ -26,20 +26,20 @@ const CHAIN: &str =
     r#"[{"publicKey":"d","quorumSet":{"threshold":1,"validators":["c"]}},{"publicKey":"c","quorumSet":{"threshold":1,"validators":["b"]}},{"publicKey":"b","quorumSet":{"threshold":9,"validators":[],"innerQuorumSets":[{"threshold":0,"validators":["a"]}]}},{"publicKey":"e","quorumSet":{"threshold":1,"validators":["d"]}}]"#;
 
 // The set of the names in a list.
-fn set_of(alloc: Global, system: &System, list: &str) -> Result<NodeSet, Fail>
+fn set_of(system: &System, list: &str) -> Result<NodeSet, Fail>
     ensures { IfOk result (λ set. length set ≡ length system.now.sets) }
 {
-    Ok(read_names(alloc, list.as_bytes(), system.names())?)
+    Ok(read_names(list.as_bytes(), system.names())?)
 }
 
 #[test]
 fn a_minimal_quorum_of_a_repeated_entry(rt: HostRuntime) -> Result<(), Fail> {
     let alloc = rt.alloc();
     let system = read_config(alloc, REPEATED_ENTRY.as_bytes())?;
-    let mut quorum = set_of(alloc, &system, "a,b")?;
-    let faulty = set_of(alloc, &system, "")?;
-    let minimal = set_of(alloc, &system, "b")?;
-    let mut scratch = set_of(alloc, &system, "")?;
+    let mut quorum = set_of(&system, "a,b")?;
+    let faulty = set_of(&system, "")?;
+    let minimal = set_of(&system, "b")?;
+    let mut scratch = set_of(&system, "")?;
     if !system.is_quorum(&quorum, &faulty) {
         return Err("it is a quorum".into());
     }
@@ -52,10 +52,10 @@ fn a_minimal_quorum_of_a_repeated_entry(rt: HostRuntime) -> Result<(), Fail> {
 fn a_minimal_blocking_set_of_two_of_three(rt: HostRuntime) -> Result<(), Fail> {
     let alloc = rt.alloc();
     let system = read_config(alloc, TWO_OF_THREE.as_bytes())?;
-    let mut set = set_of(alloc, &system, "b,c")?;
-    let faulty = set_of(alloc, &system, "a")?;
-    let minimal = set_of(alloc, &system, "b,c")?;
-    let mut scratch = set_of(alloc, &system, "")?;
+    let mut set = set_of(&system, "b,c")?;
+    let faulty = set_of(&system, "a")?;
+    let minimal = set_of(&system, "b,c")?;
+    let mut scratch = set_of(&system, "")?;
     if set.meets(&faulty) || !blocks(&system, &set, &faulty, &mut scratch) {
         return Err("it blocks".into());
     }
@@ -65,12 +65,12 @@ fn a_minimal_blocking_set_of_two_of_three(rt: HostRuntime) -> Result<(), Fail> {
 }
 
 // The trust closure of the node that has the name.
-fn closure_of_name(alloc: Global, system: &System, name: &str) -> Result<NodeSet, Fail>
+fn closure_of_name(system: &System, name: &str) -> Result<NodeSet, Fail>
     ensures size { IfOk result (λ set. length set ≡ length system.now.sets) }
     ensures closed { IfOk result (λ set. IsClosed system.now.sets (members set)) }
 {
     match system.find(name.as_bytes()) {
-        Some(v) => Ok(system.closure(alloc, v)?),
+        Some(v) => Ok(system.closure(v)),
         None => Err("not a node".into()),
     }
 }
@@ -78,8 +78,8 @@ fn closure_of_name(alloc: Global, system: &System, name: &str) -> Result<NodeSet
 // Whether the trust closure of the node is the list.
 fn closure_is(alloc: Global, text: &str, name: &str, members: &str) -> Result<bool, Fail> {
     let system = read_config(alloc, text.as_bytes())?;
-    let closure = closure_of_name(alloc, &system, name)?;
-    let want = set_of(alloc, &system, members)?;
+    let closure = closure_of_name(&system, name)?;
+    let want = set_of(&system, members)?;
     Ok(closure.same(&want))
 }
 
@@ -88,19 +88,16 @@ fn part_of(alloc: Global, text: &str, name: &str, list: &str) -> Result<(System,
     ensures { IfOk result (λ r. length r.1 ≡ length r.0.sets) }
 {
     let system = read_config(alloc, text.as_bytes())?;
-    let kept = closure_of_name(alloc, &system, name)?;
-    let set = set_of(alloc, &system, list)?;
-    Ok((
-        system.restrict(alloc, &kept)?,
-        system.cut(alloc, &set, &kept)?,
-    ))
+    let kept = closure_of_name(&system, name)?;
+    let set = set_of(&system, list)?;
+    Ok((system.restrict(alloc, &kept)?, system.cut(&set, &kept)))
 }
 
 // Whether the list is a quorum without the faulty nodes.
-fn is_quorum(alloc: Global, system: &System, list: &str, faulty: &NodeSet) -> Result<bool, Fail>
+fn is_quorum(system: &System, list: &str, faulty: &NodeSet) -> Result<bool, Fail>
     requires { length faulty.now ≡ length system.now.sets }
 {
-    Ok(system.is_quorum(&set_of(alloc, system, list)?, faulty))
+    Ok(system.is_quorum(&set_of(system, list)?, faulty))
 }
 
 #[test]
@@ -125,9 +122,9 @@ fn a_closure_goes_through_bad_thresholds(rt: HostRuntime) -> Result<(), Fail> {
 fn a_pair_alone_keeps_its_quorums(rt: HostRuntime) -> Result<(), Fail> {
     let alloc = rt.alloc();
     let (part, faulty) = part_of(alloc, TWO_PAIRS, "c", "b,d")?;
-    assert!(rt; faulty.same(&set_of(alloc, &part, "d")?));
-    assert!(rt; is_quorum(alloc, &part, "c", &faulty)?);
-    assert!(rt; !is_quorum(alloc, &part, "c", &set_of(alloc, &part, "")?)?);
+    assert!(rt; faulty.same(&set_of(&part, "d")?));
+    assert!(rt; is_quorum(&part, "c", &faulty)?);
+    assert!(rt; !is_quorum(&part, "c", &set_of(&part, "")?)?);
     Ok(())
 }
 
@@ -135,7 +132,7 @@ fn a_pair_alone_keeps_its_quorums(rt: HostRuntime) -> Result<(), Fail> {
 fn a_chain_is_cut_behind_a_node(rt: HostRuntime) -> Result<(), Fail> {
     let alloc = rt.alloc();
     let (part, faulty) = part_of(alloc, CHAIN, "c", "b,e")?;
-    assert!(rt; faulty.same(&set_of(alloc, &part, "b")?));
+    assert!(rt; faulty.same(&set_of(&part, "b")?));
     assert_eq!(rt; (part.entries(), part.unset()), (3, 1));
     assert_eq!(rt; part.names().len(), 3);
     assert_eq!(rt; part.names().name(2), "c".as_bytes());

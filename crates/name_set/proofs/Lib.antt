@@ -2,3 +2,9 @@ mod NameLists
 mod Places
 pub mod ListLaws
 mod KeptNames
+mod WordLaws
+mod WordMixes
+mod WordFinds
+mod WordCounts
+mod WordFill
+mod SetOrder

@@ -1,4 +1,4 @@
-// Which byte strings may be names.
+//! Which byte strings may be names.
 
 ghost use Rattle.std.specs.Prelude.{◌≡◌};
 ghost use Rattle.std.specs.List.{list_all};

@@ -1,12 +1,12 @@
-// Names in the words of a command line: one name, or a list of them.
+//! Names in the words of a command line: one name, or a list of them.
 
-ghost use Rattle.std.specs.Prelude.{◌≡◌, ◌⊎◌, ◌<◌, ℕ, length, slice_get, IfOk, IfErr, Ok, Err, Some};
+ghost use Rattle.std.specs.Prelude.{◌≡◌, ◌<◌, ◌≤◌, ℕ, length, slice_get, IfOk, IfErr, Ok, Err, Some};
 ghost use Rattle.name_set.specs.Lists.{node_at, names_read, name_read};
 
 use crate::NodeSet;
 use crate::keys::is_key;
 use crate::names::Names;
-use std::alloc::{AllocError, Global};
+use fbas_model::MOST_NODES;
 use thiserror::Error;
 
 /// Why a text is no list of names: the fault of its first faulty item, and the place of that item, counted from 1.
@@ -21,20 +21,6 @@ pub enum NameFault {
     /// The item is not among the names.
     #[error("item {0} is not a node")]
     Unknown(u64),
-    /// No memory for the set.
-    #[error("out of memory")]
-    Memory,
-}
-
-impl From<AllocError> for NameFault {
-    ghost use Rattle.name_set.specs.declared.lists.NameFault.TheVariants.{Memory};
-    ghost use Rattle.std.specs.Prelude.{◌≡◌};
-
-    ghost from_gives = { λ _ e. e ≡ Memory };
-
-    fn from(_: AllocError) -> NameFault {
-        NameFault::Memory
-    }
 }
 
 /// The node of the name that stands at a place, or its fault.
@@ -57,13 +43,14 @@ fn node_at(names: &Names, place: u64, item: &[u8]) -> Result<u32, NameFault>
 ///
 /// The names stand between commas, and the empty text is the empty list. A name that stands twice counts once. An item is
 /// looked at for its length, for being a key and for being among the names, in this order. O(bytes + k log n) for k items
-/// and n names, and one set of n marks.
-pub fn read_names(alloc: Global, text: &[u8], names: &Names) -> Result<NodeSet, NameFault>
+/// and n names. Takes no memory.
+pub fn read_names(text: &[u8], names: &Names) -> Result<NodeSet, NameFault>
+    requires { length names.now ≤ MOST_NODES }
     ensures ok { IfOk result (λ s. names_read text.now names.now ≡ Ok s) }
-    ensures err { IfErr result (λ e. (e ≡ NameFault.Memory) ⊎ (names_read text.now names.now ≡ Err e)) }
+    ensures err { IfErr result (λ e. names_read text.now names.now ≡ Err e) }
     ensures fits { IfOk result (λ s. length s ≡ length names.now) }
 {
-    let mut nodes = NodeSet::new(alloc, names.len())?;
+    let mut nodes = NodeSet::new(names.len());
     if text.is_empty() {
         return Ok(nodes);
     }
@@ -76,8 +63,6 @@ pub fn read_names(alloc: Global, text: &[u8], names: &Names) -> Result<NodeSet, 
 }
 
 /// The node of the name that the whole text is, or the fault of the one item that it is: O(bytes + log n).
-///
-/// Never answers `Memory`.
 pub fn read_name(text: &[u8], names: &Names) -> Result<u32, NameFault>
     ensures value { result ≡ name_read text.now names.now }
     ensures below { IfOk result (λ v. v < length names.now) }
@@ -91,11 +76,10 @@ mod tests {
     use std::test::Fail;
 
     /// Which of three names a list names.
-    fn marks(alloc: Global, text: &str, names: &Names) -> Result<(bool, bool, bool), NameFault> {
-        if names.len() != 3 {
-            return Err(NameFault::Memory);
-        }
-        let nodes = read_names(alloc, text.as_bytes(), names)?;
+    fn marks(text: &str, names: &Names) -> Result<(bool, bool, bool), NameFault>
+        requires { length names.now ≡ 3 }
+    {
+        let nodes = read_names(text.as_bytes(), names)?;
         Ok((nodes.has(0), nodes.has(1), nodes.has(2)))
     }
 
@@ -108,6 +92,7 @@ mod tests {
         }
         assert_eq!(rt; list.len(), 3);
         let names = Names::of(list)?;
+        assert_eq!(rt; names.len(), 3);
         for (text, read, single) in [
             ("", Ok((false, false, false)), Err(NameFault::Empty(1))),
             ("B~", Ok((false, true, false)), Ok(1)),
@@ -123,7 +108,7 @@ mod tests {
             ),
             ("A, C", Err(NameFault::BadKey(2)), Err(NameFault::BadKey(1))),
         ] {
-            assert_eq!(rt; marks(alloc, text, &names), read, "{text}");
+            assert_eq!(rt; marks(text, &names), read, "{text}");
             assert_eq!(rt; read_name(text.as_bytes(), &names), single, "{text}");
         }
         Ok(())

@@ -1,7 +1,8 @@
-// The names of the nodes.
+//! The names of the nodes.
 
 ghost use Rattle.std.specs.Prelude.{◌≡◌, ℕ, ◌<◌, ◌^◌, length, map, vec_len, IfOk, IfSome, slice_get, MatchOption, Contains};
-ghost use Rattle.fbas_model.specs.Names.{AreNamesOf, place_of};
+ghost use Rattle.std.specs.List.Sorted.{IsStrictlySortedBy};
+ghost use Rattle.fbas_model.specs.Names.{AreNamesOf, name_cmp, place_of};
 ghost use Rattle.fbas_model.specs.Restriction.{kept as kept_of};
 
 use crate::NodeSet;
@@ -57,6 +58,13 @@ impl Names {
         ensures { result ≡ length self.now }
     {
         self.list.len() as u32
+    }
+
+    /// The names stand in strictly rising order. Does nothing.
+    pub fn rise(&self)
+        ensures { IsStrictlySortedBy name_cmp self.now }
+    {
+        let _ = &self.list;
     }
 
     /// The name at a place.

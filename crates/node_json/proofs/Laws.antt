@@ -10,6 +10,7 @@ use Rattle.std.specs.List.{prefix_len}
 use Rattle.std.specs.Str.{bytes_eq}
 use Rattle.fbas_model.specs.Names.{Name, AreNamesOf}
 use Rattle.fbas_model.specs.Systems.{System, entries_in}
+use Rattle.fbas_model.specs.declared.TheConstants.{MOST_NODES, MOST_ENTRIES}
 use Rattle.node_json.proofs.NamesInOrder.{in_order-names}
 use Rattle.node_json.specs.Configuration.{all_names, names_if_any, number_of, numbered, set_named, system_by, within_entries, within_nodes, system_with}
 use Rattle.node_json.specs.Named.{NamedSet, NamedNode}
@@ -88,14 +89,14 @@ module _ (nodes : List NamedNode) (apart : AreApart nodes) (names : List Name) (
   }
 
 within_entries-same : (system s : System) → within_entries system ≡ Ok s → system ≡ s
-within_entries-same system s h = by_test (nat_lt 1000000 (entries_in system.sets)) h
+within_entries-same system s h = by_test (nat_lt MOST_ENTRIES (entries_in system.sets)) h
   where
     by_test : (b : Bool) → cond b (Err (TooManyEntries (entries_in system.sets))) (Ok system) ≡ Ok s → system ≡ s
     by_test true g = cc
     by_test false g = cc
 
 within_nodes-same : (names : List Name) (nodes : List NamedNode) (s : System) → within_nodes names nodes ≡ Ok s → system_by names nodes ≡ s
-within_nodes-same names nodes s h = by_test (nat_lt 4096 (length names)) h
+within_nodes-same names nodes s h = by_test (nat_lt MOST_NODES (length names)) h
   where
     by_test : (b : Bool) → cond b (Err (TooManyNodes (length names))) (within_entries (system_by names nodes)) ≡ Ok s → system_by names nodes ≡ s
     by_test true g = cc

@@ -6,6 +6,7 @@ use Rattle.std.proofs.lemmas.List.Elements.{All-map, All-head, All-tail}
 use Rattle.std.specs.List.{prefix_len}
 use Rattle.std.specs.Str.{bytes_eq}
 use denote.Ref.{Bor}
+use Rattle.fbas_model.specs.declared.TheConstants.{MOST_NODES, MOST_ENTRIES}
 use Rattle.fbas_model.specs.Fbas.{Fbas}
 use Rattle.fbas_model.specs.Names.{Name, AreNamesOf, is_key}
 use Rattle.fbas_model.specs.QuorumSets.{IsBelow, AreBelow}
@@ -65,7 +66,7 @@ abbrev pub declared_sets : List Name → List NamedNode → Fbas
 declared_sets names nodes = map (λ name. option_map (numbered names) (set_named nodes name)) names
 
 pub is_system : (nodes : List NamedNode) (names : List Name) (sets : Fbas) → AreSound nodes → names ≡ in_order (all_names nodes) → sets ≡ declared_sets names nodes
-    → length names ≤ 4096 → entries_in sets ≤ 1000000 → IsSystem names sets
+    → length names ≤ MOST_NODES → entries_in sets ≤ MOST_ENTRIES → IsSystem names sets
 is_system nodes names sets sound n s few entries = record {
   places = ap length s ∙ length-map names (λ name. option_map (numbered names) (set_named nodes name));
   keys = subst (All (λ name. IsTrue (is_key name))) (sym n) (All-in_order (λ name. IsTrue (is_key name)) (all_names nodes) sound.keys);
@@ -77,35 +78,35 @@ is_system nodes names sets sound n s few entries = record {
 
 -- ---- the limits, one after another
 
-pub too_many_nodes : (nodes : List NamedNode) (found : List Name) (n : ℕ) → found ≡ in_order (all_names nodes) → n ≡ length found → 4096 < n → system_with nodes ≡ Err (TooManyNodes n)
+pub too_many_nodes : (nodes : List NamedNode) (found : List Name) (n : ℕ) → found ≡ in_order (all_names nodes) → n ≡ length found → MOST_NODES < n → system_with nodes ≡ Err (TooManyNodes n)
 unfolding system_with
 too_many_nodes nodes found n f e over =
-    let big : nat_lt 4096 (length found) ≡ true = lt-ltb 4096 (length found) (omega arith) in
+    let big : nat_lt MOST_NODES (length found) ≡ true = lt-ltb MOST_NODES (length found) (omega arith) in
     ap (λ names. within_nodes names nodes) (sym f) ∙ rw big (ap (λ k. Err (TooManyNodes k)) (sym e))
 
-pub few_nodes : (nodes : List NamedNode) (names : List Name) → names ≡ in_order (all_names nodes) → length names ≤ 4096 → system_with nodes ≡ within_entries (system_by names nodes)
+pub few_nodes : (nodes : List NamedNode) (names : List Name) → names ≡ in_order (all_names nodes) → length names ≤ MOST_NODES → system_with nodes ≡ within_entries (system_by names nodes)
 unfolding system_with
 few_nodes nodes names f few =
-    let small : nat_lt 4096 (length names) ≡ false = le-ltb 4096 (length names) few in
+    let small : nat_lt MOST_NODES (length names) ≡ false = le-ltb MOST_NODES (length names) few in
     ap (λ names. within_nodes names nodes) (sym f) ∙ rw small
 
-pub too_many_entries : (nodes : List NamedNode) (names : List Name) (sets : Fbas) (n : ℕ) → sets ≡ declared_sets names nodes → n ≡ entries_in sets → 1000000 < n → within_entries (system_by names nodes) ≡ Err (TooManyEntries n)
+pub too_many_entries : (nodes : List NamedNode) (names : List Name) (sets : Fbas) (n : ℕ) → sets ≡ declared_sets names nodes → n ≡ entries_in sets → MOST_ENTRIES < n → within_entries (system_by names nodes) ≡ Err (TooManyEntries n)
 too_many_entries nodes names sets n s e over =
-    let big : nat_lt 1000000 (entries_in sets) ≡ true = lt-ltb 1000000 (entries_in sets) (omega arith) in
+    let big : nat_lt MOST_ENTRIES (entries_in sets) ≡ true = lt-ltb MOST_ENTRIES (entries_in sets) (omega arith) in
     rw (← s, big) (ap (λ k. Err (TooManyEntries k)) (sym e))
 
-pub few_entries : (nodes : List NamedNode) (names : List Name) (sets : Fbas) (system : System) → system.names ≡ names → system.sets ≡ sets → sets ≡ declared_sets names nodes → entries_in sets ≤ 1000000
+pub few_entries : (nodes : List NamedNode) (names : List Name) (sets : Fbas) (system : System) → system.names ≡ names → system.sets ≡ sets → sets ≡ declared_sets names nodes → entries_in sets ≤ MOST_ENTRIES
     → within_entries (system_by names nodes) ≡ Ok system
 few_entries nodes names sets system same_names same_sets s few =
-    let small : nat_lt 1000000 (entries_in sets) ≡ false = le-ltb 1000000 (entries_in sets) few in
+    let small : nat_lt MOST_ENTRIES (entries_in sets) ≡ false = le-ltb MOST_ENTRIES (entries_in sets) few in
     rw (← s, small) (λ i. Ok (record { names = sym same_names i; sets = sym same_sets i }))
 
 -- the names that are made of those found
 pub owned_in_order : (nodes : List NamedNode) (found names : List Name) → found ≡ in_order (all_names nodes) → AreNamesOf found names → names ≡ in_order (all_names nodes)
 owned_in_order nodes found names f are = names_in_order found names are ∙ ap in_order f ∙ in_order-in_order (all_names nodes)
 
-pub few_names : (nodes : List NamedNode) (found : List (Bor (List ℕ))) (names : List Name) (n : ℕ) → n ≡ length found → names_view found ≡ in_order (all_names nodes) → names ≡ in_order (all_names nodes) → n ≤ 4096
-    → length names ≤ 4096
+pub few_names : (nodes : List NamedNode) (found : List (Bor (List ℕ))) (names : List Name) (n : ℕ) → n ≡ length found → names_view found ≡ in_order (all_names nodes) → names ≡ in_order (all_names nodes) → n ≤ MOST_NODES
+    → length names ≤ MOST_NODES
 few_names nodes found names n e f o few = let same : length names ≡ length found = ap length (o ∙ sym f) ∙ length-map found (λ name. name.now) in omega arith
 
 -- ---- the bytes

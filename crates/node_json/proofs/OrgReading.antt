@@ -14,6 +14,7 @@ use Rattle.serde_json.specs.Find.{as_array}
 use Rattle.serde_json.specs.View.{view, items_view}
 use Rattle.serde_json.specs.declared.value.Value.{Value}
 use Rattle.fbas_model.specs.Names.{Name, name_cmp, is_among}
+use Rattle.fbas_model.specs.declared.TheConstants.{MOST_ORGS}
 use Rattle.node_json.specs.NamesInOrder.{in_order, with_names}
 use Rattle.node_json.proofs.NamesInOrder.{is_among-in_order}
 use Rattle.fbas_model.proofs.Marks.{length-marks}
@@ -46,13 +47,13 @@ unfolding orgs_of named_orgs_of
 orgs_of-fault names bytes d e tree fault = rw (tree, fault) refl
 
 module _ (names : List Name) (bytes : List ℕ) (d : Data) (orgs : List spec.NamedOrg) (n : ℕ) (tree : tree_of bytes ≡ Some d) (read : orgs_in d ≡ Ok orgs) (counted : n ≡ length orgs) where
-  pub too_many_orgs : 4096 < n → orgs_of names bytes ≡ Err (TooManyOrgs n)
+  pub too_many_orgs : MOST_ORGS < n → orgs_of names bytes ≡ Err (TooManyOrgs n)
   unfolding orgs_of named_orgs_of
-  too_many_orgs h = let t : nat_lt 4096 (length orgs) ≡ true = lt-ltb 4096 (length orgs) (omega arith) in rw (tree, read, t, counted) refl
+  too_many_orgs h = let t : nat_lt MOST_ORGS (length orgs) ≡ true = lt-ltb MOST_ORGS (length orgs) (omega arith) in rw (tree, read, t, counted) refl
 
-  pub few_orgs : n ≤ 4096 → orgs_of names bytes ≡ Ok (map (among_nodes names) orgs)
+  pub few_orgs : n ≤ MOST_ORGS → orgs_of names bytes ≡ Ok (map (among_nodes names) orgs)
   unfolding orgs_of named_orgs_of
-  few_orgs h = let f : nat_lt 4096 (length orgs) ≡ false = le-ltb 4096 (length orgs) (omega arith) in rw (tree, read, f) refl
+  few_orgs h = let f : nat_lt MOST_ORGS (length orgs) ≡ false = le-ltb MOST_ORGS (length orgs) (omega arith) in rw (tree, read, f) refl
 
 -- each has a mark for each name
 pub all_sized : (names : List Name) (orgs : List spec.NamedOrg) → All (λ org. length org.members ≡ length names) (map (among_nodes names) orgs)
@@ -63,9 +64,6 @@ all_sized names orgs = All-map (λ (org : spec.Org). length org.members ≡ leng
 -- whether the id is new, by the set of those that were seen
 pub is_new : (seen earlier : List Name) (id : Name) (new : Bool) → new ≡ not (is_among id seen) → seen ≡ in_order earlier → new ≡ not (is_among id earlier)
 is_new seen earlier id new e s = e ∙ ap (λ ks. not (is_among id ks)) s ∙ ap not (is_among-in_order id earlier)
-
-pub org_of-no_id : (i : ℕ) (earlier : List Name) (d : Data) (e : OrgFault) → org_id_of i d ≡ Err e → org_of i earlier d ≡ Err e
-org_of-no_id i earlier d e fault = rw fault refl
 
 pub org_of-known : (i : ℕ) (earlier : List Name) (d : Data) (id : Name) → org_id_of i d ≡ Ok id → not (is_among id earlier) ≡ false → org_of i earlier d ≡ Err (DuplicateOrg i)
 org_of-known i earlier d id ok known = rw (ok, known) refl

@@ -9,9 +9,10 @@ use Rattle.serde_json.specs.Find.{get, as_str, as_array}
 use Rattle.fbas_model.specs.Names.{Name, is_key, is_among}
 use Rattle.fbas_model.specs.QuorumSets.{depth, depth_of}
 use Rattle.fbas_model.specs.Trees.{Entries}
+use Rattle.fbas_model.specs.declared.TheConstants.{MOST_LEVELS}
 use Rattle.node_json.specs.Configuration.{number_of, nodes_then, numbered, all_numbered, names_in_set, names_in_sets, names_if_any, all_names}
 use Rattle.node_json.specs.Named.{NamedSet, NamedSets, named_set, no_sets, one_set, NamedNode}
-use Rattle.node_json.specs.Reading.{and_then, after, unless, or_missing, is_object, key_if, key_of, keys_in, items_or_none, threshold_of, validators_of, inner_of, sets_by, inner_by, set_by, set_of, max_levels, set_if_any, node_key_of, node_set_of, node_of, nodes_from, nodes_in}
+use Rattle.node_json.specs.Reading.{and_then, after, unless, or_missing, is_object, key_if, key_of, keys_in, items_or_none, threshold_of, validators_of, inner_of, sets_by, inner_by, set_by, set_of, set_if_any, node_key_of, node_set_of, node_of, nodes_from, nodes_in}
 use Rattle.node_json.specs.Sound.{AreSound, IsShallow}
 use Rattle.node_json.specs.declared.faults.ConfigFault.{ConfigFault}
 use Rattle.node_json.specs.declared.faults.ConfigFault.TheVariants.{NotNode, BadKey, Duplicate, BadQuorumSet, NotNodes}
@@ -132,13 +133,13 @@ set_of-sound i (suc levels) d s h =
 
 record IsSoundNode (n : NamedNode) : Type 0 where
   key : IsKey n.key
-  set : IfSome n.quorum_set (IsSoundSet 16)
+  set : IfSome n.quorum_set (IsSoundSet MOST_LEVELS)
 
-set_if_any-sound : (i : ℕ) (o : Option Data) (found : Option NamedSet) → set_if_any i o ≡ Ok found → IfSome found (IsSoundSet 16)
-set_if_any-sound i None found h = let e : None ≡ found = cc in subst (λ (f : Option NamedSet). IfSome f (IsSoundSet 16)) e tt
+set_if_any-sound : (i : ℕ) (o : Option Data) (found : Option NamedSet) → set_if_any i o ≡ Ok found → IfSome found (IsSoundSet MOST_LEVELS)
+set_if_any-sound i None found h = let e : None ≡ found = cc in subst (λ (f : Option NamedSet). IfSome f (IsSoundSet MOST_LEVELS)) e tt
 set_if_any-sound i (Some d) found h =
-    let s = after-ok Some (set_of i max_levels d) found h in
-    subst (λ (f : Option NamedSet). IfSome f (IsSoundSet 16)) s.2 (set_of-sound i 16 d s.0 s.1)
+    let s = after-ok Some (set_of i MOST_LEVELS d) found h in
+    subst (λ (f : Option NamedSet). IfSome f (IsSoundSet MOST_LEVELS)) s.2 (set_of-sound i MOST_LEVELS d s.0 s.1)
 
 node_key_of-key : (i : ℕ) (d : Data) (k : Name) → node_key_of i d ≡ Ok k → IsKey k
 node_key_of-key i d k h =
@@ -159,11 +160,11 @@ node_of-sound i earlier d n h =
     let found = after-ok (with_key k.0) (node_set_of i d) n made in
     subst IsSoundNode found.2 (record { key = node_key_of-key i d k.0 k.1; set = set_if_any-sound i (or_missing (get (codes "quorumSet") d)) found.0 found.1 })
 
-each_shallow : (o : Option NamedSet) → IfSome o (IsSoundSet 16) → IfSome o IsShallow
+each_shallow : (o : Option NamedSet) → IfSome o (IsSoundSet MOST_LEVELS) → IfSome o IsShallow
 each_shallow None h = h
 each_shallow (Some s) h = h.shallow
 
-names_if_any-keys : (o : Option NamedSet) → IfSome o (IsSoundSet 16) → All IsKey (names_if_any o)
+names_if_any-keys : (o : Option NamedSet) → IfSome o (IsSoundSet MOST_LEVELS) → All IsKey (names_if_any o)
 names_if_any-keys None h = All-nil IsKey
 names_if_any-keys (Some s) h = h.keys
 

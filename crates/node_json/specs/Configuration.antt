@@ -1,6 +1,7 @@
 -- The system of a configuration: names in order, and the quorum set of each name by numbers.
 use Rattle.std.specs.Prelude.{ℕ, List, [], ◌∷◌, ◌++◌, length, map, fold, Option, Some, None, option_map, unwrap_or, Result, Ok, Err, nat_lt, if◌then◌else◌}
 use Rattle.std.specs.Str.{bytes_eq}
+use Rattle.fbas_model.specs.declared.TheConstants.{MOST_NODES, MOST_ENTRIES}
 use Rattle.fbas_model.specs.Names.{Name, place_of}
 use Rattle.fbas_model.specs.Trees.{QuorumSet, quorum_set, Entries, none, node, inner}
 use Rattle.fbas_model.specs.Systems.{System, entries_in}
@@ -65,11 +66,11 @@ system_by names nodes = record { names = names; sets = map (λ name. option_map 
 
 -- the system, if its quorum sets have at most 1,000,000 entries
 abbrev pub within_entries : System → Result System ConfigFault
-within_entries system = if nat_lt 1000000 (entries_in system.sets) then Err (TooManyEntries (entries_in system.sets)) else Ok system
+within_entries system = if nat_lt MOST_ENTRIES (entries_in system.sets) then Err (TooManyEntries (entries_in system.sets)) else Ok system
 
 -- the system of the names, if they are at most 4,096
 abbrev pub within_nodes : List Name → List NamedNode → Result System ConfigFault
-within_nodes names nodes = if nat_lt 4096 (length names) then Err (TooManyNodes (length names)) else within_entries (system_by names nodes)
+within_nodes names nodes = if nat_lt MOST_NODES (length names) then Err (TooManyNodes (length names)) else within_entries (system_by names nodes)
 
 -- the system of the declared nodes, within the limits
 unfoldable pub system_with : List NamedNode → Result System ConfigFault

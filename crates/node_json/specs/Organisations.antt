@@ -4,6 +4,7 @@ use Rattle.std.specs.List.{find, list_any}
 use Rattle.std.specs.Str.{bytes_eq}
 use Rattle.serde_json.specs.Data.{Data, Items, no_items, item}
 use Rattle.serde_json.specs.Find.{get, as_array}
+use Rattle.fbas_model.specs.declared.TheConstants.{MOST_ORGS}
 use Rattle.fbas_model.specs.Names.{Name, is_among, marks}
 use Rattle.fbas_model.specs.Nodes.{Nodes, Table, members}
 use Rattle.fbas_model.specs.Restriction.{table_from}
@@ -44,9 +45,9 @@ orgs_from i earlier (item d ds) =
 unfoldable pub orgs_in : Data → Result (List NamedOrg) OrgFault
 orgs_in tree = and_then (orgs_from 0 []) (ok_or (as_array tree) NotOrgs)
 
--- at most 4,096 of them
+-- no more of them than the limit
 abbrev pub within_orgs : List NamedOrg → Result (List NamedOrg) OrgFault
-within_orgs orgs = if nat_lt 4096 (length orgs) then Err (TooManyOrgs (length orgs)) else Ok orgs
+within_orgs orgs = if nat_lt MOST_ORGS (length orgs) then Err (TooManyOrgs (length orgs)) else Ok orgs
 
 -- the organisations of a file's bytes, or its first fault
 unfoldable pub named_orgs_of : List ℕ → Result (List NamedOrg) OrgFault

@@ -4,6 +4,7 @@ use Rattle.std.specs.Str.{is_utf8}
 use Rattle.serde_json.specs.Data.{Data, null, boolean, number, string, array, object, Items, no_items, item}
 use Rattle.serde_json.specs.Find.{get, as_array, as_object, as_number, as_str, as_u64}
 use Rattle.serde_json.specs.Read.{read}
+use Rattle.fbas_model.specs.declared.TheConstants.{MOST_LEVELS}
 use Rattle.fbas_model.specs.Names.{Name, is_key, is_among}
 use Rattle.node_json.specs.Named.{NamedSet, NamedSets, named_set, no_sets, one_set, NamedNode}
 use Rattle.node_json.specs.declared.faults.SetFault.TheVariants.{Shape, Threshold, Validators, Inner}
@@ -103,16 +104,12 @@ unfoldable pub set_of : ℕ → ℕ → Data → Result NamedSet ConfigFault
 set_of i zero d = Err (TooDeep i)
 set_of i (suc levels) d = set_by (set_of i levels) i d
 
--- how deep quorum sets may nest
-abbrev pub max_levels : ℕ
-max_levels = 16
-
 -- ---- nodes
 
 -- the quorum set of element i that the member is, or none where there is no member
 abbrev pub set_if_any : ℕ → Option Data → Result (Option NamedSet) ConfigFault
 set_if_any i None = Ok None
-set_if_any i (Some d) = after Some (set_of i max_levels d)
+set_if_any i (Some d) = after Some (set_of i MOST_LEVELS d)
 
 -- the key of element i
 abbrev pub node_key_of : ℕ → Data → Result Name ConfigFault

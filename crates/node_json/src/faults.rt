@@ -1,4 +1,4 @@
-// What a configuration, or a file of organisations, may be refused for.
+//! What a configuration, or a file of organisations, may be refused for.
 
 ghost use Rattle.std.specs.Prelude.{◌≡◌};
 ghost use Rattle.node_json.specs.declared.faults.ConfigFault.TheVariants.{Memory};

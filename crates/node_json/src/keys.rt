@@ -1,4 +1,4 @@
-// The keys of nodes.
+//! The keys of nodes.
 
 ghost use Rattle.std.specs.Prelude.{◌≡◌, ◌++◌, IfOk, option_map};
 ghost use Rattle.serde_json.specs.View.{view, items_view};

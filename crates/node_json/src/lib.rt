@@ -1,4 +1,4 @@
-// The readers of configurations and of organisations.
+//! The readers of configurations and of organisations.
 #![tactic(auto)]
 
 mod faults;

@@ -1,4 +1,4 @@
-// Organisations as a file writes them.
+//! Organisations as a file writes them.
 
 ghost use Rattle.std.specs.Prelude.{◌≡◌, ◌⊎◌, [], Ok, Err, Some, IfOk, IfErr, MatchResult};
 ghost use Rattle.std.specs.List.{IsDistinct};

@@ -1,4 +1,4 @@
-// The names of the nodes.
+//! The names of the nodes.
 
 ghost use Rattle.std.specs.Prelude.{◌≡◌, ◌<◌, ◌^◌, [], ◌∷◌, not, length, IfOk, OnOk};
 ghost use Rattle.fbas_model.specs.Names.{AreNamesOf, is_among};

@@ -1,4 +1,4 @@
-// The declared nodes of a configuration, by name.
+//! The declared nodes of a configuration, by name.
 
 ghost use Rattle.std.specs.Prelude.{◌≡◌, ◌⊎◌, [], Ok, Err, Some, None, IfOk, IfErr, MatchResult, option_map};
 ghost use Rattle.serde_json.specs.View.{view, items_view};
@@ -9,6 +9,7 @@ use crate::faults::ConfigFault;
 use crate::keys::read_key;
 use crate::names::add_name;
 use crate::quorum_sets::{NamedSet, member, read_set};
+use fbas_model::MOST_LEVELS;
 use serde_json::Value;
 use std::alloc::Global;
 use std::collections::BTreeSet;
@@ -20,8 +21,6 @@ pub(crate) struct NamedNode<'v> {
     pub key: &'v str,
     pub quorum_set: Option<NamedSet<'v>>,
 }
-
-const MAX_LEVELS: u64 = 16;
 
 // The key of element `at`.
 fn node_key(value: &Value, at: u64) -> Result<&str, ConfigFault>
@@ -43,7 +42,7 @@ fn node_set(alloc: Global, value: &Value, at: u64) -> Result<Option<NamedSet<'_>
 {
     match member(value, "quorumSet") {
         None => Ok(None),
-        Some(set) => Ok(Some(read_set(alloc, set, at, MAX_LEVELS)?)),
+        Some(set) => Ok(Some(read_set(alloc, set, at, MOST_LEVELS)?)),
     }
 }
 

@@ -1,4 +1,6 @@
-// What no clause says of organisations: that calls succeed, and rows whose answers come from the rules by hand.
+//! What no clause says of organisations: that calls succeed, and rows whose answers come from the rules by hand.
+
+ghost use Rattle.std.specs.Prelude.{◌≡◌, All, length};
 
 use crate::OrgFault::{BadOrg, DuplicateOrg, NotJson, NotOrgs, TooManyOrgs};
 use crate::{OrgFault, Orgs, read_config, read_ids, read_orgs};
@@ -52,21 +54,11 @@ fn finds_the_first_fault(rt: HostRuntime) -> Result<(), Fail> {
     Ok(())
 }
 
-// Which of the three nodes a list of ids stands for, with the organisations of a text.
-fn members(
-    alloc: Global,
-    text: &str,
-    ids: &str,
-    system: &System,
-) -> Result<(bool, bool, bool), NameFault> {
-    let n = system.len();
-    if n != 3 {
-        return Err(NameFault::Memory);
-    }
-    let Ok(orgs) = read_orgs(alloc, text.as_bytes(), system) else {
-        return Err(NameFault::Memory);
-    };
-    let nodes = read_ids(alloc, ids.as_bytes(), &orgs, n)?;
+// Which of three nodes a list of ids stands for.
+fn members(orgs: &Orgs, ids: &str) -> Result<(bool, bool, bool), NameFault>
+    requires { All (λ org. length org.members ≡ 3) orgs.now }
+{
+    let nodes = read_ids(ids.as_bytes(), orgs, 3)?;
     Ok((nodes.has(0), nodes.has(1), nodes.has(2)))
 }
 
@@ -91,12 +83,10 @@ fn finds_the_members_of_a_list_or_its_first_fault(rt: HostRuntime) -> Result<(),
         (three, "A,Q", Ok((true, true, true))),
         ("[]", "A", Err(NameFault::Unknown(1))),
     ];
+    assert_eq!(rt; system.len(), 3);
     for (text, ids, found) in &rows {
-        assert_eq!(rt;
-            members(rt.alloc(), text, ids, &system),
-            *found,
-            "{text} {ids}"
-        );
+        let orgs = read_orgs(rt.alloc(), text.as_bytes(), &system)?;
+        assert_eq!(rt; members(&orgs, ids), *found, "{text} {ids}");
     }
     Ok(())
 }
@@ -105,11 +95,8 @@ fn finds_the_members_of_a_list_or_its_first_fault(rt: HostRuntime) -> Result<(),
 fn has_no_organisations_without_a_file(rt: HostRuntime) -> Result<(), Fail> {
     let orgs = Orgs::none(rt.alloc());
     assert!(rt; orgs.members(b"A").is_none());
-    assert_eq!(rt;
-        read_ids(rt.alloc(), b"A", &orgs, 3).err(),
-        Some(NameFault::Unknown(1))
-    );
-    assert_eq!(rt; read_ids(rt.alloc(), b"", &orgs, 3)?.count(), 0);
+    assert_eq!(rt; read_ids(b"A", &orgs, 3).err(), Some(NameFault::Unknown(1)));
+    assert_eq!(rt; read_ids(b"", &orgs, 3)?.count(), 0);
     Ok(())
 }
 

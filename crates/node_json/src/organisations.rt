@@ -1,6 +1,6 @@
-// Organisations, as nodes of a system.
+//! Organisations, as nodes of a system.
 
-ghost use Rattle.std.specs.Prelude.{◌≡◌, ◌⊎◌, [], Ok, Err, All, length, map, Contains, IfOk, IfErr, MatchOption, option_copied};
+ghost use Rattle.std.specs.Prelude.{◌≡◌, ◌⊎◌, ◌≤◌, [], Ok, Err, All, length, map, Contains, IfOk, IfErr, MatchOption, option_copied};
 ghost use Rattle.std.specs.List.{IsDistinct};
 ghost use Rattle.std.specs.Str.{bytes_eq};
 ghost use Rattle.fbas_model.specs.Names.{marks};
@@ -11,12 +11,11 @@ ghost use Rattle.node_json.specs.View.{names_view};
 use crate::faults::OrgFault;
 use crate::named_orgs::{NamedOrg, read_named_orgs, read_org_tree};
 use fbas_core::System;
+use fbas_model::{MOST_NODES, MOST_ORGS};
 use name_set::{Names, NodeSet};
 use std::alloc::{AllocError, Global};
 use std::collections::BTreeMap;
 use std::marker::Model;
-
-const MAX_ORGS: usize = 4096;
 
 #[derive(Drop)]
 struct Org {
@@ -72,16 +71,17 @@ impl Orgs {
 }
 
 // Which of the names are in the list: O(log n) comparisons for each in it.
-fn marked(alloc: Global, names: &Names, list: &[&str]) -> Result<NodeSet, AllocError>
-    ensures { IfOk result (λ s. s ≡ marks names.now (names_view list.now)) }
+fn marked(names: &Names, list: &[&str]) -> NodeSet
+    requires { length names.now ≤ MOST_NODES }
+    ensures { result ≡ marks names.now (names_view list.now) }
 {
-    let mut nodes = NodeSet::new(alloc, names.len())?;
+    let mut nodes = NodeSet::new(names.len());
     for name in list {
         if let Some(at) = names.find(name.as_bytes()) {
             nodes.put(at);
         }
     }
-    Ok(nodes)
+    nodes
 }
 
 fn owned_id(alloc: Global, id: &str) -> Result<Vec<u8>, AllocError>
@@ -91,17 +91,19 @@ fn owned_id(alloc: Global, id: &str) -> Result<Vec<u8>, AllocError>
 }
 
 fn owned_org(alloc: Global, names: &Names, org: &NamedOrg) -> Result<Org, AllocError>
+    requires { length names.now ≤ MOST_NODES }
     ensures { IfOk result (λ o. org_view o ≡ among_nodes names.now (named_org_view org.now)) }
 {
     Ok(Org {
         id: owned_id(alloc, org.id)?,
-        members: marked(alloc, names, &org.validators)?,
+        members: marked(names, &org.validators),
     })
 }
 
 // The organisations among the nodes of the names.
 fn owned_orgs(alloc: Global, names: &Names, orgs: &[NamedOrg]) -> Result<Orgs, AllocError>
-    requires { IsDistinct bytes_eq (named_ids orgs.now) }
+    requires few { length names.now ≤ MOST_NODES }
+    requires apart { IsDistinct bytes_eq (named_ids orgs.now) }
     ensures { IfOk result (λ o. o ≡ map (among_nodes names.now) (named_orgs_view orgs.now)) }
 {
     let mut list = Vec::with_capacity(alloc, orgs.len())?;
@@ -123,7 +125,7 @@ fn owned_orgs(alloc: Global, names: &Names, orgs: &[NamedOrg]) -> Result<Orgs, A
 /// it, and its validators; at last the number of organisations. `Memory` stands for want of memory.
 ///
 /// Linear in the bytes, but for O(log m) comparisons for each id and O(log n) for each validator, where there are m ids and
-/// n nodes; and n marks for each of the organisations, which are at most 4,096 then.
+/// n nodes; and one set of nodes for each of the organisations, which are at most 4,096 then.
 pub fn read_orgs(alloc: Global, bytes: &[u8], system: &System) -> Result<Orgs, OrgFault>
     ensures ok { IfOk result (λ o. orgs_of system.now.names bytes.now ≡ Ok o) }
     ensures err { IfErr result (λ e. (e ≡ OrgFault.Memory) ⊎ (orgs_of system.now.names bytes.now ≡ Err e)) }
@@ -134,7 +136,7 @@ pub fn read_orgs(alloc: Global, bytes: &[u8], system: &System) -> Result<Orgs, O
     let tree = read_org_tree(alloc, bytes)?;
     let orgs = read_named_orgs(alloc, &tree)?;
     let n = orgs.len();
-    if n > MAX_ORGS {
+    if n > MOST_ORGS {
         return Err(OrgFault::TooManyOrgs(n as u64));
     }
     Ok(owned_orgs(alloc, system.names(), &orgs)?)

@@ -1,4 +1,4 @@
-// Quorum sets as a configuration writes them.
+//! Quorum sets as a configuration writes them.
 
 ghost use Rattle.std.specs.Prelude.{◌≡◌, ◌⊎◌, Ok, Err, IfOk, IfErr, codes, option_map};
 ghost use Rattle.serde_json.specs.Find.{get};

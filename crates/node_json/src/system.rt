@@ -1,4 +1,4 @@
-// From names to numbers.
+//! From names to numbers.
 
 ghost use Rattle.std.specs.Prelude.{◌≡◌, ◌⊎◌, Ok, Err, List, map, IfOk, IfErr, IfSome, option_map};
 ghost use Rattle.std.specs.List.Sorted.{IsStrictlySortedBy};
@@ -17,13 +17,10 @@ use crate::names::{distinct_names, owned_names};
 use crate::nodes::{NamedNode, read_nodes, read_tree};
 use crate::quorum_sets::NamedSet;
 use fbas_core::System;
+use fbas_model::{MOST_ENTRIES, MOST_NODES};
 use name_set::Names;
 use quorum_set::QuorumSet;
 use std::alloc::{AllocError, Global};
-
-const MAX_NODES: usize = 4096;
-
-const MAX_ENTRIES: u64 = 1_000_000;
 
 // The numbers of the names of the list: O(log n) comparisons for each.
 fn numbers(alloc: Global, names: &Names, list: &[&str]) -> Result<Vec<u32>, AllocError>
@@ -128,14 +125,14 @@ fn system(alloc: Global, nodes: &[NamedNode]) -> Result<System, ConfigFault>
 {
     let found = distinct_names(alloc, nodes)?;
     let n = found.len();
-    if n > MAX_NODES {
+    if n > MOST_NODES {
         return Err(ConfigFault::TooManyNodes(n as u64));
     }
     // At most 4,096 names come so far, so that numbers of 32 bits suffice.
     let names = owned_names(alloc, found)?;
     let sets = placed_sets(alloc, &names, nodes)?;
     let entries = count_entries(&sets).ok_or(ConfigFault::Memory)?;
-    if entries > MAX_ENTRIES {
+    if entries > MOST_ENTRIES {
         return Err(ConfigFault::TooManyEntries(entries));
     }
     Ok(System::of(names, sets))

@@ -1,4 +1,4 @@
-// What no clause says: that calls succeed, and rows whose answers come from the rules by hand.
+//! What no clause says: that calls succeed, and rows whose answers come from the rules by hand.
 
 use crate::ConfigFault::{
     BadKey, BadQuorumSet, Duplicate, NotJson, NotNode, NotNodes, TooDeep, TooManyEntries,
@@ -173,8 +173,8 @@ fn reads_a_network(rt: HostRuntime) -> Result<(), Fail> {
     for (at, name) in ["GA", "GB", "GC", "GD"].iter().enumerate() {
         assert_eq!(rt; system.find(name.as_bytes()), Some(at as u32));
     }
-    let faulty = NodeSet::new(rt.alloc(), 4)?;
-    let mut nodes = NodeSet::new(rt.alloc(), 4)?;
+    let faulty = NodeSet::new(4);
+    let mut nodes = NodeSet::new(4);
     nodes.put(0);
     assert!(rt; !system.is_quorum(&nodes, &faulty));
     nodes.put(3);

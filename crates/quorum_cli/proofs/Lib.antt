@@ -1,2 +1,4 @@
-pub mod YesLaws
 pub mod Unions
+pub mod Files
+pub mod Replied
+pub mod Headlines

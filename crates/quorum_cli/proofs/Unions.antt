@@ -1,11 +1,12 @@
 -- The faulty nodes, where each of the two lists names some.
 use Rattle.std.proofs.Common.{◌≡◌, ℕ, List, length, Ok, codes, sym, ap}
 use Rattle.fbas_model.specs.Nodes.{Nodes, Table, members, ◌∪◌}
+use Rattle.fbas_model.specs.Restriction.{union}
 use Rattle.fbas_model.specs.Systems.{System}
 use Rattle.fbas_model.proofs.Tables.{table_is}
 use Rattle.node_json.specs.Organisations.{Org}
 use Rattle.cli_words.specs.Order.{Ordered}
-use Rattle.quorum_cli.specs.Questions.{set_named, orgs_named, union, faulty_named}
+use Rattle.quorum_cli.specs.Questions.{set_named, orgs_named, faulty_named}
 
 is_union : (s t u : Table) → length u ≡ length s → members u ≡ members s ∪ members t → u ≡ union s t
 is_union s t u size joined = table_is (length s) u (members s ∪ members t) size (λ v less. ap (λ (x : Nodes). x v) joined)

@@ -1,4 +1,4 @@
--- What the program answers, by its words and the files that they name.
+-- What the program asks or answers, by its words and the files that they name.
 use Rattle.std.specs.Prelude.{◌≡◌, ℕ, nat_le, List, [], length, IsTrue, Option, Some, None, Result, Ok, Err, if◌then◌else◌, map, string_bytes, String}
 use Rattle.std.specs.declared.alloc.Global.{Global}
 use Rattle.sha2.specs.Sha256.{sha256}
@@ -8,126 +8,129 @@ use Rattle.fbas_model.specs.Systems.{System}
 use Rattle.cli_words.specs.Order.{Ordered}
 use Rattle.cli_words.specs.Words.{order_of}
 use Rattle.cli_words.specs.declared.orders.Command.{Command}
-use Rattle.cli_words.specs.declared.orders.Command.TheVariants.{Check}
+use Rattle.cli_words.specs.declared.orders.Command.TheVariants as command
 use Rattle.cli_words.specs.declared.orders.OrderFault.{OrderFault}
-use Rattle.cli_words.specs.declared.orders.OrderFault.TheVariants.{Words, SamePath, Memory}
+use Rattle.cli_words.specs.declared.orders.OrderFault.TheVariants as fault
 use Rattle.node_json.specs.Configuration.{system_of}
 use Rattle.node_json.specs.declared.faults.ConfigFault.{ConfigFault}
 use Rattle.node_json.specs.Organisations.{Org, orgs_of}
 use Rattle.node_json.specs.declared.faults.OrgFault.{OrgFault}
 use Rattle.certificate_file.specs.Acceptance.{checked}
 use Rattle.certificate_file.specs.declared.places.Accepted.{Accepted}
-use Rattle.certificate_file.specs.declared.faults.CertError.{CertError}
-use Rattle.certificate_file.specs.declared.faults.CertError.TheVariants.{TooLarge as TooManyVariables}
-use Rattle.report.specs.Lines.{usage, same_path, config_too_long, config_refused, orgs_too_long, orgs_refused, cert_refused, accepted}
-use Rattle.quorum_cli.specs.declared.status.Status.TheVariants.{Yes, Usage, ConfigRefused, CertRefused, TooLarge}
+use Rattle.certificate_file.specs.declared.places.Answer.{Answer as Shown}
+use Rattle.certificate_file.specs.declared.places.Answer.TheVariants.{Partial}
+use Rattle.cert_lines.specs.declared.faults.CertError.{CertError}
+use Rattle.cert_lines.specs.declared.faults.CertError.TheVariants.{TooLarge as TooManyVariables}
+use Rattle.report.specs.Lines.{Text, usage, same_path, config_too_long, config_refused, orgs_too_long, orgs_refused, cert_refused, accepted}
+use Rattle.quorum_cli.specs.declared.status.Status.TheVariants.{Yes, Unknown, Usage, ConfigRefused, CertRefused, TooLarge}
 use Rattle.quorum_cli.specs.declared.status.Status.{Status}
-use Rattle.quorum_cli.specs.Status.{is_answer}
 use Rattle.quorum_cli.specs.declared.reply.Reply.{Reply as Answer}
-use Rattle.quorum_cli.specs.Questions.{question_of, part_of, Answers, FitsQuestion}
+use Rattle.quorum_cli.specs.declared.early.Early.{Early}
+use Rattle.quorum_cli.specs.declared.early.Early.TheVariants.{Told, Read, Memory}
+use Rattle.quorum_cli.specs.declared.reading.Asked.{Asked}
+use Rattle.quorum_cli.specs.declared.reading.Asked.TheVariants as asked
 use Rattle.quorum_cli.specs.declared.question.Inquiry.{Inquiry}
-use Rattle.quorum_cli.specs.declared.reading.Outcome.{Outcome}
-use Rattle.quorum_cli.specs.declared.reading.Outcome.TheVariants.{Told, Asked}
+use Rattle.quorum_cli.specs.Reading.{◌>>=◌}
+use Rattle.quorum_cli.specs.Questions.{question_of, part_of, FitsQuestion}
+use Rattle.quorum_cli.specs.Searches.{search_of, FitsSearch}
 
 abbrev pub words_of : List (String Global) → List (List ℕ)
 words_of words = map string_bytes words
 
--- the most bytes of a configuration that are read
+-- the most bytes of a configuration, or of organisations, that are read
 abbrev pub max_file : ℕ
 max_file = 16777216
 
-abbrev pub or_orgs_refused : Result (List Org) OrgFault → Result (List Org) Answer
+-- the bytes of a file, which is refused with this text where they are too many
+abbrev pub file_in : Text → Option (List ℕ) → Result (List ℕ) Early
+file_in too_long None = Err Read
+file_in too_long (Some bytes) = if nat_le (length bytes) max_file then Ok bytes else Err (Told (record { status = ConfigRefused; text = too_long }))
+
+abbrev pub or_config_refused : Result System ConfigFault → Result System Early
+or_config_refused (Ok f) = Ok f
+or_config_refused (Err fault) = Err (Told (record { status = ConfigRefused; text = config_refused fault }))
+
+-- the system of a configuration
+abbrev pub system_in : List ℕ → Result System Early
+system_in config = or_config_refused (system_of config)
+
+abbrev pub or_orgs_refused : Result (List Org) OrgFault → Result (List Org) Early
 or_orgs_refused (Ok orgs) = Ok orgs
-or_orgs_refused (Err e) = Err (record { status = ConfigRefused; text = orgs_refused e })
+or_orgs_refused (Err fault) = Err (Told (record { status = ConfigRefused; text = orgs_refused fault }))
+
+-- the organisations of the file that the order names, or none where it names no file
+abbrev pub orgs_given : List Name → Files → Option (List ℕ) → Result (List Org) Early
+orgs_given names files None = Ok []
+orgs_given names files (Some path) = do
+  bytes ← file_in orgs_too_long (files path)
+  or_orgs_refused (orgs_of names bytes)
+
+-- ---- a certificate
 
 -- how the program ends where a certificate has this fault
 abbrev pub cert_status : CertError → Status
 cert_status (TooManyVariables vars) = TooLarge
 cert_status fault = CertRefused
 
+-- how it ends where a certificate is accepted: a partial one leaves the question open
+abbrev pub accepted_status : Shown → Status
+accepted_status (Partial units) = Unknown
+accepted_status shown = Yes
+
 -- a certificate is accepted, or its first fault is named
 abbrev pub checked_answer : List Name → Result Accepted CertError → Answer
-checked_answer names (Ok a) = record { status = Yes; text = accepted names a }
+checked_answer names (Ok a) = record { status = accepted_status a.answer; text = accepted names a }
 checked_answer names (Err e) = record { status = cert_status e; text = cert_refused names e }
 
--- what comes of `check` over the certificate; nothing where it is missing
-abbrev pub check_outcome : System → List ℕ → Option (List ℕ) → Option Outcome
-check_outcome f config None = None
-check_outcome f config (Some cert) = Some (Told (checked_answer f.names (checked f (sha256 config) cert)))
+-- what `check` says of a file
+abbrev pub check_in : System → List ℕ → Option (List ℕ) → Result Answer Early
+check_in f config None = Err Read
+check_in f config (Some cert) = Ok (checked_answer f.names (checked f (sha256 config) cert))
 
--- the organisations of a file's bytes, or why it is refused
-abbrev pub orgs_answer : List Name → List ℕ → Result (List Org) Answer
-orgs_answer names bytes = if nat_le (length bytes) max_file then or_orgs_refused (orgs_of names bytes)
-    else Err (record { status = ConfigRefused; text = orgs_too_long })
+-- ---- what is asked
 
--- those of a file; nothing where it is missing
-abbrev pub orgs_held : List Name → Option (List ℕ) → Option (Result (List Org) Answer)
-orgs_held names None = None
-orgs_held names (Some bytes) = Some (orgs_answer names bytes)
+abbrev pub asked_about : System → Inquiry → Asked
+asked_about f inquiry = asked.Question (part_of f inquiry.closure) inquiry.question
 
--- those of the file that the order names, or none where it names no file
-abbrev pub orgs_given : List Name → Files → Option (List ℕ) → Option (Result (List Org) Answer)
-orgs_given names files None = Some (Ok [])
-orgs_given names files (Some path) = orgs_held names (files path)
+-- what a command asks over a configuration that was read, or its early answer
+abbrev pub command_asked : Command → Ordered → System → List ℕ → Files → Result Asked Early
+command_asked command.Check o f config files = do
+  answer ← check_in f config (files o.cert)
+  Err (Told answer)
+command_asked (command.Query q) o f config files = do
+  orgs ← orgs_given f.names files o.orgs
+  inquiry ← question_of q f config orgs o
+  Ok (asked_about f inquiry)
+command_asked (command.Search goal) o f config files = do
+  orgs ← orgs_given f.names files o.orgs
+  search ← search_of goal f config orgs o
+  Ok (asked.Search search)
 
-abbrev pub asked : System → Result Inquiry Answer → Outcome
-asked f (Ok inquiry) = Asked (part_of f inquiry.closure) inquiry.question
-asked f (Err refusal) = Told refusal
+-- what an order asks, or its early answer
+abbrev pub order_asked : Ordered → Files → Result Asked Early
+order_asked o files = do
+  config ← file_in config_too_long (files o.config)
+  f ← system_in config
+  command_asked o.command o f config files
 
--- what a command asks, once the organisations were read
-abbrev pub ask_outcome : Command → Ordered → System → List ℕ → Option (Result (List Org) Answer) → Option Outcome
-ask_outcome c o f config None = None
-ask_outcome c o f config (Some (Err refusal)) = Some (Told refusal)
-ask_outcome c o f config (Some (Ok orgs)) = Some (asked f (question_of c f config orgs o))
+-- the early end where the words are no order
+abbrev pub refused_words : OrderFault → Early
+refused_words fault.Words = Told (record { status = Usage; text = usage })
+refused_words fault.SamePath = Told (record { status = Usage; text = same_path })
+refused_words fault.Memory = Memory
 
--- what comes of a command over a configuration that was read; nothing where another file that it reads is missing
-abbrev pub command_outcome : Command → Ordered → System → List ℕ → Files → Option Outcome
-command_outcome Check o f config files = check_outcome f config (files o.cert)
-command_outcome command o f config files = ask_outcome command o f config (orgs_given f.names files o.orgs)
+abbrev pub or_words_refused : Result Ordered OrderFault → Result Ordered Early
+or_words_refused (Ok o) = Ok o
+or_words_refused (Err fault) = Err (refused_words fault)
 
-abbrev pub system_outcome : Ordered → List ℕ → Files → Result System ConfigFault → Option Outcome
-system_outcome o config files (Err e) = Some (Told (record { status = ConfigRefused; text = config_refused e }))
-system_outcome o config files (Ok f) = command_outcome o.command o f config files
+-- what the words ask, which begin with the program's name, over the files: a question about a system, an early answer, or a
+-- missing file
+abbrev pub asked_of : List (List ℕ) → Files → Result Asked Early
+asked_of words files = do
+  o ← or_words_refused (order_of words)
+  order_asked o files
 
--- what comes of an order over its configuration; nothing where that is missing
-abbrev pub config_outcome : Ordered → Files → Option (List ℕ) → Option Outcome
-config_outcome o files None = None
-config_outcome o files (Some config) = if nat_le (length config) max_file then system_outcome o config files (system_of config)
-    else Some (Told (record { status = ConfigRefused; text = config_too_long }))
-
-abbrev pub refused_words : OrderFault → Answer
-refused_words Words = record { status = Usage; text = usage }
-refused_words SamePath = record { status = Usage; text = same_path }
-refused_words Memory = record { status = Usage; text = usage }
-
-abbrev pub order_outcome : Result Ordered OrderFault → Files → Option Outcome
-order_outcome (Err e) files = Some (Told (refused_words e))
-order_outcome (Ok o) files = config_outcome o files (files o.config)
-
--- what comes of the words, which begin with the program's name, over the files: an answer, or a question about a
--- system; nothing where a file that is read is missing
-abbrev pub outcome_of : List (List ℕ) → Files → Option Outcome
-outcome_of words files = order_outcome (order_of words) files
-
--- ---- the answer
-
--- an answer that was told, or an answer to what was asked
-abbrev pub AnswersOutcome : Outcome → Answer → Type 0
-AnswersOutcome (Told told) a = a ≡ told
-AnswersOutcome (Asked f question) a = Answers f question a
-
--- the answer to what comes of the words
-pub record IsAnswer (o : Option Outcome) (a : Answer) : Type 0 where
-  pub outcome : Outcome
-  pub comes : o ≡ Some outcome
-  pub answers : AnswersOutcome outcome a
-
--- ---- what the code knows of an outcome
-
-abbrev pub FitsOutcome : Outcome → Type 0
-FitsOutcome (Told a) = IsTrue (is_answer a.status)
-FitsOutcome (Asked f question) = FitsQuestion (length f.sets) question
-
-abbrev pub IsTold : Outcome → Type 0
-IsTold (Told a) = Unit {0}
-IsTold (Asked f question) = ⊥
+-- what is asked fits the system
+abbrev pub FitsAsked : Asked → Type 0
+FitsAsked (asked.Question f question) = FitsQuestion (length f.sets) question
+FitsAsked (asked.Search s) = FitsSearch s

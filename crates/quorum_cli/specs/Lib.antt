@@ -1,6 +1,11 @@
 pub mod Status
+pub mod Reading
 pub mod Questions
+pub mod Searches
+pub mod Replies
+pub mod Searching
 pub mod Answers
+pub mod Putting
 pub mod Printing
+pub mod Headline
 pub mod Meaning
-pub mod Organisations

@@ -12,8 +12,8 @@ use Rattle.certificate_file.specs.Acceptance.{checked}
 use Rattle.certificate_file.specs.Meaning.{Holds}
 use Rattle.certificate_file.specs.declared.places.Accepted.{Accepted}
 use Rattle.quorum_cli.specs.declared.status.Status.TheVariants.{Yes, Usage}
-use Rattle.quorum_cli.specs.declared.reading.Outcome.{Outcome}
-use Rattle.quorum_cli.specs.declared.reading.Outcome.TheVariants.{Told, Asked}
+use Rattle.quorum_cli.specs.declared.early.Early.{Early}
+use Rattle.quorum_cli.specs.Reading.{TellsStatus}
 
 -- the certificate is accepted for a configuration and its system, and its answer holds for the part that it speaks of, the
 -- whole system or the trust closure of a node, once the nodes of its header are deleted: the two sets of a pair are quorums
@@ -47,17 +47,15 @@ pub record NamesAccepted (words : List (List ℕ)) (files : Files) : Type 0 wher
   pub taken : order_of words ≡ Ok order
   pub names : NamesFiles order files
 
--- a yes that is told before any question is asked is that of an accepted certificate, of which this is so
-abbrev pub YesMeans : Type 0 → Outcome → Type 0
-YesMeans meaning (Told a) = a.status ≡ Yes → meaning
-YesMeans meaning (Asked f question) = Unit {0}
+-- a yes that is told early is that of an accepted certificate, of which this is so
+abbrev pub YesMeans : Type 0 → Early → Type 0
+YesMeans meaning e = TellsStatus (λ status. status ≡ Yes → meaning) e
 
 -- the words are an order to check a certificate
 abbrev pub IsCheck : Result Ordered OrderFault → Type 0
 IsCheck (Ok order) = order.command ≡ Check
 IsCheck (Err fault) = ⊥
 
--- the words are refused
-abbrev pub IsToldUsage : Outcome → Type 0
-IsToldUsage (Told a) = a.status ≡ Usage
-IsToldUsage (Asked f question) = ⊥
+-- the words are refused, if an answer is told
+abbrev pub IsUsage : Early → Type 0
+IsUsage e = TellsStatus (λ status. status ≡ Usage) e

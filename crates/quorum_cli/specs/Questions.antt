@@ -1,11 +1,11 @@
 -- What an order asks of a system, and what answers it.
-use Rattle.std.specs.Prelude.{◌≡◌, ◌⊎◌, ◌<◌, ℕ, List, [], length, Option, Some, None, unwrap_or, Result, Ok, Err, codes, nat_le, if◌then◌else◌}
+use Rattle.std.specs.Prelude.{◌≡◌, ◌⊎◌, ◌<◌, ℕ, List, [], length, Option, Some, None, option_map, unwrap_or, Result, Ok, Err, codes, nat_le, if◌then◌else◌}
 use Rattle.fbas_model.specs.Nodes.{Table, members}
 use Rattle.fbas_model.specs.Names.{Name}
 use Rattle.fbas_model.specs.Systems.{System}
 use Rattle.fbas_model.specs.Fbas.{all_nodes, IsClosed, IsClosure, IsGreatestQuorum, Available, AreUnmet, MeetsQuorums, BlocksNode}
-use Rattle.fbas_model.specs.Nodes.{◌∖◌, ◌∪◌}
-use Rattle.fbas_model.specs.Restriction.{closure_of, kept, restricted, table_from}
+use Rattle.fbas_model.specs.Nodes.{◌∖◌}
+use Rattle.fbas_model.specs.Restriction.{closure_of, kept, restricted, union}
 use Rattle.name_set.specs.Lists.{names_read, name_read}
 use Rattle.name_set.specs.declared.lists.NameFault.{NameFault}
 use Rattle.clause_encoder.specs.Formula.{formula_vars, formula_clauses}
@@ -13,58 +13,59 @@ use Rattle.clause_encoder.specs.Dimacs.{dimacs}
 use Rattle.sha2.specs.Sha256.{sha256}
 use Rattle.node_json.specs.Organisations.{Org, ids_read}
 use Rattle.cli_words.specs.Order.{Ordered}
-use Rattle.cli_words.specs.declared.orders.Command.{Command}
-use Rattle.cli_words.specs.declared.orders.Command.TheVariants as command
-use Rattle.report.specs.Lines.{Text, names_refused, closure as printed_closure, export_head, exported, too_large, greatest, unavailable, not_blocking, shown}
+use Rattle.cli_words.specs.declared.orders.Query.{Query}
+use Rattle.cli_words.specs.declared.orders.Query.TheVariants as query
+use Rattle.report.specs.Lines.{Text, names_refused, closure as printed_closure, exported, too_large, greatest, unavailable, not_blocking, shown}
 use Rattle.quorum_cli.specs.declared.status.Status.TheVariants.{Yes, No, Usage, TooLarge}
 use Rattle.quorum_cli.specs.declared.reply.Reply.{Reply as Answer}
 use Rattle.quorum_cli.specs.declared.question.Question.{Question}
 use Rattle.quorum_cli.specs.declared.question.Question.TheVariants.{Show, Closure, Greatest, Available as AvailableWithout, Blocks, Export, Vblocks}
+use Rattle.quorum_cli.specs.declared.question.Origin.{Origin}
 use Rattle.quorum_cli.specs.declared.question.Inquiry.{Inquiry}
-use Rattle.quorum_cli.specs.declared.refusal.Refusal.{Refusal}
-use Rattle.quorum_cli.specs.declared.refusal.Refusal.TheVariants.{Names, Memory}
+use Rattle.quorum_cli.specs.declared.early.Early.{Early}
+use Rattle.quorum_cli.specs.declared.early.Early.TheVariants.{Told}
+use Rattle.quorum_cli.specs.Reading.{◌>>=◌}
 
 -- ---- what is asked
-
-abbrev pub and_then : {A B : Type 0} → (A → Result B Answer) → Result A Answer → Result B Answer
-and_then f (Ok a) = f a
-and_then f (Err e) = Err e
-
-abbrev pub after : {A B : Type 0} → (A → B) → Result A Answer → Result B Answer
-after f r = and_then (λ a. Ok (f a)) r
 
 abbrev pub names_refusal : Text → NameFault → Answer
 names_refusal option fault = record { status = Usage; text = names_refused option fault }
 
-abbrev pub or_refused : {A : Type 0} → Text → Result A NameFault → Result A Answer
+abbrev pub or_refused : {A : Type 0} → Text → Result A NameFault → Result A Early
 or_refused option (Ok a) = Ok a
-or_refused option (Err fault) = Err (names_refusal option fault)
+or_refused option (Err fault) = Err (Told (names_refusal option fault))
 
 -- the set that an option's list names: an option that is not given is the empty list
-abbrev pub set_named : List Name → Text → Option Text → Result Table Answer
+abbrev pub set_named : List Name → Text → Option Text → Result Table Early
 set_named names option list = or_refused option (names_read (unwrap_or list []) names)
 
 -- the node that an option names
-abbrev pub node_named : List Name → Text → Option Text → Result ℕ Answer
+abbrev pub node_named : List Name → Text → Option Text → Result ℕ Early
 node_named names option name = or_refused option (name_read (unwrap_or name []) names)
 
 -- the set that an option's list of organisations stands for: an option that is not given is the empty list
-abbrev pub orgs_named : ℕ → List Org → Text → Option Text → Result Table Answer
+abbrev pub orgs_named : ℕ → List Org → Text → Option Text → Result Table Early
 orgs_named n orgs option list = or_refused option (ids_read (unwrap_or list []) orgs n)
 
--- the nodes of both sets
-abbrev pub union : Table → Table → Table
-union s t = table_from 0 (length s) (members s ∪ members t)
-
 -- the faulty nodes: those of both lists
-abbrev pub faulty_named : System → List Org → Ordered → Result Table Answer
-faulty_named f orgs o =
-    and_then (λ named. after (union named) (orgs_named (length f.sets) orgs (codes "--faulty-orgs") o.faulty_orgs)) (set_named f.names (codes "--faulty") o.faulty)
+abbrev pub faulty_named : System → List Org → Ordered → Result Table Early
+faulty_named f orgs o = do
+  named ← set_named f.names (codes "--faulty") o.faulty
+  listed ← orgs_named (length f.sets) orgs (codes "--faulty-orgs") o.faulty_orgs
+  Ok (union named listed)
 
--- the trust closure of the node that `--from` names, or none where the option is not given
-abbrev pub closure_named : System → Option Text → Result (Option Table) Answer
-closure_named f None = Ok None
-closure_named f (Some name) = after (λ v. Some (closure_of f.sets v)) (node_named f.names (codes "--from") (Some name))
+-- the node that `--from` names, if the option is given
+abbrev pub from_named : System → Option Text → Result (Option ℕ) Early
+from_named f None = Ok None
+from_named f (Some name) = do
+  v ← node_named f.names (codes "--from") (Some name)
+  Ok (Some v)
+
+-- its trust closure
+abbrev pub closure_named : System → Option Text → Result (Option Table) Early
+closure_named f from = do
+  node ← from_named f from
+  Ok (option_map (λ v. closure_of f.sets v) node)
 
 -- the system restricted to a trust closure, or the whole system
 abbrev pub part_of : System → Option Table → System
@@ -80,36 +81,33 @@ cut_to (Some closure) set = kept closure set
 abbrev pub about : Option Table → Question → Inquiry
 about closure question = record { closure = closure; question = question }
 
--- what the order asks of the system of a configuration's bytes, its names read in the order of the options `--node`, `--from`, `--faulty`, `--faulty-orgs`, `--set`
-abbrev pub question_of : Command → System → List ℕ → List Org → Ordered → Result Inquiry Answer
-question_of command.Show f config orgs o = Ok (about None Show)
-question_of command.Check f config orgs o = Ok (about None Show)
-question_of command.Closure f config orgs o = after (λ node. about None (Closure node)) (node_named f.names (codes "--node") o.node)
-question_of command.Greatest f config orgs o =
-    and_then (λ closure. after (λ faulty. about closure (Greatest (cut_to closure faulty))) (faulty_named f orgs o)) (closure_named f o.from)
-question_of command.Available f config orgs o =
-    and_then (λ closure. after (λ set. about closure (AvailableWithout (cut_to closure set))) (set_named f.names (codes "--set") o.set)) (closure_named f o.from)
-question_of command.Blocks f config orgs o =
-    and_then (λ closure. and_then (λ faulty. after (λ set. about closure (Blocks (cut_to closure set) (cut_to closure faulty))) (set_named f.names (codes "--set") o.set)) (faulty_named f orgs o)) (closure_named f o.from)
-question_of command.Export f config orgs o =
-    and_then (λ closure. after (λ faulty. about closure (Export (export_head (sha256 config) o.from) (cut_to closure faulty))) (faulty_named f orgs o)) (closure_named f o.from)
-question_of command.Vblocks f config orgs o =
-    and_then (λ node. after (λ set. about None (Vblocks node set)) (set_named f.names (codes "--set") o.set)) (node_named f.names (codes "--node") o.node)
-
--- the refusal is that of the result, or memory is wanting
-abbrev pub Refuses : {A : Type 0} → Refusal → Result A Answer → Type 0
-Refuses Memory r = Unit {0}
-Refuses (Names a) r = r ≡ Err a
-
--- the refusal has this answer, or memory is wanting
-abbrev pub IsRefusal : Refusal → Answer → Type 0
-IsRefusal Memory a = Unit {0}
-IsRefusal (Names b) a = b ≡ a
-
--- a refusal with an answer has the status of a faulty command line
-abbrev pub IsUsage : Refusal → Type 0
-IsUsage Memory = Unit {0}
-IsUsage (Names a) = a.status ≡ Usage
+-- what an order with this question asks of the system of a configuration's bytes, its names read in the order of the options `--node`, `--from`, `--faulty`, `--faulty-orgs`, `--set`
+abbrev pub question_of : Query → System → List ℕ → List Org → Ordered → Result Inquiry Early
+question_of query.Show f config orgs o = Ok (about None Show)
+question_of query.Closure f config orgs o = do
+  node ← node_named f.names (codes "--node") o.node
+  Ok (about None (Closure node))
+question_of query.Greatest f config orgs o = do
+  closure ← closure_named f o.from
+  faulty ← faulty_named f orgs o
+  Ok (about closure (Greatest (cut_to closure faulty)))
+question_of query.Available f config orgs o = do
+  closure ← closure_named f o.from
+  set ← set_named f.names (codes "--set") o.set
+  Ok (about closure (AvailableWithout (cut_to closure set)))
+question_of query.Blocks f config orgs o = do
+  closure ← closure_named f o.from
+  faulty ← faulty_named f orgs o
+  set ← set_named f.names (codes "--set") o.set
+  Ok (about closure (Blocks (cut_to closure set) (cut_to closure faulty)))
+question_of query.Export f config orgs o = do
+  closure ← closure_named f o.from
+  faulty ← faulty_named f orgs o
+  Ok (about closure (Export (record { digest = sha256 config; from = o.from }) (cut_to closure faulty)))
+question_of query.Vblocks f config orgs o = do
+  node ← node_named f.names (codes "--node") o.node
+  set ← set_named f.names (codes "--set") o.set
+  Ok (about None (Vblocks node set))
 
 -- each set has a mark for each of n nodes, and each node is one of them
 abbrev pub FitsQuestion : ℕ → Question → Type 0
@@ -118,7 +116,7 @@ FitsQuestion n (Closure v) = v < n
 FitsQuestion n (Greatest b) = length b ≡ n
 FitsQuestion n (AvailableWithout s) = length s ≡ n
 FitsQuestion n (Blocks s b) = (length s ≡ n) × (length b ≡ n)
-FitsQuestion n (Export head b) = length b ≡ n
+FitsQuestion n (Export origin b) = length b ≡ n
 FitsQuestion n (Vblocks v s) = (v < n) × (length s ≡ n)
 
 -- a trust closure has a mark for each node, and is closed
@@ -183,19 +181,19 @@ abbrev pub AnswersVblocks : System → ℕ → Table → Answer → Type 0
 AnswersVblocks f v s a = (BlocksNode f.sets v (members s) × says (codes "vblocks yes\n") a) ⊎ ((BlocksNode f.sets v (members s) → ⊥) × denies (codes "vblocks no\n") a)
 
 -- the formula that says whether quorums intersect, or that it has too many variables
-abbrev pub export_answer : System → Text → Table → Table → Answer
-export_answer f head b greatest =
+abbrev pub export_answer : System → Origin → Table → Table → Answer
+export_answer f origin b greatest =
     if nat_le (formula_vars f.sets b greatest) 4000000 then record {
       status = Yes;
-      text = exported head f.names b (dimacs f.names (record { greatest = greatest; count = formula_vars f.sets b greatest }) (formula_clauses f.sets b greatest));
+      text = exported origin.digest origin.from f.names b (dimacs f.names (record { greatest = greatest; count = formula_vars f.sets b greatest }) (formula_clauses f.sets b greatest));
     } else record { status = TooLarge; text = too_large (formula_vars f.sets b greatest) }
 
 -- the intersection formula over the greatest quorum is printed, once b is deleted
-pub record AnswersExport (f : System) (head : Text) (b : Table) (a : Answer) : Type 0 where
+pub record AnswersExport (f : System) (origin : Origin) (b : Table) (a : Answer) : Type 0 where
   pub greatest : Table
   pub places : length greatest ≡ length f.sets
   pub is : IsGreatestQuorum f.sets (members b) (all_nodes f.sets) (members greatest)
-  pub said : a ≡ export_answer f head b greatest
+  pub said : a ≡ export_answer f origin b greatest
 
 -- the answer to a question about a system
 abbrev pub Answers : System → Question → Answer → Type 0
@@ -204,5 +202,5 @@ Answers f (Closure v) a = AnswersClosure f v a
 Answers f (Greatest b) a = AnswersGreatest f b a
 Answers f (AvailableWithout s) a = SaysAvailable f s a ⊎ SaysUnavailable f s a
 Answers f (Blocks s b) a = SaysBlocks f s b a ⊎ SaysNotBlocks f s b a
-Answers f (Export head b) a = AnswersExport f head b a
+Answers f (Export origin b) a = AnswersExport f origin b a
 Answers f (Vblocks v s) a = AnswersVblocks f v s a

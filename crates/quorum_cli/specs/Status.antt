@@ -1,12 +1,13 @@
 -- How the program ends.
 use Rattle.std.specs.Prelude.{ℕ, Bool, true, false}
 use Rattle.quorum_cli.specs.declared.status.Status.{Status}
-use Rattle.quorum_cli.specs.declared.status.Status.TheVariants.{Yes, No, Usage, ConfigRefused, CertRefused, ReadFault, WriteFault, Memory, TooLarge}
+use Rattle.quorum_cli.specs.declared.status.Status.TheVariants.{Yes, No, Unknown, Usage, ConfigRefused, CertRefused, ReadFault, WriteFault, Memory, TooLarge}
 
 -- the exit status of the process
 abbrev pub code_of : Status → ℕ
 code_of Yes = 0
 code_of No = 1
+code_of Unknown = 2
 code_of Usage = 3
 code_of ConfigRefused = 4
 code_of CertRefused = 5

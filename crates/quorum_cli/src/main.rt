@@ -1,41 +1,58 @@
 //! `quorum_cli`, an analyser of federated Byzantine agreement systems.
 #![tactic(auto)]
 
+mod checking;
+mod early;
 mod files;
 mod names;
 mod parts;
+mod printing;
 mod question;
 mod reading;
-mod refusal;
+mod replies;
 mod reply;
 mod run;
+mod searches;
+mod searching;
 mod solving;
 mod status;
-mod stop;
 #[cfg(test)]
 mod tests;
+mod word;
+
+ghost use Rattle.std.specs.Prelude.{◌≡◌, [], IfOk, IsErr, IsOk};
 
 use crate::run::run;
-use crate::status::Status;
+use crate::status::{Status, exit_code};
 use desk_io::RealDesk;
-use std::alloc::AllocError;
+use std::alloc::{AllocError, Global};
 use std::env;
 use std::io::ErrorKind;
 use std::process::ExitCode;
 
-// The words of the command line, or none where one of them is not UTF-8.
+// The words where the command line could not be read: want of memory, or none where one of them is not UTF-8.
+fn unread_words(alloc: Global, kind: ErrorKind) -> Result<Vec<String>, AllocError>
+    ensures memory { kind ≡ ErrorKind.OutOfMemory → IsErr result }
+    ensures other { (kind ≡ ErrorKind.OutOfMemory → ⊥) → IsOk result }
+    ensures none { IfOk result (λ words. words.items ≡ []) }
+{
+    match kind {
+        ErrorKind::OutOfMemory => Err(AllocError),
+        _ => Ok(Vec::new(alloc)),
+    }
+}
+
+// The words of the command line.
 fn words(rt: &HostRuntime) -> Result<Vec<String>, AllocError> {
     match env::args(rt) {
         Ok(args) => args.collect(rt.alloc()),
-        Err(e) if e.kind() == ErrorKind::OutOfMemory => Err(AllocError),
-        Err(_) => Ok(Vec::new(rt.alloc())),
+        Err(error) => unread_words(rt.alloc(), error.kind()),
     }
 }
 
 fn main(rt: HostRuntime) -> ExitCode {
-    let status = match words(&rt) {
-        Ok(words) => run(rt.alloc(), &words, &mut RealDesk::new(&rt)),
-        Err(_) => Status::Memory,
-    };
-    ExitCode::from(status.code())
+    match words(&rt) {
+        Ok(words) => exit_code(run(rt.alloc(), &words, &mut RealDesk::new(&rt))),
+        Err(AllocError) => exit_code(Status::Memory),
+    }
 }

@@ -1,14 +1,26 @@
-// The nodes that the options name.
-ghost use Rattle.std.specs.Prelude.{◌≡◌, ◌<◌, All, IfOk, IfErr, Ok, length, option_map, string_bytes};
+//! The nodes that the options name.
+ghost use Rattle.std.specs.Prelude.{◌≡◌, ◌≤◌, ◌<◌, All, IfOk, IfErr, length, option_map, string_bytes};
 ghost use Rattle.cli_words.specs.Order.{order_view};
-ghost use Rattle.quorum_cli.specs.Questions.{set_named as set_by_option, node_named as node_by_option, orgs_named as orgs_by_option, faulty_named as faulty_by_options, Refuses, IsUsage};
+ghost use Rattle.fbas_model.specs.declared.TheConstants.{MOST_NODES};
+ghost use Rattle.quorum_cli.specs.Questions.{names_refusal, set_named as set_by_option, node_named as node_by_option, orgs_named as orgs_by_option, faulty_named as faulty_by_options};
+ghost use Rattle.quorum_cli.specs.Reading.{Gives, IsRefusal};
 
-use crate::refusal::{Refusal, refuse_names};
+use crate::early::Early;
+use crate::reply::Reply;
+use crate::status::Status;
 use cli_words::Order;
 use fbas_core::System;
 use name_set::{NameFault, NodeSet, read_name, read_names};
 use node_json::{Orgs, read_ids};
-use std::alloc::Global;
+use std::alloc::{AllocError, Global};
+
+// The answer to names that are refused behind an option.
+fn refuse_names(alloc: Global, option: &str, fault: NameFault) -> Result<Reply, AllocError>
+    ensures { IfOk result (λ a. a ≡ names_refusal option.now fault) }
+{
+    let text = report::names_refused(alloc, option, fault)?;
+    Ok(Reply::new(Status::Usage, text))
+}
 
 /// The set that an option's list names, empty where the option is not given.
 pub fn set_named(
@@ -16,20 +28,19 @@ pub fn set_named(
     system: &System,
     option: &str,
     list: &Option<String>,
-) -> Result<NodeSet, Refusal>
-    ensures ok { IfOk result (λ s. set_by_option system.now.names option.now (option_map string_bytes list.now) ≡ Ok s) }
-    ensures err { IfErr result (λ r. Refuses r (set_by_option system.now.names option.now (option_map string_bytes list.now))) }
-    ensures usage { IfErr result IsUsage }
+) -> Result<NodeSet, Early>
+    ensures gives { Gives result (set_by_option system.now.names option.now (option_map string_bytes list.now)) }
+    ensures refused { IfErr result IsRefusal }
     ensures fits { IfOk result (λ s. length s ≡ length system.now.sets) }
 {
+    let _ = system.len();
     let list = match list {
         Some(list) => list.as_str(),
         None => "",
     };
-    match read_names(alloc, list.as_bytes(), system.names()) {
+    match read_names(list.as_bytes(), system.names()) {
         Ok(set) => Ok(set),
-        Err(NameFault::Memory) => Err(Refusal::Memory),
-        Err(fault) => Err(refuse_names(alloc, option, fault)),
+        Err(fault) => Err(Early::Told(refuse_names(alloc, option, fault)?)),
     }
 }
 
@@ -39,10 +50,9 @@ pub fn node_named(
     system: &System,
     option: &str,
     name: &Option<String>,
-) -> Result<u32, Refusal>
-    ensures ok { IfOk result (λ v. node_by_option system.now.names option.now (option_map string_bytes name.now) ≡ Ok v) }
-    ensures err { IfErr result (λ r. Refuses r (node_by_option system.now.names option.now (option_map string_bytes name.now))) }
-    ensures usage { IfErr result IsUsage }
+) -> Result<u32, Early>
+    ensures gives { Gives result (node_by_option system.now.names option.now (option_map string_bytes name.now)) }
+    ensures refused { IfErr result IsRefusal }
     ensures below { IfOk result (λ v. v < length system.now.sets) }
 {
     let name = match name {
@@ -51,7 +61,7 @@ pub fn node_named(
     };
     match read_name(name.as_bytes(), system.names()) {
         Ok(node) => Ok(node),
-        Err(fault) => Err(refuse_names(alloc, option, fault)),
+        Err(fault) => Err(Early::Told(refuse_names(alloc, option, fault)?)),
     }
 }
 
@@ -62,21 +72,20 @@ fn orgs_named(
     n: u32,
     option: &str,
     list: &Option<String>,
-) -> Result<NodeSet, Refusal>
-    requires { All (λ org. length org.members ≡ n) orgs.now }
-    ensures ok { IfOk result (λ s. orgs_by_option n orgs.now option.now (option_map string_bytes list.now) ≡ Ok s) }
-    ensures err { IfErr result (λ r. Refuses r (orgs_by_option n orgs.now option.now (option_map string_bytes list.now))) }
-    ensures usage { IfErr result IsUsage }
+) -> Result<NodeSet, Early>
+    requires sized { All (λ org. length org.members ≡ n) orgs.now }
+    requires few { n ≤ MOST_NODES }
+    ensures gives { Gives result (orgs_by_option n orgs.now option.now (option_map string_bytes list.now)) }
+    ensures refused { IfErr result IsRefusal }
     ensures fits { IfOk result (λ s. length s ≡ n) }
 {
     let list = match list {
         Some(list) => list.as_str(),
         None => "",
     };
-    match read_ids(alloc, list.as_bytes(), orgs, n) {
+    match read_ids(list.as_bytes(), orgs, n) {
         Ok(set) => Ok(set),
-        Err(NameFault::Memory) => Err(Refusal::Memory),
-        Err(fault) => Err(refuse_names(alloc, option, fault)),
+        Err(fault) => Err(Early::Told(refuse_names(alloc, option, fault)?)),
     }
 }
 
@@ -86,11 +95,10 @@ pub fn faulty_named(
     system: &System,
     orgs: &Orgs,
     order: &Order,
-) -> Result<NodeSet, Refusal>
+) -> Result<NodeSet, Early>
     requires { All (λ org. length org.members ≡ length system.now.names) orgs.now }
-    ensures ok { IfOk result (λ s. faulty_by_options system.now orgs.now (order_view order.now) ≡ Ok s) }
-    ensures err { IfErr result (λ r. Refuses r (faulty_by_options system.now orgs.now (order_view order.now))) }
-    ensures usage { IfErr result IsUsage }
+    ensures gives { Gives result (faulty_by_options system.now orgs.now (order_view order.now)) }
+    ensures refused { IfErr result IsRefusal }
     ensures fits { IfOk result (λ s. length s ≡ length system.now.sets) }
 {
     let n = system.len();

@@ -1,20 +1,28 @@
-// What is asked of a system.
-ghost use Rattle.std.specs.Prelude.{◌≡◌, None, [], All, IfOk, IfErr, Ok, length, option_map, string_bytes};
-ghost use Rattle.sha2.specs.Sha256.{sha256};
-ghost use Rattle.report.specs.Lines.{export_head};
+//! What is asked of a system.
+ghost use Rattle.std.specs.Prelude.{◌≡◌, None, [], All, IfOk, IfErr, length};
 ghost use Rattle.cli_words.specs.Order.{order_view};
-ghost use Rattle.quorum_cli.specs.Questions.{question_of, Refuses, IsUsage, FitsInquiry};
+ghost use Rattle.quorum_cli.specs.Questions.{question_of, FitsInquiry};
+ghost use Rattle.quorum_cli.specs.Reading.{Gives, IsRefusal};
 
+use crate::early::Early;
 use crate::names::{faulty_named, node_named, set_named};
 use crate::parts::{closure_named, cut_to};
-use crate::refusal::Refusal;
-use crate::reply::Text;
-use cli_words::{Command, Order};
+use crate::word::{Word, word_if_any};
+use cli_words::{Order, Query};
 use digest_text::digest;
 use fbas_core::System;
 use name_set::NodeSet;
 use node_json::Orgs;
-use std::alloc::{AllocError, Global};
+use std::alloc::Global;
+
+/// Where an exported formula comes from.
+#[derive(Drop)]
+pub struct Origin {
+    /// The digest of the configuration.
+    pub digest: [u8; 32],
+    /// The node of whose trust closure the formula speaks, if it is one.
+    pub from: Option<Word>,
+}
 
 /// A question about a system, with the sets of nodes that it speaks of.
 #[derive(Drop)]
@@ -31,8 +39,8 @@ pub enum Question {
     Blocks(NodeSet, NodeSet),
     /// Whether the nodes meet every slice of this one.
     Vblocks(u32, NodeSet),
-    /// The formula that says whether its quorums intersect once these nodes are deleted, behind these comment lines.
-    Export(Text, NodeSet),
+    /// The formula that says whether its quorums intersect once these nodes are deleted.
+    Export(Origin, NodeSet),
 }
 
 /// A question, and the trust closure that it is about: none where it is about the whole system.
@@ -52,18 +60,10 @@ fn of_the_whole(question: Question) -> Inquiry
     }
 }
 
-// The first comment lines of an exported formula.
-fn head_of(alloc: Global, config: &[u8], from: &Option<String>) -> Result<Text, AllocError>
-    ensures { IfOk result (λ head. head ≡ export_head (sha256 config.now) (option_map string_bytes from.now)) }
-{
-    Ok(Text::of(report::export_head(alloc, &digest(config), from)?))
-}
-
 // The order `closure`.
-fn closure_asked(alloc: Global, order: &Order, system: &System) -> Result<Inquiry, Refusal>
-    ensures ok { IfOk result (λ i. question_of Command.Closure system.now [] [] (order_view order.now) ≡ Ok i) }
-    ensures err { IfErr result (λ r. Refuses r (question_of Command.Closure system.now [] [] (order_view order.now))) }
-    ensures usage { IfErr result IsUsage }
+fn closure_asked(alloc: Global, order: &Order, system: &System) -> Result<Inquiry, Early>
+    ensures gives { Gives result (question_of Query.Closure system.now [] [] (order_view order.now)) }
+    ensures refused { IfErr result IsRefusal }
     ensures fits { IfOk result (FitsInquiry system.now) }
 {
     let node = node_named(alloc, system, "--node", &order.node)?;
@@ -76,30 +76,28 @@ fn greatest_asked(
     order: &Order,
     system: &System,
     orgs: &Orgs,
-) -> Result<Inquiry, Refusal>
+) -> Result<Inquiry, Early>
     requires { All (λ org. length org.members ≡ length system.now.names) orgs.now }
-    ensures ok { IfOk result (λ i. question_of Command.Greatest system.now [] orgs.now (order_view order.now) ≡ Ok i) }
-    ensures err { IfErr result (λ r. Refuses r (question_of Command.Greatest system.now [] orgs.now (order_view order.now))) }
-    ensures usage { IfErr result IsUsage }
+    ensures gives { Gives result (question_of Query.Greatest system.now [] orgs.now (order_view order.now)) }
+    ensures refused { IfErr result IsRefusal }
     ensures fits { IfOk result (FitsInquiry system.now) }
 {
     let closure = closure_named(alloc, system, &order.from)?;
     let named = faulty_named(alloc, system, orgs, order)?;
-    let faulty = cut_to(alloc, system, &closure, named)?;
+    let faulty = cut_to(system, &closure, named);
     let question = Question::Greatest(faulty);
     Ok(Inquiry { closure, question })
 }
 
 // The order `available`.
-fn available_asked(alloc: Global, order: &Order, system: &System) -> Result<Inquiry, Refusal>
-    ensures ok { IfOk result (λ i. question_of Command.Available system.now [] [] (order_view order.now) ≡ Ok i) }
-    ensures err { IfErr result (λ r. Refuses r (question_of Command.Available system.now [] [] (order_view order.now))) }
-    ensures usage { IfErr result IsUsage }
+fn available_asked(alloc: Global, order: &Order, system: &System) -> Result<Inquiry, Early>
+    ensures gives { Gives result (question_of Query.Available system.now [] [] (order_view order.now)) }
+    ensures refused { IfErr result IsRefusal }
     ensures fits { IfOk result (FitsInquiry system.now) }
 {
     let closure = closure_named(alloc, system, &order.from)?;
     let named = set_named(alloc, system, "--set", &order.set)?;
-    let set = cut_to(alloc, system, &closure, named)?;
+    let set = cut_to(system, &closure, named);
     let question = Question::Available(set);
     Ok(Inquiry { closure, question })
 }
@@ -110,27 +108,25 @@ fn blocks_asked(
     order: &Order,
     system: &System,
     orgs: &Orgs,
-) -> Result<Inquiry, Refusal>
+) -> Result<Inquiry, Early>
     requires { All (λ org. length org.members ≡ length system.now.names) orgs.now }
-    ensures ok { IfOk result (λ i. question_of Command.Blocks system.now [] orgs.now (order_view order.now) ≡ Ok i) }
-    ensures err { IfErr result (λ r. Refuses r (question_of Command.Blocks system.now [] orgs.now (order_view order.now))) }
-    ensures usage { IfErr result IsUsage }
+    ensures gives { Gives result (question_of Query.Blocks system.now [] orgs.now (order_view order.now)) }
+    ensures refused { IfErr result IsRefusal }
     ensures fits { IfOk result (FitsInquiry system.now) }
 {
     let closure = closure_named(alloc, system, &order.from)?;
     let named_faulty = faulty_named(alloc, system, orgs, order)?;
     let named = set_named(alloc, system, "--set", &order.set)?;
-    let faulty = cut_to(alloc, system, &closure, named_faulty)?;
-    let set = cut_to(alloc, system, &closure, named)?;
+    let faulty = cut_to(system, &closure, named_faulty);
+    let set = cut_to(system, &closure, named);
     let question = Question::Blocks(set, faulty);
     Ok(Inquiry { closure, question })
 }
 
 // The order `vblocks`.
-fn vblocks_asked(alloc: Global, order: &Order, system: &System) -> Result<Inquiry, Refusal>
-    ensures ok { IfOk result (λ i. question_of Command.Vblocks system.now [] [] (order_view order.now) ≡ Ok i) }
-    ensures err { IfErr result (λ r. Refuses r (question_of Command.Vblocks system.now [] [] (order_view order.now))) }
-    ensures usage { IfErr result IsUsage }
+fn vblocks_asked(alloc: Global, order: &Order, system: &System) -> Result<Inquiry, Early>
+    ensures gives { Gives result (question_of Query.Vblocks system.now [] [] (order_view order.now)) }
+    ensures refused { IfErr result IsRefusal }
     ensures fits { IfOk result (FitsInquiry system.now) }
 {
     let node = node_named(alloc, system, "--node", &order.node)?;
@@ -145,43 +141,46 @@ fn export_asked(
     system: &System,
     config: &[u8],
     orgs: &Orgs,
-) -> Result<Inquiry, Refusal>
+) -> Result<Inquiry, Early>
     requires { All (λ org. length org.members ≡ length system.now.names) orgs.now }
-    ensures ok { IfOk result (λ i. question_of Command.Export system.now config.now orgs.now (order_view order.now) ≡ Ok i) }
-    ensures err { IfErr result (λ r. Refuses r (question_of Command.Export system.now config.now orgs.now (order_view order.now))) }
-    ensures usage { IfErr result IsUsage }
+    ensures gives { Gives result (question_of Query.Export system.now config.now orgs.now (order_view order.now)) }
+    ensures refused { IfErr result IsRefusal }
     ensures fits { IfOk result (FitsInquiry system.now) }
 {
     let closure = closure_named(alloc, system, &order.from)?;
     let named = faulty_named(alloc, system, orgs, order)?;
-    let faulty = cut_to(alloc, system, &closure, named)?;
-    let head = head_of(alloc, config, &order.from)?;
-    let question = Question::Export(head, faulty);
+    let faulty = cut_to(system, &closure, named);
+    let from = word_if_any(alloc, &order.from)?;
+    let origin = Origin {
+        digest: digest(config),
+        from,
+    };
+    let question = Question::Export(origin, faulty);
     Ok(Inquiry { closure, question })
 }
 
-/// What an order asks of the system of a configuration. The names are read in the order of the options `--node`, `--from`, `--faulty`,
+/// What an order with this question asks of the system of a configuration. The names are read in the order of the options `--node`, `--from`, `--faulty`,
 /// `--faulty-orgs`, `--set`.
 pub fn question_asked(
     alloc: Global,
+    query: Query,
     order: &Order,
     system: &System,
     config: &[u8],
     orgs: &Orgs,
-) -> Result<Inquiry, Refusal>
+) -> Result<Inquiry, Early>
     requires { All (λ org. length org.members ≡ length system.now.names) orgs.now }
-    ensures ok { IfOk result (λ i. question_of order.now.command system.now config.now orgs.now (order_view order.now) ≡ Ok i) }
-    ensures err { IfErr result (λ r. Refuses r (question_of order.now.command system.now config.now orgs.now (order_view order.now))) }
-    ensures usage { IfErr result IsUsage }
+    ensures gives { Gives result (question_of query system.now config.now orgs.now (order_view order.now)) }
+    ensures refused { IfErr result IsRefusal }
     ensures fits { IfOk result (FitsInquiry system.now) }
 {
-    match order.command {
-        Command::Show | Command::Check => Ok(of_the_whole(Question::Show)),
-        Command::Closure => closure_asked(alloc, order, system),
-        Command::Greatest => greatest_asked(alloc, order, system, orgs),
-        Command::Available => available_asked(alloc, order, system),
-        Command::Blocks => blocks_asked(alloc, order, system, orgs),
-        Command::Vblocks => vblocks_asked(alloc, order, system),
-        Command::Export => export_asked(alloc, order, system, config, orgs),
+    match query {
+        Query::Show => Ok(of_the_whole(Question::Show)),
+        Query::Closure => closure_asked(alloc, order, system),
+        Query::Greatest => greatest_asked(alloc, order, system, orgs),
+        Query::Available => available_asked(alloc, order, system),
+        Query::Blocks => blocks_asked(alloc, order, system, orgs),
+        Query::Vblocks => vblocks_asked(alloc, order, system),
+        Query::Export => export_asked(alloc, order, system, config, orgs),
     }
 }

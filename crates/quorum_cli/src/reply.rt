@@ -1,8 +1,11 @@
-// An answer.
+//! An answer.
+ghost use Rattle.std.specs.Prelude.{◌≡◌, IfOk};
+
 use crate::status::Status;
+use std::alloc::{AllocError, Global};
 use std::marker::Model;
 
-/// Printed lines.
+/// Printed text, seen as its bytes.
 #[derive(Drop)]
 pub struct Text {
     bytes: Vec<u8>,
@@ -48,4 +51,11 @@ impl Reply {
         let text = Text::of(bytes);
         Reply { status, text }
     }
+}
+
+/// An answer of this text.
+pub fn says(alloc: Global, status: Status, text: &str) -> Result<Reply, AllocError>
+    ensures { IfOk result (λ a. a ≡ record { status = status; text = text.now }) }
+{
+    Ok(Reply::new(status, Vec::from_slice(alloc, text.as_bytes())?))
 }

@@ -1,5 +1,5 @@
-// The answer to a question.
-ghost use Rattle.std.specs.Prelude.{◌≡◌, ◌⊎◌, ◌<◌, List, IfOk, length};
+//! The answer to a question.
+ghost use Rattle.std.specs.Prelude.{◌≡◌, ◌⊎◌, ◌<◌, List, IfOk, length, option_map};
 ghost use Rattle.quorum_cli.specs.Questions.{Answers, FitsQuestion, AnswersClosure, AnswersGreatest, SaysAvailable, SaysUnavailable, SaysBlocks, SaysNotBlocks, AnswersVblocks, AnswersExport, export_answer, says};
 ghost use Rattle.fbas_model.specs.Nodes.{members};
 ghost use Rattle.fbas_model.specs.Fbas.{IsGreatestQuorum, all_nodes};
@@ -8,20 +8,14 @@ ghost use Rattle.lrat_model.specs.Literal.{Literal};
 ghost use Rattle.clause_encoder.specs.Dimacs.{dimacs};
 ghost use Rattle.lrat_model.specs.Runs.{formula_database};
 
-use crate::question::Question;
-use crate::reply::{Reply, Text};
+use crate::question::{Origin, Question};
+use crate::reply::{Reply, says};
 use crate::status::Status;
 use clause_encoder::{EncodeError, VarMap, encode, write_dimacs};
 use clause_store::Store;
 use fbas_core::System;
 use name_set::NodeSet;
 use std::alloc::{AllocError, Global};
-
-fn says(alloc: Global, status: Status, text: &str) -> Result<Reply, AllocError>
-    ensures { IfOk result (λ a. a ≡ record { status = status; text = text.now }) }
-{
-    Ok(Reply::new(status, Vec::from_slice(alloc, text.as_bytes())?))
-}
 
 fn show(alloc: Global, system: &System) -> Result<Reply, AllocError>
     ensures { IfOk result (says (shown system.now)) }
@@ -33,7 +27,7 @@ fn closure(alloc: Global, system: &System, node: u32) -> Result<Reply, AllocErro
     requires { node < length system.now.sets }
     ensures { IfOk result (AnswersClosure system.now node) }
 {
-    let closure = system.closure(alloc, node)?;
+    let closure = system.closure(node);
     let text = report::with_list(alloc, "", "closure", system, &closure)?;
     Ok(Reply::new(Status::Yes, text))
 }
@@ -42,9 +36,7 @@ fn greatest(alloc: Global, system: &System, faulty: &NodeSet) -> Result<Reply, A
     requires { length faulty.now ≡ length system.now.sets }
     ensures { IfOk result (AnswersGreatest system.now faulty.now) }
 {
-    let mut quorum = NodeSet::new(alloc, system.len())?;
-    quorum.fill();
-    greatest_quorum::shrink(system, &mut quorum, faulty);
+    let quorum = greatest_quorum::greatest(system, faulty);
     let text = report::with_list(alloc, "", "greatest", system, &quorum)?;
     Ok(Reply::new(Status::Yes, text))
 }
@@ -53,7 +45,7 @@ fn available(alloc: Global, system: &System, set: &NodeSet) -> Result<Reply, All
     requires { length set.now ≡ length system.now.sets }
     ensures { IfOk result (λ a. SaysAvailable system.now set.now a ⊎ SaysUnavailable system.now set.now a) }
 {
-    let mut unmet = NodeSet::new(alloc, system.len())?;
+    let mut unmet = NodeSet::new(system.len());
     if greatest_quorum::available(system, set, &mut unmet) {
         return says(alloc, Status::Yes, "available yes\n");
     }
@@ -71,7 +63,7 @@ fn blocks(
     requires faulty { length faulty.now ≡ length system.now.sets }
     ensures { IfOk result (λ a. SaysBlocks system.now set.now faulty.now a ⊎ SaysNotBlocks system.now set.now faulty.now a) }
 {
-    let mut quorum = NodeSet::new(alloc, system.len())?;
+    let mut quorum = NodeSet::new(system.len());
     if greatest_quorum::blocks(system, set, faulty, &mut quorum) {
         return says(alloc, Status::Yes, "blocks yes\n");
     }
@@ -90,11 +82,21 @@ fn vblocks(alloc: Global, system: &System, node: u32, set: &NodeSet) -> Result<R
     says(alloc, Status::No, "vblocks no\n")
 }
 
+// The name of the node of whose trust closure an exported formula speaks, if it speaks of one.
+fn from_of(origin: &Origin) -> Option<&[u8]>
+    ensures { option_map (λ name. name.now) result ≡ origin.now.from }
+{
+    match &origin.from {
+        Some(name) => Some(name.as_str().as_bytes()),
+        None => None,
+    }
+}
+
 // The answer to a formula that was made.
 fn formula_text(
     alloc: Global,
     system: &System,
-    head: &Text,
+    origin: &Origin,
     faulty: &NodeSet,
     store: &Store,
     map: &VarMap,
@@ -102,10 +104,17 @@ fn formula_text(
     requires same_n { length faulty.now ≡ length system.now.sets }
     requires places { length map.now.greatest ≡ length system.now.names }
     ensures { (clauses : List (List Literal)) → store.now ≡ formula_database clauses
-        → IfOk result (says (exported head.now system.now.names faulty.now (dimacs system.now.names map.now clauses))) }
+        → IfOk result (says (exported origin.now.digest origin.now.from system.now.names faulty.now (dimacs system.now.names map.now clauses))) }
 {
     let dimacs = write_dimacs(alloc, store, map, system)?;
-    let text = report::exported(alloc, head.bytes(), system, faulty, &dimacs)?;
+    let text = report::exported(
+        alloc,
+        &origin.digest,
+        from_of(origin),
+        system,
+        faulty,
+        &dimacs,
+    )?;
     Ok(Reply::new(Status::Yes, text))
 }
 
@@ -113,7 +122,7 @@ fn formula_text(
 fn formula(
     alloc: Global,
     system: &System,
-    head: &Text,
+    origin: &Origin,
     faulty: &NodeSet,
     greatest: &NodeSet,
 ) -> Result<Reply, AllocError>
@@ -121,12 +130,12 @@ fn formula(
     requires same_n { length greatest.now ≡ length system.now.sets }
     requires same_names { length greatest.now ≡ length system.now.names }
     requires greatest { IsGreatestQuorum system.now.sets (members faulty.now) (all_nodes system.now.sets) (members greatest.now) }
-    ensures { IfOk result (λ a. a ≡ export_answer system.now head.now faulty.now greatest.now) }
+    ensures { IfOk result (λ a. a ≡ export_answer system.now origin.now faulty.now greatest.now) }
 {
     match encode(alloc, system, faulty, greatest) {
-        Ok((store, map)) => formula_text(alloc, system, head, faulty, &store, &map),
+        Ok((store, map)) => formula_text(alloc, system, origin, faulty, &store, &map),
         Err(EncodeError::TooLarge(vars)) => {
-            let text = report::too_large(alloc, vars)?;
+            let text = report::counted(alloc, "too-large", vars)?;
             Ok(Reply::new(Status::TooLarge, text))
         }
         Err(EncodeError::Memory) => Err(AllocError),
@@ -136,16 +145,14 @@ fn formula(
 fn export(
     alloc: Global,
     system: &System,
-    head: &Text,
+    origin: &Origin,
     faulty: &NodeSet,
 ) -> Result<Reply, AllocError>
     requires { length faulty.now ≡ length system.now.sets }
-    ensures { IfOk result (AnswersExport system.now head.now faulty.now) }
+    ensures { IfOk result (AnswersExport system.now origin.now faulty.now) }
 {
-    let mut quorum = NodeSet::new(alloc, system.len())?;
-    quorum.fill();
-    greatest_quorum::shrink(system, &mut quorum, faulty);
-    formula(alloc, system, head, faulty, &quorum)
+    let quorum = greatest_quorum::greatest(system, faulty);
+    formula(alloc, system, origin, faulty, &quorum)
 }
 
 /// The answer to a question about a system.
@@ -159,7 +166,7 @@ pub fn solve(alloc: Global, system: &System, question: &Question) -> Result<Repl
         Question::Greatest(faulty) => greatest(alloc, system, faulty),
         Question::Available(set) => available(alloc, system, set),
         Question::Blocks(set, faulty) => blocks(alloc, system, set, faulty),
-        Question::Export(head, faulty) => export(alloc, system, head, faulty),
+        Question::Export(origin, faulty) => export(alloc, system, origin, faulty),
         Question::Vblocks(node, set) => vblocks(alloc, system, *node, set),
     }
 }

@@ -1,6 +1,9 @@
-// How the program ends.
+//! How the program ends.
 ghost use Rattle.std.specs.Prelude.{◌≡◌};
+ghost use Rattle.std.specs.Process.{exit_status};
 ghost use Rattle.quorum_cli.specs.Status.{code_of};
+
+use std::process::ExitCode;
 
 /// How the program ends: with an answer, or with a failing of the outside or of the memory.
 #[derive(Clone, Copy, Debug, PartialEq, Eq)]
@@ -9,6 +12,8 @@ pub enum Status {
     Yes,
     /// No.
     No,
+    /// The budget is spent, or a partial certificate is accepted.
+    Unknown,
     /// The command line is refused.
     Usage,
     /// The configuration is refused.
@@ -25,21 +30,27 @@ pub enum Status {
     TooLarge,
 }
 
-impl Status {
-    /// The exit status of the process.
-    pub fn code(self) -> u8
-        ensures { result ≡ code_of self }
-    {
-        match self {
-            Status::Yes => 0,
-            Status::No => 1,
-            Status::Usage => 3,
-            Status::ConfigRefused => 4,
-            Status::CertRefused => 5,
-            Status::ReadFault => 6,
-            Status::WriteFault => 7,
-            Status::Memory => 8,
-            Status::TooLarge => 9,
-        }
+/// The exit status of the process.
+fn code(status: Status) -> u8
+    ensures { result ≡ code_of status }
+{
+    match status {
+        Status::Yes => 0,
+        Status::No => 1,
+        Status::Unknown => 2,
+        Status::Usage => 3,
+        Status::ConfigRefused => 4,
+        Status::CertRefused => 5,
+        Status::ReadFault => 6,
+        Status::WriteFault => 7,
+        Status::Memory => 8,
+        Status::TooLarge => 9,
     }
+}
+
+/// What the process ends with.
+pub fn exit_code(status: Status) -> ExitCode
+    ensures { exit_status result ≡ code_of status }
+{
+    ExitCode::from(code(status))
 }

@@ -34,7 +34,7 @@ const ORGANISATIONS: &str =
     r#"[{"publicKey":"p1","quorumSet":{"threshold":2,"validators":[],"innerQuorumSets":[{"threshold":2,"validators":["p1","p2","p3"]},{"threshold":2,"validators":["q1","q2","q3"]},{"threshold":2,"validators":["r1","r2","r3"]}]}},{"publicKey":"p2","quorumSet":{"threshold":2,"validators":[],"innerQuorumSets":[{"threshold":2,"validators":["p1","p2","p3"]},{"threshold":2,"validators":["q1","q2","q3"]},{"threshold":2,"validators":["r1","r2","r3"]}]}},{"publicKey":"p3","quorumSet":{"threshold":2,"validators":[],"innerQuorumSets":[{"threshold":2,"validators":["p1","p2","p3"]},{"threshold":2,"validators":["q1","q2","q3"]},{"threshold":2,"validators":["r1","r2","r3"]}]}},{"publicKey":"q1","quorumSet":{"threshold":2,"validators":[],"innerQuorumSets":[{"threshold":2,"validators":["p1","p2","p3"]},{"threshold":2,"validators":["q1","q2","q3"]},{"threshold":2,"validators":["r1","r2","r3"]}]}},{"publicKey":"q2","quorumSet":{"threshold":2,"validators":[],"innerQuorumSets":[{"threshold":2,"validators":["p1","p2","p3"]},{"threshold":2,"validators":["q1","q2","q3"]},{"threshold":2,"validators":["r1","r2","r3"]}]}},{"publicKey":"q3","quorumSet":{"threshold":2,"validators":[],"innerQuorumSets":[{"threshold":2,"validators":["p1","p2","p3"]},{"threshold":2,"validators":["q1","q2","q3"]},{"threshold":2,"validators":["r1","r2","r3"]}]}},{"publicKey":"r1","quorumSet":{"threshold":2,"validators":[],"innerQuorumSets":[{"threshold":2,"validators":["p1","p2","p3"]},{"threshold":2,"validators":["q1","q2","q3"]},{"threshold":2,"validators":["r1","r2","r3"]}]}},{"publicKey":"r2","quorumSet":{"threshold":2,"validators":[],"innerQuorumSets":[{"threshold":2,"validators":["p1","p2","p3"]},{"threshold":2,"validators":["q1","q2","q3"]},{"threshold":2,"validators":["r1","r2","r3"]}]}},{"publicKey":"r3","quorumSet":{"threshold":2,"validators":[],"innerQuorumSets":[{"threshold":2,"validators":["p1","p2","p3"]},{"threshold":2,"validators":["q1","q2","q3"]},{"threshold":2,"validators":["r1","r2","r3"]}]}}]"#;
 
 const USAGE: &str =
-    "usage: quorum_cli COMMAND\nshow CONFIG\nclosure CONFIG --node NAME\ngreatest CONFIG [COMMON]\navailable CONFIG --set NAMES [--from NAME]\nblocks CONFIG --set NAMES [COMMON]\nvblocks CONFIG --node NAME --set NAMES\ncheck CONFIG CERT\nexport CONFIG [COMMON]\nCOMMON: --from NAME --faulty NAMES --orgs ORGS --faulty-orgs IDS\n";
+    "usage: quorum_cli COMMAND\nshow CONFIG\nclosure CONFIG --node NAME\ngreatest CONFIG [COMMON]\nintersect CONFIG CERT [COMMON] [--budget UNITS]\navailable CONFIG --set NAMES [--from NAME]\ndset CONFIG CERT --set NAMES [--from NAME] [--budget UNITS]\nblocks CONFIG --set NAMES [COMMON]\nvblocks CONFIG --node NAME --set NAMES\nsplits CONFIG CERT --set NAMES [COMMON] [--budget UNITS]\ncheck CONFIG CERT\nexport CONFIG [COMMON]\nCOMMON: --from NAME --faulty NAMES --orgs ORGS --faulty-orgs IDS\n";
 
 fn files(alloc: Global, config: &[u8], cert: &[u8]) -> Result<Vec<(String, Vec<u8>)>, AllocError> {
     let mut files = Vec::new(alloc);
@@ -230,7 +230,6 @@ fn words_that_are_no_order_and_missing_files_end_the_program(rt: HostRuntime) ->
     for (line, status, text) in [
         ("", Status::Usage, USAGE),
         ("--help", Status::Usage, USAGE),
-        ("intersect config cert", Status::Usage, USAGE),
         ("check config", Status::Usage, USAGE),
         ("check config config", Status::Usage, "usage same-path\n"),
         ("check config missing", Status::ReadFault, ""),
@@ -801,5 +800,293 @@ fn export_names_the_number_of_variables_where_they_are_too_many(
     let (found, out) = ends(alloc, "export config", &config, b"")?;
     assert_eq!(rt; found, Status::TooLarge);
     assert_eq!(rt; out.as_slice(), b"too-large 6020400\n".as_slice());
+    Ok(())
+}
+
+/// Four nodes, of which each needs three of the four.
+const THREE_OF_FOUR: &str =
+    r#"[{"publicKey":"a","quorumSet":{"threshold":3,"validators":["a","b","c","d"]}},{"publicKey":"b","quorumSet":{"threshold":3,"validators":["a","b","c","d"]}},{"publicKey":"c","quorumSet":{"threshold":3,"validators":["a","b","c","d"]}},{"publicKey":"d","quorumSet":{"threshold":3,"validators":["a","b","c","d"]}}]"#;
+
+// A desk with a configuration and organisations, which may create the file `c`.
+fn desk_of_search(
+    alloc: Global,
+    config: &[u8],
+    failing: Vec<(Call, u64)>,
+) -> Result<MemDesk, AllocError> {
+    let mut files = files(alloc, config, b"")?;
+    files.push((
+        String::from_str(alloc, "orgs")?,
+        Vec::from_slice(alloc, ORG.as_bytes())?,
+    ))?;
+    let mut may_create = Vec::new(alloc);
+    may_create.push(String::from_str(alloc, "c")?)?;
+    MemDesk::new(alloc, files, may_create, 8, 1_000_000, failing)
+}
+
+// How a search ends, what is out then, and what `check` says of the certificate, nothing where there is none.
+fn searched(
+    alloc: Global,
+    line: &str,
+    config: &[u8],
+    failing: Vec<(Call, u64)>,
+) -> Result<(Status, Vec<u8>, Vec<u8>), AllocError> {
+    let mut desk = desk_of_search(alloc, config, failing)?;
+    let status = run(alloc, &words(alloc, line)?, &mut desk);
+    let out = Vec::from_slice(alloc, desk.out())?;
+    let checked = match desk.file("c") {
+        Some(cert) => ends(alloc, "check config cert", config, cert)?.1,
+        None => Vec::new(alloc),
+    };
+    Ok((status, out, checked))
+}
+
+#[test]
+fn searches_are_answered_with_certificates_that_are_accepted(rt: HostRuntime) -> Result<(), Fail> {
+    let alloc = rt.alloc();
+    for (config, line, status, text, checked) in [
+        (
+            TWO_OF_THREE,
+            "intersect config c",
+            Status::Yes,
+            "intersects yes\n",
+            "accepted refutation\nfrom\nfaulty\n",
+        ),
+        (
+            TWO_OF_THREE,
+            "intersect config c --faulty a",
+            Status::No,
+            "intersects no\nfirst b\nsecond c\n",
+            "accepted pair\nfrom\nfaulty a\n",
+        ),
+        (
+            "[]",
+            "intersect config c",
+            Status::Yes,
+            "intersects yes\n",
+            "accepted refutation\nfrom\nfaulty\n",
+        ),
+        (
+            UNDECLARED,
+            "intersect config c",
+            Status::Yes,
+            "intersects yes\n",
+            "accepted refutation\nfrom\nfaulty\n",
+        ),
+        (
+            THREE_OF_FOUR,
+            "dset config c --set a",
+            Status::Yes,
+            "available yes\nintersects yes\ndset yes\n",
+            "accepted refutation\nfrom\nfaulty a\n",
+        ),
+        (
+            THREE_OF_FOUR,
+            "dset config c --set a,b",
+            Status::No,
+            "available no\nunmet c d\nintersects no\nfirst c\nsecond d\ndset no\n",
+            "accepted pair\nfrom\nfaulty a b\n",
+        ),
+        (
+            THREE_OF_FOUR,
+            "dset config c --set a,b --budget 0",
+            Status::No,
+            "available no\nunmet c d\nintersects no\nfirst c\nsecond d\ndset no\n",
+            "accepted pair\nfrom\nfaulty a b\n",
+        ),
+        (
+            TWO_PAIRS,
+            "intersect config c",
+            Status::No,
+            "intersects no\nfirst a b\nsecond c d\n",
+            "accepted pair\nfrom\nfaulty\n",
+        ),
+        (
+            TWO_PAIRS,
+            "intersect config c --from a",
+            Status::Yes,
+            "intersects yes\n",
+            "accepted refutation\nfrom a\nfaulty\n",
+        ),
+        (
+            TWO_PAIRS,
+            "splits config c --set a",
+            Status::Yes,
+            "splits yes\nfirst b\nsecond c d\n",
+            "accepted pair\nfrom\nfaulty a\n",
+        ),
+        (
+            TWO_PAIRS,
+            "splits config c --set c --from a",
+            Status::No,
+            "splits no\n",
+            "accepted refutation\nfrom a\nfaulty\n",
+        ),
+        (
+            TWO_OF_THREE,
+            "splits config c --set a --faulty b --budget 0",
+            Status::No,
+            "splits no\n",
+            "accepted refutation\nfrom\nfaulty a b\n",
+        ),
+        (
+            TWO_OF_THREE,
+            "intersect config c --orgs orgs --faulty-orgs A",
+            Status::No,
+            "intersects no\nfirst b\nsecond c\n",
+            "accepted pair\nfrom\nfaulty a\n",
+        ),
+        (
+            TWO_OF_THREE,
+            "intersect config c --budget 0",
+            Status::Unknown,
+            "intersects unknown 0\n",
+            "accepted partial 0\nfrom\nfaulty\n",
+        ),
+    ] {
+        let (found, out, said) = searched(alloc, line, config.as_bytes(), Vec::new(alloc))?;
+        assert_eq!(rt; found, status, "at {line}");
+        assert_eq!(rt; out.as_slice(), text.as_bytes(), "at {line}");
+        assert_eq!(rt; said.as_slice(), checked.as_bytes(), "at {line}");
+    }
+    Ok(())
+}
+
+#[test]
+fn a_search_that_is_refused_makes_no_certificate(rt: HostRuntime) -> Result<(), Fail> {
+    let alloc = rt.alloc();
+    let half = half_of_two_hundred(alloc)?;
+    for (config, line, status, text) in [
+        (
+            TWO_OF_THREE.as_bytes(),
+            "intersect config c --budget 4000000001",
+            Status::Usage,
+            USAGE,
+        ),
+        (
+            TWO_OF_THREE.as_bytes(),
+            "intersect config c --faulty z",
+            Status::Usage,
+            "usage unknown-name --faulty 1\n",
+        ),
+        (
+            TWO_OF_THREE.as_bytes(),
+            "splits config orgs --set a --orgs orgs",
+            Status::Usage,
+            "usage same-path\n",
+        ),
+        (
+            TWO_OF_THREE.as_bytes(),
+            "intersect config config",
+            Status::Usage,
+            "usage same-path\n",
+        ),
+        (
+            b"{".as_slice(),
+            "intersect config c",
+            Status::ConfigRefused,
+            "config not-json\n",
+        ),
+        (
+            TWO_OF_THREE.as_bytes(),
+            "intersect missing c",
+            Status::ReadFault,
+            "",
+        ),
+        (
+            half.as_slice(),
+            "intersect config c",
+            Status::TooLarge,
+            "too-large 6020400\n",
+        ),
+    ] {
+        let mut desk = desk_of_search(alloc, config, Vec::new(alloc))?;
+        assert_eq!(rt;
+            run(alloc, &words(alloc, line)?, &mut desk),
+            status,
+            "at {line}"
+        );
+        assert_eq!(rt; desk.out(), text.as_bytes(), "at {line}");
+        assert!(rt; desk.file("c").is_none(), "at {line}");
+    }
+    Ok(())
+}
+
+#[test]
+fn a_search_whose_call_fails_leaves_a_front_of_its_certificate(
+    rt: HostRuntime,
+) -> Result<(), Fail> {
+    let alloc = rt.alloc();
+    for (call, number, status, checked) in [
+        (Call::Next(Which::Config), 2, Status::ReadFault, ""),
+        (Call::Create, 1, Status::WriteFault, ""),
+        (
+            Call::Put(desk_io::To::Cert),
+            2,
+            Status::WriteFault,
+            "refused truncated 1\n",
+        ),
+        (
+            Call::Put(desk_io::To::Out),
+            1,
+            Status::WriteFault,
+            "accepted pair\nfrom\nfaulty a\n",
+        ),
+    ] {
+        let mut failing = Vec::new(alloc);
+        failing.push((call, number))?;
+        let line = "intersect config c --faulty a";
+        let (found, out, said) = searched(alloc, line, TWO_OF_THREE.as_bytes(), failing)?;
+        assert_eq!(rt; found, status, "at {call:?}");
+        assert!(rt; out.is_empty(), "at {call:?}");
+        assert_eq!(rt; said.as_slice(), checked.as_bytes(), "at {call:?}");
+    }
+    Ok(())
+}
+
+#[test]
+fn an_unknown_answer_has_the_formula_in_its_certificate(rt: HostRuntime) -> Result<(), Fail> {
+    let alloc = rt.alloc();
+    let mut desk = desk_of_search(alloc, TWO_OF_THREE.as_bytes(), Vec::new(alloc))?;
+    let words = words(alloc, "intersect config c --budget 0")?;
+    assert_eq!(rt; run(alloc, &words, &mut desk), Status::Unknown);
+    let mut cert = String::from_str(alloc, HEAD)?;
+    cert.push_str("from\nfaulty\nkind partial\nformula 36 53\nend\n")?;
+    assert_eq!(rt; desk.file("c"), Some(cert.as_bytes()));
+    Ok(())
+}
+
+#[test]
+fn check_counts_the_units_of_a_partial_certificate(rt: HostRuntime) -> Result<(), Fail> {
+    let alloc = rt.alloc();
+    for (lines, status, text) in [
+        (
+            "17 -1 0 7 6 3 4 2 0\nend\n",
+            Status::Unknown,
+            "accepted partial 1\nfrom\nfaulty\n",
+        ),
+        (
+            "17 1 2 0 1 0\nend\n",
+            Status::CertRefused,
+            "refused not-new 7\n",
+        ),
+        (
+            "17 -1 0 7 6 3 4 2 0\n18 -1 0 17 0\nend\n",
+            Status::CertRefused,
+            "refused not-new 8\n",
+        ),
+        (
+            "17 -1 0 7 6 3 4 2 0\n18 0 17 1 10 8 0\nend\n",
+            Status::CertRefused,
+            "refused bad-line 8\n",
+        ),
+    ] {
+        let mut cert = String::from_str(alloc, "fbas-cert 1\nconfig ")?;
+        cert.push_str(DIGEST_OF_TWO)?;
+        cert.push_str("\nfrom\nfaulty\nkind partial\nformula 8 16\n")?;
+        cert.push_str(lines)?;
+        let (found, out) = checks(alloc, TWO_OF_TWO, cert.as_str())?;
+        assert_eq!(rt; found, status, "at {lines}");
+        assert_eq!(rt; out.as_slice(), text.as_bytes(), "at {lines}");
+    }
     Ok(())
 }

@@ -7,7 +7,7 @@ use Rattle.fbas_model.specs.Systems.{System, entries_in, unset_in}
 use Rattle.fbas_model.specs.Fbas.{Fbas}
 use Rattle.quorum_set.specs.Findings.{Found, bad_threshold, repeated, findings_of}
 use Rattle.name_set.specs.declared.lists.NameFault.{NameFault}
-use Rattle.name_set.specs.declared.lists.NameFault.TheVariants.{Empty, BadKey as BadName, Unknown, Memory as NoNames}
+use Rattle.name_set.specs.declared.lists.NameFault.TheVariants.{Empty, BadKey as BadName, Unknown}
 use Rattle.node_json.specs.declared.faults.SetFault.{SetFault}
 use Rattle.node_json.specs.declared.faults.SetFault.TheVariants.{Shape, Threshold, Validators, Inner}
 use Rattle.node_json.specs.declared.faults.ConfigFault.{ConfigFault}
@@ -17,11 +17,12 @@ use Rattle.node_json.specs.declared.faults.OrgFault.TheVariants.{NotJson as NoTr
 use Rattle.lrat_model.specs.Literal.{Literal, Plus, Minus}
 use Rattle.lrat_model.specs.declared.step.StepFault.{StepFault}
 use Rattle.lrat_model.specs.declared.step.StepFault.TheVariants.{IdOrder, BadLiteral, Tautology, NoSuchClause, NotUnit, NoConflict, RatStep, Memory as NoStep}
-use Rattle.certificate_file.specs.declared.faults.CertError.{CertError}
-use Rattle.certificate_file.specs.declared.faults.CertError.TheVariants.{BadLine, LineTooLong, TooManyLines, Digest, UnknownNode, NotQuorum, Overlap, Formula, Step, NotRefuted, TooLarge, Truncated, Trailing, Read, Memory as NoMemory}
+use Rattle.cert_lines.specs.declared.faults.CertError.{CertError}
+use Rattle.cert_lines.specs.declared.faults.CertError.TheVariants.{BadLine, LineTooLong, TooManyLines, Digest, UnknownNode, NotQuorum, Overlap, Formula, Step, NotNew, NotRefuted, TooLarge, Truncated, Trailing, Read, Memory as NoMemory}
 use Rattle.certificate_file.specs.declared.places.Accepted.{Accepted}
+use Rattle.witness_pair.specs.declared.Pair.{Pair}
 use Rattle.certificate_file.specs.declared.places.Answer.{Answer}
-use Rattle.certificate_file.specs.declared.places.Answer.TheVariants.{Pair, Refutation}
+use Rattle.certificate_file.specs.declared.places.Answer.TheVariants.{Pair as pair, Refutation, Partial}
 
 abbrev pub Text : Type 0
 Text = List ℕ
@@ -33,6 +34,10 @@ line text = text ++ 10 ∷ []
 -- the text, a space and a number
 abbrev pub numbered : Text → ℕ → Text
 numbered text n = text ++ 32 ∷ decimal n
+
+-- a line of a word and a number
+abbrev pub counted : Text → ℕ → Text
+counted word n = line (numbered word n)
 
 -- the text, a space and a word
 abbrev pub worded : Text → Text → Text
@@ -56,17 +61,15 @@ name_at names v = unwrap_or (slice_get names v) []
 -- ---- refusals
 
 abbrev pub usage : Text
-usage = codes "usage: quorum_cli COMMAND\nshow CONFIG\nclosure CONFIG --node NAME\ngreatest CONFIG [COMMON]\navailable CONFIG --set NAMES [--from NAME]\nblocks CONFIG --set NAMES [COMMON]\nvblocks CONFIG --node NAME --set NAMES\ncheck CONFIG CERT\nexport CONFIG [COMMON]\nCOMMON: --from NAME --faulty NAMES --orgs ORGS --faulty-orgs IDS\n"
+usage = codes "usage: quorum_cli COMMAND\nshow CONFIG\nclosure CONFIG --node NAME\ngreatest CONFIG [COMMON]\nintersect CONFIG CERT [COMMON] [--budget UNITS]\navailable CONFIG --set NAMES [--from NAME]\ndset CONFIG CERT --set NAMES [--from NAME] [--budget UNITS]\nblocks CONFIG --set NAMES [COMMON]\nvblocks CONFIG --node NAME --set NAMES\nsplits CONFIG CERT --set NAMES [COMMON] [--budget UNITS]\ncheck CONFIG CERT\nexport CONFIG [COMMON]\nCOMMON: --from NAME --faulty NAMES --orgs ORGS --faulty-orgs IDS\n"
 
 abbrev pub same_path : Text
 same_path = codes "usage same-path\n"
 
--- a want of memory is no refusal of a list, and is not printed
 abbrev pub names_fault : Text → NameFault → Text
 names_fault option (Empty at) = numbered (worded (codes "usage empty-name") option) at
 names_fault option (BadName at) = numbered (worded (codes "usage bad-name") option) at
 names_fault option (Unknown at) = numbered (worded (codes "usage unknown-name") option) at
-names_fault option NoNames = []
 
 -- the list of names behind this option is refused
 abbrev pub names_refused : Text → NameFault → Text
@@ -139,6 +142,7 @@ cert_fault names (NotQuorum l) = numbered (codes "refused not-quorum") l
 cert_fault names (Overlap l v) = worded (numbered (codes "refused overlap") l) (name_at names v)
 cert_fault names (Formula l) = numbered (codes "refused formula") l
 cert_fault names (Step l fault) = worded (numbered (codes "refused step") l) (step_fault fault)
+cert_fault names (NotNew l) = numbered (codes "refused not-new") l
 cert_fault names (NotRefuted l) = numbered (codes "refused not-refuted") l
 cert_fault names (TooLarge vars) = numbered (codes "too-large") vars
 cert_fault names (Truncated l) = numbered (codes "refused truncated") l
@@ -152,8 +156,9 @@ cert_refused names fault = line (cert_fault names fault)
 -- ---- answers
 
 abbrev pub accepted_kind : Answer → Text
-accepted_kind (Pair p) = codes "accepted pair\n"
+accepted_kind (pair p) = codes "accepted pair\n"
 accepted_kind Refutation = codes "accepted refutation\n"
+accepted_kind (Partial units) = counted (codes "accepted partial") units
 
 -- a word, and behind it the name of a node where there is one
 abbrev pub word_if_any : Text → List Name → Option ℕ → Text
@@ -168,6 +173,10 @@ accepted names a = accepted_kind a.answer ++ (line (word_if_any (codes "from") n
 abbrev pub with_list : Text → Text → List Name → Table → Text
 with_list head word names set = head ++ line (list word names set)
 
+-- a line of its own, and the lines `first` and `second` of two quorums
+abbrev pub with_pair : Text → List Name → Pair → Text
+with_pair head names p = head ++ (line (list (codes "first") names p.first) ++ line (list (codes "second") names p.second))
+
 -- a word, and behind it the word of an option where it is given
 abbrev pub worded_if_any : Text → Option Text → Text
 worded_if_any text None = text
@@ -179,12 +188,12 @@ abbrev pub export_head : List ℕ → Option Name → Text
 export_head digest from = line (worded (codes "c config") (encode_lower digest)) ++ line (worded_if_any (codes "c from") from)
 
 -- an exported formula: its comment lines, the faulty nodes the last of them, and its DIMACS text
-abbrev pub exported : Text → List Name → Table → Text → Text
-exported head names faulty dimacs = with_list head (codes "c faulty") names faulty ++ dimacs
+abbrev pub exported : List ℕ → Option Name → List Name → Table → Text → Text
+exported digest from names faulty dimacs = with_list (export_head digest from) (codes "c faulty") names faulty ++ dimacs
 
 -- a formula with this many variables is not written
 abbrev pub too_large : ℕ → Text
-too_large vars = line (numbered (codes "too-large") vars)
+too_large vars = counted (codes "too-large") vars
 
 abbrev pub closure : List Name → Table → Text
 closure names set = with_list [] (codes "closure") names set

@@ -1,4 +1,4 @@
-// What is odd in the quorum sets of a system.
+//! What is odd in the quorum sets of a system.
 ghost use Rattle.std.specs.Prelude.{◌≡◌, ◌≤◌, ◌<◌, ◌++◌, ◌∷◌, ℕ, length, decimal, OnOk, IfOk, IfSome};
 ghost use Rattle.fbas_model.specs.QuorumSets.{all_entries};
 ghost use Rattle.quorum_set.specs.Findings.{found, found_all, findings_of};

@@ -1,4 +1,4 @@
-// The lines that the program prints.
+//! The lines that the program prints.
 #![tactic(auto)]
 
 mod findings;
@@ -7,4 +7,4 @@ mod words;
 
 pub use findings::shown;
 pub use refusals::{cert_refused, config_refused, names_refused, orgs_refused};
-pub use words::{accepted, export_head, exported, too_large, with_list};
+pub use words::{accepted, counted, exported, with_list, with_pair};

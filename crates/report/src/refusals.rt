@@ -1,4 +1,4 @@
-// Why a file is refused.
+//! Why a file is refused.
 ghost use Rattle.std.specs.Prelude.{◌≡◌, ◌<◌, ◌++◌, ◌∷◌, [], length, codes, OnOk, IfOk};
 ghost use Rattle.report.specs.Lines.{numbered, worded, config_fault, config_refused as spec_config_refused, orgs_fault, orgs_refused as spec_orgs_refused, cert_fault, cert_refused as spec_cert_refused, literal_word, step_fault, names_fault, names_refused as spec_names_refused, set_fault};
 
@@ -165,6 +165,7 @@ fn cert_words(alloc: Global, names: &Names, fault: &CertError) -> Result<Vec<u8>
         CertError::Overlap(l, v) => overlap(alloc, names, *l, *v),
         CertError::Formula(l) => numbered_word(alloc, "refused formula", *l),
         CertError::Step(l, fault) => step_refused(alloc, *l, fault),
+        CertError::NotNew(l) => numbered_word(alloc, "refused not-new", *l),
         CertError::NotRefuted(l) => numbered_word(alloc, "refused not-refuted", *l),
         CertError::TooLarge(vars) => numbered_word(alloc, "too-large", *vars),
         CertError::Truncated(l) => numbered_word(alloc, "refused truncated", *l),
@@ -198,7 +199,6 @@ fn names_words(alloc: Global, option: &str, fault: NameFault) -> Result<Vec<u8>,
         NameFault::Empty(at) => name_words(alloc, "usage empty-name", option, at),
         NameFault::BadKey(at) => name_words(alloc, "usage bad-name", option, at),
         NameFault::Unknown(at) => name_words(alloc, "usage unknown-name", option, at),
-        NameFault::Memory => Ok(Vec::new(alloc)),
     }
 }
 

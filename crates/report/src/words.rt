@@ -1,8 +1,8 @@
-// Words, numbers and names, one behind another.
-ghost use Rattle.std.specs.Prelude.{◌≡◌, ◌<◌, ◌++◌, ◌∷◌, [], length, decimal, codes, option_map, string_bytes, OnOk, IfOk};
-ghost use Rattle.report.specs.Lines.{numbered, worded, list, listed, line, word_if_any, accepted as spec_accepted, accepted_kind, with_list as spec_with_list, counts as spec_counts, export_head as spec_export_head, exported as spec_exported, too_large as spec_too_large, name_at as spec_name_at};
+//! Words, numbers and names, one behind another.
+ghost use Rattle.std.specs.Prelude.{◌≡◌, ◌<◌, ◌++◌, ◌∷◌, [], length, decimal, codes, option_map, OnOk, IfOk};
+ghost use Rattle.report.specs.Lines.{numbered, worded, list, listed, line, word_if_any, accepted as spec_accepted, accepted_kind, with_list as spec_with_list, counts as spec_counts, export_head as spec_export_head, exported as spec_exported, with_pair as spec_with_pair, counted as spec_counted, name_at as spec_name_at};
 
-use certificate_file::{Accepted, Answer};
+use certificate_file::{Accepted, Answer, Pair};
 use fbas_core::System;
 use itoa::Buffer;
 use name_set::{Names, NodeSet};
@@ -96,21 +96,43 @@ fn push_word_if_any(
     Ok(())
 }
 
+// Adds the line of what a certificate shows.
+fn push_kind(text: &mut Vec<u8>, answer: &Answer) -> Result<(), AllocError>
+    ensures { OnOk result (text.new.items ≡ text.old.items ++ accepted_kind answer.now) }
+{
+    match answer {
+        Answer::Pair(_) => push_word(text, "accepted pair\n"),
+        Answer::Refutation => push_word(text, "accepted refutation\n"),
+        Answer::Partial(units) => push_count(text, "accepted partial", *units),
+    }
+}
+
 /// The lines of an accepted certificate: its kind, and its lines `from` and `faulty`.
 pub fn accepted(alloc: Global, system: &System, accepted: &Accepted) -> Result<Vec<u8>, AllocError>
     requires { length accepted.now.header.faulty ≡ length system.now.sets }
     ensures { IfOk result (λ text. text.items ≡ spec_accepted system.now.names accepted.now) }
 {
     let mut text = Vec::new(alloc);
-    push_word(
-        &mut text,
-        match &accepted.answer {
-            Answer::Pair(_) => "accepted pair\n",
-            Answer::Refutation => "accepted refutation\n",
-        },
-    )?;
+    push_kind(&mut text, &accepted.answer)?;
     push_word_if_any(&mut text, "from", system.names(), accepted.header.from)?;
     push_list(&mut text, "faulty", system, &accepted.header.faulty)?;
+    Ok(text)
+}
+
+/// A text, and behind it the lines `first` and `second` of two quorums.
+pub fn with_pair(
+    alloc: Global,
+    head: &str,
+    system: &System,
+    pair: &Pair,
+) -> Result<Vec<u8>, AllocError>
+    requires first { length pair.now.first ≡ length system.now.sets }
+    requires second { length pair.now.second ≡ length system.now.sets }
+    ensures { IfOk result (λ text. text.items ≡ spec_with_pair head.now system.now.names pair.now) }
+{
+    let mut text = Vec::from_slice(alloc, head.as_bytes())?;
+    push_list(&mut text, "first", system, &pair.first)?;
+    push_list(&mut text, "second", system, &pair.second)?;
     Ok(text)
 }
 
@@ -132,7 +154,7 @@ pub fn with_list(
 
 // Adds a line of a word and a number.
 fn push_count(text: &mut Vec<u8>, word: &str, number: u64) -> Result<(), AllocError>
-    ensures { OnOk result (text.new.items ≡ text.old.items ++ line (numbered word.now number)) }
+    ensures { OnOk result (text.new.items ≡ text.old.items ++ spec_counted word.now number) }
 {
     push_word(text, word)?;
     push_number(text, number)?;
@@ -151,47 +173,45 @@ pub fn counts(alloc: Global, system: &System) -> Result<Vec<u8>, AllocError>
     Ok(text)
 }
 
-/// The first comment lines of an exported formula: the digest of the configuration, and the node of whose trust closure the
-/// formula speaks.
-pub fn export_head(
-    alloc: Global,
-    digest: &[u8; 32],
-    from: &Option<String>,
-) -> Result<Vec<u8>, AllocError>
-    ensures { IfOk result (λ text. text.items ≡ spec_export_head digest.now (option_map string_bytes from.now)) }
+// The first comment lines of an exported formula: the digest of the configuration, and the node of whose trust closure the
+// formula speaks.
+fn export_head(alloc: Global, digest: &[u8; 32], from: Option<&[u8]>) -> Result<Vec<u8>, AllocError>
+    ensures { IfOk result (λ text. text.items ≡ spec_export_head digest.now (option_map (λ name. name.now) from.entry)) }
 {
     let mut text = Vec::from_slice(alloc, b"c config")?;
     push_behind(&mut text, digest_text::digits(digest).as_slice())?;
     push_word(&mut text, "\nc from")?;
     if let Some(name) = from {
-        push_behind(&mut text, name.as_bytes())?;
+        push_behind(&mut text, name)?;
     }
     text.push(b'\n')?;
     Ok(text)
 }
 
-/// An exported formula: its comment lines, the faulty nodes the last of them, and its DIMACS text.
+/// An exported formula: its comment lines, and its DIMACS text. The comments name the digest of the configuration, the node of
+/// whose trust closure the formula speaks, and the faulty nodes.
 pub fn exported(
     alloc: Global,
-    head: &[u8],
+    digest: &[u8; 32],
+    from: Option<&[u8]>,
     system: &System,
     faulty: &NodeSet,
     dimacs: &[u8],
 ) -> Result<Vec<u8>, AllocError>
     requires { length faulty.now ≡ length system.now.sets }
-    ensures { IfOk result (λ text. text.items ≡ spec_exported head.now system.now.names faulty.now dimacs.now) }
+    ensures { IfOk result (λ text. text.items ≡ spec_exported digest.now (option_map (λ name. name.now) from.entry) system.now.names faulty.now dimacs.now) }
 {
-    let mut text = Vec::from_slice(alloc, head)?;
+    let mut text = export_head(alloc, digest, from)?;
     push_list(&mut text, "c faulty", system, faulty)?;
     text.extend_from_slice(dimacs)?;
     Ok(text)
 }
 
-/// The line for a formula that has too many variables.
-pub fn too_large(alloc: Global, vars: u64) -> Result<Vec<u8>, AllocError>
-    ensures { IfOk result (λ text. text.items ≡ spec_too_large vars) }
+/// A line of a word and a number, as for a formula that has too many variables.
+pub fn counted(alloc: Global, word: &str, number: u64) -> Result<Vec<u8>, AllocError>
+    ensures { IfOk result (λ text. text.items ≡ spec_counted word.now number) }
 {
     let mut text = Vec::new(alloc);
-    push_count(&mut text, "too-large", vars)?;
+    push_count(&mut text, word, number)?;
     Ok(text)
 }

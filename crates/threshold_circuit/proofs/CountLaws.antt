@@ -2,6 +2,7 @@
 use Rattle.std.proofs.Common.{◌≡◌, ℕ, zero, suc, ◌+◌, ◌-◌, ◌*◌, ◌/◌, ◌≤◌, ◌<◌, ◌==◌, Bool, true, false, List, length, refl, ap, subst, sym, get_or, drop, ◌∙◌, arith}
 use Rattle.std.proofs.lemmas.Bool.{eqb-true}
 use Rattle.std.proofs.lemmas.List.{drop_all}
+use Rattle.fbas_model.specs.declared.TheConstants.{MOST_ENTRIES}
 use Rattle.threshold_circuit.specs.Circuits.{Circuit, Inputs, always, never, leaf, at_least, end_of_gate, input, input_count, all_inputs, all_inputs_of, HasThresholds, HaveThresholds}
 use Rattle.threshold_circuit.specs.Gates.{before_row, own_variables, gate_variables, gate_variables_of}
 use Rattle.threshold_circuit.specs.declared.Circuit as Rust
@@ -43,7 +44,7 @@ mutual
   inputs_at_most end_of_gate s = omega arith
   inputs_at_most (input c others) s = squares (all_inputs c) (all_inputs_of others) (input_count others) (gate_variables c) (gate_variables_of others) (size_at_most c s.0) (inputs_at_most others s.1) (count_within others)
 
-pub size_fits : (c : Circuit) → HasThresholds c → all_inputs c ≤ 1000000 → gate_variables c ≤ 1000000000000
+pub size_fits : (c : Circuit) → HasThresholds c → all_inputs c ≤ MOST_ENTRIES → gate_variables c ≤ 1000000000000
 size_fits c w few = omega (arith, size_at_most c w, times_at_most (all_inputs c) (all_inputs c) 1000000 1000000 few few)
 
 own_count_by : (k n : ℕ) (every one : Bool) → (k == n) ≡ every → (k == 1) ≡ one → (k ≡ n → ⊥) → (k ≡ 1 → ⊥) → k ≤ n → k * (k + 1) / 2 + (n - k) * k ≡ own_variables k n
@@ -56,16 +57,16 @@ own_count k n g h within = own_count_by k n (k == n) (k == 1) refl refl g h with
 
 pub record GateFacts (k : ℕ) (self : Rust.Circuit) (items : List Rust.Circuit) : Type 0 where
   pub within : k ≤ length items
-  pub few : length items ≤ 1000000
+  pub few : length items ≤ MOST_ENTRIES
   pub size : gate_variables (circuit_view self) ≡ gate_variables_of (inputs_view items) + own_variables k (length items)
   pub fits : gate_variables (circuit_view self) ≤ 1000000000000
-  pub all : all_inputs_of (inputs_view items) ≤ 1000000
+  pub all : all_inputs_of (inputs_view items) ≤ MOST_ENTRIES
   pub thresholds : HaveThresholds (inputs_view items)
 
-pub gate_facts : (k : ℕ) (self : Rust.Circuit) (items : List Rust.Circuit) → circuit_view self ≡ at_least k (inputs_view items) → HasThresholds (circuit_view self) → all_inputs (circuit_view self) ≤ 1000000 → GateFacts k self items
+pub gate_facts : (k : ℕ) (self : Rust.Circuit) (items : List Rust.Circuit) → circuit_view self ≡ at_least k (inputs_view items) → HasThresholds (circuit_view self) → all_inputs (circuit_view self) ≤ MOST_ENTRIES → GateFacts k self items
 gate_facts k self items is w few =
     let parts : HasThresholds (at_least k (inputs_view items)) = subst HasThresholds is w in
-    let all : all_inputs_of (inputs_view items) ≤ 1000000 = subst (λ (c : Circuit). all_inputs c ≤ 1000000) is few in
+    let all : all_inputs_of (inputs_view items) ≤ MOST_ENTRIES = subst (λ (c : Circuit). all_inputs c ≤ MOST_ENTRIES) is few in
     let count = input_count_view items in
     record {
       within = omega (arith, parts.1, count);

@@ -5,6 +5,7 @@ use Rattle.fbas_model.specs.Nodes.{Nodes, ◌⊆◌, ◌∪◌}
 use Rattle.fbas_model.specs.Trees.{QuorumSet, quorum_set, Entries, none, node, inner}
 use Rattle.fbas_model.specs.QuorumSets.{count, HasChoiceWithin}
 use Rattle.fbas_model.specs.Counting.{is_satisfied, count_met}
+use Rattle.fbas_model.proofs.Tables.{or-true, or-false}
 use Rattle.fbas_model.proofs.Counting.{count_met_le-count, choice_satisfied, satisfied_choice}
 use Rattle.threshold_circuit.specs.Circuits.{Circuit, Inputs, always, never, leaf, at_least, end_of_gate, input, input_count}
 use Rattle.threshold_circuit.specs.Value.{circuit_value, count_true}
@@ -17,7 +18,7 @@ undecided_count u (input never others) = omega (arith, undecided_count u others)
 undecided_count u (input (leaf v) others) = omega (arith, undecided_count u others)
 undecided_count u (input (at_least k inputs) others) = omega (arith, undecided_count u others)
 
-one_at_most : (b : Bool) → (if b then 1 else 0) ≤ 1
+pub one_at_most : (b : Bool) → (if b then 1 else 0) ≤ 1
 one_at_most true = omega arith
 one_at_most false = omega arith
 
@@ -27,12 +28,6 @@ count_true-le u (input c others) = omega (arith, one_at_most (circuit_value u c)
 
 too_few : (t n k : ℕ) → t ≤ n → nat_lt n k ≡ true → false ≡ nat_le k t
 too_few t n k few is_many = grind (arith, nat_tests)
-
-or_true : (b : Bool) → true ≡ (b || true)
-or_true b = grind arith
-
-or_false : (b : Bool) → b ≡ (b || false)
-or_false b = grind arith
 
 absent : (b : Bool) → (b ≡ true → false ≡ true) → false ≡ (b || false)
 absent true h = h refl
@@ -50,8 +45,8 @@ lowered : (k a t : ℕ) → nat_le (k - a) t ≡ nat_le k (a + t)
 lowered k a t = grind (arith, nat_tests)
 
 validator_by : (u : Nodes) (v : ℕ) (faulty greatest : Bool) → (u v ≡ true → greatest ≡ true) → circuit_value u (if faulty then always else (if greatest then leaf v else never)) ≡ (u v || faulty)
-validator_by u v true greatest within = or_true (u v)
-validator_by u v false true within = or_false (u v)
+validator_by u v true greatest within = or-true (u v)
+validator_by u v false true within = or-false (u v)
 validator_by u v false false within = absent (u v) within
 
 unmet : (k n met : ℕ) → nat_le k n ≡ false → met ≤ n → false ≡ nat_le k met

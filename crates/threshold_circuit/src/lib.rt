@@ -7,6 +7,7 @@ ghost use Rattle.fbas_model.specs.Nodes.{Nodes, members, ◌⊆◌, ◌∪◌};
 ghost use Rattle.fbas_model.specs.Trees.{QuorumSet as Tree};
 ghost use Rattle.fbas_model.specs.QuorumSets.{HasChoiceWithin, IsBelow, all_entries};
 ghost use Rattle.fbas_model.specs.Lists.{entries_of};
+ghost use Rattle.fbas_model.specs.declared.TheConstants.{MOST_ENTRIES};
 ghost use Rattle.threshold_circuit.specs.Circuits.{NodesBelow, HasThresholds, IsReduced, all_inputs};
 ghost use Rattle.threshold_circuit.specs.Gathering.{joined};
 ghost use Rattle.threshold_circuit.specs.Gates.{gate_variables, own_variables};
@@ -60,7 +61,7 @@ impl Circuit {
     /// How many variables its gates have in its clauses: O(e) for e entries at all depths.
     pub fn gate_vars(&self) -> u64
         requires thresholds { HasThresholds (circuit_view self.now) }
-        requires few { all_inputs (circuit_view self.now) ≤ 1000000 }
+        requires few { all_inputs (circuit_view self.now) ≤ MOST_ENTRIES }
         ensures { result ≡ gate_variables (circuit_view self.now) }
     {
         match self {
@@ -82,7 +83,7 @@ impl Circuit {
 fn own_vars(k: u64, n: u64) -> u64
     requires some { 1 ≤ k }
     requires within { k ≤ n }
-    requires few { n ≤ 1000000 }
+    requires few { n ≤ MOST_ENTRIES }
     ensures { result ≡ own_variables k n }
 {
     if k == n {
@@ -188,16 +189,16 @@ mod tests {
         })
     }
 
-    fn set(alloc: Global, marks: [bool; 3]) -> Result<NodeSet, AllocError>
-        ensures { IfOk result (λ s. length s ≡ 3) }
+    fn set(marks: [bool; 3]) -> NodeSet
+        ensures { length result ≡ 3 }
     {
-        let mut set = NodeSet::new(alloc, 3)?;
+        let mut set = NodeSet::new(3);
         for v in 0..3 {
             if marks[v as usize] {
                 set.put(v);
             }
         }
-        Ok(set)
+        set
     }
 
     /// The circuit, and its value on the greatest quorum.
@@ -209,8 +210,8 @@ mod tests {
     ) -> Result<String, AllocError>
         requires { IsBelow 3 quorum_set.now }
     {
-        let greatest = set(alloc, greatest)?;
-        let faulty = set(alloc, faulty)?;
+        let greatest = set(greatest);
+        let faulty = set(faulty);
         let circuit = circuit_of(alloc, quorum_set, &greatest, &faulty)?;
         format!(in alloc; "{circuit:?} {}", circuit.value(&greatest))
     }

@@ -1,12 +1,12 @@
 -- Least nodes, shared nodes and the order of a pair.
 use Rattle.std.proofs.Common.{◌≡◌, ℕ, zero, suc, ◌+◌, ◌≤◌, ◌↔◌, IsTrue, [], ◌∷◌, length, Bool, true, false, ◌&&◌, Option, Some, None, MatchOption, unwrap_or, cond, ltb, inl, inr, refl, sym, ◌∙◌, ap, subst, arith}
 use Rattle.std.proofs.lemmas.Bool.{cases_Bool, and_from, or_cases, or_left, both_ways, false≢true, ltb-true, lt-ltb, cases_lt}
-use Rattle.fbas_model.specs.Nodes.{Nodes, Table, members, ◌∈◌, ◌∪◌, ∅, IsLeast, Meets}
+use Rattle.fbas_model.specs.Nodes.{Nodes, Table, members, ◌∈◌, ◌∪◌, ◌∩◌, ∅, IsLeast, Meets}
 use Rattle.fbas_model.specs.Fbas.{Fbas, Quorum}
 use Rattle.fbas_model.specs.Counting.{is_quorum}
 use Rattle.fbas_model.proofs.QuorumLaw.{quorum-to, quorum-from}
 use Rattle.witness_pair.specs.declared.Pair.{Pair}
-use Rattle.witness_pair.specs.Pairs.{◌∩◌, IsPair}
+use Rattle.witness_pair.specs.Pairs.{IsPair}
 use Rattle.witness_pair.specs.Making.{shared, least_from, least, pair_of}
 
 -- the least node, of a table whose first place is that of the node k

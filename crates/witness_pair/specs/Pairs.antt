@@ -1,16 +1,11 @@
 -- Two quorums that share no node, and what else two sets can be.
-use Rattle.std.specs.Prelude.{◌≡◌, ◌⊎◌, ◌&&◌, ℕ}
-use Rattle.fbas_model.specs.Nodes.{Nodes, Table, members, ◌∈◌, ◌∪◌, IsLeast, Meets}
+use Rattle.std.specs.Prelude.{◌≡◌, ◌⊎◌, ℕ}
+use Rattle.fbas_model.specs.Nodes.{Nodes, Table, members, ◌∈◌, ◌∪◌, ◌∩◌, IsLeast, Meets}
 use Rattle.fbas_model.specs.Fbas.{Fbas, Quorum}
 use Rattle.witness_pair.specs.declared.Pair.{Pair}
 use Rattle.witness_pair.specs.declared.Side.TheVariants.{First, Second}
 use Rattle.witness_pair.specs.declared.PairFault.{PairFault}
 use Rattle.witness_pair.specs.declared.PairFault.TheVariants.{NotQuorum, Overlap}
-
-infixl 65 ◌∩◌
--- the nodes of both
-abbrev pub ◌∩◌ : Nodes → Nodes → Nodes
-(s ∩ t) v = s v && t v
 
 -- once b is deleted: two quorums that share no node, with the least node of both in the first
 pub record IsPair (f : Fbas) (b : Nodes) (p : Pair) : Type 0 where

@@ -1,7 +1,7 @@
 //! Two quorums that share no node: what shows that a system doesn't intersect.
 #![tactic(auto)]
 
-ghost use Rattle.std.specs.Prelude.{◌≡◌, ◌<◌, length, IfOk, IfErr, ◌&&◌, unwrap_or};
+ghost use Rattle.std.specs.Prelude.{◌≡◌, length, IfOk, IfErr, unwrap_or};
 ghost use Rattle.fbas_model.specs.Nodes.{members};
 ghost use Rattle.fbas_model.specs.Counting.{is_quorum};
 ghost use Rattle.witness_pair.specs.Pairs.{IsPair, AreTheTwo, IsFault};
@@ -46,25 +46,13 @@ fn is_quorum(system: &System, faulty: &NodeSet, u: &NodeSet) -> bool
     system.is_quorum(u, faulty)
 }
 
-fn is_shared(u: &NodeSet, w: &NodeSet, v: u32) -> bool
-    requires in_u { v < length u.now }
-    requires in_w { v < length w.now }
-    ensures { result ≡ (members u.now v && members w.now v) }
-{
-    u.has(v) && w.has(v)
-}
-
-fn least_shared(n: u32, u: &NodeSet, w: &NodeSet) -> Option<u32>
-    requires same_u { length u.now ≡ n }
-    requires same_w { length w.now ≡ n }
+fn least_shared(u: &NodeSet, w: &NodeSet) -> Option<u32>
+    requires { length u.now ≡ length w.now }
     ensures { result ≡ least (shared u.now w.now) }
 {
-    for v in 0..n {
-        if is_shared(u, w, v) {
-            return Some(v);
-        }
-    }
-    None
+    let mut both = u.copy();
+    both.meet(w);
+    both.least()
 }
 
 fn least(u: &NodeSet) -> u32
@@ -93,7 +81,7 @@ fn pair_of(u: NodeSet, w: NodeSet) -> Pair
 ///
 /// The set with the least node of both comes first, whichever it was. The faults come in this order: `u` is no quorum,
 /// `w` is no quorum, the two share a node. Takes no memory; a fault drops both sets. Linear in the entries of the
-/// members' quorum sets and in the number of nodes.
+/// members' quorum sets.
 pub fn make_pair(
     system: &System,
     faulty: &NodeSet,
@@ -114,7 +102,7 @@ pub fn make_pair(
     if !is_quorum(system, faulty, &w) {
         return Err(PairFault::NotQuorum(Side::Second));
     }
-    if let Some(v) = least_shared(system.len(), &u, &w) {
+    if let Some(v) = least_shared(&u, &w) {
         return Err(PairFault::Overlap(v));
     }
     Ok(pair_of(u, w))

@@ -1,7 +1,8 @@
-use Rattle.std.proofs.Common.{◌≡◌, Err, inl, inr, map, rules, string_bytes, sym}
+use Rattle.std.proofs.Common.{◌≡◌, ◌∙◌, ap, Err, inl, inr, map, rules, string_bytes, sym}
 use Rattle.clap.specs.Words.{app_of, found_of, rows_of}
+use Rattle.cli_words.specs.Budget.{budget_of}
 use Rattle.cli_words.specs.Order.{order_view}
-use Rattle.cli_words.proofs.WordsLemmas.{is_stated, order_by-other, order_by-refused, order_by-same}
+use Rattle.cli_words.proofs.WordsLemmas.{is_stated, order_by-unbudgeted, order_by-other, order_by-refused, order_by-same}
 use Rattle.cli_words.proofs.command_order.Goals as goal
 
 pub matched-requires : goal.matched-requires
@@ -15,10 +16,16 @@ returns-in_err-matches-clause-err c =
       | inr words ↦ inr (rw words.0 (order_by-refused c.args.command (map string_bytes c.args.words.now) (app_of c.in_ok-arguments.arguments) c.in_ok-arguments.ensures words.1))
     ])
 
+pub returns-in_default-clause-err : goal.returns-in_default-clause-err
+returns-in_default-clause-err c =
+    inr (order_by-unbudgeted c.args.command (map string_bytes c.args.words.now) (app_of c.in_ok-arguments.arguments) (rows_of (found_of c.in_ok-matches.matches)) (record { is = c.in_ok-arguments.ensures; taken = c.in_ok-matches.ensures.taken; rows_are = c.in_ok-matches.ensures.rows }) (ap (budget_of c.args.command) (sym c.text_at.ensures) ∙ sym c.budget_of.ensures.value ∙ c.in_default.is))
+
 pub returns-then-has_same_path-clause-err : goal.returns-then-has_same_path-clause-err
 returns-then-has_same_path-clause-err c =
-    inr (order_by-same c.args.command (map string_bytes c.args.words.now) (app_of c.in_ok-arguments.arguments) (rows_of (found_of c.in_ok-matches.matches)) (order_view c.in_ok-order.order) c.in_ok-arguments.ensures c.in_ok-matches.ensures.taken c.in_ok-matches.ensures.rows c.in_ok-order.ensures (sym c.if-has_same_path.ensures))
+    inr (order_by-same c.args.command (map string_bytes c.args.words.now) (app_of c.in_ok-arguments.arguments) (rows_of (found_of c.in_ok-matches.matches)) c.in-Some.budget (order_view c.in_ok-order.order)
+    (record { is = c.in_ok-arguments.ensures; taken = c.in_ok-matches.ensures.taken; rows_are = c.in_ok-matches.ensures.rows }) (ap (budget_of c.args.command) (sym c.text_at.ensures) ∙ sym c.budget_of.ensures.value ∙ c.in-Some.is) c.in_ok-order.ensures.texts (sym c.if-has_same_path.ensures))
 
 pub returns-clause-ok : goal.returns-clause-ok
 returns-clause-ok c =
-    order_by-other c.args.command (map string_bytes c.args.words.now) (app_of c.in_ok-arguments.arguments) (rows_of (found_of c.in_ok-matches.matches)) (order_view c.in_ok-order.order) c.in_ok-arguments.ensures c.in_ok-matches.ensures.taken c.in_ok-matches.ensures.rows c.in_ok-order.ensures (sym c.if-has_same_path.ensures)
+    order_by-other c.args.command (map string_bytes c.args.words.now) (app_of c.in_ok-arguments.arguments) (rows_of (found_of c.in_ok-matches.matches)) c.in-Some.budget (order_view c.in_ok-order.order)
+    (record { is = c.in_ok-arguments.ensures; taken = c.in_ok-matches.ensures.taken; rows_are = c.in_ok-matches.ensures.rows }) (ap (budget_of c.args.command) (sym c.text_at.ensures) ∙ sym c.budget_of.ensures.value ∙ c.in-Some.is) c.in_ok-order.ensures.texts (sym c.if-has_same_path.ensures)

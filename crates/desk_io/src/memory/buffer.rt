@@ -1,4 +1,4 @@
-// Bytes whose memory is taken when the buffer is made.
+//! Bytes whose memory is taken when the buffer is made.
 ghost use Rattle.std.specs.Prelude.{◌≡◌, ◌≤◌, ◌+◌, ◌++◌, [], length, IfOk};
 
 use std::alloc::{AllocError, Global};

@@ -1,4 +1,4 @@
-// The calls that are to fail.
+//! The calls that are to fail.
 ghost use Rattle.std.specs.Prelude.{◌≡◌, ◌↔◌, ◌==◌, IsTrue, length, false};
 ghost use Rattle.desk_io.specs.Failing.{counted_at, counted, IsDue};
 

@@ -1,4 +1,4 @@
-// A file in memory, or a name that may be created.
+//! A file in memory, or a name that may be created.
 ghost use Rattle.std.specs.Prelude.{◌≡◌, ◌≤◌, ◌+◌, ◌++◌, [], Some, None, length, MatchOption, IsSomeAnd, IfOk, string_bytes, All, map, ◌∷◌};
 ghost use Rattle.std.specs.Option.{option_map};
 ghost use Rattle.std.specs.Str.{bytes_eq};

@@ -1,4 +1,4 @@
-// The desk in memory.
+//! The desk in memory.
 ghost use Rattle.std.specs.Prelude.{◌≡◌, ◌<◌, ◌≤◌, ◌+◌, length, IfSome, All, MatchOption, None, Some, ℕ};
 ghost use Rattle.std.specs.Option.{ForSome};
 ghost use Rattle.desk_io.specs.Entries.{IsOpen, files_of};

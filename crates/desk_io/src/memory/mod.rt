@@ -1,4 +1,4 @@
-// A desk in memory, and its parts.
+//! A desk in memory, and its parts.
 mod buffer;
 mod failing;
 mod file;

@@ -1,4 +1,4 @@
-// A copy of a file, of which some is left to read.
+//! A copy of a file, of which some is left to read.
 ghost use Rattle.std.specs.Prelude.{◌≡◌, ◌<◌, ◌≤◌, ◌+◌, ◌++◌, [], length, min, take, IfOk};
 
 use crate::memory::buffer::Buffer;

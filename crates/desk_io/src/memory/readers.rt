@@ -1,4 +1,4 @@
-// What is left to read of each begun file.
+//! What is left to read of each begun file.
 ghost use Rattle.std.specs.Prelude.{◌≡◌, ◌<◌, ◌≤◌, ◌++◌, [], length, min, take, IfOk};
 ghost use Rattle.desk_io.specs.State.{left_at, set_left};
 

@@ -8,7 +8,7 @@ loop-v-preserved-then-take_if_stuck c =
     let f = c.args.system.now.sets in
     let b = members c.args.faulty.now in
     let v = c.loop-v.v in
-    let step = sweep_step f b c.args.u.now c.loop-v.u c.take_if_stuck.new.u c.loop-v.some c.take_if_stuck.result (λ (k : ℕ). nat_le v k) (λ (k : ℕ). nat_le (v - 1) k) (v - 1) c.loop-v.invariant c.take_if_stuck.ensures (λ k. seen_down v k c.loop-v-test.true) in
+    let step = sweep_step f b (members c.args.part.now) c.args.u.now c.loop-v.u c.take_if_stuck.new.u c.loop-v.some c.take_if_stuck.result (λ (k : ℕ). nat_le v k) (λ (k : ℕ). nat_le (v - 1) k) (v - 1) c.loop-v.invariant c.take_if_stuck.ensures (λ k. seen_down v k c.loop-v-test.true) in
     rw c.if-take_if_stuck.true at step
 
 pub loop-v-preserved : goal.loop-v-preserved
@@ -16,5 +16,5 @@ loop-v-preserved c =
     let f = c.args.system.now.sets in
     let b = members c.args.faulty.now in
     let v = c.loop-v.v in
-    let step = sweep_step f b c.args.u.now c.loop-v.u c.take_if_stuck.new.u c.loop-v.some c.take_if_stuck.result (λ (k : ℕ). nat_le v k) (λ (k : ℕ). nat_le (v - 1) k) (v - 1) c.loop-v.invariant c.take_if_stuck.ensures (λ k. seen_down v k c.loop-v-test.true) in
+    let step = sweep_step f b (members c.args.part.now) c.args.u.now c.loop-v.u c.take_if_stuck.new.u c.loop-v.some c.take_if_stuck.result (λ (k : ℕ). nat_le v k) (λ (k : ℕ). nat_le (v - 1) k) (v - 1) c.loop-v.invariant c.take_if_stuck.ensures (λ k. seen_down v k c.loop-v-test.true) in
     rw c.if-take_if_stuck.false at step

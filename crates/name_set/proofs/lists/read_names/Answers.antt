@@ -1,4 +1,4 @@
-use Rattle.std.proofs.Common.{◌≡◌, ℕ, ◌<◌, ◌==◌, ◌∙◌, sym, refl, subst, arith, rules, tests, inr, length, get_or, Ok}
+use Rattle.std.proofs.Common.{◌≡◌, ℕ, ◌<◌, ◌==◌, ◌∙◌, sym, refl, subst, arith, rules, tests, length, get_or, Ok}
 use Rattle.std.proofs.lemmas.List.{length_push}
 use Rattle.std.proofs.lemmas.Result.{err_from_is_err_and}
 use Rattle.std.proofs.lemmas.Iterator.Consumers.{YieldsList-at, YieldsList-turn, YieldsList-end}
@@ -10,14 +10,14 @@ use Rattle.name_set.proofs.lists.read_names.Goals as goal
 
 pub returns-then-is_empty-clause-ok : goal.returns-then-is_empty-clause-ok
 returns-then-is_empty-clause-ok c =
-    read-nothing c.args.text.now c.args.names.now c.in_ok-nodes.nodes (sym c.is_empty.ensures ∙ c.if-is_empty.true) (marks-none c.args.names.now c.in_ok-nodes.nodes (c.in_ok-nodes.ensures.size ∙ c.len.ensures) c.in_ok-nodes.ensures.empty)
+    read-nothing c.args.text.now c.args.names.now c.new-nodes.result (sym c.is_empty.ensures ∙ c.if-is_empty.true) (marks-none c.args.names.now c.new-nodes.result (c.new-nodes.ensures.size ∙ c.len.ensures) c.new-nodes.ensures.empty)
 
 pub loop-item-init : goal.loop-item-init
 loop-item-init c = record {
   counted = refl;
-  size = c.in_ok-nodes.ensures.size ∙ c.len.ensures;
+  size = c.new-nodes.ensures.size ∙ c.len.ensures;
   known = refl;
-  marked = marks-none c.args.names.now c.in_ok-nodes.nodes (c.in_ok-nodes.ensures.size ∙ c.len.ensures) c.in_ok-nodes.ensures.empty;
+  marked = marks-none c.args.names.now c.new-nodes.result (c.new-nodes.ensures.size ∙ c.len.ensures) c.new-nodes.ensures.empty;
 }
 
 pub returns-in_err-node_at-clause-err : goal.returns-in_err-node_at-clause-err
@@ -30,8 +30,8 @@ returns-in_err-node_at-clause-err c =
     let within : i < length items = subst (λ (k : ℕ). k < length items) (sym c.loop-item.invariant.counted) turn.0 in
     let here : item ≡ get_or items i item = subst (λ (k : ℕ). item ≡ get_or items k item) (sym c.loop-item.invariant.counted) turn.1 in
     let fault = c.in_err-node_at.field-0.0 in
-    let p = err_from_is_err_and c.from_residual-in_err-node_at.result c.from_residual-in_err-node_at.ensures.1 in
-    rw (p.1, p.2) (inr (read-parts c.args.text.now names (sym c.is_empty.ensures ∙ c.if-is_empty.false) ∙ c.loop-item.invariant.known ∙ faulty_here names items (Ok (marks names items)) i item within here fault (sym c.in_err-node_at.ensures.value)))
+    let p = err_from_is_err_and c.from_residual.result c.from_residual.ensures.1 in
+    rw (p.1, p.2) (read-parts c.args.text.now names (sym c.is_empty.ensures ∙ c.if-is_empty.false) ∙ c.loop-item.invariant.known ∙ faulty_here names items (Ok (marks names items)) i item within here fault (sym c.in_err-node_at.ensures.value))
 
 pub loop-item-preserved : goal.loop-item-preserved
 loop-item-preserved c =

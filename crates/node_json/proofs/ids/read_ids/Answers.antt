@@ -1,27 +1,24 @@
-use Rattle.std.proofs.Common.{◌≡◌, ℕ, ◌<◌, ◌==◌, ◌∙◌, sym, refl, ap, subst, arith, rules, tests, inr, length, take, get_or}
+use Rattle.std.proofs.Common.{◌≡◌, ℕ, ◌<◌, ◌==◌, ◌∙◌, sym, refl, ap, subst, arith, rules, tests, lit<, length, get_or}
 use Rattle.std.proofs.lemmas.List.{length_push}
 use Rattle.std.proofs.lemmas.Result.{err_from_is_err_and}
 use Rattle.std.proofs.lemmas.Iterator.Consumers.{YieldsList-at, YieldsList-turn, YieldsList-end}
 use Rattle.std.proofs.lemmas.Iterator.Splits.{YieldsList-from_slice_split}
-use Rattle.fbas_model.specs.Names.{is_among}
 use Rattle.fbas_model.specs.Nodes.{Nodes}
-use Rattle.node_json.specs.View.{names_view}
-use Rattle.node_json.proofs.OrgReading.{is_new}
 use Rattle.node_json.specs.Organisations.{ids_of}
 use Rattle.node_json.proofs.OrgPlaces.{under-sized}
-use Rattle.node_json.proofs.IdReading.{parts, united, members-more, members-again, seen-more, not_new, known_more, faulty_here, read-nothing, read-parts, read_all}
+use Rattle.name_set.proofs.ListLaws.{parts, known_more, faulty_here}
+use Rattle.node_json.proofs.IdReading.{united, members-more, read-nothing, read-parts, read_all}
 use Rattle.node_json.proofs.ids.read_ids.Goals as goal
 
 pub returns-then-is_empty-clause-ok : goal.returns-then-is_empty-clause-ok
-returns-then-is_empty-clause-ok c = read-nothing c.args.text.now c.args.orgs.now c.args.n c.in_ok-nodes.nodes (sym c.is_empty.ensures ∙ c.if-is_empty.true) c.in_ok-nodes.ensures.size c.in_ok-nodes.ensures.empty
+returns-then-is_empty-clause-ok c = read-nothing c.args.text.now c.args.orgs.now c.args.n c.new-nodes.result (sym c.is_empty.ensures ∙ c.if-is_empty.true) c.new-nodes.ensures.size c.new-nodes.ensures.empty
 
 pub loop-item-init : goal.loop-item-init
 loop-item-init c = record {
   counted = refl;
-  size = c.in_ok-nodes.ensures.size;
-  seen = search rules;
+  size = c.new-nodes.ensures.size;
   known = refl;
-  united = λ v less. ap (λ (s : Nodes). s v) c.in_ok-nodes.ensures.empty;
+  united = λ v less. ap (λ (s : Nodes). s v) c.new-nodes.ensures.empty;
 }
 
 pub returns-in_err-others-clause-err : goal.returns-in_err-others-clause-err
@@ -33,30 +30,11 @@ returns-in_err-others-clause-err c =
     let item = c.in-Some.item.now in
     let within : i < length items = subst (λ (k : ℕ). k < length items) (sym c.loop-item.invariant.counted) turn.0 in
     let here : item ≡ get_or items i item = subst (λ (k : ℕ). item ≡ get_or items k item) (sym c.loop-item.invariant.counted) turn.1 in
-    let p = err_from_is_err_and c.from_residual-in_err-others.result c.from_residual-in_err-others.ensures.1 in
-    rw (p.1, p.2) (inr (read-parts c.args.text.now orgs c.args.n (sym c.is_empty.ensures ∙ c.if-is_empty.false) ∙ c.loop-item.invariant.known ∙ faulty_here (ids_of orgs) items (united orgs c.args.n items) i item within here c.in_err-others.field-0.0 c.in_err-others.ensures.fault))
+    let p = err_from_is_err_and c.from_residual.result c.from_residual.ensures.1 in
+    rw (p.1, p.2) (read-parts c.args.text.now orgs c.args.n (sym c.is_empty.ensures ∙ c.if-is_empty.false) ∙ c.loop-item.invariant.known ∙ faulty_here (ids_of orgs) items (united orgs c.args.n items) i item within here c.in_err-others.field-0.0 c.in_err-others.ensures.fault)
 
 pub join-requires : goal.join-requires
-join-requires c = c.loop-item.invariant.size ∙ sym (under-sized c.args.orgs.now c.args.n c.in-Some.item.now c.in_ok-others.others.now c.requires c.in_ok-others.ensures.members)
-
-pub loop-item-preserved-then-new : goal.loop-item-preserved-then-new
-loop-item-preserved-then-new c =
-    let turn = YieldsList-turn (YieldsList-at c.into_iter-item-iterator.ensures.into_iter_gives (YieldsList-from_slice_split _ (λ b. b == 44) c.args.text.now c.split-item-items.ensures.rest c.split-item-items.ensures.done c.split-item-items.ensures.closure (λ x r q k. search (rules, tests)))) c.loop-item.yielded _ c.loop-item.yielded_by _ _ c.in-Some.item c.in-Some.is c.next.ensures.steps in
-    let items = parts c.args.text.now in
-    let orgs = c.args.orgs.now in
-    let i = c.loop-item.place in
-    let item = c.in-Some.item.now in
-    let within : i < length items = subst (λ (k : ℕ). k < length items) (sym c.loop-item.invariant.counted) turn.0 in
-    let here : item ≡ get_or items i item = subst (λ (k : ℕ). item ≡ get_or items k item) (sym c.loop-item.invariant.counted) turn.1 in
-    let at = c.in_ok-others.ensures.known in
-    let before = names_view c.loop-item.joined.keys in
-    record {
-      counted = omega (arith, c.loop-item.invariant.counted, length_push c.loop-item.yielded c.in-Some.item);
-      size = c.join.ensures.size ∙ c.loop-item.invariant.size;
-      seen = seen-more items before (names_view c.add_id.new.ids.keys) i item within here c.in_ok-new.ensures.added c.loop-item.invariant.seen;
-      known = c.loop-item.invariant.known ∙ known_more (ids_of orgs) items (united orgs c.args.n items) i item within here at.0 at.1;
-      united = members-more orgs items i c.args.n item c.in_ok-others.others.now c.loop-item.nodes c.join.new.self within here c.in_ok-others.ensures.members (λ v. ap (λ (s : Nodes). s v) c.join.ensures.joined) c.loop-item.invariant.united;
-    }
+join-requires c = (lit< tt, c.loop-item.invariant.size ∙ sym (under-sized c.args.orgs.now c.args.n c.in-Some.item.now c.in_ok-others.others.now c.requires.sized c.in_ok-others.ensures.members))
 
 pub loop-item-preserved : goal.loop-item-preserved
 loop-item-preserved c =
@@ -68,14 +46,11 @@ loop-item-preserved c =
     let within : i < length items = subst (λ (k : ℕ). k < length items) (sym c.loop-item.invariant.counted) turn.0 in
     let here : item ≡ get_or items i item = subst (λ (k : ℕ). item ≡ get_or items k item) (sym c.loop-item.invariant.counted) turn.1 in
     let at = c.in_ok-others.ensures.known in
-    let before = names_view c.loop-item.joined.keys in
-    let known_before = is_new before (take i items) item c.in_ok-new.new c.in_ok-new.ensures.new c.loop-item.invariant.seen in
     record {
       counted = omega (arith, c.loop-item.invariant.counted, length_push c.loop-item.yielded c.in-Some.item);
-      size = c.loop-item.invariant.size;
-      seen = seen-more items before (names_view c.add_id.new.ids.keys) i item within here c.in_ok-new.ensures.added c.loop-item.invariant.seen;
+      size = c.join.ensures.size ∙ c.loop-item.invariant.size;
       known = c.loop-item.invariant.known ∙ known_more (ids_of orgs) items (united orgs c.args.n items) i item within here at.0 at.1;
-      united = members-again orgs items i c.args.n item c.loop-item.nodes within here (not_new (is_among item (take i items)) (sym known_before ∙ c.if-new.false)) c.loop-item.invariant.united;
+      united = members-more orgs items i c.args.n item c.in_ok-others.others.now c.loop-item.nodes c.join.new.self within here c.in_ok-others.ensures.members (λ v. ap (λ (s : Nodes). s v) c.join.ensures.joined) c.loop-item.invariant.united;
     }
 
 pub returns-clause-ok : goal.returns-clause-ok

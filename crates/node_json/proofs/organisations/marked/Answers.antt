@@ -8,8 +8,8 @@ use Rattle.node_json.proofs.organisations.marked.Goals.{in-Some, in_default}
 
 pub loop-name-init : goal.loop-name-init
 loop-name-init c =
-    let size : length c.in_ok-nodes.nodes ≡ length c.args.names.now = c.in_ok-nodes.ensures.size ∙ c.len.ensures in
-    (size, marks-none c.args.names.now c.in_ok-nodes.nodes size c.in_ok-nodes.ensures.empty)
+    let size : length c.new-nodes.result ≡ length c.args.names.now = c.new-nodes.ensures.size ∙ c.len.ensures in
+    (size, marks-none c.args.names.now c.new-nodes.result size c.new-nodes.ensures.empty)
 
 pub loop-name-preserved : goal.loop-name-preserved
 loop-name-preserved c =

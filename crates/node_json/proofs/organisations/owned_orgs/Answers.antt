@@ -14,5 +14,5 @@ loop-at-preserved c =
     let one = c.in_ok-owned_org.field-0 in
     let within : c.loop-at.at < length orgs = omega arith in (
       owned_more names orgs c.loop-at.at org c.loop-at.list.items c.push.new.self.items one within c.index-orgs-at.is c.in_ok-owned_org.ensures c.in_ok-push.ensures.items c.loop-at.invariant.0,
-      index_more names orgs c.loop-at.at org c.loop-at.list.items c.push.new.self.items one within c.index-orgs-at.is c.in_ok-owned_org.ensures c.in_ok-push.ensures.items c.loop-at.invariant.0 (λ (key : Vec ℕ Global). key.items) c.loop-at.places.entries c.insert.new.self.entries c.in_ok-owned_id.field-0 c.requires c.in_ok-owned_id.ensures c.in_ok-insert.ensures.entries c.loop-at.invariant.1,
+      index_more names orgs c.loop-at.at org c.loop-at.list.items c.push.new.self.items one within c.index-orgs-at.is c.in_ok-owned_org.ensures c.in_ok-push.ensures.items c.loop-at.invariant.0 (λ (key : Vec ℕ Global). key.items) c.loop-at.places.entries c.insert.new.self.entries c.in_ok-owned_id.field-0 c.requires.apart c.in_ok-owned_id.ensures c.in_ok-insert.ensures.entries c.loop-at.invariant.1,
     )

@@ -22,11 +22,11 @@ returns-in_err-orgs-clause-err c =
       | inr f ↦ inr (orgs_of-fault c.args.system.now.names c.args.bytes.now (view c.in_ok-tree.tree) _ c.in_ok-tree.ensures.ok f)
     ])
 
-pub returns-then-n-gt-MAX_ORGS-clause-err : goal.returns-then-n-gt-MAX_ORGS-clause-err
-returns-then-n-gt-MAX_ORGS-clause-err c =
+pub returns-then-n-gt-MOST_ORGS-clause-err : goal.returns-then-n-gt-MOST_ORGS-clause-err
+returns-then-n-gt-MOST_ORGS-clause-err c =
     let orgs = c.in_ok-orgs.orgs.items in
     let counted : c.len-n.result ≡ length (named_orgs_view orgs) = omega (arith, c.len-n.ensures, c.in_ok-orgs.orgs.ok.0, length-map orgs named_org_view) in
-    inr (too_many_orgs c.args.system.now.names c.args.bytes.now (view c.in_ok-tree.tree) (named_orgs_view orgs) c.len-n.result c.in_ok-tree.ensures.ok c.in_ok-orgs.ensures.ok counted c.if-n-gt-MAX_ORGS.true)
+    inr (too_many_orgs c.args.system.now.names c.args.bytes.now (view c.in_ok-tree.tree) (named_orgs_view orgs) c.len-n.result c.in_ok-tree.ensures.ok c.in_ok-orgs.ensures.ok counted c.if-n-gt-MOST_ORGS.true)
 
 pub returns-clause-ok : goal.returns-clause-ok
 returns-clause-ok c =

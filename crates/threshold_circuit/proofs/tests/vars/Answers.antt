@@ -1,4 +1,5 @@
 use Rattle.std.proofs.Common.{◌≡◌, ℕ, ◌≤◌, List, [], ◌∷◌, ◌++◌, Vec, Global, refl, ap, subst, sym, ◌∙◌, arith}
+use Rattle.fbas_model.specs.declared.TheConstants.{MOST_ENTRIES}
 use Rattle.threshold_circuit.specs.Circuits as Circuits
 use Rattle.threshold_circuit.specs.Circuits.{at_least, HasThresholds, all_inputs}
 use Rattle.threshold_circuit.specs.declared.Circuit.{Circuit, Node}
@@ -19,8 +20,8 @@ pushed a b c d e f g h = rw (h, g, f, e) refl
 thresholds : (t : ℕ) (v : Vec Circuit Global) → v.items ≡ three → 1 ≤ t → t ≤ 3 → HasThresholds (circuit_view (AtLeast t v))
 thresholds t v e low high = subst HasThresholds (sym (view t v e)) (low, omega arith, (tt, (tt, (tt, tt))))
 
-few : (t : ℕ) (v : Vec Circuit Global) → v.items ≡ three → all_inputs (circuit_view (AtLeast t v)) ≤ 1000000
-few t v e = subst (λ (c : Circuits.Circuit). all_inputs c ≤ 1000000) (sym (view t v e)) (omega arith)
+few : (t : ℕ) (v : Vec Circuit Global) → v.items ≡ three → all_inputs (circuit_view (AtLeast t v)) ≤ MOST_ENTRIES
+few t v e = subst (λ (c : Circuits.Circuit). all_inputs c ≤ MOST_ENTRIES) (sym (view t v e)) (omega arith)
 
 pub gate_vars-requires-clause-thresholds : goal.gate_vars-requires-clause-thresholds
 gate_vars-requires-clause-thresholds c =

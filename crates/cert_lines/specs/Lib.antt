@@ -1,0 +1,4 @@
+pub mod Lines
+pub mod Limits
+pub mod Words
+pub mod Saying

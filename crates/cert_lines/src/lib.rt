@@ -1,0 +1,15 @@
+//! The lines of a certificate: each is read whole, within the limits on its number and its length, and its words say a digest,
+//! a list of names, the size of a formula or a step.
+#![tactic(auto)]
+
+mod faults;
+mod lines;
+mod pieces;
+mod saying;
+mod words;
+
+pub use faults::CertError;
+pub use lines::{Lines, MAX_LINE_BYTES, MAX_LINES};
+pub use lrat_model::{Step, StepFault};
+pub use saying::{Counts, counts_in, digits_in, step_in};
+pub use words::{Words, begins, follows, is_name};

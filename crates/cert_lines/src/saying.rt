@@ -1,0 +1,73 @@
+//! What the words of a line say: a digest, the size of a formula, or a step.
+ghost use Rattle.std.specs.Prelude.{◌≡◌, ◌⊎◌, None, IfOk, IfErr, IfSome, IsErrOf, Ok, Err};
+ghost use Rattle.digest_text.specs.Digits.{digest_of};
+ghost use Rattle.lrat_model.specs.Steps.{step_of};
+ghost use Rattle.lrat_text.specs.Lines.{step_in};
+ghost use Rattle.cert_lines.specs.Words.{digest_in};
+ghost use Rattle.cert_lines.specs.Saying.{number_in, counts_in, or_bad_line};
+
+use crate::faults::CertError;
+use crate::words::Words;
+use lrat_model::Step;
+use lrat_text::{LineFault, read_id, read_step};
+use std::alloc::Global;
+
+/// How many variables and clauses a formula has.
+#[derive(Clone, Copy)]
+pub struct Counts {
+    pub vars: u64,
+    pub clauses: u64,
+}
+
+/// The word behind the word `config`, where there is one and nothing else.
+pub fn digits_in(text: &[u8]) -> Option<&[u8]>
+    ensures some { IfSome result (λ digits. digest_in text.now ≡ digest_of digits.now) }
+    ensures none { result ≡ None → digest_in text.now ≡ None }
+{
+    let mut words = Words::of(text);
+    let word = words.next()?;
+    let digits = words.next()?;
+    if words.next().is_some() || word != b"config".as_slice() {
+        return None;
+    }
+    Some(digits)
+}
+
+/// A number of variables: 0, or what is written as an id is.
+fn number(word: &[u8]) -> Option<u64>
+    ensures { result ≡ number_in word.now }
+{
+    if word == b"0".as_slice() {
+        return Some(0);
+    }
+    read_id(word)
+}
+
+/// The numbers behind the word `formula`, where there are two and nothing else: each up to 2^63 - 1, and some clause.
+pub fn counts_in(text: &[u8]) -> Option<Counts>
+    ensures { result ≡ counts_in text.now }
+{
+    let mut words = Words::of(text);
+    let word = words.next()?;
+    let vars = words.next()?;
+    let clauses = words.next()?;
+    if words.next().is_some() || word != b"formula".as_slice() {
+        return None;
+    }
+    let vars = number(vars)?;
+    let clauses = read_id(clauses)?;
+    Some(Counts { vars, clauses })
+}
+
+/// The step that this line says, whatever its fault as a step line `BadLine`.
+pub fn step_in(alloc: Global, line: u64, text: &[u8]) -> Result<Step, CertError>
+    ensures unread { IsErrOf result CertError.Read → ⊥ }
+    ensures ok { IfOk result (λ step. or_bad_line line (step_in text.now) ≡ Ok (step_of step)) }
+    ensures err { IfErr result (λ e. (e ≡ CertError.Memory) ⊎ (or_bad_line line (step_in text.now) ≡ Err e)) }
+{
+    match read_step(alloc, text) {
+        Ok(step) => Ok(step),
+        Err(LineFault::Memory) => Err(CertError::Memory),
+        Err(_) => Err(CertError::BadLine(line)),
+    }
+}

@@ -1,0 +1,128 @@
+-- From what a search shows to a certificate that is accepted.
+use Rattle.std.proofs.Common.{◌≡◌, ℕ, ◌+◌, ◌<◌, ◌≤◌, List, [], ◌∷◌, ◌++◌, length, Bool, cond, Ok, refl, sym, ◌∙◌, ap, subst, arith, length-append}
+use Rattle.std.specs.List.{AllByRecursion}
+use Rattle.std.specs.List.Sorted.{IsStrictlySortedBy}
+use Rattle.std.proofs.lemmas.Bool.{ne_eqb}
+use Rattle.std.proofs.lemmas.List.Elements.{recursion_from_All}
+use Rattle.hex.specs.Hex.{IsBytes}
+use Rattle.fbas_model.specs.Nodes.{Table}
+use Rattle.fbas_model.specs.Names.{name_cmp}
+use Rattle.fbas_model.specs.Fbas.{Fbas}
+use Rattle.fbas_model.specs.Systems.{System, IsSystem}
+use Rattle.fbas_model.specs.Restriction.{restricted_sets}
+use Rattle.lrat_model.specs.Steps.{ProofStep, Addition, Deletion, Database, after_step, progress_of}
+use Rattle.lrat_model.specs.declared.step.Progress.TheVariants.{Going}
+use Rattle.lrat_model.specs.Runs.{Run, formula_database}
+use Rattle.cdcl_core.specs.Log.{AreLemmas, EndsEmpty, HasNoEmptyLemma, units}
+use Rattle.clause_encoder.specs.Formula.{formula, formula_clauses}
+use Rattle.lrat_checker.specs.Checking.{Checking}
+use Rattle.certificate_file.specs.Formulas.{formula_of, formula_over}
+use Rattle.greatest_quorum.specs.Greatest.{greatest_of}
+use Rattle.certificate_file.specs.Meaning.{part_from}
+use Rattle.certificate_file.specs.declared.places.Header.{Header}
+use Rattle.certificate_file.specs.declared.places.Aim.{Aim}
+use Rattle.certificate_file.specs.declared.places.Aim.TheVariants as aim
+use Rattle.certificate_file.specs.declared.places.Answer.TheVariants as shown
+use Rattle.cert_writer.specs.Promises.{IsHeader, subject, part_of, faulty_in, EndsAs, IsLogOf}
+use Rattle.cert_writer.proofs.Pairs.{part_is_restricted, pair_of_part_accepted}
+use Rattle.cert_writer.proofs.LogLaws.{log_of_accepted}
+use Rattle.quorum_questions.specs.Evidence.{clauses_of, IsSize, IsLog, Shows}
+use Rattle.quorum_questions.specs.declared.asking.TheConstants.{MOST_UNITS}
+use Rattle.quorum_questions.specs.declared.answers.Size.{Size}
+use Rattle.quorum_questions.specs.declared.answers.Answer.{Answer as Found}
+use Rattle.quorum_questions.specs.declared.answers.Answer.TheVariants.{Yes, No, Spent}
+use Rattle.cert_writer.specs.Finding.{Search, part, faulty, cert_of, Finds, CanBeWritten}
+use Rattle.cert_lines.specs.declared.lines.TheConstants.{MAX_LINES}
+
+-- ---- the length of a log
+
+going_units : (log : List ProofStep) (vars : ℕ) (old : Database) → AreLemmas vars old log → AllByRecursion (λ (step : ProofStep). progress_of step ≡ Going) log → units log ≡ length log
+going_units [] vars old lemmas on = refl
+going_units (Deletion id ids ∷ log) vars old lemmas on = absurd lemmas
+going_units (Addition id [] hints ∷ log) vars old lemmas on = absurd (let e = on.0 in cc)
+going_units (Addition id (l ∷ lits) hints ∷ log) vars old lemmas on =
+    let rest = going_units log vars (after_step old (Addition id (l ∷ lits) hints)) lemmas.1 on.1 in
+    ap (λ (b : Bool). cond b 0 1 + units log) (ne_eqb (length (l ∷ lits)) 0 (λ k. omega arith)) ∙ (omega (arith, rest))
+
+units-append : (xs ys : List ProofStep) → units (xs ++ ys) ≡ units xs + units ys
+units-append [] ys = omega arith
+units-append (Addition id lits hints ∷ xs) ys = let rest = units-append xs ys in omega (arith, rest)
+units-append (Deletion id ids ∷ xs) ys = units-append xs ys
+
+lemmas_front : (vars : ℕ) (old : Database) (xs ys : List ProofStep) → AreLemmas vars old (xs ++ ys) → AreLemmas vars old xs
+lemmas_front vars old [] ys lemmas = tt
+lemmas_front vars old (Addition id lits hints ∷ xs) ys lemmas = (lemmas.0, lemmas_front vars (after_step old (Addition id lits hints)) xs ys lemmas.1)
+lemmas_front vars old (Deletion id ids ∷ xs) ys lemmas = absurd lemmas
+
+ended_length : (vars : ℕ) (old : Database) (log : List ProofStep) → AreLemmas vars old log → EndsEmpty log → length log ≤ units log + 1
+ended_length vars old log lemmas ends =
+    let before = ends.0 in
+    let front = lemmas_front vars old before (ends.1 ∷ []) (subst (AreLemmas vars old) ends.2 lemmas) in
+    let on = going_units before vars old front (recursion_from_All (λ (step : ProofStep). progress_of step ≡ Going) before ends.4) in
+    omega (arith, on, ap length ends.2, ap units ends.2, length-append before (ends.1 ∷ []), units-append before (ends.1 ∷ []))
+
+open_length : (vars : ℕ) (old : Database) (log : List ProofStep) → AreLemmas vars old log → HasNoEmptyLemma log → units log ≡ length log
+open_length vars old log lemmas open_log = going_units log vars old lemmas (recursion_from_All (λ (step : ProofStep). progress_of step ≡ Going) log open_log)
+
+-- ---- the formula of the part
+
+some_clauses : (f : Fbas) (b g : Table) → 0 < length (formula_clauses f b g)
+unfolding formula
+some_clauses f b g = omega arith
+
+-- the formula that is searched is the one that the check writes
+same_formula : (f : System) (h : Header) → IsSystem f.names f.sets → formula_of f (subject f h) ≡ formula_over (part_of f h.from).sets (faulty_in f h) (greatest_of (part_of f h.from).sets (faulty_in f h))
+unfolding formula_of
+same_formula f h is =
+    let sets : restricted_sets (part_from f h.from) f.sets ≡ (part_of f h.from).sets = sym (ap (λ (s : System). s.sets) (part_is_restricted f h.from is)) in
+    ap (λ (x : Fbas). formula_over x (faulty_in f h) (greatest_of x (faulty_in f h))) sets
+
+of_log : (f : System) (h : Header) (to : Aim) (log : List ProofStep) (size : Size) (new : Database) → IsSystem f.names f.sets → IsSize (part_of f h.from).sets (faulty_in f h) size → IsLog (part_of f h.from).sets (faulty_in f h) log new → length log + 7 ≤ MAX_LINES → EndsAs to log → IsLogOf f h to size.vars size.clauses log
+of_log f h to log size new is sized run few ends =
+    let p = (part_of f h.from).sets in
+    let b = faulty_in f h in
+    let same : formula_over p b (greatest_of p b) ≡ formula_of f (subject f h) = sym (same_formula f h is) in
+    let vars : size.vars ≡ (formula_of f (subject f h)).vars = sized.vars ∙ ap (λ (c : Checking). c.vars) same in
+    let base : formula_database (clauses_of p b) ≡ (formula_of f (subject f h)).database = ap (λ (c : Checking). c.database) same in
+    record {
+      vars_are = vars;
+      clauses_are = sized.clauses ∙ ap (λ (c : Checking). c.database.last) same;
+      small = sized.small;
+      some_clause = (omega (arith, sized.clauses, some_clauses p b (greatest_of p b)), let few : size.clauses ≤ 4611686018427387904 = sized.few in omega (arith, few));
+      new = new;
+      run = subst (λ (d : Database). Run size.vars d log new) base (subst (λ (n : ℕ). Run n (formula_database (clauses_of p b)) log new) (sym sized.vars) run.run);
+      lemmas = subst (λ (d : Database). AreLemmas size.vars d log) base (subst (λ (n : ℕ). AreLemmas n (formula_database (clauses_of p b)) log) (sym sized.vars) run.lemmas);
+      numbers = run.numbers;
+      literals = run.literals;
+      few = few;
+      ends = ends;
+    }
+
+pub found : (s : Search) (found : Found) → IsSystem s.whole.names s.whole.sets → IsStrictlySortedBy name_cmp s.whole.names → length s.digest ≡ 32 → IsBytes s.digest → IsHeader s.whole s.header → s.budget ≤ MOST_UNITS → Shows (part s).sets (faulty s) s.budget found → Finds s found (cert_of s found)
+found s (Yes log size) is sorted long bytes head small r =
+    let few : length log + 7 ≤ MAX_LINES = omega (arith, ended_length _ _ log r.run.lemmas r.ends, r.taken) in
+    record {
+      shows = r;
+      cert_is = refl;
+      accepted = log_of_accepted s.whole s.digest s.header aim.Refutation size.vars size.clauses log is sorted long bytes head (of_log s.whole s.header aim.Refutation log size r.new is r.sized r.run few r.ends);
+    }
+found s (No pair) is sorted long bytes head small r = record {
+  shows = r;
+  cert_is = refl;
+  accepted = pair_of_part_accepted s.whole (part s) s.digest s.header pair is sorted long bytes head refl r.apart;
+}
+found s (Spent log size) is sorted long bytes head small r =
+    let few : length log + 7 ≤ MAX_LINES = omega (arith, open_length _ _ log r.run.lemmas r.unrefuted, r.taken) in
+    record {
+      shows = r;
+      cert_is = refl;
+      accepted =
+          log_of_accepted s.whole s.digest s.header aim.Partial size.vars size.clauses log is sorted long bytes head (of_log s.whole s.header aim.Partial log size r.new is r.sized r.run few r.unrefuted)
+          ∙ ap (λ (n : ℕ). Ok (record { header = s.header; answer = shown.Partial n })) r.taken;
+    }
+
+-- what is shown can be written
+pub can_be_written : (f : System) (b : Table) (budget : ℕ) (found : Found) → length f.names ≡ length f.sets → Shows f.sets b budget found → CanBeWritten (length f.names) found
+can_be_written f b budget (Yes log size) same r = r.run.numbers
+can_be_written f b budget (No pair) same r = (r.first ∙ sym same, r.second ∙ sym same)
+can_be_written f b budget (Spent log size) same r = r.run.numbers

@@ -1,0 +1,14 @@
+pub mod Joined
+pub mod Words
+pub mod Names
+pub mod Places
+pub mod Headers
+pub mod Raised
+pub mod Pairs
+pub mod StepLines
+pub mod Runs
+pub mod LogLaws
+pub mod WritingLaws
+pub mod TextSteps
+pub mod Ends
+pub mod Found

@@ -1,0 +1,65 @@
+-- How the texts grow.
+use Rattle.std.proofs.Common.{inl, inr, ◌≡◌, ℕ, ◌+◌, ◌<◌, List, [], ◌∷◌, ◌++◌, length, map, take, drop, take-append-drop, cond, Option, Some, refl, sym, ◌∙◌, ap, codes, append_assoc, slice_get, slice_index_or}
+use Rattle.std.proofs.lemmas.List.{append-nil, take_more, map-append}
+use Rattle.std.proofs.lemmas.Bool.{cases_Bool}
+use Rattle.std.proofs.lemmas.Option.{slice_get-get_or, get_or_from_slice_get}
+use Rattle.fbas_model.specs.Nodes.{Table, members}
+use Rattle.fbas_model.specs.Names.{Name}
+use Rattle.fbas_model.specs.Restriction.{kept}
+use Rattle.fbas_model.proofs.Kept.{kept_more_yes, kept_more_no}
+use Rattle.lrat_text.specs.Left.{spaced}
+use Rattle.hex.specs.Hex.{encode_lower}
+use Rattle.witness_pair.specs.declared.Pair.{Pair}
+use Rattle.certificate_file.specs.declared.places.Header.{Header}
+use Rattle.std.specs.Fmt.{decimal}
+use Rattle.lrat_model.specs.Steps.{ProofStep}
+use Rattle.lrat_text.specs.Texts.{line_of}
+use Rattle.certificate_file.specs.declared.places.Aim.{Aim}
+use Rattle.cert_writer.specs.Texts.{Text, joined, name_if_any, header_lines, pair_front, kind_of, log_front}
+
+pub spaced-append : (xs ys : List Text) → spaced (xs ++ ys) ≡ spaced xs ++ spaced ys
+spaced-append [] ys = refl
+spaced-append (x ∷ xs) ys = ap (λ (z : Text). 32 ∷ (x ++ z)) (spaced-append xs ys) ∙ ap (λ (z : Text). 32 ∷ z) (sym (append_assoc x (spaced xs) (spaced ys)))
+
+pub joined-append : (xs ys : List Text) → joined (xs ++ ys) ≡ joined xs ++ joined ys
+joined-append [] ys = refl
+joined-append (x ∷ xs) ys = ap (λ (z : Text). x ++ 10 ∷ z) (joined-append xs ys) ∙ sym (append_assoc x (10 ∷ joined xs) (joined ys))
+
+-- the names up to the next node
+pub names_more : (set : Table) (names : List Name) (v : ℕ) → v < length names → spaced (kept (take v set) names) ++ cond (members set v) (32 ∷ slice_index_or names v []) [] ≡ spaced (kept (take (v + 1) set) names)
+names_more set names v low = elim (cases_Bool (members set v)) [
+  | inl is ↦
+      let more = kept_more_yes set names v (slice_index_or names v []) is (slice_get-get_or names v [] low) in
+      rw (is, more, spaced-append (kept (take v set) names) (slice_index_or names v [] ∷ [])) (ap (λ (z : Text). spaced (kept (take v set) names) ++ 32 ∷ z) (sym (append-nil (slice_index_or names v []))))
+  | inr not_in ↦ rw (not_in, kept_more_no set names v not_in) (append-nil (spaced (kept (take v set) names)))
+]
+
+pub header_text : (names : List Name) (digest : List ℕ) (h : Header) → (((((codes "fbas-cert 1\nconfig" ++ 32 ∷ encode_lower digest) ++ codes "\nfrom") ++ spaced (name_if_any names h.from)) ++ codes "\nfaulty") ++ spaced (kept h.faulty names)) ++ codes "\n" ≡ joined (header_lines names digest h)
+header_text names digest h = simp (append_assoc, append-nil)
+
+pub pair_text : (names : List Name) (p : Pair) → (((codes "kind pair\nfirst" ++ spaced (kept p.first names)) ++ codes "\nsecond") ++ spaced (kept p.second names)) ++ codes "\n" ≡ joined (pair_front names p)
+pair_text names p = simp (append_assoc, append-nil)
+
+-- the name of a node that is there
+pub from_text : (names : List Name) (v : ℕ) (name : Name) (from : Option ℕ) → from ≡ Some v → slice_get names v ≡ Some name → 32 ∷ name ≡ spaced (name_if_any names from)
+from_text names v name from is at = rw (is, get_or_from_slice_get names v name [] at) (ap (λ (z : Text). 32 ∷ z) (sym (append-nil name)))
+
+-- the lines up to the next step
+pub lines_more : {A : Type 0} (line : A → Text) (xs : List A) (i : ℕ) (d : A) → i < length xs → joined (map line (take i xs)) ++ (line (slice_index_or xs i d) ++ 10 ∷ []) ≡ joined (map line (take (i + 1) xs))
+lines_more {A = A} line xs i d low = sym (
+    ap (λ (ys : List A). joined (map line ys)) (take_more xs i d low)
+    ∙ ap joined (map-append line (take i xs) (slice_index_or xs i d ∷ []))
+    ∙ joined-append (map line (take i xs)) (line (slice_index_or xs i d) ∷ []))
+
+pub log_text : (to : Aim) (vars clauses : ℕ) (log : List ProofStep) → ((((kind_of to ++ codes "\nformula") ++ 32 ∷ decimal vars) ++ 32 ∷ decimal clauses) ++ codes "\n") ++ joined (map line_of log) ≡ joined (log_front to vars clauses log)
+log_text to vars clauses log = simp (append_assoc, append-nil)
+
+pub both_texts : (xs ys : List Text) → joined xs ++ joined ys ≡ joined (xs ++ ys)
+both_texts xs ys = sym (joined-append xs ys)
+
+-- the lines that are left
+pub lines_rest : {A : Type 0} (line : A → Text) (xs : List A) (i : ℕ) → joined (map line (take i xs)) ++ joined (map line (drop i xs)) ≡ joined (map line xs)
+lines_rest {A = A} line xs i =
+    sym (joined-append (map line (take i xs)) (map line (drop i xs)))
+    ∙ ap joined (sym (map-append line (take i xs) (drop i xs)))
+    ∙ ap (λ (ys : List A). joined (map line ys)) (take-append-drop i xs)

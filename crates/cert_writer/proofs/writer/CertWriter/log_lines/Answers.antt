@@ -1,0 +1,13 @@
+use Rattle.std.proofs.Common.{◌∙◌}
+use Rattle.cert_writer.proofs.WritingLaws.{writes_more, writes_same}
+use Rattle.cert_writer.proofs.TextSteps.{log_text}
+use Rattle.cert_writer.proofs.writer.CertWriter.log_lines.Goals as goal
+
+pub returns : goal.returns
+returns g c =
+    let kind = writes_same _ _ _ _ _ _ _ _ _ (c.as_bytes.ensures.value ∙ c.kind_of.ensures) c.text.ensures in
+    let a = writes_more _ _ _ _ _ _ _ _ _ _ _ _ kind c.text-2.ensures in
+    let b = writes_more _ _ _ _ _ _ _ _ _ _ _ _ a c.number.ensures in
+    let d = writes_more _ _ _ _ _ _ _ _ _ _ _ _ b c.number-2.ensures in
+    let e = writes_more _ _ _ _ _ _ _ _ _ _ _ _ d c.text-3.ensures in
+    writes_same _ _ _ _ _ _ _ _ _ (log_text c.args.to c.args.vars c.args.clauses c.args.log.now) (writes_more _ _ _ _ _ _ _ _ _ _ _ _ e c.steps.ensures)

@@ -1,0 +1,77 @@
+-- What is asked of a certificate that is written, and what is out then.
+use Rattle.std.specs.Prelude.{◌≡◌, ℕ, ◌+◌, ◌<◌, ◌≤◌, List, length, take, All, IsTrue, Option, Some, None, IfSome}
+use Rattle.desk_io.specs.State.{DeskState, written, CannotPut}
+use Rattle.desk_io.specs.declared.desk.To.TheVariants.{Cert}
+use Rattle.fbas_model.specs.Nodes.{Table}
+use Rattle.fbas_model.specs.Systems.{System}
+use Rattle.fbas_model.specs.Restriction.{kept, restricted, closure_of}
+use Rattle.lrat_model.specs.Steps.{ProofStep, Database}
+use Rattle.lrat_model.specs.Runs.{Run}
+use Rattle.lrat_text.specs.Texts.{IsId, HasNumbers, HasLiterals}
+use Rattle.cdcl_core.specs.Log.{AreLemmas, EndsEmpty, HasNoEmptyLemma, units}
+use Rattle.witness_pair.specs.Making.{shared}
+use Rattle.witness_pair.specs.declared.Pair.{Pair}
+use Rattle.certificate_file.specs.Formulas.{formula_of}
+use Rattle.certificate_file.specs.Meaning.{part_from}
+use Rattle.certificate_file.specs.declared.places.Header.{Header}
+use Rattle.certificate_file.specs.declared.places.Subject.{Subject}
+use Rattle.certificate_file.specs.declared.places.Aim.{Aim}
+use Rattle.certificate_file.specs.declared.places.Aim.TheVariants as aim
+use Rattle.certificate_file.specs.declared.places.Answer.{Answer}
+use Rattle.certificate_file.specs.declared.places.Answer.TheVariants.{Refutation, Partial}
+use Rattle.cert_writer.specs.Texts.{raised_table}
+use Rattle.cert_lines.specs.declared.lines.TheConstants.{MAX_LINES}
+use Rattle.clause_encoder.specs.declared.limits.TheConstants.{MOST_VARS}
+use Rattle.cert_writer.specs.declared.writer.TheConstants.{BUFFER}
+
+-- the header of a certificate: its node is one of the system, and its faulty nodes are cut to the part
+pub record IsHeader (f : System) (h : Header) : Type 0 where
+  pub node : IfSome h.from (λ v. v < length f.names)
+  pub faulty : length h.faulty ≡ length f.names
+  pub cut : shared h.faulty (part_from f h.from) ≡ h.faulty
+
+abbrev pub subject : System → Header → Subject
+subject f h = record { header = h; nodes = part_from f h.from }
+
+-- the system of the part, and its faulty nodes by their numbers there
+abbrev pub part_of : System → Option ℕ → System
+part_of f None = f
+part_of f (Some v) = restricted (closure_of f.sets v) f
+
+abbrev pub faulty_in : System → Header → Table
+faulty_in f h = kept (part_from f h.from) h.faulty
+
+-- the pair of a part, by the numbers of the whole system
+abbrev pub raised_pair : System → Header → Pair → Pair
+raised_pair f h p = record { first = raised_table (part_from f h.from) p.first; second = raised_table (part_from f h.from) p.second }
+
+-- how a log ends: with the empty lemma, or without one
+abbrev pub EndsAs : Aim → List ProofStep → Type 0
+EndsAs aim.Refutation log = EndsEmpty log
+EndsAs aim.Partial log = HasNoEmptyLemma log
+
+-- what its certificate shows
+abbrev pub shown_by : Aim → List ProofStep → Answer
+shown_by aim.Refutation log = Refutation
+shown_by aim.Partial log = Partial (units log)
+
+-- a log over the formula of the part, which has these many variables and clauses
+pub record IsLogOf (f : System) (h : Header) (to : Aim) (vars clauses : ℕ) (log : List ProofStep) : Type 0 where
+  pub vars_are : vars ≡ (formula_of f (subject f h)).vars
+  pub clauses_are : clauses ≡ (formula_of f (subject f h)).database.last
+  pub small : vars ≤ MOST_VARS
+  pub some_clause : IsId clauses
+  pub new : Database
+  pub run : Run vars (formula_of f (subject f h)).database log new
+  pub lemmas : AreLemmas vars (formula_of f (subject f h)).database log
+  pub numbers : All HasNumbers log
+  pub literals : All HasLiterals log
+  pub few : length log + 7 ≤ MAX_LINES
+  pub ends : EndsAs to log
+
+-- a proper prefix of the text is put; on a plain desk no file was created, or there was no room for another buffer
+pub record PutsPart (text : List ℕ) (old new : DeskState) : Type 0 where
+  pub count : ℕ
+  pub short : count < length text
+  pub put : new ≡ written Cert (take count text) old
+  pub lacks : IsTrue old.plain → CannotPut Cert (count + BUFFER) old

@@ -1,0 +1,311 @@
+//! The writer.
+ghost use Rattle.std.specs.Prelude.{◌≡◌, Bool, All, map, IfSome, if◌then◌else◌, slice_index_or, decimal, ◌+◌, ◌<◌, ◌≤◌, ◌++◌, [], ◌∷◌, true, false, length, take, IsTrue, IfOk, OnOk, IsErr, ◌↔◌, codes};
+ghost use Rattle.desk_io.specs.State.{DeskState};
+ghost use Rattle.desk_io.specs.Faults.{Faults};
+ghost use Rattle.fbas_model.specs.Restriction.{kept};
+ghost use Rattle.lrat_text.specs.Left.{spaced};
+ghost use Rattle.fbas_model.specs.Nodes.{members};
+ghost use Rattle.lrat_text.specs.Lent.{lent_step};
+ghost use Rattle.lrat_text.specs.Texts.{line_of, HasNumbers};
+ghost use Rattle.cert_writer.specs.Texts.{joined, name_if_any, header_lines, pair_front, kind_of, log_front};
+ghost use Rattle.cert_writer.specs.Writing.{Writes};
+
+use certificate_file::{Aim, Header, Pair};
+use desk_io::{Desk, To, WriteFailed, put_all};
+use digest_text::digits;
+use fbas_core::System;
+use itoa::Buffer;
+use lrat_text::{Log, StepRef, write_lent};
+use name_set::{Names, NodeSet};
+use std::alloc::{AllocError, Global};
+use std::marker::Model;
+
+/// Bytes that are put at once.
+pub const BUFFER: usize = 65_536;
+
+/// Writes a certificate through a buffer. After a put failed it puts nothing more.
+#[derive(Drop)]
+pub struct CertWriter {
+    bytes: Vec<u8>,
+    filled: usize,
+    has_failed: bool,
+}
+
+impl Model for CertWriter {
+    ghost use Rattle.std.specs.Prelude.{◌≡◌, ◌≤◌, length, take};
+    ghost use Rattle.cert_writer.specs.Writing.{Pending};
+    ghost use Rattle.cert_writer.specs.declared.writer.TheConstants.{BUFFER};
+
+    ghost Value = { Pending };
+
+    ghost view = { λ w. record { held = take w.filled w.bytes.items; failed = w.has_failed } };
+
+    ghost invariant = { λ w. (w.filled ≤ BUFFER) × (length w.bytes.items ≡ BUFFER) };
+}
+
+impl CertWriter {
+    /// Takes the buffer.
+    pub fn start(alloc: Global) -> Result<CertWriter, AllocError>
+        ensures held { IfOk result (λ w. w.held ≡ []) }
+        ensures whole { IfOk result (λ w. w.failed ≡ false) }
+    {
+        Ok(CertWriter {
+            bytes: vec![in alloc; 0u8; BUFFER]?,
+            filled: 0,
+            has_failed: false,
+        })
+    }
+
+    /// Puts what the buffer holds.
+    fn flush<D: Desk>(&mut self, desk: &mut D)
+        ensures writes { Writes D.tells [] self.old (D.state desk.old) (D.faults desk.old) self.new (D.state desk.new) (D.faults desk.new) }
+        ensures empty { self.new.failed ≡ false → self.new.held ≡ [] }
+    {
+        if self.has_failed {
+            return;
+        }
+        match put_all(desk, To::Cert, &self.bytes[..self.filled]) {
+            Ok(()) => self.filled = 0,
+            Err(WriteFailed) => self.has_failed = true,
+        }
+    }
+
+    /// Holds a byte, where there is room for it.
+    fn hold(&mut self, byte: u8)
+        requires { length self.old.held < BUFFER }
+        ensures held { self.new.held ≡ self.old.held ++ byte ∷ [] }
+        ensures failed { self.new.failed ≡ self.old.failed }
+    {
+        self.bytes[self.filled] = byte;
+        self.filled += 1;
+    }
+
+    /// Puts what the buffer holds where it is full.
+    fn make_room<D: Desk>(&mut self, desk: &mut D)
+        ensures writes { Writes D.tells [] self.old (D.state desk.old) (D.faults desk.old) self.new (D.state desk.new) (D.faults desk.new) }
+        ensures room { self.new.failed ≡ false → length self.new.held < BUFFER }
+    {
+        if self.filled == BUFFER {
+            self.flush(desk);
+        }
+    }
+
+    /// Holds a byte, where no put failed.
+    fn keep(&mut self, byte: u8)
+        requires { self.old.failed ≡ false → length self.old.held < BUFFER }
+        ensures { (tells : Bool) (s : DeskState) (f : Faults) → Writes tells (byte ∷ []) self.old s f self.new s f }
+    {
+        if !self.has_failed {
+            self.hold(byte);
+        }
+    }
+
+    /// Writes a byte.
+    fn byte<D: Desk>(&mut self, desk: &mut D, byte: u8)
+        ensures { Writes D.tells (byte ∷ []) self.old (D.state desk.old) (D.faults desk.old) self.new (D.state desk.new) (D.faults desk.new) }
+    {
+        self.make_room(desk);
+        self.keep(byte);
+    }
+
+    /// Writes some bytes.
+    fn text<D: Desk>(&mut self, desk: &mut D, text: &[u8])
+        ensures { Writes D.tells text.now self.old (D.state desk.old) (D.faults desk.old) self.new (D.state desk.new) (D.faults desk.new) }
+    {
+        for byte in text {
+            self.byte(desk, *byte);
+        }
+    }
+
+    /// Writes a space and a word.
+    fn word<D: Desk>(&mut self, desk: &mut D, word: &[u8])
+        ensures { Writes D.tells (32 ∷ word.now) self.old (D.state desk.old) (D.faults desk.old) self.new (D.state desk.new) (D.faults desk.new) }
+    {
+        self.byte(desk, b' ');
+        self.text(desk, word);
+    }
+
+    /// Writes a space and a number.
+    fn number<D: Desk>(&mut self, desk: &mut D, number: u64)
+        ensures { Writes D.tells (32 ∷ decimal number) self.old (D.state desk.old) (D.faults desk.old) self.new (D.state desk.new) (D.faults desk.new) }
+    {
+        let mut buffer = Buffer::new();
+        self.word(desk, buffer.format(number).as_bytes());
+    }
+
+    /// Writes a space and the name of a node, where it is in the set.
+    fn name_if<D: Desk>(&mut self, desk: &mut D, names: &Names, set: &NodeSet, v: u32)
+        requires same_n { length set.now ≡ length names.now }
+        requires node { v < length names.now }
+        ensures { Writes D.tells (if members set.now v then 32 ∷ slice_index_or names.now v [] else []) self.old (D.state desk.old) (D.faults desk.old) self.new (D.state desk.new) (D.faults desk.new) }
+    {
+        if set.has(v) {
+            self.word(desk, names.name(v));
+        }
+    }
+
+    /// Writes a space and a name for each node of a set.
+    fn names<D: Desk>(&mut self, desk: &mut D, names: &Names, set: &NodeSet)
+        requires { length set.now ≡ length names.now }
+        ensures { Writes D.tells (spaced (kept set.now names.now)) self.old (D.state desk.old) (D.faults desk.old) self.new (D.state desk.new) (D.faults desk.new) }
+    {
+        for v in 0..names.len() {
+            self.name_if(desk, names, set, v);
+        }
+    }
+
+    /// Writes a space and the name of a node, where there is one.
+    fn from<D: Desk>(&mut self, desk: &mut D, names: &Names, from: Option<u32>)
+        requires { IfSome from (λ v. v < length names.now) }
+        ensures { Writes D.tells (spaced (name_if_any names.now from)) self.old (D.state desk.old) (D.faults desk.old) self.new (D.state desk.new) (D.faults desk.new) }
+    {
+        if let Some(v) = from {
+            self.word(desk, names.name(v));
+        }
+    }
+
+    /// Writes the first four lines.
+    fn header<D: Desk>(&mut self, desk: &mut D, digest: &[u8; 32], header: &Header, names: &Names)
+        requires from { IfSome header.now.from (λ v. v < length names.now) }
+        requires faulty { length header.now.faulty ≡ length names.now }
+        ensures { Writes D.tells (joined (header_lines names.now digest.now header.now)) self.old (D.state desk.old) (D.faults desk.old) self.new (D.state desk.new) (D.faults desk.new) }
+    {
+        self.text(desk, b"fbas-cert 1\nconfig");
+        self.word(desk, &digits(digest));
+        self.text(desk, b"\nfrom");
+        self.from(desk, names, header.from);
+        self.text(desk, b"\nfaulty");
+        self.names(desk, names, &header.faulty);
+        self.text(desk, b"\n");
+    }
+
+    /// Writes the lines of a pair of a part, whose names these are, up to the last.
+    fn pair_lines<D: Desk>(&mut self, desk: &mut D, names: &Names, pair: &Pair)
+        requires first { length pair.now.first ≡ length names.now }
+        requires second { length pair.now.second ≡ length names.now }
+        ensures { Writes D.tells (joined (pair_front names.now pair.now)) self.old (D.state desk.old) (D.faults desk.old) self.new (D.state desk.new) (D.faults desk.new) }
+    {
+        self.text(desk, b"kind pair\nfirst");
+        self.names(desk, names, &pair.first);
+        self.text(desk, b"\nsecond");
+        self.names(desk, names, &pair.second);
+        self.text(desk, b"\n");
+    }
+
+    /// Writes the line of a step that is lent.
+    fn step<D: Desk>(&mut self, desk: &mut D, step: StepRef<'_>)
+        requires { HasNumbers (lent_step step) }
+        ensures { Writes D.tells (line_of (lent_step step.entry) ++ 10 ∷ []) self.old (D.state desk.old) (D.faults desk.old) self.new (D.state desk.new) (D.faults desk.new) }
+    {
+        let mut bytes = write_lent(step);
+        while let Some(byte) = bytes.next() {
+            self.byte(desk, byte);
+        }
+        self.byte(desk, b'\n');
+    }
+
+    /// Writes the lines of a log's steps, or those until a put failed.
+    fn steps<D: Desk>(&mut self, desk: &mut D, log: &Log)
+        requires { All HasNumbers log.now }
+        ensures { Writes D.tells (joined (map line_of log.now)) self.old (D.state desk.old) (D.faults desk.old) self.new (D.state desk.new) (D.faults desk.new) }
+    {
+        for place in 0..log.len() {
+            if self.has_failed {
+                return;
+            }
+            self.step(desk, log.step(place));
+        }
+    }
+
+    /// Writes the lines of a log up to the last: its kind, the size of the formula, and its steps.
+    fn log_lines<D: Desk>(&mut self, desk: &mut D, to: Aim, log: &Log, vars: u64, clauses: u64)
+        requires { All HasNumbers log.now }
+        ensures { Writes D.tells (joined (log_front to vars clauses log.now)) self.old (D.state desk.old) (D.faults desk.old) self.new (D.state desk.new) (D.faults desk.new) }
+    {
+        self.text(desk, kind_of(to).as_bytes());
+        self.text(desk, b"\nformula");
+        self.number(desk, vars);
+        self.number(desk, clauses);
+        self.text(desk, b"\n");
+        self.steps(desk, log);
+    }
+
+    /// Writes the certificate of a pair, up to its last line.
+    ///
+    /// The header has the numbers of the whole system, whose names come first, and the pair those of the part.
+    pub fn pair<D: Desk>(
+        &mut self,
+        desk: &mut D,
+        digest: &[u8; 32],
+        header: &Header,
+        whole: &System,
+        kept: &System,
+        pair: &Pair,
+    ) -> Result<(), WriteFailed>
+        requires from { IfSome header.now.from (λ v. v < length whole.now.names) }
+        requires faulty { length header.now.faulty ≡ length whole.now.names }
+        requires first { length pair.now.first ≡ length kept.now.names }
+        requires second { length pair.now.second ≡ length kept.now.names }
+        ensures writes { Writes D.tells (joined (header_lines whole.now.names digest.now header.now ++ pair_front kept.now.names pair.now)) self.old (D.state desk.old) (D.faults desk.old) self.new (D.state desk.new) (D.faults desk.new) }
+        ensures failed { IsTrue self.new.failed ↔ IsErr result }
+    {
+        self.header(desk, digest, header, whole.names());
+        self.pair_lines(desk, kept.names(), pair);
+        self.outcome()
+    }
+
+    /// Writes the certificate of a log, up to its last line: a refutation or a partial one, over a formula of this size.
+    pub fn log<D: Desk>(
+        &mut self,
+        desk: &mut D,
+        digest: &[u8; 32],
+        header: &Header,
+        whole: &System,
+        to: Aim,
+        log: &Log,
+        vars: u64,
+        clauses: u64,
+    ) -> Result<(), WriteFailed>
+        requires from { IfSome header.now.from (λ v. v < length whole.now.names) }
+        requires faulty { length header.now.faulty ≡ length whole.now.names }
+        requires numbers { All HasNumbers log.now }
+        ensures writes { Writes D.tells (joined (header_lines whole.now.names digest.now header.now ++ log_front to vars clauses log.now)) self.old (D.state desk.old) (D.faults desk.old) self.new (D.state desk.new) (D.faults desk.new) }
+        ensures failed { IsTrue self.new.failed ↔ IsErr result }
+    {
+        self.header(desk, digest, header, whole.names());
+        self.log_lines(desk, to, log, vars, clauses);
+        self.outcome()
+    }
+
+    /// Writes the last line, and puts all that is held.
+    pub fn finish<D: Desk>(&mut self, desk: &mut D) -> Result<(), WriteFailed>
+        ensures writes { Writes D.tells (codes "end\n") self.old (D.state desk.old) (D.faults desk.old) self.new (D.state desk.new) (D.faults desk.new) }
+        ensures failed { IsTrue self.new.failed ↔ IsErr result }
+        ensures empty { OnOk result (self.new.held ≡ []) }
+    {
+        self.text(desk, b"end\n");
+        self.flush(desk);
+        self.outcome()
+    }
+
+    /// Whether a put failed.
+    fn outcome(&self) -> Result<(), WriteFailed>
+        ensures { IsTrue self.now.failed ↔ IsErr result }
+    {
+        if self.has_failed {
+            Err(WriteFailed)
+        } else {
+            Ok(())
+        }
+    }
+}
+
+/// The line of a kind of certificate with steps.
+fn kind_of(to: Aim) -> &'static str
+    ensures { result.now ≡ kind_of to }
+{
+    match to {
+        Aim::Refutation => "kind refutation",
+        Aim::Partial => "kind partial",
+    }
+}

@@ -1,0 +1,96 @@
+-- The members of a table as a list in order, and the order of sets.
+use Rattle.std.proofs.Common.{◌≡◌, ℕ, zero, suc, ◌+◌, ◌-◌, ◌<◌, ◌==◌, ltb, true, false, List, [], ◌∷◌, length, drop, refl, sym, ◌∙◌, ap, ap₂, arith, inl, inr, Less, Equal, Greater}
+use Rattle.std.proofs.lemmas.Bool.{false≢true, false_from_ne_true, cases_lt, lt-ltb, ltb-true, eqb-true, eq-eqb}
+use Rattle.std.proofs.lemmas.List.{get_or-drop, drop-drop, drop_all}
+use Rattle.std.specs.Ordering.{nat_cmp, ordering_then}
+use Rattle.std.specs.declared.cmp.Ordering.{Ordering}
+use Rattle.std.specs.Cmp.Lexicographic.{slice_cmp}
+use Rattle.fbas_model.specs.Nodes.{Table, members, HasNoneFrom, IsLeastFrom, listed_from, set_cmp}
+
+-- a table without members
+listed-none : (v : ℕ) (t : Table) → ((j : ℕ) → members t j ≡ false) → listed_from v t ≡ []
+listed-none v [] none = refl
+listed-none v (true ∷ t) none = absurd (false≢true (sym (none 0)))
+listed-none v (false ∷ t) none = listed-none (v + 1) t (λ j. none (suc j))
+
+-- one whose first member stands at place j
+listed-first : (v : ℕ) (t : Table) (j : ℕ) → members t j ≡ true → ((i : ℕ) → i < j → members t i ≡ false) → listed_from v t ≡ (v + j) ∷ listed_from (v + j + 1) (drop (j + 1) t)
+listed-first v [] j here before = absurd (false≢true here)
+listed-first v (true ∷ t) zero here before = let e : v ≡ v + zero = omega arith in ap (λ (x : ℕ). x ∷ listed_from (x + 1) t) e
+listed-first v (false ∷ t) zero here before = absurd (false≢true here)
+listed-first v (true ∷ t) (suc j) here before = absurd (false≢true (sym (before 0 (omega arith))))
+listed-first v (false ∷ t) (suc j) here before =
+    let e : v + 1 + j ≡ v + suc j = omega arith in
+    let f : suc j + 1 ≡ suc (j + 1) = omega arith in
+    listed-first (v + 1) t j here (λ i h. before (suc i) (omega arith)) ∙ ap (λ (x : ℕ). x ∷ listed_from (x + 1) (drop (j + 1) t)) e ∙ ap (λ (k : ℕ). (v + suc j) ∷ listed_from (v + suc j + 1) (drop k (false ∷ t))) (sym f)
+
+members-drop : (at : ℕ) (t : Table) (j : ℕ) → members (drop at t) j ≡ members t (at + j)
+members-drop at t j = get_or-drop at t j false
+
+-- the members from a number on, where there is none
+pub listed_nowhere : (at : ℕ) (t : Table) → HasNoneFrom (members t) at → listed_from at (drop at t) ≡ []
+listed_nowhere at t none = listed-none at (drop at t) (λ j. members-drop at t j ∙ none (at + j) (omega arith))
+
+-- and where v is the least
+pub listed_next : (at v : ℕ) (t : Table) → IsLeastFrom (members t) at v → listed_from at (drop at t) ≡ v ∷ listed_from (v + 1) (drop (v + 1) t)
+listed_next at v t least =
+    let j = v - at in
+    let place : at + j ≡ v = omega (arith, least.0) in
+    let past : at + (j + 1) ≡ v + 1 = omega (arith, least.0) in
+    listed-first at (drop at t) j (members-drop at t j ∙ ap (members t) place ∙ least.1)
+    (λ i h. members-drop at t i ∙ false_from_ne_true (members t (at + i)) (λ is. let le = least.2 (at + i) (omega arith) is in absurd (omega (arith, least.0))))
+    ∙ ap (λ (x : ℕ). x ∷ listed_from (x + 1) (drop (j + 1) (drop at t))) place
+    ∙ ap (λ (r : Table). v ∷ listed_from (v + 1) r) (drop-drop (j + 1) at t ∙ ap (λ (k : ℕ). drop k t) past)
+
+-- ---- the order of sets
+
+before_itself : (v : ℕ) → nat_cmp v v ≡ Equal
+before_itself v = let no : ltb v v ≡ false = false_from_ne_true (ltb v v) (λ k. let l = ltb-true v v k in absurd (omega arith)) in rw (no, eq-eqb v v refl)
+
+same_first : (v : ℕ) (xs ys : List ℕ) → slice_cmp nat_cmp (v ∷ xs) (v ∷ ys) ≡ slice_cmp nat_cmp xs ys
+same_first v xs ys = ap (λ (o : Ordering). ordering_then o (slice_cmp nat_cmp xs ys)) (before_itself v)
+
+drop-nil : (k : ℕ) → let none : Table = [] in drop k none ≡ none
+drop-nil zero = refl
+drop-nil (suc k) = refl
+
+-- places where two tables agree can be passed over
+cmp-skip : (v k : ℕ) (s t : Table) → ((j : ℕ) → j < k → members s j ≡ members t j) → slice_cmp nat_cmp (listed_from v s) (listed_from v t) ≡ slice_cmp nat_cmp (listed_from (v + k) (drop k s)) (listed_from (v + k) (drop k t))
+cmp-skip v zero s t same = let e : v ≡ v + zero = omega arith in ap (λ (x : ℕ). slice_cmp nat_cmp (listed_from x s) (listed_from x t)) e
+cmp-skip v (suc k) [] [] same = refl
+cmp-skip v (suc k) [] (true ∷ t) same = absurd (false≢true (same 0 (omega arith)))
+cmp-skip v (suc k) [] (false ∷ t) same =
+    let e : v + 1 + k ≡ v + suc k = omega arith in
+    cmp-skip (v + 1) k [] t (λ j h. same (suc j) (omega arith)) ∙ ap₂ (λ (x : ℕ) (r : Table). slice_cmp nat_cmp (listed_from x r) (listed_from x (drop k t))) e (drop-nil k)
+cmp-skip v (suc k) (true ∷ s) [] same = absurd (false≢true (sym (same 0 (omega arith))))
+cmp-skip v (suc k) (false ∷ s) [] same =
+    let e : v + 1 + k ≡ v + suc k = omega arith in
+    cmp-skip (v + 1) k s [] (λ j h. same (suc j) (omega arith)) ∙ ap₂ (λ (x : ℕ) (r : Table). slice_cmp nat_cmp (listed_from x (drop k s)) (listed_from x r)) e (drop-nil k)
+cmp-skip v (suc k) (true ∷ s) (false ∷ t) same = absurd (false≢true (sym (same 0 (omega arith))))
+cmp-skip v (suc k) (false ∷ s) (true ∷ t) same = absurd (false≢true (same 0 (omega arith)))
+cmp-skip v (suc k) (true ∷ s) (true ∷ t) same =
+    let e : v + 1 + k ≡ v + suc k = omega arith in
+    same_first v (listed_from (v + 1) s) (listed_from (v + 1) t) ∙ cmp-skip (v + 1) k s t (λ j h. same (suc j) (omega arith)) ∙ ap (λ (x : ℕ). slice_cmp nat_cmp (listed_from x (drop k s)) (listed_from x (drop k t))) e
+cmp-skip v (suc k) (false ∷ s) (false ∷ t) same =
+    let e : v + 1 + k ≡ v + suc k = omega arith in
+    cmp-skip (v + 1) k s t (λ j h. same (suc j) (omega arith)) ∙ ap (λ (x : ℕ). slice_cmp nat_cmp (listed_from x (drop k s)) (listed_from x (drop k t))) e
+
+-- sets that agree below a number are ordered as the rest of them is
+pub set_cmp-from : (at : ℕ) (s t : Table) → ((v : ℕ) → v < at → members s v ≡ members t v) → set_cmp s t ≡ slice_cmp nat_cmp (listed_from at (drop at s)) (listed_from at (drop at t))
+set_cmp-from at s t same = let e : 0 + at ≡ at = omega arith in cmp-skip 0 at s t same ∙ ap (λ (x : ℕ). slice_cmp nat_cmp (listed_from x (drop at s)) (listed_from x (drop at t))) e
+
+-- sets with the same members are equal in it, whatever their n
+pub set_cmp-same : (s t : Table) → ((v : ℕ) → members s v ≡ members t v) → set_cmp s t ≡ Equal
+set_cmp-same s t same =
+    let at = length s + length t in
+    set_cmp-from at s t (λ v _. same v) ∙ ap₂ (λ (x y : Table). slice_cmp nat_cmp (listed_from at x) (listed_from at y)) (drop_all at s (omega arith)) (drop_all at t (omega arith))
+
+-- lists with different first numbers are ordered as these are
+pub cmp_first : (x y : ℕ) (xs ys : List ℕ) → (x ≡ y → ⊥) → slice_cmp nat_cmp (x ∷ xs) (y ∷ ys) ≡ nat_cmp x y
+cmp_first x y xs ys apart = elim (cases_lt x y) [
+  | inl lt ↦ let yes : nat_cmp x y ≡ Less = rw (lt-ltb x y lt) in ap (λ (o : Ordering). ordering_then o (slice_cmp nat_cmp xs ys)) yes ∙ sym yes
+  | inr le ↦
+      let no : ltb x y ≡ false = false_from_ne_true (ltb x y) (λ k. let l = ltb-true x y k in absurd (omega arith)) in
+      let other : (x == y) ≡ false = false_from_ne_true (x == y) (λ k. apart (eqb-true x y k)) in
+      let yes : nat_cmp x y ≡ Greater = rw (no, other) in ap (λ (o : Ordering). ordering_then o (slice_cmp nat_cmp xs ys)) yes ∙ sym yes
+]

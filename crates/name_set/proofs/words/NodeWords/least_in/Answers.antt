@@ -1,0 +1,9 @@
+use Rattle.std.proofs.Common.{arith}
+use Rattle.name_set.proofs.WordFinds.{least_here, least_nowhere}
+use Rattle.name_set.proofs.words.NodeWords.least_in.Goals as goal
+
+pub returns-then-self-i-ne0 : goal.returns-then-self-i-ne0
+returns-then-self-i-ne0 g c = least_here g.row.W c.self.inside.n c.self.inside.words c.args.self.now c.self.invariant c.self.view_is c.args.from c.loop-i.i (omega arith) c.loop-i.invariant c.if-self-i-ne0.true (omega arith)
+
+pub returns : goal.returns
+returns g c = least_nowhere g.row.W c.self.inside.n c.self.inside.words c.args.self.now c.self.invariant c.self.view_is c.args.from c.loop-i.i (omega arith) c.loop-i.invariant

@@ -1,0 +1,9 @@
+use Rattle.std.proofs.Common.{◌≡◌, bit_and}
+use Rattle.name_set.proofs.WordMixes.{Mixed}
+use Rattle.name_set.proofs.words.NodeWords.meet.Given as goal
+
+abbrev pub invariant-loop-i : goal.invariant-loop-i
+invariant-loop-i g l = record {
+  same_n : l.self-inside.n ≡ l.initial.self-inside.n;
+  mixed : Mixed bit_and l.initial.self-inside.words l.other-inside.words l.self-inside.words l.i;
+}

@@ -1,0 +1,5 @@
+use Rattle.std.proofs.Common.{◌≡◌, ℕ, ◌<◌, get_or, bit_and}
+use Rattle.name_set.proofs.words.NodeWords.meets.Given as goal
+
+abbrev pub invariant-loop-i : goal.invariant-loop-i
+invariant-loop-i g l = (k : ℕ) → k < l.i → bit_and (get_or l.self-inside.words k 0) (get_or l.other-inside.words k 0) ≡ 0

@@ -1,0 +1,37 @@
+-- A reply of a search has the status of an answer.
+use Rattle.std.proofs.Common.{◌≡◌, ℕ, IsTrue, Bool, true, false, refl, sym, subst}
+use Rattle.fbas_model.specs.Nodes.{Table}
+use Rattle.fbas_model.specs.Names.{Name}
+use Rattle.fbas_model.specs.Systems.{System}
+use Rattle.quorum_questions.specs.declared.answers.Answer.{Answer as Found}
+use Rattle.quorum_questions.specs.declared.answers.Answer.TheVariants.{Yes as together, No as apart, Spent as spent}
+use Rattle.cli_words.specs.declared.orders.Goal.{Goal}
+use Rattle.cli_words.specs.declared.orders.Goal.TheVariants.{Intersect, Dset, Splits}
+use Rattle.quorum_cli.specs.Status.{is_answer}
+use Rattle.quorum_cli.specs.declared.reply.Reply.{Reply as Answer}
+use Rattle.quorum_cli.specs.Replies.{intersect_answer, splits_answer, dset_status, Replies, RepliesTooLarge}
+
+abbrev Answered : Answer → Type 0
+Answered a = IsTrue (is_answer a.status)
+
+intersect_answered : (f : System) (budget : ℕ) (found : Found) → Answered (intersect_answer f.names budget found)
+intersect_answered f budget (together log size) = refl
+intersect_answered f budget (apart p) = refl
+intersect_answered f budget (spent log size) = refl
+
+splits_answered : (f : System) (budget : ℕ) (found : Found) → Answered (splits_answer f.names budget found)
+splits_answered f budget (together log size) = refl
+splits_answered f budget (apart p) = refl
+splits_answered f budget (spent log size) = refl
+
+dset_answered : (f : System) (budget : ℕ) (available : Bool) (found : Found) → IsTrue (is_answer (dset_status available (intersect_answer f.names budget found).status))
+dset_answered f budget false found = refl
+dset_answered f budget true found = intersect_answered f budget found
+
+pub reply_answered : (goal : Goal) (f : System) (deleted : Table) (budget : ℕ) (found : Found) (a : Answer) → Replies goal f deleted budget found a → IsTrue (is_answer a.status)
+reply_answered Intersect f deleted budget found a is = subst Answered (sym is) (intersect_answered f budget found)
+reply_answered Splits f deleted budget found a is = subst Answered (sym is) (splits_answered f budget found)
+reply_answered Dset f deleted budget found a is = subst Answered (sym is.said) (dset_answered f budget is.available found)
+
+pub too_large_answered : (f : System) (deleted : Table) (a : Answer) → RepliesTooLarge f deleted a → IsTrue (is_answer a.status)
+too_large_answered f deleted a is = subst Answered (sym is.said) refl

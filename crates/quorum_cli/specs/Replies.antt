@@ -1,0 +1,75 @@
+-- What a search prints of what it found.
+use Rattle.std.specs.Prelude.{◌≡◌, ◌↔◌, ◌<◌, ℕ, ◌++◌, Bool, true, false, IsTrue, List, length, codes}
+use Rattle.fbas_model.specs.Names.{Name}
+use Rattle.fbas_model.specs.Nodes.{Table, members}
+use Rattle.fbas_model.specs.Fbas.{Available, AreUnmet}
+use Rattle.fbas_model.specs.Systems.{System}
+use Rattle.quorum_questions.specs.Evidence.{vars_of}
+use Rattle.quorum_questions.specs.declared.answers.Answer.{Answer as Found}
+use Rattle.quorum_questions.specs.declared.answers.Answer.TheVariants.{Yes as together, No as apart, Spent as spent}
+use Rattle.clause_encoder.specs.declared.limits.TheConstants.{MOST_VARS}
+use Rattle.cli_words.specs.declared.orders.Goal.{Goal}
+use Rattle.cli_words.specs.declared.orders.Goal.TheVariants.{Intersect, Dset, Splits}
+use Rattle.report.specs.Lines.{Text, with_pair, counted, unavailable, too_large}
+use Rattle.quorum_cli.specs.declared.status.Status.{Status}
+use Rattle.quorum_cli.specs.declared.status.Status.TheVariants.{Yes, No, Unknown, TooLarge}
+use Rattle.quorum_cli.specs.declared.reply.Reply.{Reply as Answer}
+
+-- whether every two quorums share a node, by the names of the part
+abbrev pub intersect_answer : List Name → ℕ → Found → Answer
+intersect_answer names budget (together log size) = record { status = Yes; text = codes "intersects yes\n" }
+intersect_answer names budget (apart p) = record { status = No; text = with_pair (codes "intersects no\n") names p }
+intersect_answer names budget (spent log size) = record { status = Unknown; text = counted (codes "intersects unknown") budget }
+
+-- whether two quorums share no node
+abbrev pub splits_answer : List Name → ℕ → Found → Answer
+splits_answer names budget (together log size) = record { status = No; text = codes "splits no\n" }
+splits_answer names budget (apart p) = record { status = Yes; text = with_pair (codes "splits yes\n") names p }
+splits_answer names budget (spent log size) = record { status = Unknown; text = counted (codes "splits unknown") budget }
+
+-- ---- a dispensable set
+
+abbrev pub available_lines : List Name → Bool → Table → Text
+available_lines names true unmet = codes "available yes\n"
+available_lines names false unmet = unavailable names unmet
+
+-- no where either is no, yes where both are yes, else unknown
+abbrev pub dset_status : Bool → Status → Status
+dset_status false status = No
+dset_status true status = status
+
+abbrev pub dset_line : Status → Text
+dset_line Yes = codes "dset yes\n"
+dset_line No = codes "dset no\n"
+dset_line status = codes "dset unknown\n"
+
+-- the lines of both answers, and what follows
+abbrev pub dset_answer : List Name → Bool → Table → Answer → Answer
+dset_answer names available unmet answer = record {
+  status = dset_status available answer.status;
+  text = available_lines names available unmet ++ (answer.text ++ dset_line (dset_status available answer.status));
+}
+
+-- whether the others are available despite the set, and which of them are then unmet
+pub record IsAvailability (f : System) (set : Table) (available : Bool) (unmet : Table) : Type 0 where
+  pub is : IsTrue available ↔ Available f.sets (members set)
+  pub places : length unmet ≡ length f.sets
+  pub are : AreUnmet f.sets (members set) (members unmet)
+
+pub record RepliesDset (f : System) (set : Table) (budget : ℕ) (found : Found) (a : Answer) : Type 0 where
+  pub available : Bool
+  pub unmet : Table
+  pub is : IsAvailability f set available unmet
+  pub said : a ≡ dset_answer f.names available unmet (intersect_answer f.names budget found)
+
+-- ---- the reply of a search over a part of the system, of which these nodes are deleted and this was found
+
+abbrev pub Replies : Goal → System → Table → ℕ → Found → Answer → Type 0
+Replies Intersect f deleted budget found a = a ≡ intersect_answer f.names budget found
+Replies Splits f deleted budget found a = a ≡ splits_answer f.names budget found
+Replies Dset f deleted budget found a = RepliesDset f deleted budget found a
+
+-- the formula has too many variables, which are told
+pub record RepliesTooLarge (f : System) (deleted : Table) (a : Answer) : Type 0 where
+  pub large : MOST_VARS < vars_of f.sets deleted
+  pub said : a ≡ record { status = TooLarge; text = too_large (vars_of f.sets deleted) }

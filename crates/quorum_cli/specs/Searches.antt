@@ -1,0 +1,43 @@
+-- What a search is asked for.
+use Rattle.std.specs.Prelude.{◌≡◌, ◌≤◌, ℕ, List, Option, Some, None, Result, Ok, codes}
+use Rattle.sha2.specs.Sha256.{sha256}
+use Rattle.fbas_model.specs.Nodes.{Table}
+use Rattle.fbas_model.specs.Systems.{System}
+use Rattle.fbas_model.specs.Restriction.{closure_of, union}
+use Rattle.witness_pair.specs.Making.{shared}
+use Rattle.cert_writer.specs.Promises.{IsHeader}
+use Rattle.node_json.specs.Organisations.{Org}
+use Rattle.cli_words.specs.Order.{Ordered}
+use Rattle.cli_words.specs.declared.budget.TheConstants.{MOST_BUDGET}
+use Rattle.cli_words.specs.declared.orders.Goal.{Goal}
+use Rattle.cli_words.specs.declared.orders.Goal.TheVariants.{Intersect, Dset, Splits}
+use Rattle.quorum_cli.specs.declared.early.Early.{Early}
+use Rattle.quorum_cli.specs.declared.searches.Search.{Search}
+use Rattle.quorum_cli.specs.Reading.{◌>>=◌}
+use Rattle.quorum_cli.specs.Questions.{set_named, faulty_named, from_named}
+
+-- the nodes that are deleted: the faulty ones, those of the set, or both
+abbrev pub deleted_by : Goal → System → List Org → Ordered → Result Table Early
+deleted_by Intersect f orgs o = faulty_named f orgs o
+deleted_by Dset f orgs o = set_named f.names (codes "--set") o.set
+deleted_by Splits f orgs o = do
+  faulty ← faulty_named f orgs o
+  set ← set_named f.names (codes "--set") o.set
+  Ok (union faulty set)
+
+-- the nodes of a set that are in the part, the whole system or the trust closure of a node
+abbrev pub cut_within : System → Option ℕ → Table → Table
+cut_within f None set = set
+cut_within f (Some v) set = shared set (closure_of f.sets v)
+
+-- what an order with this goal asks of the system of a configuration's bytes
+abbrev pub search_of : Goal → System → List ℕ → List Org → Ordered → Result Search Early
+search_of goal f config orgs o = do
+  from ← from_named f o.from
+  named ← deleted_by goal f orgs o
+  Ok (record { goal = goal; path = o.cert; whole = f; digest = sha256 config; header = record { from = from; faulty = cut_within f from named }; budget = o.budget })
+
+-- its node and the deleted nodes are of the system, and within the part, and its units are not too many
+pub record FitsSearch (s : Search) : Type 0 where
+  pub header : IsHeader s.whole s.header
+  pub few : s.budget ≤ MOST_BUDGET

@@ -1,0 +1,111 @@
+//! What a search is asked for.
+ghost use Rattle.std.specs.Prelude.{◌≡◌, ◌≤◌, ◌<◌, All, IfOk, IfErr, IfSome, Ok, length, option_map, string_bytes};
+ghost use Rattle.cli_words.specs.Order.{order_view};
+ghost use Rattle.cli_words.specs.declared.budget.TheConstants.{MOST_BUDGET};
+ghost use Rattle.quorum_cli.specs.Questions.{set_named as set_by_option, faulty_named as faulty_by_options};
+ghost use Rattle.quorum_cli.specs.Searches.{deleted_by, cut_within as spec_cut_within, search_of, FitsSearch};
+ghost use Rattle.quorum_cli.specs.Reading.{Gives, IsRefusal};
+
+use crate::early::Early;
+use crate::names::{faulty_named, set_named};
+use crate::parts::from_named;
+use crate::word::Word;
+use certificate_file::Header;
+use cli_words::{Goal, Order};
+use digest_text::digest;
+use fbas_core::System;
+use name_set::NodeSet;
+use node_json::Orgs;
+use std::alloc::Global;
+
+/// A search over a system, and where its certificate goes.
+#[derive(Drop)]
+pub struct Search {
+    /// What it finds out.
+    pub goal: Goal,
+    /// The path of the certificate.
+    pub path: Word,
+    pub whole: System,
+    /// The digest of the configuration.
+    pub digest: [u8; 32],
+    /// The part of the system that is meant, and the nodes of it that are deleted.
+    pub header: Header,
+    /// How many units it may take.
+    pub budget: u64,
+}
+
+// The nodes that are deleted: the faulty ones, those of the set, or both.
+fn deleted(
+    alloc: Global,
+    goal: Goal,
+    system: &System,
+    orgs: &Orgs,
+    order: &Order,
+) -> Result<NodeSet, Early>
+    requires { All (λ org. length org.members ≡ length system.now.names) orgs.now }
+    ensures gives { Gives result (deleted_by goal system.now orgs.now (order_view order.now)) }
+    ensures refused { IfErr result IsRefusal }
+    ensures fits { IfOk result (λ s. length s ≡ length system.now.sets) }
+{
+    match goal {
+        Goal::Intersect => faulty_named(alloc, system, orgs, order),
+        Goal::Dset => set_named(alloc, system, "--set", &order.set),
+        Goal::Splits => both_named(alloc, system, orgs, order),
+    }
+}
+
+// The faulty nodes and those of the set.
+fn both_named(alloc: Global, system: &System, orgs: &Orgs, order: &Order) -> Result<NodeSet, Early>
+    requires { All (λ org. length org.members ≡ length system.now.names) orgs.now }
+    ensures gives { Gives result (deleted_by Goal.Splits system.now orgs.now (order_view order.now)) }
+    ensures refused { IfErr result IsRefusal }
+    ensures fits { IfOk result (λ s. length s ≡ length system.now.sets) }
+{
+    let mut faulty = faulty_named(alloc, system, orgs, order)?;
+    let set = set_named(alloc, system, "--set", &order.set)?;
+    faulty.join(&set);
+    Ok(faulty)
+}
+
+// The nodes of a set that are in the part, the whole system or the trust closure of a node.
+fn cut_within(system: &System, from: Option<u32>, set: NodeSet) -> NodeSet
+    requires node { IfSome from (λ v. v < length system.now.sets) }
+    requires same_n { length set ≡ length system.now.sets }
+    ensures cut { result ≡ spec_cut_within system.now from set }
+    ensures places { length result ≡ length system.now.sets }
+{
+    let mut set = set;
+    if let Some(node) = from {
+        set.meet(&system.closure(node));
+    }
+    set
+}
+
+/// What an order with this goal asks of the system of a configuration. The names are read in the order of the options `--from`,
+/// `--faulty`, `--faulty-orgs`, `--set`.
+pub fn search_asked(
+    alloc: Global,
+    goal: Goal,
+    order: &Order,
+    system: System,
+    config: &[u8],
+    orgs: &Orgs,
+) -> Result<Search, Early>
+    requires members { All (λ org. length org.members ≡ length system.names) orgs.now }
+    requires few { order.now.budget ≤ MOST_BUDGET }
+    ensures gives { Gives result (search_of goal system config.now orgs.now (order_view order.now)) }
+    ensures refused { IfErr result IsRefusal }
+    ensures fits { IfOk result FitsSearch }
+{
+    let from = from_named(alloc, &system, &order.from)?;
+    let named = deleted(alloc, goal, &system, orgs, order)?;
+    let faulty = cut_within(&system, from, named);
+    Ok(Search {
+        goal,
+        path: Word::of(alloc, &order.cert)?,
+        whole: system,
+        digest: digest(config),
+        header: Header { from, faulty },
+        budget: order.budget,
+    })
+}

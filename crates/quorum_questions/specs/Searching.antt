@@ -1,0 +1,20 @@
+-- A search that has not begun.
+use Rattle.std.specs.Prelude.{◌≡◌, ◌↔◌, [], length}
+use Rattle.fbas_model.specs.Nodes.{Table, members}
+use Rattle.fbas_model.specs.Fbas.{Fbas, Intersects, IsGreatestQuorum, all_nodes}
+use Rattle.greatest_quorum.specs.Greatest.{greatest_of}
+use Rattle.lrat_model.specs.Clauses.{IsUnsatisfiable}
+use Rattle.lrat_model.specs.Runs.{formula_database}
+use Rattle.quorum_questions.specs.Evidence.{vars_of, clauses_of, IsSize}
+use Rattle.quorum_questions.specs.declared.searching.Search.{Search}
+
+-- the solver holds the intersection formula once b is deleted, and has logged nothing
+pub record IsStarted (f : Fbas) (b : Table) (s : Search) : Type 0 where
+  pub vars : s.solver.vars ≡ vars_of f b
+  pub database : s.solver.database ≡ formula_database (clauses_of f b)
+  pub log : s.solver.log ≡ []
+  pub exact : IsUnsatisfiable s.solver.database.held ↔ Intersects f (members b)
+  pub map : s.map ≡ record { greatest = greatest_of f b; count = vars_of f b }
+  pub places : length s.map.greatest ≡ length f
+  pub greatest : IsGreatestQuorum f (members b) (all_nodes f) (members s.map.greatest)
+  pub size : IsSize f b s.size

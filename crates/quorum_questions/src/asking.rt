@@ -1,0 +1,107 @@
+//! The questions.
+ghost use Rattle.std.specs.Prelude.{◌≡◌, ℕ, ◌<◌, ◌≤◌, length, IsTrue, ◌↔◌, Err, IfOk, OnOk};
+ghost use Rattle.fbas_model.specs.Nodes.{members};
+ghost use Rattle.fbas_model.specs.Fbas.{Available, AreUnmet};
+ghost use Rattle.clause_encoder.specs.declared.limits.TheConstants.{MOST_VARS};
+ghost use Rattle.fbas_model.specs.Restriction.{union};
+ghost use Rattle.quorum_questions.specs.Evidence.{vars_of, Shows};
+
+use crate::answers::{Answer, AskError};
+use crate::searching::{Search, start, values_of, witness};
+use cdcl_core::{Budget, Verdict};
+use fbas_core::System;
+use greatest_quorum::available;
+use name_set::NodeSet;
+use std::alloc::Global;
+
+/// The most units that a question may have.
+pub const MOST_UNITS: u64 = 4_000_000_000;
+
+/// Whether every two quorums (Mazières 2015) share a node once the faulty nodes are deleted, with the evidence: a log that
+/// refutes the intersection formula, or two quorums that share none, or the log of a search that spent the budget.
+///
+/// Of the budget each lemma with a literal takes a unit. `TooLarge` comes exactly where the formula has more than 4,000,000
+/// variables. The cost is that of the greatest quorum, of `encode` and of the search.
+pub fn intersect(
+    alloc: Global,
+    system: &System,
+    faulty: &NodeSet,
+    budget: u64,
+) -> Result<Answer, AskError>
+    requires same_n { length faulty.now ≡ length system.now.sets }
+    requires few { budget ≤ MOST_UNITS }
+    ensures shows { IfOk result (Shows system.now.sets faulty.now budget) }
+    ensures small { OnOk result (vars_of system.now.sets faulty.now ≤ MOST_VARS) }
+    ensures too_large { (vars : ℕ) → result ≡ Err (AskError.TooLarge vars) → (vars ≡ vars_of system.now.sets faulty.now) × (MOST_VARS < vars) }
+{
+    let Search {
+        mut solver,
+        map,
+        size,
+    } = start(alloc, system, faulty)?;
+    let mut units = Budget::of(budget);
+    match solver.solve(&mut units)? {
+        Verdict::Sat => {
+            let values = values_of(alloc, &solver, size.vars)?;
+            Ok(Answer::No(witness(system, faulty, &map, &values)))
+        }
+        Verdict::Unsat => Ok(Answer::Yes(solver.into_log(), size)),
+        Verdict::Spent => Ok(Answer::Spent(solver.into_log(), size)),
+    }
+}
+
+/// Both sets as one: O(n / 64).
+fn union(s: &NodeSet, t: &NodeSet) -> NodeSet
+    requires { length s.now ≡ length t.now }
+    ensures same_n { length result ≡ length s.now }
+    ensures union { result ≡ union s.now t.now }
+{
+    let mut both = s.copy();
+    both.join(t);
+    both
+}
+
+/// Whether two quorums share no node once the faulty nodes and those of `s` are deleted: the answer of `intersect` with both
+/// sets deleted, of which `No` is the yes of splitting.
+pub fn splits(
+    alloc: Global,
+    system: &System,
+    faulty: &NodeSet,
+    s: &NodeSet,
+    budget: u64,
+) -> Result<Answer, AskError>
+    requires same_n { length faulty.now ≡ length system.now.sets }
+    requires same_s { length s.now ≡ length system.now.sets }
+    requires few { budget ≤ MOST_UNITS }
+    ensures shows { IfOk result (Shows system.now.sets (union faulty.now s.now) budget) }
+    ensures small { OnOk result (vars_of system.now.sets (union faulty.now s.now) ≤ MOST_VARS) }
+    ensures too_large { (vars : ℕ) → result ≡ Err (AskError.TooLarge vars) → (vars ≡ vars_of system.now.sets (union faulty.now s.now)) × (MOST_VARS < vars) }
+{
+    let both = union(faulty, s);
+    intersect(alloc, system, &both, budget)
+}
+
+/// Whether `b` is a dispensable set (Mazières 2015): whether the others are available despite it, the nodes outside `b` that have
+/// no slice outside `b`, and the answer of `intersect` with `b` deleted.
+pub fn dset(
+    alloc: Global,
+    system: &System,
+    b: &NodeSet,
+    budget: u64,
+) -> Result<(bool, NodeSet, Answer), AskError>
+    requires same_n { length b.now ≡ length system.now.sets }
+    requires few { budget ≤ MOST_UNITS }
+    ensures available { IfOk result (λ r. IsTrue r.0 ↔ Available system.now.sets (members b.now)) }
+    ensures same_n { IfOk result (λ r. length r.1 ≡ length system.now.sets) }
+    ensures unmet { IfOk result (λ r. AreUnmet system.now.sets (members b.now) (members r.1)) }
+    ensures shows { IfOk result (λ r. Shows system.now.sets b.now budget r.2) }
+    ensures small { OnOk result (vars_of system.now.sets b.now ≤ MOST_VARS) }
+    ensures too_large { (vars : ℕ) → result ≡ Err (AskError.TooLarge vars) → (vars ≡ vars_of system.now.sets b.now) × (MOST_VARS < vars) }
+{
+    let mut unmet = NodeSet::new(system.len());
+    let is_available = available(system, b, &mut unmet);
+    match intersect(alloc, system, b, budget) {
+        Ok(answer) => Ok((is_available, unmet, answer)),
+        Err(error) => Err(error),
+    }
+}

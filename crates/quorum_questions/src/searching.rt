@@ -1,0 +1,75 @@
+//! The search for an assignment that tells two quorums which share no node.
+ghost use Rattle.std.specs.Prelude.{◌≡◌, ℕ, ◌<◌, length, Err, IfOk};
+ghost use Rattle.lrat_model.specs.Clauses.{numbered, Satisfies};
+ghost use Rattle.fbas_model.specs.Nodes.{members};
+ghost use Rattle.fbas_model.specs.Fbas.{IsGreatestQuorum, all_nodes};
+ghost use Rattle.clause_encoder.specs.Formula.{formula_clauses};
+ghost use Rattle.clause_encoder.specs.declared.limits.TheConstants.{MOST_VARS};
+ghost use Rattle.clause_encoder.specs.Meaning.{value_of};
+ghost use Rattle.quorum_questions.specs.Evidence.{vars_of, IsWitness};
+ghost use Rattle.quorum_questions.specs.Searching.{IsStarted};
+
+use crate::answers::{AskError, Size, no_formula};
+use cdcl_core::Solver;
+use clause_encoder::{VarMap, encode};
+use fbas_core::System;
+use greatest_quorum::greatest;
+use name_set::NodeSet;
+use std::alloc::{AllocError, Global};
+use witness_pair::{Pair, make_pair};
+
+/// A solver over the intersection formula, what the formula's variables stand for, and its size.
+pub struct Search {
+    pub solver: Solver,
+    pub map: VarMap,
+    pub size: Size,
+}
+
+/// A solver that holds the intersection formula once the faulty nodes are deleted. The formula's store is gone when it is made.
+pub fn start(alloc: Global, system: &System, faulty: &NodeSet) -> Result<Search, AskError>
+    requires { length faulty.now ≡ length system.now.sets }
+    ensures started { IfOk result (IsStarted system.now.sets faulty.now) }
+    ensures too_large { (vars : ℕ) → result ≡ Err (AskError.TooLarge vars) → (vars ≡ vars_of system.now.sets faulty.now) × (MOST_VARS < vars) }
+{
+    let greatest = greatest(system, faulty);
+    match encode(alloc, system, faulty, &greatest) {
+        Ok((store, map)) => {
+            let size = Size {
+                vars: map.vars(),
+                clauses: store.last(),
+            };
+            let solver = Solver::start(alloc, &store, size.vars)?;
+            Ok(Search { solver, map, size })
+        }
+        Err(error) => Err(no_formula(error)),
+    }
+}
+
+/// The value of each variable: linear in their number.
+pub fn values_of(alloc: Global, solver: &Solver, vars: u64) -> Result<Vec<bool>, AllocError>
+    requires vars { vars ≡ solver.now.vars }
+    requires valued { length solver.now.values ≡ vars }
+    ensures { IfOk result (λ values. values.items ≡ solver.now.values) }
+{
+    let mut values = Vec::new(alloc);
+    for before in 0..vars {
+        values.push(solver.model(before + 1))?;
+    }
+    Ok(values)
+}
+
+/// The two quorums that a satisfying assignment tells.
+pub fn witness(system: &System, faulty: &NodeSet, map: &VarMap, values: &[bool]) -> Pair
+    requires same_n { length faulty.now ≡ length system.now.sets }
+    requires places { length map.now.greatest ≡ length system.now.sets }
+    requires greatest { IsGreatestQuorum system.now.sets (members faulty.now) (all_nodes system.now.sets) (members map.now.greatest) }
+    requires values { length values.now ≡ map.now.count }
+    requires satisfied { Satisfies (value_of values.now) (numbered 1 (formula_clauses system.now.sets faulty.now map.now.greatest)) }
+    ensures { IsWitness system.now.sets faulty.now result }
+{
+    let (first, second) = map.pair(values);
+    match make_pair(system, faulty, first, second) {
+        Ok(pair) => pair,
+        Err(_) => unreachable!(),
+    }
+}

@@ -1,0 +1,196 @@
+#!/usr/bin/env python3
+"""Runs the built program as a process: every status that it can end with, its exact output, and nothing on standard error.
+
+What no contract can say is shown here: that the machine's files are opened, read, emptied and written, and that a failing
+device, a closed output or a file that may not be read ends as it should. Its last line is 'process: N passed, M failed'.
+"""
+
+import os
+import shutil
+import subprocess
+import sys
+import tempfile
+
+TOP = os.path.dirname(os.path.dirname(os.path.abspath(__file__)))
+BUILT = os.path.join(TOP, "crates", "quorum_cli", "out", "quorum_cli")
+
+USAGE = """usage: quorum_cli COMMAND
+show CONFIG
+closure CONFIG --node NAME
+greatest CONFIG [COMMON]
+intersect CONFIG CERT [COMMON] [--budget UNITS]
+available CONFIG --set NAMES [--from NAME]
+dset CONFIG CERT --set NAMES [--from NAME] [--budget UNITS]
+blocks CONFIG --set NAMES [COMMON]
+vblocks CONFIG --node NAME --set NAMES
+splits CONFIG CERT --set NAMES [COMMON] [--budget UNITS]
+check CONFIG CERT
+export CONFIG [COMMON]
+COMMON: --from NAME --faulty NAMES --orgs ORGS --faulty-orgs IDS
+"""
+
+
+def system(nodes, threshold):
+    """A configuration in which each node needs so many of all of them."""
+    names = ",".join('"%s"' % node for node in nodes)
+    sets = ['{"publicKey":"%s","quorumSet":{"threshold":%d,"validators":[%s]}}' % (node, threshold, names) for node in nodes]
+    return "[" + ",".join(sets) + "]"
+
+
+# Each needs two of the three; the digest is that of sha256sum.
+THREE = system("abc", 2)
+HEAD = "fbas-cert 1\nconfig f823e204944abcff32c8dadffba2a0178a590a613358f9a6f271b651cd4e6fbb\nfrom\n"
+PAIR = HEAD + "faulty a\nkind pair\nfirst b\nsecond c\nend\n"
+SPENT = HEAD + "faulty\nkind partial\nformula 36 53\nend\n"
+WIDE = system(["w%03d" % i for i in range(200)], 100)
+
+FILES = {
+    "three": THREE,
+    "pair": PAIR,
+    "wide": WIDE,
+    "none": "[]",
+    "bad": "{",
+    "cut": PAIR[:9],
+    "hidden": THREE,
+    "longer": PAIR + "x" * 100000,
+    "barred": "as it was\n",
+}
+
+# The words, the status, the text that is put out, and what a file then holds (None: there is none).
+ROWS = [
+    ("show three", 0, "nodes 3\nentries 9\nunset 0\n", {}),
+    ("check three pair", 0, "accepted pair\nfrom\nfaulty a\n", {"pair": PAIR}),
+    ("available three --set a,b", 1, "available no\nunmet c\n", {}),
+    ("", 3, USAGE, {}),
+    ("--help", 3, USAGE, {}),
+    ("greatest three --faulty z", 3, "usage unknown-name --faulty 1\n", {}),
+    ("show bad", 4, "config not-json\n", {}),
+    ("check three cut", 5, "refused truncated 1\n", {}),
+    ("show missing", 6, "", {}),
+    ("show .", 6, "", {}),
+    ("show hidden", 6, "", {}),
+    ("check three missing", 6, "", {"missing": None}),
+    ("export wide", 9, "too-large 6020400\n", {}),
+    ("intersect three made --faulty a", 1, "intersects no\nfirst b\nsecond c\n", {"made": PAIR}),
+    ("check three made", 0, "accepted pair\nfrom\nfaulty a\n", {}),
+    ("intersect three spent --budget 0", 2, "intersects unknown 0\n", {"spent": SPENT}),
+    ("check three spent", 2, "accepted partial 0\nfrom\nfaulty\n", {}),
+    ("intersect three refuted", 0, "intersects yes\n", {}),
+    ("check three refuted", 0, "accepted refutation\nfrom\nfaulty\n", {}),
+    ("dset three dispensable --set a", 1, "available yes\nintersects no\nfirst b\nsecond c\ndset no\n", {"dispensable": PAIR}),
+    ("splits three split --set a", 0, "splits yes\nfirst b\nsecond c\n", {"split": PAIR}),
+    ("intersect three longer --faulty a", 1, "intersects no\nfirst b\nsecond c\n", {"longer": PAIR}),
+    ("intersect three three", 3, "usage same-path\n", {"three": THREE}),
+    ("intersect three kept --faulty z", 3, "usage unknown-name --faulty 1\n", {"kept": None}),
+    ("intersect three kept --budget 4000000001", 3, USAGE, {"kept": None}),
+    ("intersect missing kept", 6, "", {"kept": None}),
+    ("intersect wide kept", 9, "too-large 6020400\n", {"kept": None}),
+    ("intersect three nowhere/made", 7, "", {}),
+    ("intersect three .", 7, "", {}),
+    ("intersect three barred", 7, "", {"barred": "as it was\n"}),
+    ("intersect three /dev/full", 7, "", {}),
+]
+
+
+class Trial:
+    """A folder with the files, in which the program runs. Root gives up its rights, since it may read and write every file."""
+
+    def __init__(self, folder):
+        self.folder = folder
+        self.program = shutil.copy(BUILT, os.path.join(folder, "program"))
+        self.passed = 0
+        self.failed = 0
+        os.chmod(folder, 0o777)
+        for name, text in FILES.items():
+            with open(self.path(name), "w") as it:
+                it.write(text)
+            os.chmod(self.path(name), {"hidden": 0o000, "barred": 0o444}.get(name, 0o666))
+
+    def path(self, name):
+        return os.path.join(self.folder, name)
+
+    def held(self, name):
+        try:
+            with open(self.path(name)) as it:
+                return it.read()
+        except FileNotFoundError:
+            return None
+
+    @staticmethod
+    def give_up_rights():
+        if os.getuid() == 0:
+            os.setgroups([])
+            os.setgid(65534)
+            os.setuid(65534)
+
+    def run(self, words, stdin=subprocess.DEVNULL, stdout=subprocess.PIPE, before=None):
+        """The status, what was put out, and what is on standard error."""
+
+        def prepare():
+            self.give_up_rights()
+            if before:
+                before()
+
+        ended = subprocess.run([self.program] + words.split(), cwd=self.folder, stdin=stdin, stdout=stdout, stderr=subprocess.PIPE, preexec_fn=prepare, timeout=120)
+        return ended.returncode, (ended.stdout or b"").decode(), ended.stderr.decode()
+
+    def judge(self, name, found, wanted):
+        if found == wanted:
+            self.passed += 1
+        else:
+            self.failed += 1
+            print("process: %s: found %r, wanted %r" % (name, found, wanted))
+
+    def row(self, words, status, text, files):
+        found = self.run(words)
+        held = {name: self.held(name) for name in files}
+        self.judge("'%s'" % words, (found, held), ((status, text, ""), files))
+
+    def from_a_pipe(self):
+        reading, writing = os.pipe()
+        os.write(writing, THREE.encode())
+        os.close(writing)
+        found = self.run("greatest /dev/stdin --faulty a", stdin=reading)
+        os.close(reading)
+        self.judge("a configuration from a pipe", found, (0, "greatest b c\n", ""))
+
+    def to_a_full_device(self):
+        with open("/dev/full", "w") as full:
+            found = self.run("show three", stdout=full)
+        self.judge("a full device", found, (7, "", ""))
+
+    def full_after_the_certificate(self):
+        with open("/dev/full", "w") as full:
+            found = self.run("intersect three whole --faulty a", stdout=full)
+        self.judge("a full device behind a certificate", (found, self.held("whole")), ((7, "", ""), PAIR))
+
+    def to_a_closed_output(self):
+        found = self.run("show three", stdout=subprocess.DEVNULL, before=lambda: os.close(1))
+        self.judge("a closed output", found, (7, "", ""))
+
+    def to_a_pipe_that_nobody_reads(self):
+        reading, writing = os.pipe()
+        os.close(reading)
+        found = self.run("show three", stdout=writing)
+        os.close(writing)
+        self.judge("a pipe that nobody reads", found, (7, "", ""))
+
+
+def main():
+    if not os.path.exists(BUILT):
+        subprocess.run([os.path.join(TOP, "quorum_cli")], stdout=subprocess.DEVNULL)
+    with tempfile.TemporaryDirectory() as folder:
+        trial = Trial(folder)
+        for row in ROWS:
+            trial.row(*row)
+        trial.from_a_pipe()
+        trial.to_a_full_device()
+        trial.full_after_the_certificate()
+        trial.to_a_closed_output()
+        trial.to_a_pipe_that_nobody_reads()
+    print("process: %d passed, %d failed" % (trial.passed, trial.failed))
+    return 1 if trial.failed else 0
+
+
+if __name__ == "__main__":
+    sys.exit(main())
