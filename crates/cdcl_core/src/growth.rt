@@ -44,7 +44,8 @@ pub fn back(
 }
 
 /// Lets the clause at a place, the next that has none, watch two of its literals, one where it has no two
-/// that differ.
+/// that differ. A place takes 32 bits, since propagation waits for the load of watches: more clauses than
+/// these can name are want of memory.
 pub fn attach(
     pairs: &mut Vec<Pair>,
     lists: &mut WatchLists,
@@ -57,6 +58,10 @@ pub fn attach(
     ensures lists { OnOk result (length lists.new ≡ length lists.old) }
     ensures watched { OnOk result ((held : Held) (id : ℕ) (lits : List Literal) → length held ≡ place → has lits pair.first ≡ true → has lits pair.second ≡ true → ((l : Literal) → IsWatched held pairs.old.items lists.old l []) → (l : Literal) → IsWatched (held ++ (id, lits) ∷ []) pairs.new.items lists.new l []) }
 {
+    if place > u32::MAX as usize {
+        return Err(AllocError);
+    }
+    let place = place as u32;
     let Pair { first, second } = pair;
     pairs.push(Pair { first, second })?;
     let watch = Watch {

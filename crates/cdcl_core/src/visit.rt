@@ -84,13 +84,13 @@ pub fn visit(
     if assignment.is_true(watch.blocker) {
         return Ok(Seen::Stays(watch.blocker));
     }
-    let Some(other) = other_of(pairs[watch.place], l) else {
+    let Some(other) = other_of(pairs[watch.place as usize], l) else {
         return Ok(Seen::Goes);
     };
     if assignment.is_true(other) {
         return Ok(Seen::Stays(other));
     }
-    let clause = clauses.lits(watch.place);
+    let clause = clauses.lits(watch.place as usize);
     if let Some(m) = find_free(assignment, clause, other) {
         lists.push(
             m,
@@ -99,13 +99,13 @@ pub fn visit(
                 blocker: other,
             },
         )?;
-        pairs[watch.place] = Pair {
+        pairs[watch.place as usize] = Pair {
             first: other,
             second: m,
         };
         return Ok(Seen::Goes);
     }
-    let id = clauses.id(watch.place);
+    let id = clauses.id(watch.place as usize);
     if assignment.is_true(other.negated()) {
         return Ok(Seen::Conflict(id));
     }

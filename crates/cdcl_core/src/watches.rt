@@ -18,7 +18,7 @@ pub struct Pair {
 /// A clause by its place, and one of its literals: while that is true, the clause need not be looked at.
 #[derive(Clone, Copy)]
 pub struct Watch {
-    pub place: usize,
+    pub place: u32,
     pub blocker: Lit,
 }
 
