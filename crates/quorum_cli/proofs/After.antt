@@ -1,9 +1,8 @@
 -- Reading comes first: what is printed is the same beside what was there before it.
-use Rattle.std.proofs.Common.{◌≡◌, ◌⊎◌, ◌<◌, ◌+◌, ◌++◌, ℕ, true, refl, List, length, take, Contains, None, Option, Result, Ok, Err, IsTrue, inl, inr, sym, ◌∙◌, ap, subst}
+use Rattle.std.proofs.Common.{◌≡◌, ◌⊎◌, ◌<◌, ◌++◌, ℕ, true, refl, List, length, take, Contains, Result, Ok, Err, IsTrue, inl, inr, sym, ◌∙◌, ap, subst}
 use Rattle.std.specs.Str.{bytes_eq}
 use Rattle.std.proofs.lemmas.Bool.{cases_Bool}
 use Rattle.desk_io.specs.State.{Files, DeskState, OnlyReads, with_file}
-use Rattle.fbas_model.specs.Systems.{System}
 use Rattle.report.specs.Lines.{Text}
 use Rattle.quorum_cli.specs.declared.reply.Reply.{Reply as Answer}
 use Rattle.quorum_cli.specs.declared.status.Status.{Status}
@@ -11,12 +10,11 @@ use Rattle.quorum_cli.specs.declared.status.Status.TheVariants.{WriteFault, Memo
 use Rattle.quorum_cli.specs.Status.{is_answer}
 use Rattle.quorum_cli.specs.Headline.{IsCertOf, MayChange}
 use Rattle.quorum_cli.specs.declared.early.Early.{Early}
-use Rattle.quorum_cli.specs.declared.early.Early.TheVariants.{Told, Read, Memory}
+use Rattle.quorum_cli.specs.declared.early.Early.TheVariants.{Told}
 use Rattle.quorum_cli.specs.declared.reading.Asked.{Asked}
 use Rattle.quorum_cli.specs.declared.reading.Asked.TheVariants as asked
-use Rattle.quorum_cli.specs.declared.searches.Search.{Search}
 use Rattle.quorum_cli.specs.Putting.{PutsBoth, CameTo, uncreated, in_cert, in_text, LacksPlace, barred, no_room, no_room_for_text}
-use Rattle.quorum_cli.specs.Printing.{PrintsAnswer, PrintsAnswerPart, PrintsAsked, PrintsEarly, Prints, PrintsAskedPart, PrintsEarlyPart, PrintsPart, LacksRoomAsked, LacksRoomEarly, LacksRoom}
+use Rattle.quorum_cli.specs.Printing.{PrintsAnswer, PrintsAnswerPart, PrintsAsked, Prints, PrintsAskedPart, PrintsPart, LacksRoomAsked, LacksRoom}
 
 files_kept : (old mid : DeskState) → OnlyReads old mid → mid.files ≡ old.files
 files_kept old mid only = ap (λ (s : DeskState). s.files) only

@@ -1,9 +1,6 @@
 -- What is so where a search prints its answer.
-use Rattle.std.proofs.Common.{◌≡◌, ◌⊎◌, ◌↔◌, inl, inr, IsTrue, Bool, true, false, ℕ, List, ◌++◌, Option, Some, Result, Ok, Err, refl, sym, ◌∙◌, ap, subst, codes}
-use Rattle.std.specs.Str.{bytes_eq}
+use Rattle.std.proofs.Common.{◌≡◌, ◌⊎◌, ◌↔◌, inl, inr, IsTrue, Bool, true, false, ℕ, List, ◌++◌, Some, Result, Ok, Err, refl, sym, ◌∙◌, ap, subst, codes}
 use Rattle.std.proofs.lemmas.Slice.Eq.{bytes_eq-Decides}
-use Rattle.fbas_model.specs.Nodes.{Table, members}
-use Rattle.fbas_model.specs.Fbas.{Available}
 use Rattle.witness_pair.specs.declared.Pair.{Pair}
 use Rattle.lrat_model.specs.Steps.{ProofStep}
 use Rattle.quorum_questions.specs.declared.answers.Size.{Size}
@@ -22,7 +19,7 @@ use Rattle.quorum_cli.specs.declared.searches.Search.{Search}
 use Rattle.quorum_cli.specs.declared.reply.Reply.{Reply as Answer}
 use Rattle.quorum_cli.specs.declared.status.Status.{Status}
 use Rattle.quorum_cli.specs.declared.status.Status.TheVariants.{Yes, No, Unknown, TooLarge}
-use Rattle.quorum_cli.specs.Replies.{intersect_answer, splits_answer, dset_status, Replies, RepliesDset, RepliesTooLarge}
+use Rattle.quorum_cli.specs.Replies.{intersect_answer, splits_answer, dset_status, Replies, RepliesDset}
 use Rattle.quorum_cli.specs.Printing.{part, deleted, request, FindsReply, PrintsFound, PrintsTooLarge, PrintsSearch, Prints}
 use Rattle.quorum_cli.specs.Headline.{ShowsPair, PrintsPair, ShowsNone, ShowsUnknown, IsAvailable, HasPair, SearchMeans, AskedMeans}
 

@@ -1,7 +1,6 @@
 -- A reply of a search has the status of an answer.
 use Rattle.std.proofs.Common.{◌≡◌, ◌<◌, ℕ, IsTrue, Bool, true, false, refl, sym, subst, ap, ◌∙◌}
 use Rattle.fbas_model.specs.Nodes.{Table}
-use Rattle.fbas_model.specs.Names.{Name}
 use Rattle.fbas_model.specs.Systems.{System}
 use Rattle.quorum_questions.specs.Evidence.{vars_of}
 use Rattle.clause_encoder.specs.declared.limits.TheConstants.{MOST_VARS}

@@ -1,5 +1,5 @@
 -- What the program asks or answers, by its words and the files that they name.
-use Rattle.std.specs.Prelude.{◌≡◌, ℕ, nat_le, List, [], length, IsTrue, Option, Some, None, Result, Ok, Err, if◌then◌else◌, map, string_bytes, String}
+use Rattle.std.specs.Prelude.{ℕ, nat_le, List, [], length, Option, Some, None, Result, Ok, Err, if◌then◌else◌, map, string_bytes, String}
 use Rattle.std.specs.declared.alloc.Global.{Global}
 use Rattle.sha2.specs.Sha256.{sha256}
 use Rattle.desk_io.specs.State.{Files}

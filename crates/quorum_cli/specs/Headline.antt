@@ -1,7 +1,7 @@
 -- What is so where a search prints its answer.
 use Rattle.std.specs.Prelude.{◌≡◌, ◌⊎◌, ℕ, ◌++◌, true, List, Some, Result, Ok, Err, codes}
 use Rattle.std.specs.Str.{bytes_eq}
-use Rattle.desk_io.specs.State.{DeskState, Files}
+use Rattle.desk_io.specs.State.{DeskState}
 use Rattle.fbas_model.specs.Nodes.{members}
 use Rattle.fbas_model.specs.Fbas.{Available, Intersects}
 use Rattle.witness_pair.specs.Pairs.{IsPair}
@@ -15,7 +15,6 @@ use Rattle.cert_writer.specs.Finding.{cert_of}
 use Rattle.quorum_questions.specs.Evidence.{IsRefutation, IsSpent}
 use Rattle.quorum_questions.specs.declared.answers.Size.{Size}
 use Rattle.quorum_questions.specs.declared.answers.Answer.TheVariants.{Yes as together, Spent as spent}
-use Rattle.cli_words.specs.declared.orders.Goal.{Goal}
 use Rattle.cli_words.specs.declared.orders.Goal.TheVariants.{Intersect, Dset, Splits}
 use Rattle.report.specs.Lines.{Text, with_pair}
 use Rattle.quorum_cli.specs.declared.early.Early.{Early}

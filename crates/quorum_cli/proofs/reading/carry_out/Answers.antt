@@ -1,8 +1,8 @@
 use Rattle.std.proofs.lemmas.Result.{IfErr-weaker}
-use Rattle.std.proofs.Common.{◌≡◌, ℕ, List, Some, Ok, IsTrue, subst, sym, ◌∙◌, ap}
+use Rattle.std.proofs.Common.{◌≡◌, ℕ, List, Some, subst}
 use Rattle.cli_words.specs.Order.{order_view}
-use Rattle.desk_io.specs.State.{DeskState, Files}
-use Rattle.quorum_cli.specs.Meaning.{HasAccepted, NamesFiles}
+use Rattle.desk_io.specs.State.{DeskState}
+use Rattle.quorum_cli.specs.Meaning.{HasAccepted}
 use Rattle.quorum_cli.proofs.Told.{YesMeans-weaker, file_held}
 use Rattle.quorum_cli.proofs.reading.carry_out.Goals as goal
 

@@ -1,5 +1,4 @@
 use Rattle.std.proofs.lemmas.Result.{IfErr-weaker}
-use Rattle.quorum_cli.specs.Meaning.{HasAccepted}
 use Rattle.quorum_cli.proofs.Told.{YesMeans-weaker, system_read}
 use Rattle.quorum_cli.proofs.reading.over_config.Goals as goal
 

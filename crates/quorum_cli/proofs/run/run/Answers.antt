@@ -1,8 +1,4 @@
-use Rattle.std.proofs.Common.{◌≡◌, ◌∙◌, sym, IsTrue, inl, inr, subst}
-use Rattle.quorum_cli.specs.Answers.{asked_of, words_of}
-use Rattle.quorum_cli.specs.declared.status.Status.{Status}
-use Rattle.quorum_cli.specs.Status.{is_answer}
-use Rattle.quorum_cli.proofs.After.{prints_ok, prints_told, part_ok, part_told, lacks_ok, lacks_told, plain_kept, files_ok, files_told}
+use Rattle.quorum_cli.proofs.After.{prints_ok, part_ok, lacks_ok, plain_kept, files_ok}
 use Rattle.quorum_cli.proofs.Headlines.{asked_means}
 use Rattle.quorum_cli.proofs.run.run.Goals as goal
 

@@ -1,11 +1,10 @@
-use Rattle.std.proofs.Common.{refl, ◌∙◌, ap, sym, subst, Err}
+use Rattle.std.proofs.Common.{refl, ◌∙◌, ap, sym, subst}
 use Rattle.std.proofs.lemmas.Result.{IfOk-weaker}
 use Rattle.cli_words.specs.declared.orders.Goal.TheVariants.{Dset}
 use Rattle.quorum_cli.specs.declared.reply.Reply.{Reply}
 use Rattle.quorum_cli.specs.declared.searching.Ready.{Ready}
 use Rattle.quorum_cli.specs.Searching.{FitsReady}
 use Rattle.quorum_cli.specs.Replies.{dset_answer}
-use Rattle.quorum_cli.proofs.Replied.{too_large_fits, written_there}
 use Rattle.quorum_cli.proofs.searching.dset_ready.Goals as goal
 
 pub returns-in_ok-reply-in-Ok : goal.returns-in_ok-reply-in-Ok

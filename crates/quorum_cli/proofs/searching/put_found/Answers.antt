@@ -1,8 +1,7 @@
-use Rattle.std.proofs.Common.{rules, ◌≡◌, ◌∙◌, sym, ap, subst, length, List, ℕ, IsTrue, inl, refl}
-use Rattle.hex.specs.Hex.{IsBytes}
+use Rattle.std.proofs.Common.{◌≡◌, ◌∙◌, sym, ap, subst, List, ℕ, inl}
 use Rattle.fbas_model.specs.Systems.{System}
 use Rattle.cert_writer.specs.Finding.{cert_of}
-use Rattle.cert_writer.specs.Promises.{part_of, faulty_in}
+use Rattle.cert_writer.specs.Promises.{faulty_in}
 use Rattle.quorum_questions.specs.Evidence.{Shows}
 use Rattle.quorum_cli.specs.Printing.{request, FindsReply}
 use Rattle.quorum_cli.specs.Putting.{PutsSome, LacksPlace, put_whole}

@@ -1,4 +1,4 @@
-use Rattle.quorum_cli.proofs.Cuts.{faulty_of_whole, part_of_whole}
+use Rattle.quorum_cli.proofs.Cuts.{faulty_of_whole}
 use Rattle.std.proofs.Common.{◌∙◌, sym}
 use Rattle.quorum_cli.proofs.searching.search.Goals as goal
 

@@ -1,9 +1,6 @@
-use Rattle.std.proofs.Common.{◌≡◌, ◌∙◌, sym, subst, inr, ap}
+use Rattle.std.proofs.Common.{subst}
 use Rattle.fbas_model.specs.Nodes.{Table}
-use Rattle.fbas_model.specs.Systems.{System}
-use Rattle.cert_writer.specs.Promises.{faulty_in}
 use Rattle.quorum_cli.specs.Searching.{FitsHeld, FitsReady}
-use Rattle.quorum_cli.specs.Replies.{RepliesTooLarge}
 use Rattle.quorum_cli.proofs.Replied.{too_large_answered}
 use Rattle.quorum_cli.proofs.searching.search_in.Goals as goal
 
