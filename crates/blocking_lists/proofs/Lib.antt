@@ -1,0 +1,7 @@
+pub mod Models
+pub mod Runs
+pub mod Merged
+pub mod Searches
+pub mod Listings
+pub mod Turns
+pub mod ModelLoops

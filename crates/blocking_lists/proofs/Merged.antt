@@ -1,0 +1,195 @@
+-- Listed sets among the steps of a log: a log that goes on, a set more, and what the lines say.
+use Rattle.std.proofs.Common.{◌≡◌, ℕ, zero, suc, ◌+◌, ◌-◌, ◌≤◌, ◌<◌, List, [], ◌∷◌, ◌++◌, take, drop, take_all, length, length-drop, drop-cons, get_or, slice_index_or, add-one, refl, sym, ap, ◌∙◌, arith, append_assoc}
+use Rattle.std.specs.Prelude.{All}
+use Rattle.std.proofs.lemmas.List.{map-append, take-append-le, drop-append-le, drop_all, take_more, append-nil}
+use Rattle.std.proofs.lemmas.List.Elements.{All-nil, All-cons, All-head, All-tail}
+use Rattle.fbas_model.specs.Nodes.{Table}
+use Rattle.lrat_model.specs.Steps.{ProofStep}
+use Rattle.lrat_text.specs.Texts.{IsId, HasNumbers}
+use Rattle.list_journal.specs.Listed.{list_line}
+use Rattle.list_journal.specs.Journals.{JournalLine, StepLine, blocking_sets, quorum_sets}
+use Rattle.blocking_lists.specs.Lines.{step_lines, merged, AreBetween, blocks_in, quorums_in, block_of, quorum_of, HasLineNumbers}
+use Rattle.blocking_lists.specs.declared.journal.ListLine.{ListLine}
+use Rattle.list_journal.specs.declared.kinds.Listed.{Listed}
+use Rattle.list_journal.specs.declared.kinds.Listed.TheVariants as listed
+
+-- ---- places
+
+pub between_le : (k n : ℕ) (lines : List ListLine) → AreBetween k n lines → k ≤ n
+between_le k n [] h = h
+between_le k n (l ∷ lines) h = omega (arith, h.0, between_le l.after n lines h.1)
+
+pub between_more : (k n m : ℕ) (lines : List ListLine) → AreBetween k n lines → n ≤ m → AreBetween k m lines
+between_more k n m [] h more = omega arith
+between_more k n m (l ∷ lines) h more = (h.0, between_more l.after n m lines h.1 more)
+
+pub between_push : (k n m : ℕ) (lines : List ListLine) (l : ListLine) → AreBetween k n lines → n ≤ l.after → l.after ≤ m → AreBetween k m (lines ++ l ∷ [])
+between_push k n m [] l h from to = (omega arith, to)
+between_push k n m (x ∷ lines) l h from to = (h.0, between_push x.after n m lines l h.1 from to)
+
+-- ---- a log that goes on
+
+behind : (k after n c : ℕ) (steps : List ProofStep) → k ≤ after → after ≤ n → n ≡ k + length steps → c ≡ after - k → n ≡ after + length (drop c steps)
+behind k after n c steps from to e is = omega (arith, length-drop c steps)
+
+pub merged_steps : (k n : ℕ) (lines : List ListLine) (steps more : List ProofStep) → AreBetween k n lines → n ≡ k + length steps → merged k lines (steps ++ more) ≡ merged k lines steps ++ step_lines more
+merged_steps k n [] steps more h e = map-append StepLine steps more
+merged_steps k n (l ∷ lines) steps more h e =
+    let c : ℕ = l.after - k in
+    let from : k ≤ l.after = h.0 in
+    let to : l.after ≤ n = between_le l.after n lines h.1 in
+    let low : c ≤ length steps = omega arith in
+    let first : List JournalLine = step_lines (take c steps) in
+    let line : JournalLine = list_line l.which l.id l.set in
+    let rest : List JournalLine = merged l.after lines (drop c steps) in
+    ap (λ (xs : List ProofStep). step_lines xs ++ line ∷ merged l.after lines (drop c (steps ++ more))) (take-append-le c steps more low)
+    ∙ ap (λ (xs : List ProofStep). first ++ line ∷ merged l.after lines xs) (drop-append-le c steps more low)
+    ∙ ap (λ (ls : List JournalLine). first ++ line ∷ ls) (merged_steps l.after n lines (drop c steps) more h.1 (behind k l.after n c steps from to e refl))
+    ∙ sym (append_assoc first (line ∷ rest) (step_lines more))
+
+-- a set that is listed behind all steps
+pub merged_line : (k n : ℕ) (lines : List ListLine) (l : ListLine) (steps : List ProofStep) → AreBetween k n lines → n ≡ k + length steps → l.after ≡ n → merged k (lines ++ l ∷ []) steps ≡ merged k lines steps ++ list_line l.which l.id l.set ∷ []
+merged_line k n [] l steps h e at =
+    let c : ℕ = l.after - k in
+    let past : length steps ≤ c = omega arith in
+    let line : JournalLine = list_line l.which l.id l.set in
+    ap (λ (xs : List ProofStep). step_lines xs ++ line ∷ step_lines (drop c steps)) (take_all c steps past)
+    ∙ ap (λ (xs : List ProofStep). step_lines steps ++ line ∷ step_lines xs) (drop_all c steps past)
+merged_line k n (x ∷ lines) l steps h e at =
+    let c : ℕ = x.after - k in
+    let from : k ≤ x.after = h.0 in
+    let to : x.after ≤ n = between_le x.after n lines h.1 in
+    let first : List JournalLine = step_lines (take c steps) in
+    let line : JournalLine = list_line x.which x.id x.set in
+    let last : JournalLine = list_line l.which l.id l.set in
+    ap (λ (ls : List JournalLine). first ++ line ∷ ls) (merged_line x.after n lines l (drop c steps) h.1 (behind k x.after n c steps from to e refl) at)
+    ∙ sym (append_assoc first (line ∷ merged x.after lines (drop c steps)) (last ∷ []))
+
+-- ---- walking along
+
+-- the listed set at the place where the walk stands
+pub merged_here : (k : ℕ) (l : ListLine) (lines : List ListLine) (steps : List ProofStep) → l.after ≡ k → merged k (l ∷ lines) steps ≡ list_line l.which l.id l.set ∷ merged k lines steps
+merged_here k l lines steps at =
+    let none : l.after - k ≡ 0 = omega arith in
+    ap (λ (c : ℕ). step_lines (take c steps) ++ list_line l.which l.id l.set ∷ merged l.after lines (drop c steps)) none
+    ∙ ap (λ (a : ℕ). list_line l.which l.id l.set ∷ merged a lines steps) at
+
+-- or else the next step
+pub merged_next : (k : ℕ) (l : ListLine) (lines : List ListLine) (step : ProofStep) (steps : List ProofStep) → k < l.after → merged k (l ∷ lines) (step ∷ steps) ≡ StepLine step ∷ merged (k + 1) (l ∷ lines) steps
+merged_next k l lines step steps later =
+    let more : l.after - k ≡ suc (l.after - (k + 1)) = omega arith in
+    ap (λ (c : ℕ). step_lines (take c (step ∷ steps)) ++ list_line l.which l.id l.set ∷ merged l.after lines (drop c (step ∷ steps))) more
+
+-- no set is listed at the place k
+abbrev pub IsPassed : ℕ → List ListLine → Type 0
+IsPassed k [] = Unit {0}
+IsPassed k (l ∷ lines) = l.after ≡ k → ⊥
+
+pub passed_none : (k : ℕ) (lines : List ListLine) → length lines < 1 → IsPassed k lines
+passed_none k [] h = tt
+passed_none k (l ∷ lines) h = absurd (omega arith)
+
+pub passed_first : (k : ℕ) (lines : List ListLine) (l : ListLine) → l ≡ get_or lines 0 l → (l.after ≡ k → ⊥) → IsPassed k lines
+passed_first k [] l at other = tt
+passed_first k (x ∷ lines) l at other = λ here. other (ap (λ (y : ListLine). y.after) at ∙ here)
+
+pub between_next : (k n : ℕ) (lines : List ListLine) → AreBetween k n lines → IsPassed k lines → k < n → AreBetween (k + 1) n lines
+between_next k n [] h passed low = omega arith
+between_next k n (l ∷ lines) h passed low = (omega (arith, h.0), h.1)
+
+pub none_left : (k : ℕ) (lines : List ListLine) (log : List ProofStep) → AreBetween k (length log) lines → IsPassed k lines → k ≡ length log → merged k lines (drop k log) ≡ []
+none_left k [] log h passed at = ap step_lines (drop_all k log (omega arith))
+none_left k (l ∷ lines) log h passed at = absurd (passed (omega (arith, h.0, between_le l.after (length log) lines h.1)))
+
+step_next : (k : ℕ) (lines : List ListLine) (step : ProofStep) (steps : List ProofStep) (n : ℕ) → AreBetween k n lines → IsPassed k lines → merged k lines (step ∷ steps) ≡ StepLine step ∷ merged (k + 1) lines steps
+step_next k [] step steps n h passed = refl
+step_next k (l ∷ lines) step steps n h passed = merged_next k l lines step steps (omega (arith, h.0, passed))
+
+pub step_left : (k : ℕ) (lines : List ListLine) (log : List ProofStep) (step : ProofStep) → AreBetween k (length log) lines → IsPassed k lines → k < length log → step ≡ slice_index_or log k step → merged k lines (drop k log) ≡ StepLine step ∷ merged (k + 1) lines (drop (k + 1) log)
+step_left k lines log step h passed low at =
+    ap (λ (steps : List ProofStep). merged k lines steps) (rw add-one (drop-cons log k step low ∙ ap (λ (s : ProofStep). s ∷ drop (suc k) log) (sym at)))
+    ∙ step_next k lines step (drop (k + 1) log) (length log) h passed
+
+-- ---- the sets
+
+block_behind : (which : Listed) (id : ℕ) (set : Table) (lines : List JournalLine) → blocking_sets (list_line which id set ∷ lines) ≡ block_of which set ++ blocking_sets lines
+block_behind listed.Quorum id set lines = refl
+block_behind listed.Blocking id set lines = refl
+
+blocks_behind : (steps : List ProofStep) (lines : List JournalLine) → blocking_sets (step_lines steps ++ lines) ≡ blocking_sets lines
+blocks_behind [] lines = refl
+blocks_behind (step ∷ steps) lines = blocks_behind steps lines
+
+blocks_append : (xs ys : List ListLine) → blocks_in (xs ++ ys) ≡ blocks_in xs ++ blocks_in ys
+blocks_append [] ys = refl
+blocks_append (l ∷ xs) ys = ap (λ (zs : List Table). block_of l.which l.set ++ zs) (blocks_append xs ys) ∙ sym (append_assoc (block_of l.which l.set) (blocks_in xs) (blocks_in ys))
+
+-- one listed set more
+pub blocks_more : (lines : List ListLine) (i : ℕ) (l : ListLine) → i < length lines → l ≡ get_or lines i l → blocks_in (take (i + 1) lines) ≡ blocks_in (take i lines) ++ block_of l.which l.set
+blocks_more lines i l low at =
+    ap blocks_in (take_more lines i l low ∙ ap (λ (x : ListLine). take i lines ++ x ∷ []) (sym at))
+    ∙ blocks_append (take i lines) (l ∷ [])
+    ∙ ap (λ (xs : List Table). blocks_in (take i lines) ++ xs) (append-nil (block_of l.which l.set))
+
+no_blocks : (steps : List ProofStep) → blocking_sets (step_lines steps) ≡ []
+no_blocks [] = refl
+no_blocks (step ∷ steps) = no_blocks steps
+
+pub blocks_merged : (k : ℕ) (lines : List ListLine) (steps : List ProofStep) → blocking_sets (merged k lines steps) ≡ blocks_in lines
+blocks_merged k [] steps = no_blocks steps
+blocks_merged k (l ∷ lines) steps =
+    let rest : List JournalLine = merged l.after lines (drop (l.after - k) steps) in
+    blocks_behind (take (l.after - k) steps) (list_line l.which l.id l.set ∷ rest)
+    ∙ block_behind l.which l.id l.set rest
+    ∙ ap (λ (xs : List Table). block_of l.which l.set ++ xs) (blocks_merged l.after lines (drop (l.after - k) steps))
+
+quorum_behind : (which : Listed) (id : ℕ) (set : Table) (lines : List JournalLine) → quorum_sets (list_line which id set ∷ lines) ≡ quorum_of which set ++ quorum_sets lines
+quorum_behind listed.Quorum id set lines = refl
+quorum_behind listed.Blocking id set lines = refl
+
+quorums_behind : (steps : List ProofStep) (lines : List JournalLine) → quorum_sets (step_lines steps ++ lines) ≡ quorum_sets lines
+quorums_behind [] lines = refl
+quorums_behind (step ∷ steps) lines = quorums_behind steps lines
+
+no_quorums : (steps : List ProofStep) → quorum_sets (step_lines steps) ≡ []
+no_quorums [] = refl
+no_quorums (step ∷ steps) = no_quorums steps
+
+pub quorums_merged : (k : ℕ) (lines : List ListLine) (steps : List ProofStep) → quorum_sets (merged k lines steps) ≡ quorums_in lines
+quorums_merged k [] steps = no_quorums steps
+quorums_merged k (l ∷ lines) steps =
+    let rest : List JournalLine = merged l.after lines (drop (l.after - k) steps) in
+    quorums_behind (take (l.after - k) steps) (list_line l.which l.id l.set ∷ rest)
+    ∙ quorum_behind l.which l.id l.set rest
+    ∙ ap (λ (xs : List Table). quorum_of l.which l.set ++ xs) (quorums_merged l.after lines (drop (l.after - k) steps))
+
+-- ---- the numbers
+
+step_numbers : (steps : List ProofStep) → All HasNumbers steps → All HasLineNumbers (step_lines steps)
+step_numbers [] h = All-nil HasLineNumbers
+step_numbers (step ∷ steps) h = All-cons HasLineNumbers (StepLine step) (step_lines steps) (All-head HasNumbers step steps h) (step_numbers steps (All-tail HasNumbers step steps h))
+
+line_numbers : (which : Listed) (id : ℕ) (set : Table) → IsId id → HasLineNumbers (list_line which id set)
+line_numbers listed.Quorum id set h = h
+line_numbers listed.Blocking id set h = h
+
+-- the first lines have what all of a list have that is taken apart at a place
+numbers_behind : (c : ℕ) (steps : List ProofStep) (lines : List JournalLine) → All HasNumbers steps → All HasLineNumbers lines → All HasLineNumbers (step_lines (take c steps) ++ lines)
+numbers_behind zero steps lines h rest = rest
+numbers_behind (suc c) [] lines h rest = rest
+numbers_behind (suc c) (step ∷ steps) lines h rest =
+    All-cons HasLineNumbers (StepLine step) (step_lines (take c steps) ++ lines) (All-head HasNumbers step steps h) (numbers_behind c steps lines (All-tail HasNumbers step steps h) rest)
+
+numbers_left : (c : ℕ) (steps : List ProofStep) → All HasNumbers steps → All HasNumbers (drop c steps)
+numbers_left zero steps h = h
+numbers_left (suc c) [] h = h
+numbers_left (suc c) (step ∷ steps) h = numbers_left c steps (All-tail HasNumbers step steps h)
+
+pub numbers_merged : (k : ℕ) (lines : List ListLine) (steps : List ProofStep) → All (λ l. IsId l.id) lines → All HasNumbers steps → All HasLineNumbers (merged k lines steps)
+numbers_merged k [] steps ids h = step_numbers steps h
+numbers_merged k (l ∷ lines) steps ids h =
+    let c : ℕ = l.after - k in
+    let rest : List JournalLine = merged l.after lines (drop c steps) in
+    numbers_behind c steps (list_line l.which l.id l.set ∷ rest) h
+    (All-cons HasLineNumbers (list_line l.which l.id l.set) rest (line_numbers l.which l.id l.set (All-head (λ (x : ListLine). IsId x.id) l lines ids))
+    (numbers_merged l.after lines (drop c steps) (All-tail (λ (x : ListLine). IsId x.id) l lines ids) (numbers_left c steps h)))

@@ -1,0 +1,14 @@
+pub mod Places
+pub mod Elements
+pub mod ClauseTruth
+pub mod Greatest
+pub mod Whole
+pub mod WholeQuorums
+pub mod ListSamples
+pub mod TestLaws
+pub mod DecisionLaws
+pub mod Runs
+pub mod Ids
+pub mod NameOrder
+pub mod OrderLaws
+pub mod ClauseLoops

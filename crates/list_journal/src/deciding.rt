@@ -1,0 +1,48 @@
+//! Whether a set blocks, and whether it does so with no node to spare.
+ghost use Rattle.std.specs.Prelude.{◌≡◌, true, length};
+ghost use Rattle.fbas_model.specs.Nodes.{members};
+ghost use Rattle.fbas_model.specs.Fbas.{Blocks};
+ghost use Rattle.list_journal.specs.Tests.{is_blocking, is_least};
+
+use fbas_core::System;
+use greatest_quorum::{blocks, minimal_block};
+use name_set::NodeSet;
+
+/// Whether the set has no faulty node, and meets every quorum once these are deleted. `scratch` holds nothing of use
+/// afterwards. The cost is that of `shrink`.
+pub fn is_blocking(system: &System, faulty: &NodeSet, set: &NodeSet, scratch: &mut NodeSet) -> bool
+    requires same_n { length set.now ≡ length system.now.sets }
+    requires same_faulty { length faulty.now ≡ length system.now.sets }
+    requires same_scratch { length scratch.old ≡ length system.now.sets }
+    ensures same_scratch { length scratch.new ≡ length scratch.old }
+    ensures blocks { result ≡ is_blocking system.now.sets faulty.now set.now }
+    ensures is { result ≡ true → Blocks system.now.sets (members faulty.now) (members set.now) }
+{
+    if set.meets(faulty) {
+        return false;
+    }
+    blocks(system, set, faulty, scratch)
+}
+
+/// Whether no proper subset of the blocking set blocks: nothing can be taken out of it. `copy` and `scratch` hold nothing of
+/// use afterwards. The cost is that of `shrink` for each node of the set.
+pub fn is_least(
+    system: &System,
+    faulty: &NodeSet,
+    set: &NodeSet,
+    copy: &mut NodeSet,
+    scratch: &mut NodeSet,
+) -> bool
+    requires same_n { length set.now ≡ length system.now.sets }
+    requires same_faulty { length faulty.now ≡ length system.now.sets }
+    requires same_copy { length copy.old ≡ length system.now.sets }
+    requires same_scratch { length scratch.old ≡ length system.now.sets }
+    requires blocks { Blocks system.now.sets (members faulty.now) (members set.now) }
+    ensures same_copy { length copy.new ≡ length copy.old }
+    ensures same_scratch { length scratch.new ≡ length scratch.old }
+    ensures least { result ≡ is_least system.now.sets faulty.now set.now }
+{
+    copy.copy_from(set);
+    minimal_block(system, copy, faulty, scratch);
+    copy.same(set)
+}
