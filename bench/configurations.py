@@ -71,6 +71,18 @@ def chain(nodes, name, step):
     return out
 
 
+def zigzag(nodes, entries):
+    """A chain whose next node stands in the upper and in the lower half of the names in turn, so that each sweep takes out one.
+
+    The node at place i of the chain needs the one before it, named entries(i) times.
+    """
+    name = [("%04x" % (nodes // 2 + i // 2 if i % 2 == 0 else i // 2)) for i in range(nodes)]
+    out = [{"publicKey": name[0]}]
+    for i in range(1, nodes):
+        out.append(node(name[i], {"threshold": 1, "validators": [name[i - 1]] * entries(i), "innerQuorumSets": []}))
+    return out
+
+
 def write(path, nodes):
     with open(path, "w") as file:
         json.dump(nodes, file, separators=(",", ":"))
@@ -84,6 +96,9 @@ def main():
     write(os.path.join(folder, "long-keys.json"), dense(4096, 250_000, key))
     write(os.path.join(folder, "chain-up.json"), chain(4096, ordered_key, 1))
     write(os.path.join(folder, "chain-down.json"), chain(4096, ordered_key, -1))
+    # The last node has almost all of a million entries; each has its share of them.
+    write(os.path.join(folder, "zigzag-large.json"), zigzag(4096, lambda i: 995_900 if i == 4095 else 1))
+    write(os.path.join(folder, "zigzag-even.json"), zigzag(4096, lambda i: 244))
 
 
 main()

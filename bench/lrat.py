@@ -1,5 +1,5 @@
 #!/usr/bin/env python3
-"""Times the checker of steps on generated logs: bench/lrat.py [FOLDER] [ADDITIONS].
+"""Times the checker of steps on generated logs, and measures a log in memory: bench/lrat.py [FOLDER] [ADDITIONS].
 
 Builds crates/lrat_bench (with its proofs, some minutes the first time), writes the logs into FOLDER, and prints for each
 the least processor time of three runs (other work on the machine hardly changes that) and the largest memory of a run.
@@ -8,6 +8,11 @@ A log's formula has GROUPS groups of clauses. A group has the variables x1 to x1
 `x1 x2 y1`, `-y1 x3 y2`, .., `-y8 x10 y9`, `-y9 x1 x2`. Lemma after lemma is the clause `x1 .. x10` of a group, the groups
 in turn: from its negation nine clauses of the group force y1 to y9, and the tenth hint is false, which is the last clause
 of the group or, later, the group's lemma before this one. So each addition has ten literals and ten hints.
+
+Two more logs are as a partial certificate asks for them: no lemma is covered by a clause before it, and each is asked about.
+In `pairs` the formula says that x1 implies x2, x2 implies x3, and so on, and the lemmas are all other implications
+of them. In `sets` each of many groups has the clause `a1 .. a10`, and each ai is equivalent to its bi; the lemmas
+are the clause with some of its literals put for their equivalents, one more or less from lemma to lemma.
 """
 import os
 import subprocess
@@ -60,6 +65,66 @@ def write(path, additions, kept):
     return given
 
 
+def write_lines(path, clauses, lemmas):
+    """A formula, and lemmas with their hints behind it. Gives the number of clauses and of lemmas."""
+    last = 0
+    with open(path, "w") as log:
+        for clause in clauses:
+            last += 1
+            log.write("%d %s 0 0\n" % (last, words(clause)))
+        given = last
+        for lits, hints in lemmas:
+            last += 1
+            log.write("%d %s 0 %s 0\n" % (last, words(lits), words(hints)))
+    return given, last - given
+
+
+def write_pairs(path, additions):
+    """About so many implications. Gives the numbers of variables and clauses."""
+    count = 3
+    while (count - 1) * (count - 2) // 2 < additions:
+        count += 1
+
+    def lemmas():
+        last = count - 1
+        for i in range(1, count - 1):
+            before = i
+            for j in range(i + 2, count + 1):
+                last += 1
+                yield [-i, j], [before, j - 1]
+                before = last
+
+    given, _ = write_lines(path, [[-i, i + 1] for i in range(1, count)], lemmas())
+    return count, given
+
+
+def write_sets(path, additions):
+    """About so many lemmas, in groups of 1,023. Gives the numbers of variables and clauses."""
+    groups = additions // 1023
+    clauses = []
+    for number in range(groups):
+        a = range(number * 20 + 1, number * 20 + 11)
+        clauses.append(list(a))
+        for x in a:
+            clauses += [[-x, x + 10], [x, -x - 10]]
+
+    def lemmas():
+        last = len(clauses)
+        for number in range(groups):
+            lits = list(range(number * 20 + 1, number * 20 + 11))
+            before = number * 21 + 1
+            for step in range(1, 1024):
+                place = (step & -step).bit_length() - 1
+                is_back = lits[place] > number * 20 + 10
+                lits[place] += -10 if is_back else 10
+                last += 1
+                yield lits, [number * 21 + 2 + 2 * place + (1 if is_back else 0), before]
+                before = last
+
+    given, _ = write_lines(path, clauses, lemmas())
+    return groups * 20, given
+
+
 def run(path, arguments):
     """The least processor time of three runs, the largest memory in MB, and what was printed."""
     best, most, text = None, 0, b""
@@ -90,9 +155,22 @@ def main():
         given = write(path, additions + (kept or 0), kept)
         reading, _, _ = run(path, [])
         checking, memory, text = run(path, [str(GROUPS * VARIABLES), str(given)])
-        steps = sum(int(word) for word in text.split()[1::2])
+        steps = sum(int(word) for word in text.split()[1:4:2])
         print("| %s | %d | %s | %.2f s | %.2f s | %d | %d MB |"
               % (name, os.path.getsize(path), text, reading, checking, steps / checking, memory))
+    print()
+    print("| log | bytes | lemmas | reading and checking | and asking of each whether it is covered | largest memory |")
+    print("|---|---|---|---|---|---|")
+    for name, write_log in [("pairs", write_pairs), ("sets", write_sets)]:
+        path = os.path.join(folder, name + ".lrat")
+        variables, given = write_log(path, additions)
+        checking, _, _ = run(path, [str(variables), str(given)])
+        asking, memory, text = run(path, [str(variables), str(given), "covers"])
+        print("| %s | %d | %s | %.2f s | %.2f s | %d MB |"
+              % (name, os.path.getsize(path), text, checking, asking, memory))
+    took, memory, text = run(os.devnull, ["log", str(additions)])
+    print()
+    print("a log in memory, 20 literals and 100 hints a lemma: %s, %.2f s, %d MB" % (text, took, memory))
 
 
 main()

@@ -34,7 +34,7 @@ def main():
     subprocess.run([os.path.join(TOP, "bench", "configurations.py"), folder], check=True)
     print("| file | bytes | show | jq -c length | greatest | blocks | available | vblocks | closure |")
     print("|---|---|---|---|---|---|---|---|---|")
-    for name in ["half", "whole", "long-keys", "chain-up", "chain-down"]:
+    for name in ["half", "whole", "long-keys", "chain-up", "chain-down", "zigzag-large", "zigzag-even"]:
         path = os.path.join(folder, name + ".json")
         node = name_at(path, 0)
         # The node from which all others are reached: in a chain, one by one.

@@ -1,5 +1,5 @@
 -- What a listing shows: all minimal blocking sets and all minimal quorums, or a part of them.
-use Rattle.std.proofs.Common.{◌≡◌, ℕ, ◌+◌, List, length, refl, sym, ap, ◌∙◌, subst}
+use Rattle.std.proofs.Common.{◌≡◌, ℕ, ◌+◌, List, length, sym, ap, ◌∙◌, subst}
 use Rattle.std.specs.Prelude.{All, Contains, ◌↔◌}
 use Rattle.std.specs.List.Sorted.{IsStrictlySortedBy}
 use Rattle.std.proofs.lemmas.List.Elements.{All-contains}
@@ -8,15 +8,14 @@ use Rattle.fbas_model.specs.Fbas.{Fbas}
 use Rattle.greatest_quorum.specs.Greatest.{greatest_of}
 use Rattle.lrat_model.specs.Steps.{ProofStep}
 use Rattle.lrat_model.specs.Propagation.{Closes}
-use Rattle.lrat_text.specs.Texts.{HasNumbers}
 use Rattle.cdcl_core.specs.Solving.{Solving}
 use Rattle.list_journal.specs.Journals.{JournalLine, nothing_held, IsWholeJournal, journal_units, blocking_sets, quorum_sets}
 use Rattle.list_journal.specs.declared.kinds.ListKind.TheVariants.{Whole}
 use Rattle.list_journal.specs.Lists.{IsMinimalBlock, IsLeastQuorum}
-use Rattle.list_journal.proofs.Greatest.{IsGreatest, counted_greatest}
+use Rattle.list_journal.proofs.Greatest.{counted_greatest}
 use Rattle.list_journal.proofs.Whole.{listed_blocks, whole_has_each}
 use Rattle.list_journal.proofs.WholeQuorums.{has_quorum}
-use Rattle.blocking_lists.specs.Lines.{merged, blocks_in, quorums_in, HasLineNumbers}
+use Rattle.blocking_lists.specs.Lines.{merged, blocks_in, quorums_in}
 use Rattle.blocking_lists.specs.Outcomes.{WholeHolds, PartHolds}
 use Rattle.blocking_lists.specs.Search.{IsListing, IsWholeListing}
 use Rattle.blocking_lists.specs.declared.journal.ListLine.{ListLine}
@@ -24,7 +23,7 @@ use Rattle.blocking_lists.proofs.Merged.{blocks_merged, quorums_merged}
 use Rattle.blocking_lists.proofs.Searches.{search_spent}
 
 -- each listed blocking set has a place for each node
-pub sizes_of : (f : Fbas) (b g : Table) (units left : ℕ) (lines : List ListLine) (log : List ProofStep) → IsWholeListing f (members b) g units left lines log → All (λ s. length s ≡ length f) (blocks_in lines)
+sizes_of : (f : Fbas) (b g : Table) (units left : ℕ) (lines : List ListLine) (log : List ProofStep) → IsWholeListing f (members b) g units left lines log → All (λ s. length s ≡ length f) (blocks_in lines)
 sizes_of f b g units left lines log whole =
     let listed : All (IsMinimalBlock f (members b)) (blocks_in lines) =
     subst (λ (xs : List Table). All (IsMinimalBlock f (members b)) xs) (blocks_merged 0 lines log) (listed_blocks Whole f (members b) g nothing_held (merged 0 lines log) whole.journal_is.after whole.journal_is.run) in

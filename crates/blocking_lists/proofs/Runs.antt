@@ -1,5 +1,5 @@
 -- Journals that go on by the steps of a solver.
-use Rattle.std.proofs.Common.{◌≡◌, ℕ, ◌+◌, List, [], ◌∷◌, ◌++◌, refl, sym, ap, ◌∙◌, subst, arith, append_assoc}
+use Rattle.std.proofs.Common.{◌≡◌, ℕ, List, [], ◌∷◌, ◌++◌, refl, sym, ap, ◌∙◌, subst, arith, append_assoc}
 use Rattle.std.proofs.lemmas.List.Elements.{All-nil, All-cons, All-head, All-tail}
 use Rattle.fbas_model.specs.Nodes.{Nodes, Table, size}
 use Rattle.fbas_model.specs.Fbas.{Fbas}
@@ -8,8 +8,7 @@ use Rattle.lrat_model.specs.Runs.{Run}
 use Rattle.lrat_model.specs.declared.step.Progress.TheVariants.{Going, Refuted}
 use Rattle.lrat_model.proofs.News.{useful_is_new}
 use Rattle.cdcl_core.specs.Log.{AreLemmas, units, HasNoEmptyLemma, EndsEmpty}
-use Rattle.list_journal.specs.Journals.{JournalLine, QuorumLine, BlockingLine, StepLine, after_line, IsNewLine, JournalRun, line_progress, IsOpen, EndsRefuted, journal_units, AreUseful}
-use Rattle.list_journal.specs.declared.kinds.ListKind.{ListKind}
+use Rattle.list_journal.specs.Journals.{JournalLine, StepLine, JournalRun, line_progress, IsOpen, EndsRefuted, journal_units, AreUseful}
 use Rattle.list_journal.specs.declared.kinds.ListKind.TheVariants.{Whole, Partial}
 use Rattle.list_journal.proofs.Runs.{open_append}
 use Rattle.blocking_lists.specs.Lines.{step_lines}

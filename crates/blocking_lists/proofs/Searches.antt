@@ -1,13 +1,12 @@
 -- A search that goes on: by the steps of a solver, or by a line.
-use Rattle.std.proofs.Common.{◌≡◌, ℕ, zero, suc, ◌+◌, ◌^◌, ◌<◌, ◌≤◌, Bool, true, false, not, List, [], ◌∷◌, ◌++◌, map, length, refl, sym, ap, ◌∙◌, subst, arith, inl, inr, ◌⊎◌, ⊎_elim, Some}
+use Rattle.std.proofs.Common.{◌≡◌, ℕ, zero, suc, ◌+◌, ◌^◌, ◌<◌, ◌≤◌, Bool, true, false, List, [], ◌∷◌, ◌++◌, map, length, refl, sym, ap, ◌∙◌, subst, arith, inl, inr, ◌⊎◌, ⊎_elim, Some}
 use Rattle.std.specs.Prelude.{All}
-use Rattle.std.proofs.lemmas.Bool.{and_parts, cases_Bool, both_ways, false≢true, false_from_ne_true}
+use Rattle.std.proofs.lemmas.Bool.{both_ways, false≢true}
 use Rattle.std.proofs.lemmas.List.{append-nil, length-append}
 use Rattle.std.proofs.lemmas.List.Elements.{All-nil, All-cons, All-head, All-tail, All-append}
-use Rattle.fbas_model.specs.Nodes.{Nodes, Table, members, ◌⊆◌, IsInhabited, size, listed_from}
-use Rattle.fbas_model.specs.Fbas.{Fbas, BlocksMinimally, IsMinimalQuorum, all_nodes}
+use Rattle.fbas_model.specs.Nodes.{Nodes, Table, members, IsInhabited, size, listed_from}
+use Rattle.fbas_model.specs.Fbas.{Fbas, BlocksMinimally, IsMinimalQuorum}
 use Rattle.fbas_model.proofs.Sizes.{empty_or_not}
-use Rattle.fbas_model.proofs.Tables.{table_ext}
 use Rattle.greatest_quorum.specs.Greatest.{greatest_of}
 use Rattle.lrat_model.specs.Literal.{Literal, Plus, Minus, has, clause_true}
 use Rattle.lrat_model.specs.Clauses.{Held, clause_at, with_clause, Satisfies}
@@ -20,7 +19,7 @@ use Rattle.lrat_model.proofs.Runs.{clause_at-more}
 use Rattle.cdcl_core.specs.Log.{AreLemmas, units, HasNoEmptyLemma, EndsEmpty}
 use Rattle.cdcl_core.specs.Solving.{Solving, logged}
 use Rattle.list_journal.specs.Numbering.{variable_in, quorum_clause, blocking_clause}
-use Rattle.list_journal.specs.Journals.{JournalLine, QuorumLine, BlockingLine, StepLine, nothing_held, JournalRun, line_progress, IsOpen, EndsRefuted, IsWholeJournal, journal_units, AreUseful}
+use Rattle.list_journal.specs.Journals.{JournalLine, QuorumLine, BlockingLine, nothing_held, JournalRun, line_progress, IsOpen, EndsRefuted, IsWholeJournal, journal_units, AreUseful}
 use Rattle.list_journal.specs.declared.kinds.ListKind.TheVariants.{Whole, Partial}
 use Rattle.lrat_text.specs.Texts.{IsId}
 use Rattle.list_journal.specs.Listed.{list_line, clause_for}

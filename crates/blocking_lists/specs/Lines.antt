@@ -1,5 +1,5 @@
 -- The lines that listed sets, steps and logs stand for.
-use Rattle.std.specs.Prelude.{ℕ, ◌+◌, ◌-◌, ◌≤◌, List, [], ◌∷◌, ◌++◌, map, take, drop}
+use Rattle.std.specs.Prelude.{ℕ, ◌-◌, ◌≤◌, List, [], ◌∷◌, ◌++◌, map, take, drop}
 use Rattle.fbas_model.specs.Nodes.{Table}
 use Rattle.lrat_model.specs.Steps.{ProofStep}
 use Rattle.lrat_text.specs.Lent.{lent_step}

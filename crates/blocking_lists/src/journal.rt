@@ -1,5 +1,5 @@
 //! Journals of the search for minimal blocking sets.
-ghost use Rattle.std.specs.Prelude.{◌≡◌, ◌++◌, [], None, length, option_map, All, IfOk};
+ghost use Rattle.std.specs.Prelude.{◌≡◌, ◌++◌, [], None, length, option_map, IfOk};
 ghost use Rattle.std.specs.Option.{option_to_list};
 ghost use Rattle.list_journal.specs.Listed.{list_line};
 ghost use Rattle.blocking_lists.specs.Lines.{line_of, merged, AreBetween, blocks_in};
@@ -121,20 +121,13 @@ fn line_at(line: &ListLine) -> Line<'_>
 }
 
 /// The minimal blocking sets that were listed, in their order. Linear in the listed sets.
-pub(crate) fn sets_of(
-    alloc: Global,
-    n: u32,
-    listed: &[ListLine],
-) -> Result<Vec<NodeSet>, AllocError>
-    requires { All (λ s. length s ≡ n) (blocks_in listed.now) }
+pub(crate) fn sets_of(alloc: Global, listed: &[ListLine]) -> Result<Vec<NodeSet>, AllocError>
     ensures { IfOk result (λ sets. sets.items ≡ blocks_in listed.now) }
 {
     let mut sets = Vec::new(alloc);
     for line in listed {
         if let Listed::Blocking = line.which {
-            let mut copy = NodeSet::new(alloc, n)?;
-            copy.copy_from(&line.set);
-            sets.push(copy)?;
+            sets.push(line.set.copy())?;
         }
     }
     Ok(sets)

@@ -31,8 +31,9 @@ pub fn list(
     ensures outcome { IfOk result (λ outcome. OutcomeHolds system.now.sets faulty.now budget.old budget.new outcome) }
     ensures numbers { IfOk result (λ outcome. All HasLineNumbers (journal_in outcome)) }
 {
-    let n = system.len();
-    let greatest = greatest(alloc, system, faulty)?;
+    // A system has at most 4,096 nodes, so there are as few variables.
+    let _nodes = system.len();
+    let greatest = greatest(system, faulty);
     let mut solver = Solver::start(alloc, &Store::new(alloc), u64::from(greatest.count()))?;
     let mut listed = Vec::new(alloc);
     if run(
@@ -44,7 +45,7 @@ pub fn list(
         &mut listed,
         budget,
     )? {
-        let sets = sets_of(alloc, n, &listed)?;
+        let sets = sets_of(alloc, &listed)?;
         return Ok(ListOutcome::Whole(rising(sets), Journal::new(listed, solver.into_log())));
     }
     Ok(ListOutcome::Spent(Journal::new(listed, solver.into_log())))

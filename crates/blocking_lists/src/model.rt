@@ -5,18 +5,18 @@ ghost use Rattle.cdcl_core.specs.Solving.{assignment};
 ghost use Rattle.blocking_lists.specs.Search.{IsModelSet};
 
 use cdcl_core::Solver;
+use fbas_model::MOST_NODES;
 use name_set::NodeSet;
 
-/// Makes the set that of the nodes whose variables are true in the solver's assignment. O(n).
-pub fn take_model(solver: &Solver, n: u32, greatest: &NodeSet, set: &mut NodeSet)
+/// The set of the nodes whose variables are true in the solver's assignment. O(n).
+pub fn model_set(solver: &Solver, n: u32, greatest: &NodeSet) -> NodeSet
     requires places { length greatest.now ≡ n }
-    requires same_n { length set.old ≡ n }
-    requires few { n ≤ 4096 }
+    requires few { n ≤ MOST_NODES }
     requires vars { solver.now.vars ≡ size greatest.now }
-    ensures same_n { length set.new ≡ length set.old }
-    ensures model { IsModelSet greatest.now (assignment solver.now) set.new }
+    ensures same_n { length result ≡ n }
+    ensures model { IsModelSet greatest.now (assignment solver.now) result }
 {
-    set.clear();
+    let mut set = NodeSet::new(n);
     let mut variable = 0;
     for v in 0..n {
         if greatest.has(v) {
@@ -26,4 +26,5 @@ pub fn take_model(solver: &Solver, n: u32, greatest: &NodeSet, set: &mut NodeSet
             }
         }
     }
+    set
 }

@@ -9,9 +9,10 @@ ghost use Rattle.greatest_quorum.specs.Greatest.{greatest_of};
 ghost use Rattle.blocking_lists.specs.Search.{IsListing, IsWholeListing};
 
 use crate::journal::ListLine;
-use crate::model::take_model;
+use crate::model::model_set;
 use cdcl_core::{Budget, Solver, Verdict};
 use fbas_core::System;
+use fbas_model::MOST_NODES;
 use greatest_quorum::{blocks, minimal_block, minimal_quorum};
 use list_journal::{Listed, clause_of};
 use name_set::NodeSet;
@@ -29,7 +30,7 @@ fn add_line(
 ) -> Result<(), AllocError>
     requires places { length greatest.now ≡ n }
     requires same_n { length set ≡ n }
-    requires few { n ≤ 4096 }
+    requires few { n ≤ MOST_NODES }
     requires within { members set ⊆ members greatest.now }
     requires vars { solver.old.vars ≡ size greatest.now }
     requires room { solver.old.database.last + 1 < 2 ^ 63 }
@@ -69,10 +70,9 @@ fn turn(
     ensures goes_on { OnOk result ((total left : ℕ) → total < 2 ^ 63 → IsListing system.now.sets (members faulty.now) greatest.now total (left + 1) listed.old.items solver.old → IsListing system.now.sets (members faulty.now) greatest.now total left listed.new.items solver.new) }
 {
     let n = system.len();
-    let mut set = NodeSet::new(alloc, n)?;
-    let mut outside = NodeSet::new(alloc, n)?;
-    let mut scratch = NodeSet::new(alloc, n)?;
-    take_model(solver, n, greatest, &mut set);
+    let mut set = model_set(solver, n, greatest);
+    let mut outside = NodeSet::new(n);
+    let mut scratch = NodeSet::new(n);
     if blocks(system, &set, faulty, &mut outside) {
         minimal_block(system, &mut set, faulty, &mut scratch);
         add_line(alloc, Listed::Blocking, n, greatest, set, solver, listed)?;

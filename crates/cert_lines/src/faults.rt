@@ -24,6 +24,12 @@ pub enum CertError {
     /// The nodes of this line are no quorum once the faulty ones are deleted.
     #[error("the nodes of line {0} are no quorum")]
     NotQuorum(u64),
+    /// The nodes of this line do not meet every quorum once the faulty ones are deleted, or one of them is faulty.
+    #[error("the nodes of line {0} do not block")]
+    NotBlocking(u64),
+    /// Some of the nodes of this line block without the others.
+    #[error("the nodes of line {0} block with some to spare")]
+    NotMinimal(u64),
     /// The quorum of this line shares nodes with the one before it, of which this is the least.
     #[error("the quorum of line {0} shares node {1} with the first one")]
     Overlap(u64, u32),
@@ -37,10 +43,10 @@ pub enum CertError {
     #[error("the step of line {0} is refused: {1}")]
     Step(u64, StepFault),
     /// A clause held is a subset of this line's.
-    #[error("the lemma of line {0} is not new")]
+    #[error("the clause of line {0} is not new")]
     NotNew(u64),
-    /// The refutation ends on this line without the empty lemma.
-    #[error("line {0} ends a refutation without the empty lemma")]
+    /// The refutation or the list ends on this line without the empty lemma.
+    #[error("line {0} ends a proof without the empty lemma")]
     NotRefuted(u64),
     /// The input ends before the line feed of this line.
     #[error("line {0} is missing")]

@@ -156,10 +156,14 @@ impl System {
         if u.is_empty() || u.meets(faulty) {
             return false;
         }
-        for v in 0..self.names.len() {
-            if u.has(v) && !self.slice_in(v, u, faulty) {
+        // A proof sees the limit on nodes once a field is used.
+        let _ = &self.names;
+        let mut from = 0;
+        while let Some(v) = u.least_from(from) {
+            if !self.slice_in(v, u, faulty) {
                 return false;
             }
+            from = v + 1;
         }
         true
     }

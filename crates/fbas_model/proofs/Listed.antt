@@ -1,11 +1,11 @@
 -- The members of a table as a list in order, and the order of sets.
-use Rattle.std.proofs.Common.{◌≡◌, ℕ, zero, suc, ◌+◌, ◌-◌, ◌<◌, ◌≤◌, ◌==◌, ltb, Bool, true, false, List, [], ◌∷◌, length, drop, refl, sym, ◌∙◌, ap, ap₂, arith, inl, inr, Less, Equal, Greater}
+use Rattle.std.proofs.Common.{◌≡◌, ℕ, zero, suc, ◌+◌, ◌-◌, ◌<◌, ◌==◌, ltb, true, false, List, [], ◌∷◌, length, drop, refl, sym, ◌∙◌, ap, ap₂, arith, inl, inr, Less, Equal, Greater}
 use Rattle.std.proofs.lemmas.Bool.{false≢true, false_from_ne_true, cases_lt, lt-ltb, ltb-true, eqb-true, eq-eqb}
 use Rattle.std.proofs.lemmas.List.{get_or-drop, drop-drop, drop_all}
 use Rattle.std.specs.Ordering.{nat_cmp, ordering_then}
 use Rattle.std.specs.declared.cmp.Ordering.{Ordering}
 use Rattle.std.specs.Cmp.Lexicographic.{slice_cmp}
-use Rattle.fbas_model.specs.Nodes.{Nodes, Table, members, ◌∈◌, HasNoneFrom, IsLeastFrom, listed_from, set_cmp}
+use Rattle.fbas_model.specs.Nodes.{Table, members, HasNoneFrom, IsLeastFrom, listed_from, set_cmp}
 
 -- a table without members
 listed-none : (v : ℕ) (t : Table) → ((j : ℕ) → members t j ≡ false) → listed_from v t ≡ []

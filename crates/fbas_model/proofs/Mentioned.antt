@@ -1,11 +1,11 @@
 -- A choice gives nodes that stand in its quorum set, so a slice lies among the nodes of the system.
 use Rattle.std.proofs.Common.{◌≡◌, ℕ, ◌<◌, ◌↔◌, inl, inr, true, false, not, ◌&&◌, ◌==◌, nat_lt, length, Some, slice_get, subst, sym}
-use Rattle.std.proofs.lemmas.Bool.{and_parts, and_from, or_left, or_right, or_cases, not_from_false, not-true, both_ways, false≢true, eqb-true, lt-ltb}
+use Rattle.std.proofs.lemmas.Bool.{and_parts, and_from, or_left, or_right, or_cases, not_from_false, false≢true, eqb-true, lt-ltb}
 use Rattle.fbas_model.specs.Nodes.{Nodes, ◌∈◌, ◌⊆◌, ∅, ◌∪◌, ◌∖◌, outside}
 use Rattle.fbas_model.specs.Trees.{QuorumSet, quorum_set, Entries, none, node, inner}
 use Rattle.fbas_model.specs.QuorumSets.{Pick, done, pass_node, take_node, pass_inner, take_inner, Choice, choice, HasChoiceWithin, mentioned, mentioned_by, IsBelow, AreBelow}
 use Rattle.fbas_model.specs.Fbas.{Fbas, HasSliceWithin, all_nodes}
-use Rattle.fbas_model.proofs.Slices.{slice_iff, slice_self}
+use Rattle.fbas_model.proofs.Slices.{slice_iff}
 
 mutual
   pub pick_mentioned : {entries : Entries} {k : ℕ} {s : Nodes} → Pick entries k s → s ⊆ mentioned_by entries
@@ -53,11 +53,3 @@ slice_outside_iff f s v d has below low out =
     let here : v ∈ (u ∪ ∅) = or_left (all_nodes f v && not (s v)) false (and_from (all_nodes f v) (not (s v)) (lt-ltb v (length f) low) (not_from_false (s v) out)) in
     let law = slice_iff f ∅ u v d has here in
     (λ c. law.0 (choice_left (length f) s d below c), λ h. choice_out (all_nodes f) s d (law.1 h))
-
--- a member of s has no slice outside s
-pub no_slice_outside : (f : Fbas) (s : Nodes) (v : ℕ) → v ∈ s → HasSliceWithin f ∅ v (all_nodes f ∖ s) → ⊥
-no_slice_outside f s v at h =
-    elim (or_cases (all_nodes f v && not (s v)) false (slice_self f ∅ (all_nodes f ∖ s) v h)) [
-      | inl e ↦ both_ways (s v) (not-true (s v) (and_parts (all_nodes f v) (not (s v)) e).1) at
-      | inr e ↦ false≢true e
-    ]

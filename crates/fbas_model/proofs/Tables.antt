@@ -1,10 +1,7 @@
 -- Tables of one length with the same members are the same.
-use Rattle.std.proofs.Common.{◌≡◌, ℕ, zero, suc, ◌+◌, ◌<◌, Bool, true, false, ◌||◌, ◌==◌, [], ◌∷◌, length, refl, sym, ◌∙◌, ap, arith, replicate, inl, inr}
-use Rattle.std.specs.Prelude.{slice_set}
-use Rattle.std.proofs.lemmas.Bool.{cases_Bool, both_ways, eqb-true, eq-eqb}
-use Rattle.std.proofs.lemmas.List.{ext_get_or, length-set, length-replicate, get_or-set_other}
-use Rattle.std.proofs.lemmas.Grind.{get_or-set_at}
-use Rattle.fbas_model.specs.Nodes.{Nodes, Table, members, ∅, only, ◌∪◌}
+use Rattle.std.proofs.Common.{◌≡◌, ℕ, zero, suc, ◌+◌, ◌<◌, Bool, true, false, ◌||◌, [], ◌∷◌, length, refl, sym, ◌∙◌, ap, arith}
+use Rattle.std.proofs.lemmas.List.{ext_get_or}
+use Rattle.fbas_model.specs.Nodes.{Nodes, Table, members}
 use Rattle.fbas_model.specs.Restriction.{table_from}
 
 pub table_ext : (s t : Table) → length s ≡ length t → ((v : ℕ) → members s v ≡ members t v) → s ≡ t
@@ -13,15 +10,6 @@ table_ext [] (y ∷ ys) e h = absurd (omega arith)
 table_ext (x ∷ xs) [] e h = absurd (omega arith)
 table_ext (x ∷ xs) (y ∷ ys) e h = ap (λ (m : Bool). m ∷ xs) (h 0) ∙ ap (λ (ms : Table). y ∷ ms) (table_ext xs ys (omega arith) (λ v. h (suc v)))
 
-members-replicate : (n v : ℕ) → members (replicate n false) v ≡ false
-members-replicate zero v = refl
-members-replicate (suc n) zero = refl
-members-replicate (suc n) (suc v) = members-replicate n v
-
--- the empty set of nodes below n
-pub table_none : (t : Table) (n : ℕ) → length t ≡ n → members t ≡ ∅ → t ≡ replicate n false
-table_none t n e none = table_ext t (replicate n false) (e ∙ sym (length-replicate n false)) (λ v. ap (λ (s : Nodes). s v) none ∙ sym (members-replicate n v))
-
 pub or-true : (m : Bool) → true ≡ (m || true)
 or-true true = refl
 or-true false = refl
@@ -29,16 +17,6 @@ or-true false = refl
 pub or-false : (m : Bool) → m ≡ (m || false)
 or-false true = refl
 or-false false = refl
-
-members-set : (t : Table) (at : ℕ) → at < length t → (v : ℕ) → members (slice_set t at true) v ≡ (members t v || (v == at))
-members-set t at h v = elim (cases_Bool (v == at)) [
-  | inl e ↦ get_or-set_at t at v true false (eqb-true v at e) h ∙ (or-true (members t v) ∙ ap (λ (b : Bool). members t v || b) (sym e))
-  | inr e ↦ get_or-set_other t at v true false (λ same. both_ways (v == at) e (eq-eqb v at same)) ∙ (or-false (members t v) ∙ ap (λ (b : Bool). members t v || b) (sym e))
-]
-
--- a set with one node more
-pub table_put : (t next : Table) (at : ℕ) → at < length t → length next ≡ length t → members next ≡ (members t ∪ only at) → next ≡ slice_set t at true
-table_put t next at h e m = table_ext next (slice_set t at true) (e ∙ sym (length-set t at true)) (λ v. ap (λ (s : Nodes). s v) m ∙ sym (members-set t at h v))
 
 -- ---- the table of a set
 

@@ -116,16 +116,3 @@ chosen (choice low high p) = (low, p)
 
 pub pick_of_choice : (u : Nodes) (k : ℕ) (entries : Entries) → HasChoiceWithin (quorum_set k entries) u → (1 ≤ k) × HasPickWithin entries k u
 pick_of_choice u k entries h = let c = chosen h.1 in (c.0, (h.0, c.1, h.2))
-
--- what the first entry and the others keep of the entries' bound and number
-pub below_node : (n : ℕ) (xs ws : List ℕ) (w : ℕ) (qs : List QuorumSet) → xs ≡ w ∷ ws → AreBelow n (entries_of xs qs) → (w < n) × AreBelow n (entries_of ws qs)
-below_node n xs ws w qs e h = subst (λ (xs : List ℕ). AreBelow n (entries_of xs qs)) e h
-
-pub below_inner : (n : ℕ) (xs qs : List QuorumSet) (q : QuorumSet) → xs ≡ q ∷ qs → AreBelow n (inner_entries xs) → IsBelow n q × AreBelow n (inner_entries qs)
-below_inner n xs qs q e h = subst (λ (xs : List QuorumSet). AreBelow n (inner_entries xs)) e h
-
-pub entries_node : (xs ws : List ℕ) (w : ℕ) (qs : List QuorumSet) → xs ≡ w ∷ ws → all_entries_of (entries_of xs qs) ≡ 1 + all_entries_of (entries_of ws qs)
-entries_node xs ws w qs e = ap (λ (xs : List ℕ). all_entries_of (entries_of xs qs)) e
-
-pub entries_inner : (xs qs : List QuorumSet) (q : QuorumSet) → xs ≡ q ∷ qs → all_entries_of (inner_entries xs) ≡ 1 + all_entries q + all_entries_of (inner_entries qs)
-entries_inner xs qs q e = ap (λ (xs : List QuorumSet). all_entries_of (inner_entries xs)) e

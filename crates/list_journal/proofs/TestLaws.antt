@@ -1,7 +1,6 @@
--- The tests of lines say what they are named for.
-use Rattle.std.proofs.Common.{◌≡◌, ℕ, zero, suc, Bool, true, false, not, ◌&&◌, ◌||◌, List, [], ◌∷◌, length, cond, Some, None, Option, refl, sym, ap, ◌∙◌, subst, arith, inl, inr, ◌==◌}
-use Rattle.std.specs.List.{list_any}
-use Rattle.std.proofs.lemmas.Bool.{cases_Bool, or_cases, or_left, or_right, and_parts, and_from, both_ways, false≢true, false_from_ne_true, lt-ltb, eqb-true, not_from_false}
+-- The tests of sets say what they are named for.
+use Rattle.std.proofs.Common.{◌≡◌, ℕ, zero, suc, Bool, true, false, not, ◌&&◌, ◌||◌, [], ◌∷◌, length, refl, sym, ap, ◌∙◌, subst, arith, inl, inr}
+use Rattle.std.proofs.lemmas.Bool.{cases_Bool, or_cases, or_left, or_right, and_parts, and_from, both_ways, false≢true, false_from_ne_true, lt-ltb, not_from_false}
 use Rattle.fbas_model.specs.Nodes.{Nodes, Table, members, ◌∈◌, ◌⊆◌, ◌∖◌, Meets, size}
 use Rattle.fbas_model.specs.Fbas.{Fbas, Quorum, Blocks, all_nodes}
 use Rattle.fbas_model.specs.Counting.{is_quorum}
@@ -9,16 +8,8 @@ use Rattle.fbas_model.specs.Restriction.{table_from}
 use Rattle.fbas_model.proofs.Tables.{length-table_from}
 use Rattle.fbas_model.proofs.Sizes.{member_lt}
 use Rattle.fbas_model.proofs.QuorumLaw.{quorum-to, quorum-from}
-use Rattle.lrat_model.specs.Literal.{Literal, IsSubset}
-use Rattle.lrat_model.specs.Clauses.{Held, clause_at}
-use Rattle.lrat_model.specs.Lemmas.{IsNew}
-use Rattle.lrat_model.specs.Steps.{ProofStep, Addition, Deletion}
 use Rattle.greatest_quorum.specs.Greatest.{some_set}
-use Rattle.list_journal.specs.Numbering.{quorum_clause, blocking_clause}
-use Rattle.list_journal.specs.Journals.{QuorumLine, BlockingLine, IsNewLine, IsNewStep}
-use Rattle.list_journal.specs.declared.kinds.ListKind.{ListKind}
-use Rattle.list_journal.specs.declared.kinds.ListKind.TheVariants.{Whole, Partial}
-use Rattle.list_journal.specs.Tests.{is_within, is_meeting, is_blocking, is_least, is_covered, is_new, is_new_in, is_new_step}
+use Rattle.list_journal.specs.Tests.{is_within, is_meeting, is_blocking, is_least}
 use Rattle.greatest_quorum.proofs.GreatestLaws.{some_set-from, table_of}
 
 -- ---- sets of so many nodes
@@ -125,60 +116,3 @@ least_from f b s same least = none_from (length f) (λ w. is_within w s && (not 
     let parts = and_parts (is_within u s) (not (is_within s u) && is_blocking f b u) h in
     let more = and_parts (not (is_within s u)) (is_blocking f b u) parts.1 in
     refutes (is_within s u) more.0 (within_from s u (least (members u) (within_to u s parts.0) (blocks_to f b u same size more.1))))
-
--- ---- new clauses
-
-any_entry : (p : ℕ → Bool) (held : Held) (id : ℕ) (clause : List Literal) → clause_at held id ≡ Some clause → p id ≡ true → list_any (λ e. p e.0) held ≡ true
-any_entry p [] id clause at yes_p = absurd (cc)
-any_entry p (e ∷ held) id clause at yes_p = elim (cases_Bool (e.0 == id)) [
-  | inl same ↦ or_left (p e.0) (list_any (λ k. p k.0) held) (subst (λ (n : ℕ). p n ≡ true) (sym (eqb-true e.0 id same)) yes_p)
-  | inr other ↦ or_right (p e.0) (list_any (λ k. p k.0) held) (any_entry p held id clause (ap (λ (b : Bool). cond b (Some e.1) (clause_at held id)) (sym other) ∙ at) yes_p)
-]
-
-some_entry : (p : ℕ → Bool) (held : Held) → list_any (λ e. p e.0) held ≡ true → (k : ℕ) × (p k ≡ true)
-some_entry p [] h = absurd (false≢true h)
-some_entry p (e ∷ held) h = elim (or_cases (p e.0) (list_any (λ k. p k.0) held) h) [ inl here ↦ (e.0, here) | inr there ↦ some_entry p held there ]
-
-pub new_to : (held : Held) (clause : List Literal) → is_new held clause ≡ true → IsNew held clause
-new_to held clause h id other at subset =
-    refutes (list_any (λ e. is_covered (clause_at held e.0) clause) held) h
-    (any_entry (λ k. is_covered (clause_at held k) clause) held id other at (ap (λ (o : Option (List Literal)). is_covered o clause) at ∙ subset))
-
-covered_by : (o : Option (List Literal)) (clause : List Literal) → is_covered o clause ≡ true → (other : List Literal) × (o ≡ Some other) × IsSubset other clause
-covered_by None clause h = absurd (false≢true h)
-covered_by (Some other) clause h = (other, refl, h)
-
-pub new_from : (held : Held) (clause : List Literal) → IsNew held clause → is_new held clause ≡ true
-new_from held clause new = not_from_false (list_any (λ e. is_covered (clause_at held e.0) clause) held) (false_from_ne_true (list_any (λ e. is_covered (clause_at held e.0) clause) held) (λ h.
-    let k = some_entry (λ k. is_covered (clause_at held k) clause) held h in
-    let c = covered_by (clause_at held k.0) clause k.1 in
-    new k.0 c.0 c.1 c.2))
-
--- ---- where the kind asks for it
-
-pub new_step_to : (kind : ListKind) (held : Held) (step : ProofStep) → is_new_step kind held step ≡ true → IsNewStep kind held step
-new_step_to Whole held step h = tt
-new_step_to Partial held (Addition id lits hints) h = new_to held lits h
-new_step_to Partial held (Deletion id ids) h = tt
-
-pub new_step_from : (kind : ListKind) (held : Held) (step : ProofStep) → IsNewStep kind held step → is_new_step kind held step ≡ true
-new_step_from Whole held (Addition id lits hints) h = refl
-new_step_from Whole held (Deletion id ids) h = refl
-new_step_from Partial held (Addition id lits hints) h = new_from held lits h
-new_step_from Partial held (Deletion id ids) h = refl
-
-pub new_quorum_to : (kind : ListKind) (g : Table) (held : Held) (id : ℕ) (u : Table) → is_new_in kind held (quorum_clause g u) ≡ true → IsNewLine kind g held (QuorumLine id u)
-new_quorum_to Whole g held id u h = tt
-new_quorum_to Partial g held id u h = new_to held (quorum_clause g u) h
-
-pub new_quorum_from : (kind : ListKind) (g : Table) (held : Held) (id : ℕ) (u : Table) → IsNewLine kind g held (QuorumLine id u) → is_new_in kind held (quorum_clause g u) ≡ true
-new_quorum_from Whole g held id u h = refl
-new_quorum_from Partial g held id u h = new_from held (quorum_clause g u) h
-
-pub new_block : (kind : ListKind) (g : Table) (held : Held) (id : ℕ) (s : Table) → IsNew held (blocking_clause g s) → IsNewLine kind g held (BlockingLine id s)
-new_block Whole g held id s h = h
-new_block Partial g held id s h = h
-
-pub block_new : (kind : ListKind) (g : Table) (held : Held) (id : ℕ) (s : Table) → IsNewLine kind g held (BlockingLine id s) → IsNew held (blocking_clause g s)
-block_new Whole g held id s h = h
-block_new Partial g held id s h = h

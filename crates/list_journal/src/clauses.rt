@@ -5,6 +5,7 @@ ghost use Rattle.lrat_model.specs.Ranges.{IsInRange};
 ghost use Rattle.list_journal.specs.Listed.{signed, clause_for};
 
 use crate::kinds::Listed;
+use fbas_model::MOST_NODES;
 use lrat_model::Lit;
 use name_set::NodeSet;
 use std::alloc::{AllocError, Global};
@@ -32,7 +33,7 @@ pub fn clause_of(
 ) -> Result<Vec<Lit>, AllocError>
     requires places { length greatest.now ≡ n }
     requires same_n { length set.now ≡ n }
-    requires few { n ≤ 4096 }
+    requires few { n ≤ MOST_NODES }
     requires within { members set.now ⊆ members greatest.now }
     ensures clause { IfOk result (λ clause. clause.items ≡ clause_for which greatest.now set.now) }
     ensures range { IfOk result (λ clause. IsInRange (size greatest.now) clause.items) }

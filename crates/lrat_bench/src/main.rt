@@ -1,7 +1,9 @@
 //! Reads step lines from standard input and feeds them to the checker, to be timed by `bench/lrat.py`.
 //!
 //! `lrat_bench VARS GIVEN` takes the first GIVEN lines, additions, as the clauses of a formula over VARS variables,
-//! and the others as steps. Without words it only reads the lines.
+//! and the others as steps; `lrat_bench VARS GIVEN covers` also asks of each lemma whether a clause covers it. Without words
+//! it only reads the lines. `lrat_bench log COUNT` makes a log of this many lemmas of 20 literals and 100 hints, and
+//! counts its numbers.
 #![tactic(auto)]
 
 ghost use Rattle.std.specs.Prelude.{◌≡◌, ◌<◌, ◌^◌};
@@ -12,7 +14,7 @@ use anyhow::{Context, Result, bail};
 use clause_store::Store;
 use lrat_checker::Checker;
 use lrat_model::{Lit, Step};
-use lrat_text::read_step;
+use lrat_text::{HintsRef, Log, StepRef, read_step};
 use std::alloc::Global;
 use std::env;
 use std::io::{BufRead, BufReader};
@@ -20,11 +22,12 @@ use std::io::{BufRead, BufReader};
 /// The greatest variable that a literal may have.
 const MOST_VARIABLE: u64 = 2_147_483_647;
 
-/// How many steps there were.
+/// How many steps there were, and how many lemmas that a clause covered.
 #[derive(Clone, Copy)]
 struct Counts {
     additions: u64,
     deletions: u64,
+    covered: u64,
 }
 
 impl Counts {
@@ -72,6 +75,7 @@ fn read_all<R: BufRead>(alloc: Global, input: &mut R) -> Result<Counts> {
     let mut counts = Counts {
         additions: 0,
         deletions: 0,
+        covered: 0,
     };
     let mut line = Vec::new(alloc);
     for _ in 0..u64::MAX {
@@ -83,15 +87,33 @@ fn read_all<R: BufRead>(alloc: Global, input: &mut R) -> Result<Counts> {
     Ok(counts)
 }
 
-/// Takes the formula and then each step.
-fn check_all<R: BufRead>(alloc: Global, input: &mut R, vars: u64, given: u64) -> Result<Counts>
+/// Whether a clause covers a lemma.
+fn is_covered(checker: &Checker, step: &Step) -> bool {
+    match step {
+        Step::Add { id, lits, hints: _ } => checker.covers(*id, lits),
+        Step::Delete { .. } => false,
+    }
+}
+
+/// Takes the formula and then each step. Where `asks` is so, each lemma is asked about first.
+fn check_all<R: BufRead>(
+    alloc: Global,
+    input: &mut R,
+    vars: u64,
+    given: u64,
+    asks: bool,
+) -> Result<Counts>
     requires { vars < 2 ^ 31 }
 {
     let mut counts = Counts {
         additions: 0,
         deletions: 0,
+        covered: 0,
     };
     let mut checker = Checker::start(alloc, Store::new(alloc), vars)?;
+    if asks {
+        checker.expect_covers(alloc);
+    }
     let mut line = Vec::new(alloc);
     for number in 0..u64::MAX {
         let Some(step) = next_step(alloc, input, &mut line)? else {
@@ -100,6 +122,9 @@ fn check_all<R: BufRead>(alloc: Global, input: &mut R, vars: u64, given: u64) ->
         if number < given {
             give(&mut checker, vars, &step)?;
         } else {
+            if asks && is_covered(&checker, &step) {
+                counts.covered = counts.covered.saturating_add(1);
+            }
             checker.step(&step)?;
             counts.count(&step);
         }
@@ -107,23 +132,70 @@ fn check_all<R: BufRead>(alloc: Global, input: &mut R, vars: u64, given: u64) ->
     Ok(counts)
 }
 
+/// Makes a log of lemmas of 20 literals and 100 hints, and gives its length and how many literals and hints it has.
+fn fill_log(alloc: Global, count: u32) -> Result<(usize, u64)> {
+    let mut log = Log::new(alloc);
+    let mut lits = Vec::new(alloc);
+    for variable in 1..21_u32 {
+        lits.push(Lit::positive(variable))?;
+    }
+    for id in 0..count {
+        let mut hints = Vec::new(alloc);
+        for place in 0..100_u32 {
+            hints.push(i64::from(id) + i64::from(place) + 1)?;
+        }
+        log.push_addition(u64::from(id) + 1, &lits, &hints)?;
+    }
+    Ok((log.len(), count_numbers(&log)))
+}
+
+/// How many literals and hints the lemmas have.
+fn count_numbers(log: &Log) -> u64 {
+    let mut numbers: u64 = 0;
+    for place in 0..log.len() {
+        if let StepRef::Add { id: _, lits, hints } = log.step(place) {
+            let hints = match hints {
+                HintsRef::Short(ids) => ids.len(),
+                HintsRef::Wide(ids) => ids.len(),
+            };
+            numbers = numbers
+                .saturating_add(lits.len() as u64)
+                .saturating_add(hints as u64);
+        }
+    }
+    numbers
+}
+
+/// The numbers of a log, as two lines.
+fn show_log(rt: &HostRuntime, count: &str) -> Result<()> {
+    let count: u32 = count.parse().context("the number of lemmas")?;
+    let (steps, numbers) = fill_log(rt.alloc(), count)?;
+    println!(rt; "steps {steps}")?;
+    println!(rt; "numbers {numbers}")?;
+    Ok(())
+}
+
 fn main(rt: HostRuntime) -> Result<()> {
     let alloc = rt.alloc();
-    let mut input = BufReader::new(alloc, rt.reader())?;
     let mut words = env::args(&rt)?;
     words.next();
-    let counts = match (words.next(), words.next()) {
+    let (first, second) = (words.next(), words.next());
+    let asks = words.next().is_some();
+    let counts = match (first.as_deref(), second.as_deref()) {
+        (Some("log"), Some(count)) => return show_log(&rt, count),
         (Some(vars), Some(given)) => {
+            let mut input = BufReader::new(alloc, rt.reader())?;
             let vars: u64 = vars.parse().context("the number of variables")?;
             let given: u64 = given.parse().context("the number of clauses")?;
             if vars > MOST_VARIABLE {
                 bail!("too many variables");
             }
-            check_all(alloc, &mut input, vars, given)?
+            check_all(alloc, &mut input, vars, given, asks)?
         }
-        _ => read_all(alloc, &mut input)?,
+        _ => read_all(alloc, &mut BufReader::new(alloc, rt.reader())?)?,
     };
     println!(rt; "additions {}", counts.additions)?;
     println!(rt; "deletions {}", counts.deletions)?;
+    println!(rt; "covered {}", counts.covered)?;
     Ok(())
 }

@@ -4,8 +4,6 @@ use Rattle.std.specs.List.{slice_split}
 use Rattle.std.proofs.Math.Seq.{take-suc}
 use Rattle.std.proofs.lemmas.Bool.{eqb-true}
 use Rattle.std.proofs.lemmas.List.{take_all, drop_all, drop_more}
-use Rattle.std.proofs.lemmas.List.Splits.{length-slice_split}
-use Rattle.std.proofs.lemmas.List.Sums.{count_by-le-length}
 use Rattle.fbas_model.specs.Nodes.{Table, members, only, ◌∪◌}
 use Rattle.fbas_model.specs.Names.{Name, marks}
 use Rattle.fbas_model.proofs.Marks.{marks-found}
@@ -15,10 +13,6 @@ use Rattle.name_set.specs.declared.lists.NameFault.{NameFault}
 -- what stands between the commas
 abbrev pub parts : List ℕ → List Name
 parts text = slice_split (λ b. b == 44) text
-
--- there are no more of them than bytes and one
-pub length-parts : (text : List ℕ) → length (parts text) ≤ length text + 1
-length-parts text = omega (arith, length-slice_split (λ b. b == 44) text, count_by-le-length (λ b. b == 44) text)
 
 pub items-parts : (text : List ℕ) → (length text == 0) ≡ false → items_of text ≡ parts text
 items-parts [] h = absurd cc

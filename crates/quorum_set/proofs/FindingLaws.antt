@@ -27,9 +27,6 @@ module _ (old findings : List Found) where
     all = append_assoc h.done xs rest ∙ h.all;
   }
 
-  pub holds_all : (now : List Found) → Holds old findings now [] → now ≡ old ++ findings
-  holds_all now h = h.held ∙ ap (λ (l : List Found). old ++ l) (sym (append-nil h.done) ∙ h.all)
-
   pub holds_first : (now rest : List Found) → Holds old findings now rest → HoldsFirst old findings now
   holds_first now rest h = record {
     many = length h.done;

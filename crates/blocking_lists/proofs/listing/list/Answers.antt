@@ -1,27 +1,18 @@
 use Rattle.std.proofs.Common.{◌≡◌, ℕ, List, length, sym, ◌∙◌, ap, subst, Ok}
 use Rattle.std.specs.Prelude.{All, Contains, ◌↔◌}
-use Rattle.fbas_model.specs.Nodes.{Table, members}
+use Rattle.fbas_model.specs.Nodes.{Table}
 use Rattle.lrat_model.specs.Steps.{ProofStep}
-use Rattle.lrat_model.specs.Propagation.{Closes}
 use Rattle.lrat_text.specs.Texts.{HasNumbers}
 use Rattle.list_journal.specs.Journals.{JournalLine}
 use Rattle.blocking_lists.specs.Lines.{merged, blocks_in, HasLineNumbers}
 use Rattle.blocking_lists.specs.declared.journal.ListLine.{ListLine}
 use Rattle.blocking_lists.proofs.Merged.{numbers_merged}
-use Rattle.blocking_lists.proofs.Listings.{sizes_of, listing_whole, listing_spent}
+use Rattle.blocking_lists.proofs.Listings.{listing_whole, listing_spent}
 use Rattle.blocking_lists.proofs.listing.list.Goals as goal
 
 -- the lines of a journal, which is the listed sets among the steps of the log that the solver gave
 merged_log : (lines : List ListLine) (given log : List ProofStep) (journal : List JournalLine) → journal ≡ merged 0 lines given → given ≡ log → journal ≡ merged 0 lines log
 merged_log lines given log journal is same = is ∙ ap (λ (steps : List ProofStep). merged 0 lines steps) same
-
-pub sets_of-requires : goal.sets_of-requires
-sets_of-requires c =
-    let f = c.args.system.now.sets in
-    let n = c.len-n.result in
-    let whole = c.in_ok-run.ensures.whole (ap Ok c.if-branch.true) in
-    let sizes = sizes_of f c.args.faulty.now c.in_ok-greatest.greatest c.args.budget.now c.run.new.budget c.run.new.listed.items c.run.new.solver.log whole in
-    subst (λ (lines : List ListLine). All (λ (s : Table). length s ≡ n) (blocks_in lines)) (sym c.deref.ensures.value) (λ k d low. sizes k d low ∙ sym c.len-n.ensures.sets)
 
 pub returns-then-branch : goal.returns-then-branch
 returns-then-branch c =
@@ -35,7 +26,7 @@ returns-then-branch c =
     let sets_are = c.in_ok-sets.ensures ∙ ap blocks_in c.deref.ensures.value in
     let same : (n : ℕ) → All (λ s. length s ≡ n) (blocks_in lines) → (s : Table) → Contains c.rising.result.items s ↔ Contains (blocks_in lines) s =
     subst (λ (xs : List Table). (n : ℕ) → All (λ s. length s ≡ n) xs → (s : Table) → Contains c.rising.result.items s ↔ Contains xs s) sets_are c.rising.ensures.same in record {
-      outcome = listing_whole f b c.in_ok-greatest.greatest c.args.budget.now c.run.new.budget lines log journal c.rising.result.items c.requires.same_faulty c.in_ok-greatest.ensures.counted journal_is c.rising.ensures.rising same whole;
+      outcome = listing_whole f b c.greatest-greatest.result c.args.budget.now c.run.new.budget lines log journal c.rising.result.items c.requires.same_faulty c.greatest-greatest.ensures.counted journal_is c.rising.ensures.rising same whole;
       numbers = subst (λ (ls : List JournalLine). All HasLineNumbers ls) (sym journal_is) (numbers_merged 0 lines log whole.ids (subst (λ (steps : List ProofStep). All HasNumbers steps) c.into_log.ensures.log c.into_log.ensures.numbers));
     }
 
@@ -46,7 +37,7 @@ returns-clause-outcome c =
     let now = c.in_ok-run.ensures in
     let part = ap Ok c.if-branch.false in
     let journal_is = merged_log lines c.into_log-2.result solver.log c.new-2.result c.new-2.ensures c.into_log-2.ensures.log in
-    (now.spent part, listing_spent c.args.system.now.sets c.args.faulty.now c.in_ok-greatest.greatest c.args.budget.now c.run.new.budget lines solver c.new-2.result c.in_ok-greatest.ensures.counted journal_is (now.spent part) (now.unclosed part) (now.part part))
+    (now.spent part, listing_spent c.args.system.now.sets c.args.faulty.now c.greatest-greatest.result c.args.budget.now c.run.new.budget lines solver c.new-2.result c.greatest-greatest.ensures.counted journal_is (now.spent part) (now.unclosed part) (now.part part))
 
 pub returns-clause-numbers : goal.returns-clause-numbers
 returns-clause-numbers c =

@@ -1,4 +1,4 @@
-use Rattle.std.proofs.Common.{◌≡◌, ◌≢◌, ℕ, ◌+◌, sym, ◌∙◌, ap, subst, arith, Ok}
+use Rattle.std.proofs.Common.{◌≡◌, ◌≢◌, ℕ, sym, ap, subst, arith, Ok}
 use Rattle.fbas_model.specs.Nodes.{members}
 use Rattle.cdcl_core.specs.Solving.{assignment}
 use Rattle.cdcl_core.specs.declared.run.Verdict.{Verdict}

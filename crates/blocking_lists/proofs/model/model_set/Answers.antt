@@ -6,11 +6,11 @@ use Rattle.fbas_model.proofs.Kept.{rank_more_yes, rank_more_no}
 use Rattle.cdcl_core.specs.Solving.{assignment}
 use Rattle.list_journal.specs.Numbering.{variable_in}
 use Rattle.blocking_lists.proofs.ModelLoops.{model_none, model_pass, model_put, model_whole}
-use Rattle.blocking_lists.proofs.model.take_model.Goals as goal
-use Rattle.blocking_lists.proofs.model.take_model.Goals.{then-has+then-model, then-has+else-model, else-has}
+use Rattle.blocking_lists.proofs.model.model_set.Goals as goal
+use Rattle.blocking_lists.proofs.model.model_set.Goals.{then-has+then-model, then-has+else-model, else-has}
 
 pub loop-v-init : goal.loop-v-init
-loop-v-init c = model_none c.args.n c.args.greatest.now (assignment c.args.solver.now) c.clear.new.self (c.clear.ensures.size ∙ c.requires.same_n) c.clear.ensures.empty
+loop-v-init c = model_none c.args.n c.args.greatest.now (assignment c.args.solver.now) c.new-set.result c.new-set.ensures.size c.new-set.ensures.empty
 
 pub loop-v-preserved : goal.loop-v-preserved
 loop-v-preserved c =

@@ -1,0 +1,5 @@
+//! Questions about worked systems, answered with ample memory.
+#![tactic(auto)]
+
+#[cfg(test)]
+mod tests;
