@@ -307,30 +307,30 @@ def number_in(word, least, most):
 
 def numbers_up_to_zero(words, least, most):
     numbers = []
-    while True:
-        if not words:
-            raise ValueError("no zero")
-        number = number_in(words.pop(0), least, most)
+    for word in words:
+        number = number_in(word, least, most)
         if number == 0:
             return numbers
         numbers.append(number)
+    raise ValueError("no zero")
 
 
 def step_in(line):
     """The step of a line: its id with literals and hints, or None with the ids that it deletes. ValueError where it is none."""
     if re.search(rb"[^\t -~]", line):
         raise ValueError("bytes")
-    words = re.findall(r"[^ \t]+", line.decode())
+    words = line.decode().split()
     if not words:
         raise ValueError("no word")
-    number = number_in(words.pop(0), 1, MOST_ID)
-    if words and words[0] == "d":
-        words.pop(0)
-        step = (None, numbers_up_to_zero(words, 0, MOST_ID), [])
+    number = number_in(words[0], 1, MOST_ID)
+    if words[1:2] == ["d"]:
+        rest = iter(words[2:])
+        step = (None, numbers_up_to_zero(rest, 0, MOST_ID), [])
     else:
-        literals = numbers_up_to_zero(words, -MOST_LIT, MOST_LIT)
-        step = (number, literals, numbers_up_to_zero(words, -MOST_ID, MOST_ID))
-    if words:
+        rest = iter(words[1:])
+        literals = numbers_up_to_zero(rest, -MOST_LIT, MOST_LIT)
+        step = (number, literals, numbers_up_to_zero(rest, -MOST_ID, MOST_ID))
+    if next(rest, None) is not None:
         raise ValueError("extra")
     return step
 
@@ -352,24 +352,28 @@ class Held:
         self.last = number
 
     def covers(self, literals):
-        return any(clause <= set(literals) for clause in self.clauses.values())
+        literals = set(literals)
+        return any(clause <= literals for clause in self.clauses.values())
 
     def delete(self, numbers):
-        for place, number in enumerate(numbers):
-            if number not in self.clauses or number in numbers[:place]:
+        gone = set()
+        for number in numbers:
+            if number not in self.clauses or number in gone:
                 raise Fault("no-such-clause %d" % number)
+            gone.add(number)
         for number in numbers:
             del self.clauses[number]
 
     def follows(self, number, literals, hints):
         """Takes no addition; raises the fault of one that does not follow."""
         self.in_order(number)
-        for place, literal in enumerate(literals):
+        true = set()
+        for literal in literals:
             if abs(literal) > self.variables:
                 raise Fault("bad-literal %d" % literal)
-            if -literal in literals[:place]:
+            if literal in true:
                 raise Fault("tautology %d" % literal)
-        true = {-literal for literal in literals}
+            true.add(-literal)
         for place, hint in enumerate(hints, 1):
             if hint < 0:
                 raise Fault("rat-step %d" % place)
