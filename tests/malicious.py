@@ -217,7 +217,7 @@ CERTIFICATES = [
     ("a lemma with blanks up to 134,217,729 bytes", TWO, seventh(LEMMA.ljust(MOST_LINE + 1)), 5, "refused line-too-long 7\n"),
 ]
 
-# Kinds of lists of sets, where the program knows them.
+# The same, of lists of sets.
 BLOCKS = b"q 1 a b\nq 2 a c\nq 3 b c\nb 4 a b\nb 5 a c\nb 6 b c\n7 -1 0 4 5 3 0\n8 0 7 1 2 6 0\nend\n"
 BLOCKING = head(THREE, "blocking") + BLOCKS
 LISTED = "accepted blocking 3\nfrom\nfaulty\nset a b\nset a c\nset b c\n"
@@ -277,9 +277,6 @@ class Trial:
             self.failed += 1
             print("malicious: %s: found %r, wanted %r" % (name, found, wanted))
 
-    def knows_lists(self):
-        return "\nblocking CONFIG CERT" in self.run()[1]
-
 
 def main(program=BUILT):
     with tempfile.TemporaryDirectory() as folder:
@@ -291,7 +288,7 @@ def main(program=BUILT):
         for name, orgs, status, text in ORGANISATIONS:
             trial.put("orgs", orgs)
             trial.row("organisations: " + name, status, text, "greatest", "config", "--orgs", "orgs", "--faulty-orgs", "A")
-        for name, config, cert, status, text in CERTIFICATES + (LISTS if trial.knows_lists() else []):
+        for name, config, cert, status, text in CERTIFICATES + LISTS:
             trial.put("config", config)
             trial.put("cert", cert)
             trial.row("certificate: " + name, status, text, "check", "config", "cert")

@@ -416,8 +416,8 @@ def spelled(names):
 class Check:
     """Goes through a certificate line by line."""
 
-    def __init__(self, system, digest, data, kinds=KINDS):
-        self.whole, self.digest, self.data, self.kinds = system, digest, data, kinds
+    def __init__(self, system, digest, data):
+        self.whole, self.digest, self.data = system, digest, data
         self.at = 0
         self.line_number = 0
 
@@ -469,7 +469,7 @@ class Check:
         self.faulty = self.known(self.names(rest), self.whole) & part
         self.system = {name: self.whole[name] for name in part}
         (kind,) = self.matching(rb"kind (.*)")
-        if kind.decode("latin-1") not in self.kinds:
+        if kind.decode("latin-1") not in KINDS:
             self.refuse("bad-line")
         answer, status, lines = self.body(kind.decode())
         if self.at < len(self.data):
@@ -583,14 +583,14 @@ class Check:
         return nodes
 
 
-def check(config, cert, kinds=KINDS):
+def check(config, cert):
     """The status and the text of 'check' of these bytes."""
     try:
         system = system_of(config)
     except Fault as fault:
         return 4, "config %s\n" % fault
     try:
-        return Check(system, hashlib.sha256(config).hexdigest(), cert, kinds).accepted()
+        return Check(system, hashlib.sha256(config).hexdigest(), cert).accepted()
     except Refused as refused:
         return refused.status, refused.text
 
