@@ -10,6 +10,7 @@ use super::*;
 use fbas_core::System;
 use greatest_quorum::blocks;
 use name_set::Names;
+use std::alloc::{AllocError, Global};
 use std::process::Abort;
 use std::test::Fail;
 

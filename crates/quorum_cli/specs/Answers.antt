@@ -18,7 +18,7 @@ use Rattle.node_json.specs.declared.faults.OrgFault.{OrgFault}
 use Rattle.certificate_file.specs.Acceptance.{checked}
 use Rattle.certificate_file.specs.declared.places.Accepted.{Accepted}
 use Rattle.certificate_file.specs.declared.places.Answer.{Answer as Shown}
-use Rattle.certificate_file.specs.declared.places.Answer.TheVariants.{Partial}
+use Rattle.certificate_file.specs.declared.places.Answer.TheVariants.{Partial, PartialBlocking}
 use Rattle.cert_lines.specs.declared.faults.CertError.{CertError}
 use Rattle.cert_lines.specs.declared.faults.CertError.TheVariants.{TooLarge as TooManyVariables}
 use Rattle.report.specs.Lines.{Text, usage, same_path, config_too_long, config_refused, orgs_too_long, orgs_refused, cert_refused, accepted}
@@ -75,6 +75,7 @@ cert_status fault = CertRefused
 -- how it ends where a certificate is accepted: a partial one leaves the question open
 abbrev pub accepted_status : Shown → Status
 accepted_status (Partial units) = Unknown
+accepted_status (PartialBlocking units) = Unknown
 accepted_status shown = Yes
 
 -- a certificate is accepted, or its first fault is named

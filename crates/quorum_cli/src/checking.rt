@@ -4,6 +4,7 @@ ghost use Rattle.sha2.specs.Sha256.{sha256};
 ghost use Rattle.desk_io.specs.State.{OnlyReads, left_of};
 ghost use Rattle.desk_io.specs.Faults.{ReadFails};
 ghost use Rattle.certificate_file.specs.Acceptance.{checked};
+ghost use Rattle.certificate_file.specs.Meaning.{HasPlaces};
 ghost use Rattle.quorum_cli.specs.Answers.{check_in, checked_answer, cert_status as spec_cert_status, accepted_status as spec_accepted_status};
 ghost use Rattle.quorum_cli.specs.Meaning.{Shows, HasCert};
 ghost use Rattle.quorum_cli.specs.Reading.{GivesReading};
@@ -44,14 +45,14 @@ fn accepted_status(answer: &Answer) -> Status
     ensures answer { IsTrue (is_answer result) }
 {
     match answer {
-        Answer::Pair(_) | Answer::Refutation => Status::Yes,
-        Answer::Partial(_) => Status::Unknown,
+        Answer::Pair(_) | Answer::Refutation | Answer::Blocking(_) => Status::Yes,
+        Answer::Partial(_) | Answer::PartialBlocking(_) => Status::Unknown,
     }
 }
 
 // The answer to a certificate that is accepted.
 fn accept(alloc: Global, system: &System, accepted: &Accepted) -> Result<Reply, AllocError>
-    requires { length accepted.now.header.faulty ≡ length system.now.sets }
+    requires { HasPlaces (length system.now.sets) accepted.now }
     ensures ok { IfOk result (λ a. a ≡ checked_answer system.now.names (Ok accepted.now)) }
     ensures answers { IfOk result (λ a. IsTrue (is_answer a.status)) }
 {

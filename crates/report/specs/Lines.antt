@@ -18,11 +18,11 @@ use Rattle.lrat_model.specs.Literal.{Literal, Plus, Minus}
 use Rattle.lrat_model.specs.declared.step.StepFault.{StepFault}
 use Rattle.lrat_model.specs.declared.step.StepFault.TheVariants.{IdOrder, BadLiteral, Tautology, NoSuchClause, NotUnit, NoConflict, RatStep, Memory as NoStep}
 use Rattle.cert_lines.specs.declared.faults.CertError.{CertError}
-use Rattle.cert_lines.specs.declared.faults.CertError.TheVariants.{BadLine, LineTooLong, TooManyLines, Digest, UnknownNode, NotQuorum, Overlap, Formula, Step, NotNew, NotRefuted, TooLarge, Truncated, Trailing, Read, Memory as NoMemory}
+use Rattle.cert_lines.specs.declared.faults.CertError.TheVariants.{BadLine, LineTooLong, TooManyLines, Digest, UnknownNode, NotQuorum, NotBlocking, NotMinimal, Overlap, Formula, Step, NotNew, NotRefuted, TooLarge, Truncated, Trailing, Read, Memory as NoMemory}
 use Rattle.certificate_file.specs.declared.places.Accepted.{Accepted}
 use Rattle.witness_pair.specs.declared.Pair.{Pair}
 use Rattle.certificate_file.specs.declared.places.Answer.{Answer}
-use Rattle.certificate_file.specs.declared.places.Answer.TheVariants.{Pair as pair, Refutation, Partial}
+use Rattle.certificate_file.specs.declared.places.Answer.TheVariants.{Pair as pair, Refutation, Partial, Blocking, PartialBlocking}
 
 abbrev pub Text : Type 0
 Text = List ℕ
@@ -139,6 +139,8 @@ cert_fault names TooManyLines = codes "refused too-many-lines"
 cert_fault names (Digest found wanted) = worded (worded (codes "refused digest") (encode_lower found)) (encode_lower wanted)
 cert_fault names (UnknownNode l) = numbered (codes "refused unknown-node") l
 cert_fault names (NotQuorum l) = numbered (codes "refused not-quorum") l
+cert_fault names (NotBlocking l) = numbered (codes "refused not-blocking") l
+cert_fault names (NotMinimal l) = numbered (codes "refused not-minimal") l
 cert_fault names (Overlap l v) = worded (numbered (codes "refused overlap") l) (name_at names v)
 cert_fault names (Formula l) = numbered (codes "refused formula") l
 cert_fault names (Step l fault) = worded (numbered (codes "refused step") l) (step_fault fault)
@@ -159,15 +161,30 @@ abbrev pub accepted_kind : Answer → Text
 accepted_kind (pair p) = codes "accepted pair\n"
 accepted_kind Refutation = codes "accepted refutation\n"
 accepted_kind (Partial units) = counted (codes "accepted partial") units
+accepted_kind (Blocking sets) = counted (codes "accepted blocking") (length sets)
+accepted_kind (PartialBlocking units) = counted (codes "accepted partial-blocking") units
+
+-- a line for each set
+abbrev pub set_lines : List Name → List Table → Text
+set_lines names [] = []
+set_lines names (set ∷ sets) = line (list (codes "set") names set) ++ set_lines names sets
+
+-- the sets of an answer
+abbrev pub answer_sets : Answer → List Table
+answer_sets (pair p) = []
+answer_sets Refutation = []
+answer_sets (Partial units) = []
+answer_sets (Blocking sets) = sets
+answer_sets (PartialBlocking units) = []
 
 -- a word, and behind it the name of a node where there is one
 abbrev pub word_if_any : Text → List Name → Option ℕ → Text
 word_if_any word names None = word
 word_if_any word names (Some v) = worded word (name_at names v)
 
--- the kind, and lines 3 and 4 of the certificate
+-- the kind, lines 3 and 4 of the certificate, and the sets of a list
 abbrev pub accepted : List Name → Accepted → Text
-accepted names a = accepted_kind a.answer ++ (line (word_if_any (codes "from") names a.header.from) ++ line (list (codes "faulty") names a.header.faulty))
+accepted names a = accepted_kind a.answer ++ (line (word_if_any (codes "from") names a.header.from) ++ (line (list (codes "faulty") names a.header.faulty) ++ set_lines names (answer_sets a.answer)))
 
 -- a line of its own, and the list of a set's names behind a word
 abbrev pub with_list : Text → Text → List Name → Table → Text

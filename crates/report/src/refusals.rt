@@ -162,6 +162,8 @@ fn cert_words(alloc: Global, names: &Names, fault: &CertError) -> Result<Vec<u8>
         CertError::Digest(found, wanted) => digests(alloc, found, wanted),
         CertError::UnknownNode(l) => numbered_word(alloc, "refused unknown-node", *l),
         CertError::NotQuorum(l) => numbered_word(alloc, "refused not-quorum", *l),
+        CertError::NotBlocking(l) => numbered_word(alloc, "refused not-blocking", *l),
+        CertError::NotMinimal(l) => numbered_word(alloc, "refused not-minimal", *l),
         CertError::Overlap(l, v) => overlap(alloc, names, *l, *v),
         CertError::Formula(l) => numbered_word(alloc, "refused formula", *l),
         CertError::Step(l, fault) => step_refused(alloc, *l, fault),

@@ -1,6 +1,7 @@
 //! Words, numbers and names, one behind another.
-ghost use Rattle.std.specs.Prelude.{◌≡◌, ◌<◌, ◌++◌, ◌∷◌, [], length, decimal, codes, option_map, OnOk, IfOk};
-ghost use Rattle.report.specs.Lines.{numbered, worded, list, listed, line, word_if_any, accepted as spec_accepted, accepted_kind, with_list as spec_with_list, counts as spec_counts, export_head as spec_export_head, exported as spec_exported, with_pair as spec_with_pair, counted as spec_counted, name_at as spec_name_at};
+ghost use Rattle.std.specs.Prelude.{◌≡◌, ◌<◌, ◌++◌, ◌∷◌, [], length, decimal, codes, option_map, All, OnOk, IfOk};
+ghost use Rattle.certificate_file.specs.Meaning.{HasPlaces, AnswerHasPlaces};
+ghost use Rattle.report.specs.Lines.{numbered, worded, list, listed, line, word_if_any, accepted as spec_accepted, accepted_kind, set_lines, answer_sets, with_list as spec_with_list, counts as spec_counts, export_head as spec_export_head, exported as spec_exported, with_pair as spec_with_pair, counted as spec_counted, name_at as spec_name_at};
 
 use certificate_file::{Accepted, Answer, Pair};
 use fbas_core::System;
@@ -104,18 +105,45 @@ fn push_kind(text: &mut Vec<u8>, answer: &Answer) -> Result<(), AllocError>
         Answer::Pair(_) => push_word(text, "accepted pair\n"),
         Answer::Refutation => push_word(text, "accepted refutation\n"),
         Answer::Partial(units) => push_count(text, "accepted partial", *units),
+        Answer::Blocking(sets) => {
+            push_count(text, "accepted blocking", sets.as_slice().len() as u64)
+        }
+        Answer::PartialBlocking(units) => push_count(text, "accepted partial-blocking", *units),
     }
 }
 
-/// The lines of an accepted certificate: its kind, and its lines `from` and `faulty`.
+/// Adds a line for each set.
+pub fn push_sets(text: &mut Vec<u8>, system: &System, sets: &[NodeSet]) -> Result<(), AllocError>
+    requires { All (λ s. length s ≡ length system.now.sets) sets.now }
+    ensures { OnOk result (text.new.items ≡ text.old.items ++ set_lines system.now.names sets.now) }
+{
+    for set in sets {
+        push_list(text, "set", system, set)?;
+    }
+    Ok(())
+}
+
+// Adds the lines of an answer's sets, where it has some.
+fn push_answer_sets(text: &mut Vec<u8>, system: &System, answer: &Answer) -> Result<(), AllocError>
+    requires { AnswerHasPlaces (length system.now.sets) answer.now }
+    ensures { OnOk result (text.new.items ≡ text.old.items ++ set_lines system.now.names (answer_sets answer.now)) }
+{
+    match answer {
+        Answer::Blocking(sets) => push_sets(text, system, sets.as_slice()),
+        _ => Ok(()),
+    }
+}
+
+/// The lines of an accepted certificate: its kind, its lines `from` and `faulty`, and the sets of a list.
 pub fn accepted(alloc: Global, system: &System, accepted: &Accepted) -> Result<Vec<u8>, AllocError>
-    requires { length accepted.now.header.faulty ≡ length system.now.sets }
+    requires { HasPlaces (length system.now.sets) accepted.now }
     ensures { IfOk result (λ text. text.items ≡ spec_accepted system.now.names accepted.now) }
 {
     let mut text = Vec::new(alloc);
     push_kind(&mut text, &accepted.answer)?;
     push_word_if_any(&mut text, "from", system.names(), accepted.header.from)?;
     push_list(&mut text, "faulty", system, &accepted.header.faulty)?;
+    push_answer_sets(&mut text, system, &accepted.answer)?;
     Ok(text)
 }
 

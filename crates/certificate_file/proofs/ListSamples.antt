@@ -1,0 +1,99 @@
+-- What the definition answers for lists that are written out: of three nodes that each need two of the three.
+use Rattle.std.specs.Prelude.{◌≡◌, refl, ℕ, List, [], ◌∷◌, ◌++◌, true, false, Option, Some, None, Ok, Err, codes, replicate}
+use Rattle.hex.specs.Hex.{encode_with, decode_pairs}
+use Rattle.fbas_model.specs.Nodes.{Table}
+use Rattle.fbas_model.specs.Trees.{QuorumSet, quorum_set, none, node}
+use Rattle.fbas_model.specs.Systems.{System}
+use Rattle.lrat_model.specs.declared.step.StepFault.TheVariants.{IdOrder}
+use Rattle.greatest_quorum.specs.Greatest.{greatest_of}
+use Rattle.certificate_file.specs.Acceptance.{checked, take_line}
+use Rattle.certificate_file.specs.declared.places.Accepted.{Accepted}
+use Rattle.certificate_file.specs.declared.places.Answer.{Answer}
+use Rattle.certificate_file.specs.declared.places.Answer.TheVariants.{Blocking, PartialBlocking}
+use Rattle.cert_lines.specs.declared.faults.CertError.TheVariants.{BadLine, UnknownNode, NotQuorum, NotBlocking, NotMinimal, Step, NotNew, NotRefuted}
+
+two_of_three : Option QuorumSet
+two_of_three = Some (quorum_set 2 (node 0 (node 1 (node 2 none))))
+
+three : System
+three = record { names = codes "a" ∷ codes "b" ∷ codes "c" ∷ []; sets = two_of_three ∷ two_of_three ∷ two_of_three ∷ [] }
+
+zeros : List ℕ
+zeros = replicate 32 0
+
+whole : List ℕ
+whole = codes "fbas-cert 1\nconfig 0000000000000000000000000000000000000000000000000000000000000000\nfrom\nfaulty\nkind blocking\n"
+
+part : List ℕ
+part = codes "fbas-cert 1\nconfig 0000000000000000000000000000000000000000000000000000000000000000\nfrom\nfaulty\nkind partial-blocking\n"
+
+without_a : List ℕ
+without_a = codes "fbas-cert 1\nconfig 0000000000000000000000000000000000000000000000000000000000000000\nfrom\nfaulty a\nkind blocking\n"
+
+abbrev shows : Answer → Accepted
+shows answer = record { header = record { from = None; faulty = false ∷ false ∷ false ∷ [] }; answer = answer }
+
+abbrev all_three : List Table
+all_three = (true ∷ true ∷ false ∷ []) ∷ (true ∷ false ∷ true ∷ []) ∷ (false ∷ true ∷ true ∷ []) ∷ []
+
+worked : checked three zeros (whole ++ codes "q 1 a b\nq 2 a c\nq 3 b c\nb 4 a b\nb 5 a c\nb 6 b c\n7 -1 0 4 5 3 0\n8 0 7 1 2 6 0\nend\n") ≡ Ok (shows (Blocking all_three))
+unfolding checked take_line encode_with decode_pairs greatest_of three two_of_three zeros whole
+worked = refl
+
+-- a set that is listed again behind the deletion of its clause counts once
+listed_again : checked three zeros (whole ++ codes "b 1 b c\nb 2 a b\n2 d 2 0\nb 3 a b\nq 4 a b\nq 5 a c\nq 6 b c\nb 7 a c\n8 -1 0 3 7 6 0\n9 0 8 4 5 1 0\nend\n") ≡ Ok (shows (Blocking all_three))
+unfolding checked take_line encode_with decode_pairs greatest_of three two_of_three zeros whole
+listed_again = refl
+
+listed_twice : checked three zeros (whole ++ codes "q 1 a b\nb 2 a b\nb 3 a b\nend\n") ≡ Err (NotNew 8)
+unfolding checked take_line encode_with decode_pairs greatest_of three two_of_three zeros whole
+listed_twice = refl
+
+-- a whole list asks it of blocking sets alone
+quorum_twice : checked three zeros (whole ++ codes "q 1 a b\nq 2 a b c\nend\n") ≡ Err (NotRefuted 8)
+unfolding checked take_line encode_with decode_pairs greatest_of three two_of_three zeros whole
+quorum_twice = refl
+
+one_line : checked three zeros (part ++ codes "q 1 a b\nend\n") ≡ Ok (shows (PartialBlocking 1))
+unfolding checked take_line encode_with decode_pairs greatest_of three two_of_three zeros part
+one_line = refl
+
+quorum_covered : checked three zeros (part ++ codes "q 1 a b\nq 2 a b c\nend\n") ≡ Err (NotNew 7)
+unfolding checked take_line encode_with decode_pairs greatest_of three two_of_three zeros part
+quorum_covered = refl
+
+not_blocking : checked three zeros (whole ++ codes "b 1 a\nend\n") ≡ Err (NotBlocking 6)
+unfolding checked take_line encode_with decode_pairs greatest_of three two_of_three zeros whole
+not_blocking = refl
+
+not_minimal : checked three zeros (whole ++ codes "b 1 a b c\nend\n") ≡ Err (NotMinimal 6)
+unfolding checked take_line encode_with decode_pairs greatest_of three two_of_three zeros whole
+not_minimal = refl
+
+not_quorum : checked three zeros (whole ++ codes "q 1 a\nend\n") ≡ Err (NotQuorum 6)
+unfolding checked take_line encode_with decode_pairs greatest_of three two_of_three zeros whole
+not_quorum = refl
+
+-- the id is asked for before the names
+id_order : checked three zeros (whole ++ codes "q 1 a b\nq 1 z\nend\n") ≡ Err (Step 7 (IdOrder 1 1))
+unfolding checked take_line encode_with decode_pairs greatest_of three two_of_three zeros whole
+id_order = refl
+
+unknown : checked three zeros (whole ++ codes "b 1 a z\nend\n") ≡ Err (UnknownNode 6)
+unfolding checked take_line encode_with decode_pairs greatest_of three two_of_three zeros whole
+unknown = refl
+
+-- and both behind the grammar
+names_out_of_order : checked three zeros (whole ++ codes "q 1 a b\nq 1 z a\nend\n") ≡ Err (BadLine 7)
+unfolding checked take_line encode_with decode_pairs greatest_of three two_of_three zeros whole
+names_out_of_order = refl
+
+-- a faulty node blocks nothing
+faulty_named : checked three zeros (without_a ++ codes "b 1 a b\nend\n") ≡ Err (NotBlocking 6)
+unfolding checked take_line encode_with decode_pairs greatest_of three two_of_three zeros without_a
+faulty_named = refl
+
+-- in a part the empty lemma is no line, whatever its hints
+empty_lemma_in_a_part : checked three zeros (part ++ codes "q 1 a b\n2 0 1 0\nend\n") ≡ Err (BadLine 7)
+unfolding checked take_line encode_with decode_pairs greatest_of three two_of_three zeros part
+empty_lemma_in_a_part = refl

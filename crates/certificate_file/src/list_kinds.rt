@@ -1,0 +1,78 @@
+//! The kinds of lists: what is known before the first line of one.
+ghost use Rattle.std.specs.Prelude.{◌≡◌, ◌⊎◌, IfOk, IfErr, IsErrOf, Ok, Err};
+ghost use Rattle.certificate_file.specs.Acceptance.{no_listing, any_kind_line};
+ghost use Rattle.certificate_file.specs.Known.{IsSubject};
+
+use crate::places::{ListPart, Listing, Place, State, Subject};
+use crate::taking::kind_line;
+use cert_lines::CertError;
+use clause_store::Store;
+use fbas_core::System;
+use greatest_quorum::greatest;
+use list_journal::{ListKind, SetList};
+use lrat_checker::Checker;
+use std::alloc::{AllocError, Global};
+
+/// A list of the part before its first line: nothing is held, and each node of the greatest quorum has a variable.
+fn no_listing(
+    alloc: Global,
+    system: &System,
+    kind: ListKind,
+    subject: &Subject,
+) -> Result<Listing, AllocError>
+    requires { IsSubject system.now subject.now }
+    ensures { IfOk result (λ k. k ≡ no_listing system.now kind subject.now) }
+{
+    let part = system.restrict(alloc, &subject.nodes)?;
+    let faulty = system.cut(&subject.header.faulty, &subject.nodes);
+    let greatest = greatest(&part, &faulty);
+    let mut checker = Checker::start(alloc, Store::new(alloc), u64::from(greatest.count()))?;
+    checker.expect_covers(alloc);
+    Ok(Listing {
+        kind,
+        part: ListPart {
+            system: part,
+            faulty,
+            greatest,
+        },
+        checker,
+        sets: SetList::new(alloc),
+        units: 0,
+    })
+}
+
+/// The first line of a list is awaited.
+fn list_from(
+    alloc: Global,
+    system: &System,
+    kind: ListKind,
+    subject: Subject,
+) -> Result<State, AllocError>
+    requires { IsSubject system.now subject }
+    ensures { IfOk result (λ s. s ≡ State.Going (Place.AtList subject (no_listing system.now kind subject))) }
+{
+    let listing = no_listing(alloc, system, kind, &subject)?;
+    Ok(State::Going(Place::AtList(subject, listing)))
+}
+
+/// Line 5: the kind. That of a list costs what its part's greatest quorum does.
+pub fn any_kind_line(
+    alloc: Global,
+    system: &System,
+    line: u64,
+    text: &[u8],
+    subject: Subject,
+) -> Result<State, CertError>
+    requires { IsSubject system.now subject }
+    ensures unread { IsErrOf result CertError.Read → ⊥ }
+    ensures ok { IfOk result (λ s. any_kind_line system.now subject line text.now ≡ Ok s) }
+    ensures err { IfErr result (λ e. (e ≡ CertError.Memory) ⊎ (any_kind_line system.now subject line text.now ≡ Err e)) }
+{
+    if text == b"kind blocking".as_slice() {
+        return Ok(list_from(alloc, system, ListKind::Whole, subject)?);
+    }
+    if text == b"kind partial-blocking".as_slice() {
+        return Ok(list_from(alloc, system, ListKind::Partial, subject)?);
+    }
+    kind_line(line, text, subject)
+}

@@ -1,0 +1,117 @@
+//! The lines of lists.
+ghost use Rattle.std.specs.Prelude.{◌≡◌, ◌⊎◌, Some, None, is_some, IfSome, IfOk, IfErr, IsErrOf, Ok, Err};
+ghost use Rattle.cert_lines.specs.Words.{words_of, names_in};
+ghost use Rattle.certificate_file.specs.Acceptance.{listed_by, numbered_in, set_line, list_line};
+ghost use Rattle.certificate_file.specs.Known.{IsList};
+
+use crate::list_sets::list_set;
+use crate::list_steps::{list_end, list_step};
+use crate::lists::nodes_of;
+use crate::parts::within;
+use crate::places::{Listing, State, Subject};
+use cert_lines::{CertError, Words, follows, is_name, step_in};
+use fbas_core::System;
+use list_journal::Listed;
+use lrat_model::StepFault;
+use lrat_text::read_id;
+use std::alloc::Global;
+
+/// What the first word of a line lists, if it is no step.
+fn listed_by(text: &[u8]) -> Option<Listed>
+    ensures { result ≡ listed_by (words_of text.now) }
+{
+    let mut words = Words::of(text);
+    let word = words.next()?;
+    if word == b"q".as_slice() {
+        return Some(Listed::Quorum);
+    }
+    if word == b"b".as_slice() {
+        return Some(Listed::Blocking);
+    }
+    None
+}
+
+/// Whether the words that are left are names, each once and in order.
+fn are_names(names: &mut Words<'_>) -> bool
+    ensures { result ≡ is_some (names_in names.old) }
+{
+    let mut before = None;
+    while let Some(name) = names.next() {
+        if !is_name(name) || !follows(before, name) {
+            return false;
+        }
+        before = Some(name);
+    }
+    true
+}
+
+/// The id behind the first word, and the names behind it, where they are names, each once and in order.
+fn numbered_in(text: &[u8]) -> Option<(u64, Words<'_>)>
+    ensures some { IfSome result (λ r. (names_in r.1 ≡ Some r.1) × (numbered_in (words_of text.now) ≡ Some (record { id = r.0; names = r.1 }))) }
+    ensures none { result ≡ None → numbered_in (words_of text.now) ≡ None }
+{
+    let mut ahead = Words::of(text);
+    ahead.next()?;
+    let id = read_id(ahead.next()?)?;
+    if !are_names(&mut ahead) {
+        return None;
+    }
+    let mut names = Words::of(text);
+    names.next()?;
+    names.next()?;
+    Some((id, names))
+}
+
+/// A set under an id: the id is above the last one, and the names are those of nodes of the part.
+fn set_line(
+    alloc: Global,
+    system: &System,
+    subject: Subject,
+    listing: Listing,
+    line: u64,
+    which: Listed,
+    id: u64,
+    names: &mut Words<'_>,
+) -> Result<State, CertError>
+    requires known { IsList system.now subject listing }
+    requires names { names_in names.old ≡ Some names.old }
+    ensures unread { IsErrOf result CertError.Read → ⊥ }
+    ensures ok { IfOk result (λ s. set_line system.now subject listing line which (record { id = id; names = names.old }) ≡ Ok s) }
+    ensures err { IfErr result (λ e. (e ≡ CertError.Memory) ⊎ (set_line system.now subject listing line which (record { id = id; names = names.old }) ≡ Err e)) }
+{
+    let last = listing.checker.last();
+    if id <= last {
+        return Err(CertError::Step(line, StepFault::IdOrder(last, id)));
+    }
+    let named = nodes_of(system, line, names)?;
+    let set = within(&subject, line, named)?;
+    list_set(alloc, system, subject, listing, line, which, id, set)
+}
+
+/// A line of a list: a quorum, a minimal blocking set, a step, or the end. A set costs what its test does, a step its literals
+/// and those of the clauses that its hints name; and a clause that has to be new is linear in the literals that are held.
+pub fn list_line(
+    alloc: Global,
+    system: &System,
+    subject: Subject,
+    listing: Listing,
+    line: u64,
+    text: &[u8],
+) -> Result<State, CertError>
+    requires { IsList system.now subject listing }
+    ensures unread { IsErrOf result CertError.Read → ⊥ }
+    ensures ok { IfOk result (λ s. list_line system.now subject listing line text.now ≡ Ok s) }
+    ensures err { IfErr result (λ e. (e ≡ CertError.Memory) ⊎ (list_line system.now subject listing line text.now ≡ Err e)) }
+{
+    if text == b"end".as_slice() {
+        return list_end(subject, listing, line);
+    }
+    let Some(which) = listed_by(text) else {
+        let step = step_in(alloc, line, text)?;
+        return list_step(subject, listing, line, step);
+    };
+    let Some((id, mut names)) = numbered_in(text) else {
+        return Err(CertError::BadLine(line));
+    };
+    set_line(alloc, system, subject, listing, line, which, id, &mut names)
+}

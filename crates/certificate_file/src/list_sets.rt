@@ -1,0 +1,155 @@
+//! Listed sets: quorums, and minimal blocking sets.
+ghost use Rattle.std.specs.Prelude.{◌≡◌, ◌⊎◌, ◌<◌, ◌&&◌, length, IfOk, IfErr, IsErrOf, Ok, Err};
+ghost use Rattle.fbas_model.specs.Nodes.{members, ◌⊆◌, size};
+ghost use Rattle.lrat_model.specs.Ranges.{IsInRange};
+ghost use Rattle.list_journal.specs.Listed.{clause_for};
+ghost use Rattle.list_journal.specs.declared.kinds.Listed.TheVariants.{Quorum, Blocking};
+ghost use Rattle.certificate_file.specs.Acceptance.{asks_new, is_covered, right_set, new_set, list_set, with_block};
+ghost use Rattle.certificate_file.specs.Known.{IsList, IsPartSet};
+
+use crate::places::{Listing, Place, State, Subject};
+use cert_lines::CertError;
+use fbas_core::System;
+use list_journal::{ListKind, Listed, SetList, clause_of, is_blocking, is_least};
+use lrat_checker::Checker;
+use lrat_model::Lit;
+use name_set::NodeSet;
+use std::alloc::{AllocError, Global};
+
+/// The set, where it is a quorum once the faulty nodes are deleted.
+fn right_quorum(listing: &Listing, line: u64, set: NodeSet) -> Result<NodeSet, CertError>
+    requires same_n { length set ≡ length listing.now.part.system.sets }
+    requires same_faulty { length listing.now.part.faulty ≡ length listing.now.part.system.sets }
+    ensures unread { IsErrOf result CertError.Read → ⊥ }
+    ensures is { IfOk result (λ u. u ≡ set) }
+    ensures value { result ≡ right_set listing.now line Quorum set }
+{
+    if !listing.part.system.is_quorum(&set, &listing.part.faulty) {
+        return Err(CertError::NotQuorum(line));
+    }
+    Ok(set)
+}
+
+/// The set, where it is a minimal blocking set once the faulty nodes are deleted. The cost is that of `shrink` for each of its
+/// nodes.
+fn right_block(listing: &Listing, line: u64, set: NodeSet) -> Result<NodeSet, CertError>
+    requires same_n { length set ≡ length listing.now.part.system.sets }
+    requires same_faulty { length listing.now.part.faulty ≡ length listing.now.part.system.sets }
+    ensures unread { IsErrOf result CertError.Read → ⊥ }
+    ensures is { IfOk result (λ u. u ≡ set) }
+    ensures value { result ≡ right_set listing.now line Blocking set }
+{
+    let part = &listing.part;
+    let n = part.system.len();
+    let mut copy = NodeSet::new(n);
+    let mut scratch = NodeSet::new(n);
+    if !is_blocking(&part.system, &part.faulty, &set, &mut scratch) {
+        return Err(CertError::NotBlocking(line));
+    }
+    if !is_least(&part.system, &part.faulty, &set, &mut copy, &mut scratch) {
+        return Err(CertError::NotMinimal(line));
+    }
+    Ok(set)
+}
+
+/// The set, where it is what it is listed for.
+fn right_set(
+    listing: &Listing,
+    line: u64,
+    which: Listed,
+    set: NodeSet,
+) -> Result<NodeSet, CertError>
+    requires same_n { length set ≡ length listing.now.part.system.sets }
+    requires same_faulty { length listing.now.part.faulty ≡ length listing.now.part.system.sets }
+    ensures unread { IsErrOf result CertError.Read → ⊥ }
+    ensures is { IfOk result (λ u. u ≡ set) }
+    ensures value { result ≡ right_set listing.now line which set }
+{
+    match which {
+        Listed::Quorum => right_quorum(listing, line, set),
+        Listed::Blocking => right_block(listing, line, set),
+    }
+}
+
+/// Whether the clause of a set has to be new.
+fn asks_new(kind: ListKind, which: Listed) -> bool
+    ensures { result ≡ asks_new kind which }
+{
+    match (kind, which) {
+        (ListKind::Whole, Listed::Quorum) => false,
+        _ => true,
+    }
+}
+
+/// Whether a clause held under a smaller id is a subset of this one. Linear in the literals that are held.
+pub fn is_covered(checker: &Checker, id: u64, clause: &[Lit]) -> bool
+    ensures { result ≡ is_covered checker.now.database.held id clause.now }
+{
+    checker.covers(id, clause)
+}
+
+/// The set's clause, which has to be new where the kind asks for it.
+fn new_clause(
+    alloc: Global,
+    listing: &Listing,
+    line: u64,
+    which: Listed,
+    id: u64,
+    set: &NodeSet,
+) -> Result<Vec<Lit>, CertError>
+    requires places { length listing.now.part.greatest ≡ length listing.now.part.system.sets }
+    requires same_n { length set.now ≡ length listing.now.part.system.sets }
+    requires within { members set.now ⊆ members listing.now.part.greatest }
+    ensures unread { IsErrOf result CertError.Read → ⊥ }
+    ensures clause { IfOk result (λ clause. clause.items ≡ clause_for which listing.now.part.greatest set.now) }
+    ensures range { IfOk result (λ clause. IsInRange (size listing.now.part.greatest) clause.items) }
+    ensures ok { IfOk result (λ _. new_set listing.now line which id set.now ≡ Ok set.now) }
+    ensures err { IfErr result (λ e. (e ≡ CertError.Memory) ⊎ (new_set listing.now line which id set.now ≡ Err e)) }
+{
+    let n = listing.part.system.len();
+    let clause = clause_of(alloc, which, n, &listing.part.greatest, set)?;
+    if asks_new(listing.kind, which) && is_covered(&listing.checker, id, &clause) {
+        return Err(CertError::NotNew(line));
+    }
+    Ok(clause)
+}
+
+/// The blocking sets with this one, if it is one.
+fn with_block(sets: &mut SetList, which: Listed, set: NodeSet) -> Result<(), AllocError>
+    ensures { IfOk result (λ _. sets.new ≡ with_block sets.old which set) }
+{
+    match which {
+        Listed::Quorum => Ok(()),
+        Listed::Blocking => sets.push(set),
+    }
+}
+
+/// The set of the part listed under an id above the last one.
+pub fn list_set(
+    alloc: Global,
+    system: &System,
+    subject: Subject,
+    mut listing: Listing,
+    line: u64,
+    which: Listed,
+    id: u64,
+    set: NodeSet,
+) -> Result<State, CertError>
+    requires known { IsList system.now subject listing }
+    requires above { listing.checker.database.last < id }
+    requires set { IsPartSet system.now subject.nodes set }
+    ensures unread { IsErrOf result CertError.Read → ⊥ }
+    ensures ok { IfOk result (λ s. list_set subject listing line which id set ≡ Ok s) }
+    ensures err { IfErr result (λ e. (e ≡ CertError.Memory) ⊎ (list_set subject listing line which id set ≡ Err e)) }
+{
+    let cut = system.cut(&set, &subject.nodes);
+    let right = right_set(&listing, line, which, cut)?;
+    let clause = new_clause(alloc, &listing, line, which, id, &right)?;
+    listing.checker.give(id, &clause)?;
+    with_block(&mut listing.sets, which, set)?;
+    let Some(units) = listing.units.checked_add(1) else {
+        return Err(CertError::Memory);
+    };
+    listing.units = units;
+    Ok(State::Going(Place::AtList(subject, listing)))
+}

@@ -1,0 +1,106 @@
+//! The steps of lists, and their end.
+ghost use Rattle.std.specs.Prelude.{◌≡◌, ◌⊎◌, ◌&&◌, ℕ, length, All, IfOk, IfErr, IsErrOf, Ok, Err};
+ghost use Rattle.lrat_model.specs.Steps.{step_of};
+ghost use Rattle.certificate_file.specs.Acceptance.{and_then, literal_in, is_old_step, after_list_step, list_step, list_end};
+ghost use Rattle.certificate_file.specs.Known.{IsList};
+
+use crate::partial::{adds_covered, counted, with_literal};
+use crate::places::{Accepted, Answer, Listing, Place, State, Subject};
+use cert_lines::CertError;
+use list_journal::ListKind;
+use lrat_model::{Progress, Step, StepFault};
+
+/// The step, which is not the empty lemma in a part of a list.
+fn literal_in(kind: ListKind, line: u64, step: Step) -> Result<Step, CertError>
+    ensures unread { IsErrOf result CertError.Read → ⊥ }
+    ensures ok { IfOk result (λ s. literal_in kind line (step_of step) ≡ Ok (step_of s)) }
+    ensures err { IfErr result (λ e. literal_in kind line (step_of step) ≡ Err e) }
+{
+    match kind {
+        ListKind::Whole => Ok(step),
+        ListKind::Partial => with_literal(line, step),
+    }
+}
+
+/// Whether the step had to be new and is not.
+fn is_old_step(listing: &Listing, step: &Step) -> bool
+    ensures { result ≡ is_old_step listing.now (step_of step.now) }
+{
+    match listing.kind {
+        ListKind::Whole => false,
+        ListKind::Partial => adds_covered(&listing.checker, step),
+    }
+}
+
+/// The step taken: the empty lemma ends a whole list, whose sets are then put in order.
+fn take_list_step(
+    subject: Subject,
+    mut listing: Listing,
+    line: u64,
+    step: &Step,
+) -> Result<State, CertError>
+    requires { (n : ℕ) × All (λ s. length s ≡ n) listing.sets }
+    ensures unread { IsErrOf result CertError.Read → ⊥ }
+    ensures ok { IfOk result (λ s. list_step subject listing line (step_of step.now) ≡ Ok s) }
+    ensures err { IfErr result (λ e. (e ≡ CertError.Memory) ⊎ (list_step subject listing line (step_of step.now) ≡ Err e)) }
+{
+    let is_old = is_old_step(&listing, step);
+    match listing.checker.step(step) {
+        Ok(progress) => {
+            if is_old {
+                return Err(CertError::NotNew(line));
+            }
+            let Some(units) = counted(listing.units, step) else {
+                return Err(CertError::Memory);
+            };
+            listing.units = units;
+            Ok(State::Going(after_list_step(subject, listing, progress)))
+        }
+        Err(StepFault::Memory) => Err(CertError::Memory),
+        Err(fault) => Err(CertError::Step(line, fault)),
+    }
+}
+
+/// The place of the line after a step.
+fn after_list_step(subject: Subject, listing: Listing, progress: Progress) -> Place
+    requires { (n : ℕ) × All (λ s. length s ≡ n) listing.sets }
+    ensures { State.Going result ≡ after_list_step subject listing progress }
+{
+    match progress {
+        Progress::Going => Place::AtList(subject, listing),
+        Progress::Refuted => Place::AtEnd(Accepted {
+            header: subject.header,
+            answer: Answer::Blocking(listing.sets.ordered()),
+        }),
+    }
+}
+
+/// A step of a list.
+pub fn list_step(
+    subject: Subject,
+    listing: Listing,
+    line: u64,
+    step: Step,
+) -> Result<State, CertError>
+    requires { (n : ℕ) × All (λ s. length s ≡ n) listing.sets }
+    ensures unread { IsErrOf result CertError.Read → ⊥ }
+    ensures ok { IfOk result (λ s. and_then (list_step subject listing line) (literal_in listing.kind line (step_of step)) ≡ Ok s) }
+    ensures err { IfErr result (λ e. (e ≡ CertError.Memory) ⊎ (and_then (list_step subject listing line) (literal_in listing.kind line (step_of step)) ≡ Err e)) }
+{
+    let literal = literal_in(listing.kind, line, step)?;
+    take_list_step(subject, listing, line, &literal)
+}
+
+/// The end of a list: a whole one has come to the empty lemma before.
+pub fn list_end(subject: Subject, listing: Listing, line: u64) -> Result<State, CertError>
+    ensures unread { IsErrOf result CertError.Read → ⊥ }
+    ensures value { result ≡ list_end listing.kind subject listing line }
+{
+    match listing.kind {
+        ListKind::Whole => Err(CertError::NotRefuted(line)),
+        ListKind::Partial => Ok(State::Done(Accepted {
+            header: subject.header,
+            answer: Answer::PartialBlocking(listing.units),
+        })),
+    }
+}
