@@ -72,10 +72,10 @@ CONFIGURATIONS = [
     ("a byte behind the array", b"[]x", 4, "config not-json\n"),
     ("127 arrays in one another", b"[" * 127 + b"]" * 127, 4, "config not-node 0\n"),
     ("128 arrays in one another", b"[" * 128 + b"]" * 128, 4, "config not-json\n"),
-    ("16,777,216 opened arrays", b"[" * 16777216, 4, "config not-json\n"),
-    ("16,777,216 spaces", b" " * 16777216, 4, "config not-json\n"),
-    ("16,777,217 spaces", b" " * 16777217, 4, "config too-long\n"),
-    ("16,777,216 bytes of two", TWO + b" " * (16777216 - len(TWO)), 0, shown(2, 4, 0)),
+    ("16,777,216 opened arrays", lambda: b"[" * 16777216, 4, "config not-json\n"),
+    ("16,777,216 spaces", lambda: b" " * 16777216, 4, "config not-json\n"),
+    ("16,777,217 spaces", lambda: b" " * 16777217, 4, "config too-long\n"),
+    ("16,777,216 bytes of two", lambda: TWO + b" " * (16777216 - len(TWO)), 0, shown(2, 4, 0)),
     ("an object", b"{}", 4, "config not-nodes\n"),
     ("a number as a node", b"[1]", 4, "config not-node 0\n"),
     ("bad UTF-8 in a member that is skipped", b'[{"publicKey":"a","x":"\xff"}]', 4, "config not-json\n"),
@@ -101,9 +101,9 @@ CONFIGURATIONS = [
     ("depth 16", one(nested(16)), 0, shown(1, 16, 0)),
     ("depth 17", one(nested(17)), 4, "config too-deep 0\n"),
     ("a number at depth 17", one(nested(17).replace(b'{"threshold":1,"validators":["a"]}', b"1")), 4, "config too-deep 0\n"),
-    ("1,000,000 entries", one(b'{"threshold":1,"validators":[' + b'"a",' * 999999 + b'"a"]}'), 0, shown(1, 1000000, 0, "repeated a . a")),
-    ("1,000,001 entries", one(b'{"threshold":1,"validators":[' + b'"a",' * 1000000 + b'"a"]}'), 4, "config too-many-entries 1000001\n"),
-    ("1,000,001 empty quorum sets", one(b'{"threshold":0,"innerQuorumSets":[' + b'{"threshold":0},' * 1000000 + b'{"threshold":0}]}'), 4, "config too-many-entries 1000001\n"),
+    ("1,000,000 entries", lambda: one(b'{"threshold":1,"validators":[' + b'"a",' * 999999 + b'"a"]}'), 0, shown(1, 1000000, 0, "repeated a . a")),
+    ("1,000,001 entries", lambda: one(b'{"threshold":1,"validators":[' + b'"a",' * 1000000 + b'"a"]}'), 4, "config too-many-entries 1000001\n"),
+    ("1,000,001 empty quorum sets", lambda: one(b'{"threshold":0,"innerQuorumSets":[' + b'{"threshold":0},' * 1000000 + b'{"threshold":0}]}'), 4, "config too-many-entries 1000001\n"),
     ("4,097 names", one(b'{"threshold":1,"validators":[' + b",".join(b'"%d"' % i for i in range(4096)) + b"]}"), 4, "config too-many-nodes 4097\n"),
     ("4,096 names", one(b'{"threshold":1,"validators":[' + b",".join(b'"%d"' % i for i in range(4095)) + b"]}"), 0, shown(4096, 4095, 4095)),
 ]
@@ -114,12 +114,12 @@ ORGANISATIONS = [
     ("an object", b"{}", 4, "orgs not-orgs\n"),
     ("128 arrays in one another", b"[" * 128 + b"]" * 128, 4, "orgs not-json\n"),
     ("127 arrays in one another", b"[" * 127 + b"]" * 127, 4, "orgs bad-org 0\n"),
-    ("16,777,217 spaces", b" " * 16777217, 4, "orgs too-long\n"),
+    ("16,777,217 spaces", lambda: b" " * 16777217, 4, "orgs too-long\n"),
     ("an id twice", b'[{"id":"A"},{"id":"A","validators":1}]', 4, "orgs duplicate-org 1\n"),
     ("validators that are no list", b'[{"id":"A"},{"id":"B","validators":{}}]', 4, "orgs bad-org 1\n"),
     ("4,097 organisations", b"[" + b",".join(b'{"id":"%d"}' % i for i in range(4097)) + b"]", 4, "orgs too-many-orgs 4097\n"),
     ("4,096 organisations, none with the id", b"[" + b",".join(b'{"id":"%d"}' % i for i in range(4096)) + b"]", 3, "usage unknown-name --faulty-orgs 1\n"),
-    ("a node named a million times", b'[{"id":"A","validators":[' + b'"p",' * 1000000 + b'"zz"]}]', 0, "greatest q\n"),
+    ("a node named a million times", lambda: b'[{"id":"A","validators":[' + b'"p",' * 1000000 + b'"zz"]}]', 0, "greatest q\n"),
 ]
 
 # What 'check' says of a configuration and a certificate.
@@ -153,9 +153,9 @@ CERTIFICATES = [
     ("the least literal", TWO, seventh(b"17 -2147483647 0 1 0"), 5, "refused step 7 bad-literal -2147483647\n"),
     ("a literal one above the variables", TWO, seventh(b"17 9 0 1 0"), 5, "refused step 7 bad-literal 9\n"),
     ("a fault of the step before one of the line", TWO, seventh(b"17 -1 0 6 7 3 4 2 x"), 5, "refused bad-line 7\n"),
-    ("a lemma with a million literals", TWO, seventh(b"17" + b" -1" * 1000000 + b" 0 7 6 3 4 2 0"), 0, REFUTED),
-    ("a lemma with a million hints behind the conflict", TWO, seventh(b"17 -1 0 7 6 3 4 2" + b" -99" * 1000000 + b" 0"), 0, REFUTED),
-    ("a lemma with a million hints that say nothing new", TWO, seventh(b"17 -1 0" + b" 7" * 1000000 + b" 6 3 4 2 0"), 0, REFUTED),
+    ("a lemma with a million literals", TWO, lambda: seventh(b"17" + b" -1" * 1000000 + b" 0 7 6 3 4 2 0"), 0, REFUTED),
+    ("a lemma with a million hints behind the conflict", TWO, lambda: seventh(b"17 -1 0 7 6 3 4 2" + b" -99" * 1000000 + b" 0"), 0, REFUTED),
+    ("a lemma with a million hints that say nothing new", TWO, lambda: seventh(b"17 -1 0" + b" 7" * 1000000 + b" 6 3 4 2 0"), 0, REFUTED),
     ("a lemma and its negation", TWO, seventh(b"17 -1 1 0 1 0"), 5, "refused step 7 tautology 1\n"),
     ("a deletion of what came twice", TWO, seventh(b"17 d 1 1 0"), 5, "refused step 7 no-such-clause 1\n"),
     ("a deletion of what is not held", TWO, seventh(b"17 d 17 0"), 5, "refused step 7 no-such-clause 17\n"),
@@ -207,14 +207,14 @@ CERTIFICATES = [
     ("the lines in the other order", THREE, PAIR.replace(b"first b\nsecond c", b"second c\nfirst b"), 5, "refused bad-line 6\n"),
     ("one set twice", THREE, PAIR.replace(b"second c", b"second b"), 5, "refused overlap 7 b\n"),
     ("a quorum outside the trust closure", APART, head(APART, "pair", " a") + b"first a b\nsecond c d\nend\n", 5, "refused unknown-node 7\n"),
-    ("a name of a million bytes", THREE, PAIR.replace(b"first b", b"first " + b"b" * 1000000), 5, "refused unknown-node 6\n"),
-    ("a million names", THREE, PAIR.replace(b"first b", b"first" + b"".join(b" %06d" % i for i in range(1000000))), 5, "refused unknown-node 6\n"),
-    ("134,217,728 spaces and no more", THREE, head(THREE, "pair") + b" " * MOST_LINE, 5, "refused truncated 6\n"),
-    ("a line of 134,217,728 spaces", THREE, head(THREE, "pair") + b" " * MOST_LINE + b"\n", 5, "refused bad-line 6\n"),
-    ("134,217,729 spaces", THREE, head(THREE, "pair") + b" " * (MOST_LINE + 1), 5, "refused line-too-long 6\n"),
-    ("a first line of 134,217,729 bytes", THREE, b"x" * (MOST_LINE + 1) + b"\n", 5, "refused line-too-long 1\n"),
-    ("a lemma with blanks up to 134,217,728 bytes", TWO, seventh(LEMMA.ljust(MOST_LINE)), 0, REFUTED),
-    ("a lemma with blanks up to 134,217,729 bytes", TWO, seventh(LEMMA.ljust(MOST_LINE + 1)), 5, "refused line-too-long 7\n"),
+    ("a name of a million bytes", THREE, lambda: PAIR.replace(b"first b", b"first " + b"b" * 1000000), 5, "refused unknown-node 6\n"),
+    ("a million names", THREE, lambda: PAIR.replace(b"first b", b"first" + b"".join(b" %06d" % i for i in range(1000000))), 5, "refused unknown-node 6\n"),
+    ("134,217,728 spaces and no more", THREE, lambda: head(THREE, "pair") + b" " * MOST_LINE, 5, "refused truncated 6\n"),
+    ("a line of 134,217,728 spaces", THREE, lambda: head(THREE, "pair") + b" " * MOST_LINE + b"\n", 5, "refused bad-line 6\n"),
+    ("134,217,729 spaces", THREE, lambda: head(THREE, "pair") + b" " * (MOST_LINE + 1), 5, "refused line-too-long 6\n"),
+    ("a first line of 134,217,729 bytes", THREE, lambda: b"x" * (MOST_LINE + 1) + b"\n", 5, "refused line-too-long 1\n"),
+    ("a lemma with blanks up to 134,217,728 bytes", TWO, lambda: seventh(LEMMA.ljust(MOST_LINE)), 0, REFUTED),
+    ("a lemma with blanks up to 134,217,729 bytes", TWO, lambda: seventh(LEMMA.ljust(MOST_LINE + 1)), 5, "refused line-too-long 7\n"),
 ]
 
 # The same, of lists of sets.
@@ -262,8 +262,9 @@ class Trial:
         self.passed = self.failed = 0
 
     def put(self, name, data):
+        """Writes a file; great ones are made when they are wanted."""
         with open(os.path.join(self.folder, name), "wb") as it:
-            it.write(data)
+            it.write(data() if callable(data) else data)
 
     def run(self, *words):
         ended = subprocess.run([self.program] + list(words), cwd=self.folder, stdin=subprocess.DEVNULL, stdout=subprocess.PIPE, stderr=subprocess.PIPE, timeout=300)
