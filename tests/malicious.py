@@ -1,11 +1,16 @@
 #!/usr/bin/env python3
 """Runs the built program on files that were made to break it: each answer is one exact text and status, and nothing else.
 
+Then certificates are written to files that may not grow beyond so many bytes, for each number of bytes: the program says
+that it could not write, and what was written is refused as truncated.
+
 tests/malicious.py [PROGRAM]; its last line is 'malicious: N passed, M failed'.
 """
 
 import hashlib
 import os
+import resource
+import signal
 import subprocess
 import sys
 import tempfile
@@ -266,17 +271,44 @@ class Trial:
         with open(os.path.join(self.folder, name), "wb") as it:
             it.write(data() if callable(data) else data)
 
-    def run(self, *words):
-        ended = subprocess.run([self.program] + list(words), cwd=self.folder, stdin=subprocess.DEVNULL, stdout=subprocess.PIPE, stderr=subprocess.PIPE, timeout=300)
+    def run(self, *words, most=None):
+        """Runs the program, which may write files of so many bytes at most."""
+
+        def prepare():
+            if most is not None:
+                signal.signal(signal.SIGXFSZ, signal.SIG_IGN)
+                resource.setrlimit(resource.RLIMIT_FSIZE, (most, most))
+
+        ended = subprocess.run([self.program] + list(words), cwd=self.folder, stdin=subprocess.DEVNULL, stdout=subprocess.PIPE, stderr=subprocess.PIPE, timeout=300, preexec_fn=prepare)
         return ended.returncode, ended.stdout.decode("latin-1"), ended.stderr.decode("latin-1")
 
     def row(self, name, status, text, *words):
-        found, wanted = self.run(*words), (status, text, "")
+        self.judge(name, self.run(*words), (status, text, ""))
+
+    def judge(self, name, found, wanted):
         if found == wanted:
             self.passed += 1
         else:
             self.failed += 1
             print("malicious: %s: found %r, wanted %r" % (name, found, wanted))
+
+    def held(self, name):
+        with open(os.path.join(self.folder, name), "rb") as it:
+            return it.read()
+
+    def full_files(self, *words):
+        """A search whose certificate finds no room behind so many bytes, for each number below its length."""
+        self.put("config", THREE)
+        self.put("made", b"old\n")
+        self.run(*words)
+        whole = self.held("made")
+        for most in range(len(whole)):
+            self.put("made", b"old\n")
+            ended = self.run(*words, most=most)
+            self.judge("room for %d bytes: %s" % (most, " ".join(words)), (ended, self.held("made")), ((7, "", ""), whole[:most]))
+            if most % 8 == 0:
+                line = 1 + whole[:most].count(b"\n")
+                self.row("%d bytes written" % most, 5, "refused truncated %d\n" % line, "check", "config", "made")
 
 
 def main(program=BUILT):
@@ -293,6 +325,8 @@ def main(program=BUILT):
             trial.put("config", config)
             trial.put("cert", cert)
             trial.row("certificate: " + name, status, text, "check", "config", "cert")
+        trial.full_files("intersect", "config", "made")
+        trial.full_files("intersect", "config", "made", "--faulty", "a")
     print("malicious: %d passed, %d failed" % (trial.passed, trial.failed))
     return 1 if trial.failed else 0
 
