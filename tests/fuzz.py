@@ -363,13 +363,12 @@ class Program:
 
     def run(self, case):
         """The status, what is put out, what is on standard error, and what the file 'cert' then holds."""
-        for name in ("config", "cert", "orgs"):
-            path = os.path.join(self.folder, name)
-            if name in case.files:
-                with open(path, "wb") as it:
-                    it.write(case.files[name])
-            elif os.path.exists(path):
-                os.remove(path)
+        for name in os.listdir(self.folder):
+            if name not in case.files:
+                os.remove(os.path.join(self.folder, name))
+        for name, data in case.files.items():
+            with open(os.path.join(self.folder, name), "wb") as it:
+                it.write(data)
         try:
             ended = subprocess.run([self.program] + case.words, cwd=self.folder, stdin=subprocess.DEVNULL, stdout=subprocess.PIPE, stderr=subprocess.PIPE, timeout=120)
         except subprocess.TimeoutExpired:
@@ -565,6 +564,8 @@ class Maker:
             ]
         )
         words = mutated_words(rng, words) if rng.random() < 0.8 else words
+        if rng.random() < 0.02:
+            words.append(b"--set=\xff")
         return Case("words", words, {"config": self.config(), "cert": b"old\n", "orgs": b'[{"id":"A","validators":["a"]}]'}, None)
 
 
