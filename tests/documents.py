@@ -1,0 +1,94 @@
+#!/usr/bin/env python3
+"""Checks what the documents name: files and words of the sources, links, the crates and their picture.
+
+A definition is named as `crate/specs/File.antt`: `word`, `word`; the file lies in crates/, and each word stands in it. The last
+line is 'documents: N passed, M failed'.
+"""
+
+import os
+import re
+import subprocess
+import sys
+
+TOP = os.path.dirname(os.path.dirname(os.path.abspath(__file__)))
+DOCUMENTS = ["README.md", "CONTRIBUTING.md", *("docs/" + name for name in sorted(os.listdir(os.path.join(TOP, "docs"))) if name.endswith(".md"))]
+NAMED = re.compile(r"`([a-z_0-9]+/(?:src|specs|proofs|must-fail)/[\w./]+)`((?:: `[^`]+`(?:(?:,| and) `[^`]+`)*)?)")
+PATH = re.compile(r"`((?:crates|docs|tools|tests|bench|examples|\.ci)/[\w./-]+)`")
+
+
+def text_of(name):
+    with open(os.path.join(TOP, name), encoding="utf-8") as it:
+        return it.read()
+
+
+def anchor(head):
+    """The anchor that a heading gets."""
+    return re.sub(r"[^\w\- ]", "", head.lower()).replace(" ", "-")
+
+
+def anchors(text):
+    return {anchor(head.strip()) for head in re.findall(r"^#+ (.*)$", text, re.M)}
+
+
+class Trial:
+    def __init__(self):
+        self.passed = 0
+        self.failed = 0
+
+    def judge(self, right, what):
+        if right:
+            self.passed += 1
+        else:
+            self.failed += 1
+            print("documents: " + what)
+
+    def definitions(self, name, text):
+        """Each file of the sources that a document names exists, and each word stands in it."""
+        for path, words in NAMED.findall(text):
+            place = os.path.join("crates", path)
+            self.judge(os.path.exists(os.path.join(TOP, place)), "%s names %s, which is not there" % (name, path))
+            if words and os.path.isfile(os.path.join(TOP, place)):
+                held = text_of(place)
+                for word in re.findall(r"`([^`]+)`", words):
+                    self.judge(re.search(r"(?<![\w-])%s(?![\w-])" % re.escape(word), held), "%s names %s of %s, where it is not" % (name, word, path))
+        for path in PATH.findall(text):
+            self.judge(os.path.exists(os.path.join(TOP, path)), "%s names %s, which is not there" % (name, path))
+
+    def links(self, name, text):
+        for link in re.findall(r"\]\(([^)\s]+)\)", text):
+            if re.match(r"[a-z]+:", link):
+                continue
+            path, _, place = link.partition("#")
+            target = os.path.normpath(os.path.join(os.path.dirname(name), path)) if path else name
+            there = os.path.exists(os.path.join(TOP, target))
+            self.judge(there and (not place or place in anchors(text_of(target))), "%s links to %s, which is not there" % (name, link))
+
+    def crates(self):
+        """The picture is the one of crates.txt, and the map has each crate once, in the order of the layers."""
+        drawn = subprocess.run([sys.executable, os.path.join(TOP, "tools", "crates-picture"), "--print"], stdout=subprocess.PIPE).stdout.decode()
+        self.judge(text_of("docs/crates.svg") == drawn, "docs/crates.svg is not that of crates.txt: run tools/crates-picture")
+        listed = re.findall(r"^\| `([a-z_0-9]+)` \|", text_of("docs/MAP.md"), re.M)
+        uses = {}
+        for line in text_of("crates.txt").split("\n"):
+            crate, colon, named = line.partition(":")
+            if colon and not line.startswith("#"):
+                uses[crate] = named.split()
+        self.judge(sorted(listed) == sorted(uses), "docs/MAP.md lists other crates than crates.txt: %s" % sorted(set(listed) ^ set(uses)))
+        for at, crate in enumerate(listed):
+            late = [other for other in uses.get(crate, []) if other in uses and other in listed[at:]]
+            self.judge(not late, "docs/MAP.md has %s before %s, on which it stands" % (crate, " ".join(late)))
+
+
+def main():
+    trial = Trial()
+    for name in DOCUMENTS:
+        text = text_of(name)
+        trial.definitions(name, text)
+        trial.links(name, text)
+    trial.crates()
+    print("documents: %d passed, %d failed" % (trial.passed, trial.failed))
+    return 1 if trial.failed else 0
+
+
+if __name__ == "__main__":
+    sys.exit(main())

@@ -1,0 +1,630 @@
+#!/usr/bin/env python3
+"""Mutates configurations, organisations, certificates of every kind and command words, and runs the built program on them.
+
+The program must end with one of its statuses, put out what fits that status, and nothing on standard error. What 'check'
+says of a configuration and a certificate, and 'greatest' of organisations, must be what tests/plain_checker.py says. A
+certificate that a search wrote must be one that the plain checker accepts, and its answer that of trying all sets of nodes.
+
+tests/fuzz.py [--cases N] [--seed S] [PROGRAM]; its last line is 'fuzz: N passed, M failed'.
+"""
+
+import argparse
+import collections
+import hashlib
+import itertools
+import json
+import os
+import random
+import re
+import subprocess
+import sys
+import tempfile
+
+sys.path.insert(0, os.path.dirname(os.path.abspath(__file__)))
+import plain_checker as plain
+
+TOP = os.path.dirname(os.path.dirname(os.path.abspath(__file__)))
+BUILT = os.path.join(TOP, "crates", "quorum_cli", "out", "quorum_cli")
+
+REFUSALS = {
+    3: rb"usage: quorum_cli COMMAND\n(.+\n)+|usage [a-z].*\n",
+    4: rb"(config|orgs) .*\n",
+    5: rb"refused .*\n",
+    6: rb"",
+    8: rb"",
+    9: rb"too-large [0-9]+\n",
+}
+ANSWERS = rb"(?!usage|config|orgs|refused|too-large)(.+\n)+"
+SEARCHES = ("intersect", "splits", "dset", "blocking")
+
+# Numbers at the edges of what the formats allow, and texts that are no numbers.
+EDGES = "0 1 2 3 -1 -2 -0 +1 01 00 16 17 127 128 4096 2147483647 -2147483647 2147483648 -2147483648 4294967296 9223372036854775807 -9223372036854775807 9223372036854775808 18446744073709551615 18446744073709551616 1.0 1e0 x d".split()
+
+
+# ---- Configurations
+
+
+def random_set(rng, names, depth):
+    """A small quorum set, mostly with a threshold that a choice can meet."""
+    validators = rng.sample(names, rng.randint(0 if depth else 1, min(4, len(names))))
+    if rng.random() < 0.1 and validators:
+        validators.append(rng.choice(validators))
+    inner = [random_set(rng, names, depth - 1) for _ in range(rng.randint(0, 2))] if depth and rng.random() < 0.5 else []
+    count = len(validators) + len(inner)
+    threshold = rng.randint(1, count) if count and rng.random() < 0.95 else rng.choice([0, count + 1])
+    made = {"threshold": threshold, "validators": validators}
+    return dict(made, innerQuorumSets=inner) if inner else made
+
+
+def random_nodes(rng):
+    names = list("abcdefg")[: rng.randint(1, 7)]
+    if rng.random() < 0.4:
+        count = len(names)
+        common = {"threshold": rng.randint(count // 2, count) or 1, "validators": names}
+        return [{"publicKey": name, "quorumSet": common} for name in names]
+    nodes = []
+    for name in names:
+        node = {"publicKey": name}
+        if rng.random() < 0.9:
+            node["quorumSet"] = random_set(rng, names, rng.choice([0, 0, 1, 2]))
+        nodes.append(node)
+    return nodes
+
+
+def compact(tree):
+    return json.dumps(tree, separators=(",", ":")).encode()
+
+
+def random_config(rng):
+    return compact(random_nodes(rng))
+
+
+JSON_WORDS = [b"null", b"true", b"{}", b"[]", b'""', b"1e400", b"1e-400", b'"a"', b'"\\u0061"', b'"\\ud83d"', b'"a,b"', b"[null]", b'{"threshold":1}', b"\xff", b"\xef\xbb\xbf", b'"a\nb"']
+
+
+def mutated_json(rng, data):
+    """JSON text with a few changes: of bytes, of numbers, of strings and of members."""
+    for _ in range(rng.choice([1, 1, 1, 2, 4])):
+        kind = rng.randrange(9)
+        marks = [it.span() for it in re.finditer(rb'"[^"]*"|-?[0-9]+|[\[\]{}:,]', data)]
+        numbers = [it.span() for it in re.finditer(rb"(?<=:)[0-9]+", data)]
+        texts = [it.span() for it in re.finditer(rb'"[^"]*"(?=[,\]}])', data)]
+        if kind >= 7 and numbers:
+            data = cut_in(data, rng.choice(numbers), rng.choice(EDGES[:-2] + ["null"]).encode())
+        elif kind >= 5 and texts:
+            data = cut_in(data, rng.choice(texts), rng.choice([b'"a"', b'"\\u0061"', b'"b"', b'"z"', b'"a b"', b'""', b'"a,b"', b"null", b"1", b"[]", b"{}"]))
+        elif kind == 0 or not marks:
+            data = mutated_bytes(rng, data)
+        elif kind == 1:
+            data = cut_in(data, rng.choice(marks), rng.choice(EDGES).encode())
+        elif kind == 2:
+            data = cut_in(data, rng.choice(marks), rng.choice(JSON_WORDS))
+        elif kind == 3:
+            a, b = rng.choice(marks), rng.choice(marks)
+            data = cut_in(data, a, data[b[0] : b[1]])
+        elif kind == 4:
+            a, b = sorted(rng.choice(marks)[0] for _ in range(2))
+            data = data[:b] + data[a:b] + data[b:] if b - a < 200 else data[:a] + data[b:]
+        else:
+            at = data.find(b"{", rng.randrange(len(data) or 1))
+            member = b'"%s":%s,' % (rng.choice([b"publicKey", b"quorumSet", b"threshold", b"validators", b"innerQuorumSets", b"id", b"x"]), rng.choice(JSON_WORDS + [b"1", b"2"]))
+            data = data[: at + 1] + member + data[at + 1 :]
+    return data
+
+
+def cut_in(data, span, new):
+    return data[: span[0]] + new + data[span[1] :]
+
+
+def mutated_bytes(rng, data):
+    at = rng.randrange(len(data) + 1)
+    size = rng.choice([0, 1, 1, 2, 8])
+    new = bytes(rng.choice(b"\x00\x01\t\n\r !,09az{}[]:\"\\\x7f\x80\xc3\xff") for _ in range(rng.choice([0, 1, 1, 2])))
+    return data[:at] + new + data[at + size :]
+
+
+# ---- Certificates
+
+
+class Subject:
+    """A configuration with what a certificate of it speaks of."""
+
+    def __init__(self, rng, data):
+        self.data = data
+        self.digest = hashlib.sha256(data).hexdigest()
+        try:
+            self.whole = plain.system_of(data)
+        except plain.Fault:
+            self.whole = {"a": None}
+        self.names = sorted(self.whole)
+        self.start = rng.choice(self.names) if self.names and rng.random() < 0.25 else None
+        part = plain.closure(self.whole, self.start) if self.start else set(self.names)
+        some = rng.sample(self.names, min(len(self.names), rng.choice([0, 0, 0, 1, 1, 2])))
+        self.given = sorted(some)
+        self.faulty = set(some) & part
+        self.system = {name: self.whole[name] for name in part}
+
+    def header(self, kind):
+        start = " " + self.start if self.start else ""
+        return ["fbas-cert 1", "config " + self.digest, "from" + start, "faulty" + plain.spelled(self.given), "kind " + kind]
+
+    def shrunk(self, nodes):
+        return plain.greatest_in(self.system, self.faulty, nodes)
+
+    def options(self):
+        return (["--from", self.start] if self.start else []) + ["--faulty", ",".join(self.given)]
+
+
+def quorums(subject, most):
+    """All quorums after deletion of the faulty nodes, by trying all sets of nodes; None where there are too many sets."""
+    names = sorted(set(subject.system) - subject.faulty)
+    if len(names) > most:
+        return None
+    found = []
+    for bits in itertools.product([False, True], repeat=len(names)):
+        nodes = {name for name, bit in zip(names, bits) if bit}
+        if plain.is_quorum(subject.system, subject.faulty, nodes):
+            found.append(nodes)
+    return found
+
+
+def random_quorum(rng, subject):
+    """Some quorum, mostly a small one."""
+    nodes = subject.shrunk(set(subject.system))
+    for name in rng.sample(sorted(nodes), len(nodes)):
+        less = subject.shrunk(nodes - {name})
+        if less and rng.random() < 0.8:
+            nodes = less
+    return nodes
+
+
+def random_block(rng, subject):
+    """Some blocking set, mostly a minimal one."""
+    nodes = set(subject.system) - subject.faulty
+    for name in rng.sample(sorted(nodes), len(nodes)):
+        if plain.blocks(subject.system, subject.faulty, nodes - {name}) and rng.random() < 0.97:
+            nodes = nodes - {name}
+    return nodes
+
+
+def propagated(held, literals):
+    """Hints that show the lemma by unit propagation, or None."""
+    true, hints, changed = {-it for it in literals}, [], True
+    while changed:
+        changed = False
+        for number, clause in held.items():
+            left = {it for it in clause if -it not in true}
+            if not left:
+                return hints + [number]
+            if len(left) == 1 and not left <= true:
+                true |= left
+                hints.append(number)
+                changed = True
+    return None
+
+
+def random_steps(rng, held, variables, last):
+    """Lemmas that follow, and deletions, as far as some were found; last an empty one where propagation shows it."""
+    lines = []
+    for _ in range(rng.randint(0, 6)):
+        if variables and rng.random() < 0.85:
+            chosen = rng.sample(range(1, variables + 1), rng.randint(1, min(3, variables)))
+            literals = [rng.choice([-1, 1]) * it for it in chosen]
+            hints = propagated(held, literals)
+            if hints is None:
+                continue
+            last += rng.choice([1, 1, 1, 5])
+            held[last] = frozenset(literals)
+            lines.append("%d %s 0 %s 0" % (last, " ".join(map(str, literals)), " ".join(map(str, hints))))
+        elif held:
+            number = rng.choice(sorted(held))
+            del held[number]
+            lines.append("%d d %d 0" % (last, number))
+    return lines, last
+
+
+def empty_lemma(held, last):
+    hints = propagated(held, [])
+    return [] if hints is None else ["%d 0 %s 0" % (last + 1, " ".join(map(str, hints)))]
+
+
+def random_body(rng, subject, kind):
+    """A body of the kind, mostly a right one; of a refutation only where short proofs are found by chance."""
+    if kind == "pair":
+        first = random_quorum(rng, subject)
+        second = subject.shrunk(set(subject.system) - first) or random_quorum(rng, subject)
+        return ["first" + plain.spelled(first), "second" + plain.spelled(second)]
+    if kind in ("refutation", "partial"):
+        formula = plain.Formula(subject.system, subject.faulty)
+        held = {i: frozenset(it) for i, it in enumerate(formula.clauses, 1)}
+        lines, last = random_steps(rng, held, formula.variables, len(held))
+        lines = ["formula %d %d" % (formula.variables, len(formula.clauses))] + lines
+    else:
+        lines, held, last = [], {}, 0
+        order = sorted(subject.shrunk(set(subject.system)))
+        for _ in range(rng.randint(0, 6)):
+            letter = rng.choice("qb")
+            nodes = random_quorum(rng, subject) if letter == "q" else random_block(rng, subject)
+            if letter == "b" or nodes:
+                last += 1
+                held[last] = frozenset((1 if letter == "q" else -1) * (order.index(it) + 1) for it in nodes if it in order)
+                lines.append("%s %d%s" % (letter, last, plain.spelled(nodes)))
+        more, last = random_steps(rng, held, len(order), last)
+        lines += more
+    return lines + (empty_lemma(held, last) if kind in ("refutation", "blocking") else [])
+
+
+def still_a_line(rng, line, subject):
+    """Another line of the same form: a name more or less in a list, a number changed in a step."""
+    words = line.split(" ")
+    if words[0] in ("faulty", "first", "second", "q", "b"):
+        fixed = 2 if words[0] in ("q", "b") else 1
+        names = set(words[fixed:]) ^ {rng.choice(subject.names + ["z"])}
+        if fixed == 2 and rng.random() < 0.2:
+            words[1] = rng.choice(["1", "2", "7", "9223372036854775807"])
+        return " ".join(words[:fixed] + sorted(names))
+    places = [i for i, word in enumerate(words) if re.fullmatch("-?[1-9][0-9]*", word)]
+    if not places:
+        return line
+    place = rng.choice(places)
+    number = int(words[place])
+    if place and rng.random() < 0.3:
+        words.insert(place, str(rng.choice([-1, 1, 1]) * rng.randint(1, 40)))
+    elif place and rng.random() < 0.3:
+        del words[place]
+    else:
+        words[place] = str(rng.choice([-number, number + 1, number - 1 or 1, rng.randint(1, 40), 2147483647, 9223372036854775807]) if place else abs(number) + rng.choice([-1, 1, 5]))
+    return " ".join(words)
+
+
+def mutated_lines(rng, lines, subject, others):
+    """A certificate with a change of a line, a word, or of the order of lines."""
+    lines = list(lines)
+    at = rng.randrange(min(5, len(lines)) if rng.random() < 0.85 and len(lines) > 5 else 0, len(lines))
+    if rng.random() < 0.6:
+        lines[at] = still_a_line(rng, lines[at], subject)
+        return lines
+    kind = rng.randrange(10)
+    words = lines[at].split(" ")
+    if kind == 0:
+        lines.insert(at, lines[rng.randrange(len(lines))])
+    elif kind == 1:
+        del lines[at]
+    elif kind == 2:
+        other = rng.randrange(len(lines))
+        lines[at], lines[other] = lines[other], lines[at]
+    elif kind == 3:
+        lines[at] = rng.choice(others) if others else ""
+    elif kind == 4:
+        del words[rng.randrange(len(words))]
+        lines[at] = " ".join(words)
+    elif kind == 5:
+        words.insert(rng.randrange(len(words) + 1), rng.choice(EDGES + subject.names))
+        lines[at] = " ".join(words)
+    elif kind == 6:
+        place = rng.randrange(len(words))
+        if re.fullmatch("-?[0-9]{1,9}", words[place]):
+            words[place] = str(rng.choice([-1, 1]) * int(words[place]) + rng.choice([-1, 0, 0, 1]))
+        else:
+            words[place] = rng.choice(EDGES + subject.names)
+        lines[at] = " ".join(words)
+    elif kind == 7:
+        a, b = rng.randrange(len(words)), rng.randrange(len(words))
+        words[a], words[b] = words[b], words[a]
+        lines[at] = " ".join(words)
+    elif kind == 8:
+        number = rng.randrange(1, 60)
+        lines.insert(at, "%d d %s0" % (number, "".join("%d " % rng.randrange(1, 60) for _ in range(rng.randint(0, 3)))))
+    else:
+        place = rng.randrange(len(lines[at]) + 1)
+        lines[at] = lines[at][:place] + rng.choice([" ", "  ", "\t", "\r", "\n", "0", "-", "+", "x"]) + lines[at][place:]
+    return lines
+
+
+# ---- Words
+
+
+def mutated_words(rng, words):
+    words = list(words)
+    for _ in range(rng.choice([1, 1, 2, 3])):
+        at = rng.randrange(len(words) + 1)
+        kind = rng.randrange(6)
+        if kind == 0 and words:
+            del words[at % len(words)]
+        elif kind == 1:
+            words.insert(at, rng.choice(["--set", "--set=", "--set=a,b", "--faulty", "--faulty=a", "--from=a", "--from", "--node=a", "--orgs=orgs", "--faulty-orgs=A", "--budget=0", "--budget=4000000000", "--budget=4000000001", "--budget=-1", "--budget=01", "--budget=+1", "--budget=", "--", "-", "-x", "--help", "-h", "--version", "help", "", "config", "cert", "=", "--=", "a", "--budget=18446744073709551616"]))
+        elif kind == 2 and words:
+            words[at % len(words)] = rng.choice(["show", "closure", "greatest", "intersect", "available", "dset", "blocks", "vblocks", "splits", "blocking", "check", "export", "trial", "missing", "config", "cert"])
+        elif kind == 3 and words:
+            other = rng.randrange(len(words))
+            at %= len(words)
+            words[at], words[other] = words[other], words[at]
+        elif kind == 4 and words:
+            at %= len(words)
+            place = rng.randrange(len(words[at]) + 1)
+            words[at] = words[at][:place] + rng.choice(["-", "=", ",", " ", "a", "é", "\n", "0"]) + words[at][place + rng.randrange(2) :]
+        elif words:
+            words.insert(at, rng.choice(words))
+    return words
+
+
+# ---- Runs
+
+Case = collections.namedtuple("Case", "kind words files wanted")
+
+
+class Program:
+    """Runs the program in a folder of its own, and judges what it says."""
+
+    def __init__(self, program, folder):
+        self.program, self.folder = os.path.abspath(program), folder
+        usage = self.run(Case("words", [], {}, None))[1]
+        self.searches = [it for it in SEARCHES if b"\n" + it.encode() + b" CONFIG CERT" in usage]
+
+    def run(self, case):
+        """The status, what is put out, what is on standard error, and what the file 'cert' then holds."""
+        for name in os.listdir(self.folder):
+            if name not in case.files:
+                os.remove(os.path.join(self.folder, name))
+        for name, data in case.files.items():
+            with open(os.path.join(self.folder, name), "wb") as it:
+                it.write(data)
+        try:
+            ended = subprocess.run([self.program] + case.words, cwd=self.folder, stdin=subprocess.DEVNULL, stdout=subprocess.PIPE, stderr=subprocess.PIPE, timeout=120)
+        except subprocess.TimeoutExpired:
+            return "no end in 120 seconds", b"", b"", None
+        path = os.path.join(self.folder, "cert")
+        cert = None
+        if os.path.exists(path):
+            with open(path, "rb") as it:
+                cert = it.read()
+        return ended.returncode, ended.stdout, ended.stderr, cert
+
+    def fault(self, case):
+        """What is wrong with the program's answer, or None."""
+        status, text, err, cert = self.run(case)
+        if err or not isinstance(status, int) or status < 0:
+            return "status %s, standard error %r" % (status, err[:200])
+        if not re.fullmatch(REFUSALS.get(status, ANSWERS if status in (0, 1, 2) else rb"(?!)"), text):
+            return "status %d with %r" % (status, text[:200])
+        wanted = self.wanted(case)
+        if wanted is not None and wanted != (status, text.decode("latin-1")):
+            return "found %r, wanted %r" % ((status, text[:300]), wanted)
+        if case.kind == "search":
+            return self.search_fault(case, status, text.decode(), cert)
+        if cert != case.files.get("cert") and case.words[:1] and case.words[0] not in SEARCHES + ("trial",):
+            return "the certificate has changed"
+        return None
+
+    def wanted(self, case):
+        """The status and the text by the plain checker, where it says them."""
+        if case.kind == "check":
+            return plain.check(case.files["config"], case.files["cert"])
+        if case.kind == "orgs":
+            return wanted_of_orgs(case)
+        return None
+
+    def search_fault(self, case, status, text, cert):
+        if status not in (0, 1, 2):
+            return None if cert == case.files["cert"] else "refused, and the certificate has changed"
+        command, subject, budget = case.wanted
+        found, said = plain.check(case.files["config"], cert)
+        head = "".join(line + "\n" for line in said.split("\n")[1:3])
+        start = " " + subject.start if subject.start else ""
+        if head != "from%s\nfaulty%s\n" % (start, plain.spelled(subject.faulty)):
+            return "the certificate is of another question, or not accepted: %r" % said
+        kind = said.split("\n")[0].split(" ")[1]
+        every = quorums(subject, 8)
+        if command == "blocking":
+            wanted = None if every is None else minimal_blocks(subject)
+            if kind == "blocking" and status == 0 and text == said.split("\n", 3)[3].join(["blocking %s\n" % said.split("\n")[0].split(" ")[2], ""]):
+                return None if wanted is None or text == wanted else "found %r, wanted %r" % (text, wanted)
+            if said.startswith("accepted partial-blocking %d\n" % budget) and (status, text) == (2, "blocking unknown %d\n" % budget):
+                return None
+            return "found %r with %r" % ((status, text), said)
+        apart = None if every is None else any(not a & b for a, b in itertools.combinations(every, 2))
+        answer = {"pair": "no", "refutation": "yes", "partial": "unknown"}.get(kind)
+        if (answer, apart) in (("no", False), ("yes", True)):
+            return "found %s, and trying all sets says otherwise" % answer
+        if answer == "unknown" and said != "accepted partial %d\nfrom%s\nfaulty%s\n" % (budget, start, plain.spelled(subject.faulty)):
+            return "unknown with %r" % said
+        return None if self.says(command, answer, status, text, budget) else "found %r with %r" % ((status, text), said)
+
+    @staticmethod
+    def says(command, answer, status, text, budget):
+        """Whether the text and the status of a search fit the kind of certificate that it wrote."""
+        units = " %d" % budget if answer == "unknown" else ""
+        if command == "intersect":
+            return text.startswith("intersects %s%s\n" % (answer, units)) and status == {"yes": 0, "no": 1, "unknown": 2}[answer]
+        if command == "splits":
+            answer = {"yes": "no", "no": "yes", "unknown": "unknown"}[answer]
+            return text.startswith("splits %s%s\n" % (answer, units)) and status == {"yes": 0, "no": 1, "unknown": 2}[answer]
+        available = text.startswith("available yes\n")
+        whole = "no" if answer == "no" or not available else answer
+        return "\nintersects %s%s\n" % (answer, units) in text and text.endswith("dset %s\n" % whole) and status == {"yes": 0, "no": 1, "unknown": 2}[whole]
+
+
+def minimal_blocks(subject):
+    """What 'blocking' lists, by trying all sets of nodes."""
+    names = sorted(set(subject.system) - subject.faulty)
+    found = []
+    for size in range(len(names) + 1):
+        for nodes in map(set, itertools.combinations(names, size)):
+            if not any(it <= nodes for it in found) and plain.blocks(subject.system, subject.faulty, nodes):
+                found.append(nodes)
+    lines = sorted(tuple(sorted(it)) for it in found)
+    return "blocking %d\n" % len(lines) + "".join("set%s\n" % plain.spelled(it) for it in lines)
+
+
+def wanted_of_orgs(case):
+    """What 'greatest' says with a file of organisations."""
+    name, text = "config", case.words[-1].split("=", 1)[1]
+    try:
+        system = plain.system_of(case.files["config"])
+        name = "orgs"
+        orgs = plain.orgs_of(case.files["orgs"], system)
+        name = "usage"
+        faulty = set().union(*(orgs[it] for it in plain.listed(text, orgs)))
+    except plain.Fault as fault:
+        word, *rest = str(fault).split(" ")
+        return (3, "usage %s --faulty-orgs %s\n" % (word, rest[0])) if name == "usage" else (4, "%s %s\n" % (name, fault))
+    return 0, "greatest%s\n" % plain.spelled(plain.greatest_in(system, faulty, set(system)))
+
+
+# ---- Cases
+
+
+class Maker:
+    """Makes cases; the certificates that searches wrote are kept, to be mutated."""
+
+    def __init__(self, rng, program):
+        self.rng, self.program = rng, program
+        self.others = []
+        self.written = []
+
+    def case(self):
+        chance = self.rng.random()
+        if chance < 0.62:
+            return self.check()
+        if chance < 0.74:
+            return self.search() if self.program.searches else self.check()
+        if chance < 0.84:
+            return self.orgs()
+        return self.words()
+
+    def config(self):
+        data = random_config(self.rng)
+        return mutated_json(self.rng, data) if self.rng.random() < 0.12 else data
+
+    def check(self):
+        rng = self.rng
+        if self.written and rng.random() < 0.4:
+            subject, lines = rng.choice(self.written)
+        else:
+            subject = Subject(rng, self.config())
+            kind = rng.choice(plain.KINDS)
+            lines = subject.header(kind) + random_body(rng, subject, kind) + ["end"]
+        for _ in range(rng.choice([0, 1, 1, 1, 1, 2, 3])):
+            lines = mutated_lines(rng, lines, subject, self.others) or [""]
+        self.others = (self.others + [rng.choice(lines)])[-300:]
+        cert = "".join(line + "\n" for line in lines).encode()
+        if rng.random() < 0.1:
+            cert = mutated_bytes(rng, cert)
+        if rng.random() < 0.02:
+            cert = cert[: rng.randrange(len(cert) + 1)]
+        return Case("check", ["check", "config", "cert"], {"config": subject.data, "cert": cert}, None)
+
+    def search(self):
+        rng = self.rng
+        subject = Subject(rng, random_config(rng))
+        command = rng.choice(self.program.searches)
+        budget = rng.choice([0, 1, 2, 3, 5, 20, 1000000])
+        words = [command, "config", "cert", "--budget", str(budget)]
+        if command == "dset":
+            words += (["--from", subject.start] if subject.start else []) + ["--set=" + ",".join(subject.given)]
+        elif command == "splits":
+            words += subject.options() + ["--set="]
+        else:
+            words += subject.options()
+        case = Case("search", words, {"config": subject.data, "cert": b"old\n"}, (command, subject, budget))
+        return case
+
+    def keep(self, case):
+        """Keeps the certificate that the search wrote."""
+        with open(os.path.join(self.program.folder, "cert"), "rb") as it:
+            cert = it.read()
+        if cert != b"old\n" and len(cert) < 5000:
+            self.written = (self.written + [(case.wanted[1], cert.decode().split("\n")[:-1])])[-200:]
+
+    def orgs(self):
+        rng = self.rng
+        orgs = [{"id": it, "validators": rng.sample("abcdefghz", rng.randint(0, 3))} for it in rng.sample(["A", "B", "C", "D,E", "F"], rng.randint(0, 3))]
+        data = compact(orgs)
+        data = mutated_json(rng, data) if rng.random() < 0.7 else data
+        ids = ",".join(rng.choice(["A", "A", "B", "C", "X", "", "é", "A B"]) for _ in range(rng.choice([0, 1, 1, 2])))
+        return Case("orgs", ["greatest", "config", "--orgs", "orgs", "--faulty-orgs=" + ids], {"config": self.config(), "orgs": data}, None)
+
+    def words(self):
+        rng = self.rng
+        names = ",".join(rng.sample("abcdefg", rng.randint(0, 3)))
+        words = rng.choice(
+            [
+                ["show", "config"],
+                ["closure", "config", "--node", "a"],
+                ["greatest", "config", "--faulty", names],
+                ["intersect", "config", "cert", "--faulty", names, "--budget", "3"],
+                ["available", "config", "--set", names],
+                ["dset", "config", "cert", "--set", names, "--budget=2"],
+                ["blocks", "config", "--set", names, "--from", "a"],
+                ["vblocks", "config", "--node", "a", "--set", names],
+                ["splits", "config", "cert", "--set", names],
+                ["blocking", "config", "cert"],
+                ["check", "config", "cert"],
+                ["export", "config", "--faulty", names],
+            ]
+        )
+        words = mutated_words(rng, words) if rng.random() < 0.8 else words
+        if rng.random() < 0.02:
+            words.append(b"--set=\xff")
+        return Case("words", words, {"config": self.config(), "cert": b"old\n", "orgs": b'[{"id":"A","validators":["a"]}]'}, None)
+
+
+def parts(data):
+    """The lines of a certificate, or the marks of a JSON text."""
+    return data.splitlines(keepends=True) if b"\n" in data else re.findall(rb'"[^"]*"|[0-9]+|.', data, re.DOTALL)
+
+
+def shrunk(program, case):
+    """The case with parts of its files left out, as long as something is wrong; tried in pieces that grow smaller."""
+    for name in sorted(case.files):
+        size = max(1, len(parts(case.files[name])) // 2)
+        while size:
+            at = 0
+            while at < len(parts(case.files[name])):
+                pieces = parts(case.files[name])
+                less = case._replace(files=dict(case.files, **{name: b"".join(pieces[:at] + pieces[at + size :])}))
+                if program.fault(less):
+                    case = less
+                else:
+                    at += size
+            size //= 2
+    return case
+
+
+def show(program, number, case):
+    """Prints a failing case, made smaller where that is no change of the question."""
+    if case.kind != "search":
+        case = shrunk(program, case)
+    print("fuzz: case %d: %s" % (number, program.fault(case)))
+    print("  words %r" % (case.words,))
+    for name, data in sorted(case.files.items()):
+        print("  %s %r" % (name, data[:2000]))
+    sys.stdout.flush()
+
+
+def main():
+    parser = argparse.ArgumentParser()
+    parser.add_argument("--cases", type=int, default=400)
+    parser.add_argument("--seed", type=int, default=1)
+    parser.add_argument("program", nargs="?", default=BUILT)
+    asked = parser.parse_args()
+    passed, failed, statuses = 0, 0, collections.Counter()
+    with tempfile.TemporaryDirectory(dir="/dev/shm" if os.path.isdir("/dev/shm") else None) as folder:
+        program = Program(asked.program, folder)
+        maker = Maker(random.Random(asked.seed), program)
+        for number in range(asked.cases):
+            case = maker.case()
+            if program.fault(case) is None:
+                passed += 1
+                if case.kind == "search":
+                    maker.keep(case)
+            else:
+                failed += 1
+                if failed <= 10:
+                    show(program, number, case)
+    print("fuzz: %d passed, %d failed" % (passed, failed))
+    return 1 if failed else 0
+
+
+if __name__ == "__main__":
+    sys.exit(main())

@@ -1,0 +1,335 @@
+#!/usr/bin/env python3
+"""Runs the built program on files that were made to break it: each answer is one exact text and status, and nothing else.
+
+Then certificates are written to files that may not grow beyond so many bytes, for each number of bytes: the program says
+that it could not write, and what was written is refused as truncated.
+
+tests/malicious.py [PROGRAM]; its last line is 'malicious: N passed, M failed'.
+"""
+
+import hashlib
+import os
+import resource
+import signal
+import subprocess
+import sys
+import tempfile
+
+TOP = os.path.dirname(os.path.dirname(os.path.abspath(__file__)))
+BUILT = os.path.join(TOP, "crates", "quorum_cli", "out", "quorum_cli")
+
+MOST_LINE = 134217728
+
+
+def system(nodes, threshold):
+    """A configuration in which each node needs so many of all of them."""
+    names = ",".join('"%s"' % node for node in nodes)
+    sets = ['{"publicKey":"%s","quorumSet":{"threshold":%d,"validators":[%s]}}' % (node, threshold, names) for node in nodes]
+    return ("[" + ",".join(sets) + "]").encode()
+
+
+def one(quorum_set):
+    """A configuration of one node, a."""
+    return b'[{"publicKey":"a","quorumSet":' + quorum_set + b"}]"
+
+
+def nested(depth):
+    """A quorum set of this depth."""
+    return b'{"threshold":1,"innerQuorumSets":[' * (depth - 1) + b'{"threshold":1,"validators":["a"]}' + b"]}" * (depth - 1)
+
+
+def head(config, kind, start="", faulty=""):
+    digest = hashlib.sha256(config).hexdigest()
+    return ("fbas-cert 1\nconfig %s\nfrom%s\nfaulty%s\nkind %s\n" % (digest, start, faulty, kind)).encode()
+
+
+TWO = system("pq", 2)
+THREE = system("abc", 2)
+APART = b"[" + system("ab", 2)[1:-1] + b"," + system("cd", 2)[1:-1] + b"]"
+EMPTY = b"[]"
+
+LEMMA = b"17 -1 0 7 6 3 4 2 0"
+REFUTATION = head(TWO, "refutation") + b"formula 8 16\n" + LEMMA + b"\n18 0 17 1 10 8 0\nend\n"
+REFUTED = "accepted refutation\nfrom\nfaulty\n"
+PAIR = head(THREE, "pair", faulty=" a") + b"first b\nsecond c\nend\n"
+PARTIAL = head(TWO, "partial") + b"formula 8 16\n" + LEMMA + b"\nend\n"
+
+
+def seventh(line):
+    """The refutation with other text on line 7."""
+    return REFUTATION.replace(LEMMA, line)
+
+
+def before(line):
+    """The refutation with a line put before line 7."""
+    return REFUTATION.replace(LEMMA, line + b"\n" + LEMMA)
+
+
+def shown(nodes, entries, unset, *found):
+    return "nodes %d\nentries %d\nunset %d\n" % (nodes, entries, unset) + "".join(line + "\n" for line in found)
+
+
+# What 'show' says of a configuration.
+CONFIGURATIONS = [
+    ("no byte", b"", 4, "config not-json\n"),
+    ("one byte", b"\x00", 4, "config not-json\n"),
+    ("a byte order mark", b"\xef\xbb\xbf[]", 4, "config not-json\n"),
+    ("a byte behind the array", b"[]x", 4, "config not-json\n"),
+    ("127 arrays in one another", b"[" * 127 + b"]" * 127, 4, "config not-node 0\n"),
+    ("128 arrays in one another", b"[" * 128 + b"]" * 128, 4, "config not-json\n"),
+    ("16,777,216 opened arrays", lambda: b"[" * 16777216, 4, "config not-json\n"),
+    ("16,777,216 spaces", lambda: b" " * 16777216, 4, "config not-json\n"),
+    ("16,777,217 spaces", lambda: b" " * 16777217, 4, "config too-long\n"),
+    ("16,777,216 bytes of two", lambda: TWO + b" " * (16777216 - len(TWO)), 0, shown(2, 4, 0)),
+    ("an object", b"{}", 4, "config not-nodes\n"),
+    ("a number as a node", b"[1]", 4, "config not-node 0\n"),
+    ("bad UTF-8 in a member that is skipped", b'[{"publicKey":"a","x":"\xff"}]', 4, "config not-json\n"),
+    ("half of a surrogate pair", b'[{"publicKey":"a","x":"\\ud800"}]', 4, "config not-json\n"),
+    ("a number without a binary64", b'[{"publicKey":"a","x":1e400}]', 4, "config not-json\n"),
+    ("a number of 100,000 digits", b'[{"publicKey":"a","x":' + b"9" * 100000 + b"}]", 4, "config not-json\n"),
+    ("the least number above 0, and less", b'[{"publicKey":"a","x":1e-400}]', 0, shown(1, 0, 1)),
+    ("a node without a key", b"[{}]", 4, "config bad-key 0\n"),
+    ("a key with a comma", b'[{"publicKey":"a,b"}]', 4, "config bad-key 0\n"),
+    ("a key with a line feed", b'[{"publicKey":"a\\nb"}]', 4, "config bad-key 0\n"),
+    ("a key with a 0 byte", b'[{"publicKey":"a\\u0000"}]', 4, "config bad-key 0\n"),
+    ("a key of 129 bytes", b'[{"publicKey":"' + b"k" * 129 + b'"}]', 4, "config bad-key 0\n"),
+    ("a key of 128 bytes", b'[{"publicKey":"' + b"k" * 128 + b'"}]', 0, shown(1, 0, 1)),
+    ("a key twice", b'[{"publicKey":"a"},{"publicKey":"\\u0061"}]', 4, "config duplicate 1\n"),
+    ("a member twice", b'[{"publicKey":"b","publicKey":"a","quorumSet":{"threshold":1,"thres\\u0068old":2}}]', 0, shown(1, 0, 0, "threshold a . 2 0")),
+    ("threshold 2^64 - 1", one(b'{"threshold":18446744073709551615,"validators":["a"]}'), 0, shown(1, 1, 0, "threshold a . 18446744073709551615 1")),
+    ("threshold 2^64", one(b'{"threshold":18446744073709551616,"validators":["a"]}'), 4, "config bad-quorum-set 0 threshold\n"),
+    ("threshold -1", one(b'{"threshold":-1}'), 4, "config bad-quorum-set 0 threshold\n"),
+    ("threshold -0", one(b'{"threshold":-0}'), 4, "config bad-quorum-set 0 threshold\n"),
+    ("threshold 1.0", one(b'{"threshold":1.0}'), 4, "config bad-quorum-set 0 threshold\n"),
+    ("threshold 01", one(b'{"threshold":01}'), 4, "config not-json\n"),
+    ("no quorum set among the inner ones", one(b'{"threshold":1,"innerQuorumSets":[null]}'), 4, "config bad-quorum-set 0 shape\n"),
+    ("depth 16", one(nested(16)), 0, shown(1, 16, 0)),
+    ("depth 17", one(nested(17)), 4, "config too-deep 0\n"),
+    ("a number at depth 17", one(nested(17).replace(b'{"threshold":1,"validators":["a"]}', b"1")), 4, "config too-deep 0\n"),
+    ("1,000,000 entries", lambda: one(b'{"threshold":1,"validators":[' + b'"a",' * 999999 + b'"a"]}'), 0, shown(1, 1000000, 0, "repeated a . a")),
+    ("1,000,001 entries", lambda: one(b'{"threshold":1,"validators":[' + b'"a",' * 1000000 + b'"a"]}'), 4, "config too-many-entries 1000001\n"),
+    ("1,000,001 empty quorum sets", lambda: one(b'{"threshold":0,"innerQuorumSets":[' + b'{"threshold":0},' * 1000000 + b'{"threshold":0}]}'), 4, "config too-many-entries 1000001\n"),
+    ("4,097 names", one(b'{"threshold":1,"validators":[' + b",".join(b'"%d"' % i for i in range(4096)) + b"]}"), 4, "config too-many-nodes 4097\n"),
+    ("4,096 names", one(b'{"threshold":1,"validators":[' + b",".join(b'"%d"' % i for i in range(4095)) + b"]}"), 0, shown(4096, 4095, 4095)),
+]
+
+# What 'greatest' says of two nodes, with a file of organisations and A as the faulty one.
+ORGANISATIONS = [
+    ("no byte", b"", 4, "orgs not-json\n"),
+    ("an object", b"{}", 4, "orgs not-orgs\n"),
+    ("128 arrays in one another", b"[" * 128 + b"]" * 128, 4, "orgs not-json\n"),
+    ("127 arrays in one another", b"[" * 127 + b"]" * 127, 4, "orgs bad-org 0\n"),
+    ("16,777,217 spaces", lambda: b" " * 16777217, 4, "orgs too-long\n"),
+    ("an id twice", b'[{"id":"A"},{"id":"A","validators":1}]', 4, "orgs duplicate-org 1\n"),
+    ("validators that are no list", b'[{"id":"A"},{"id":"B","validators":{}}]', 4, "orgs bad-org 1\n"),
+    ("4,097 organisations", b"[" + b",".join(b'{"id":"%d"}' % i for i in range(4097)) + b"]", 4, "orgs too-many-orgs 4097\n"),
+    ("4,096 organisations, none with the id", b"[" + b",".join(b'{"id":"%d"}' % i for i in range(4096)) + b"]", 3, "usage unknown-name --faulty-orgs 1\n"),
+    ("a node named a million times", lambda: b'[{"id":"A","validators":[' + b'"p",' * 1000000 + b'"zz"]}]', 0, "greatest q\n"),
+]
+
+# What 'check' says of a configuration and a certificate.
+CERTIFICATES = [
+    ("as it should be", TWO, REFUTATION, 0, REFUTED),
+    ("the greatest id", TWO, seventh(b"9223372036854775807 -1 0 7 6 3 4 2 0"), 5, "refused step 8 id-order 9223372036854775807 18\n"),
+    ("an id of 2^63", TWO, seventh(b"9223372036854775808 -1 0 7 6 3 4 2 0"), 5, "refused bad-line 7\n"),
+    ("an id of 2^64 + 17", TWO, seventh(b"18446744073709551633 -1 0 7 6 3 4 2 0"), 5, "refused bad-line 7\n"),
+    ("an id of 100,000 digits", TWO, seventh(b"1" * 100000 + b" -1 0 7 6 3 4 2 0"), 5, "refused bad-line 7\n"),
+    ("a leading 0", TWO, seventh(b"017 -1 0 7 6 3 4 2 0"), 5, "refused bad-line 7\n"),
+    ("a plus sign", TWO, seventh(b"+17 -1 0 7 6 3 4 2 0"), 5, "refused bad-line 7\n"),
+    ("the id 0", TWO, seventh(b"0 -1 0 7 6 3 4 2 0"), 5, "refused bad-line 7\n"),
+    ("a negative id", TWO, seventh(b"-17 -1 0 7 6 3 4 2 0"), 5, "refused bad-line 7\n"),
+    ("the literal -2^31", TWO, seventh(b"17 -2147483648 0 7 6 3 4 2 0"), 5, "refused bad-line 7\n"),
+    ("the hint -0", TWO, seventh(b"17 -1 0 -0 6 3 4 2 0"), 5, "refused bad-line 7\n"),
+    ("a hint of -2^63", TWO, seventh(b"17 -1 0 -9223372036854775808 6 3 4 2 0"), 5, "refused bad-line 7\n"),
+    ("a hint of 1 - 2^63", TWO, seventh(b"17 -1 0 -9223372036854775807 6 3 4 2 0"), 5, "refused step 7 rat-step 1\n"),
+    ("a hint of 2^63 - 1", TWO, seventh(b"17 -1 0 9223372036854775807 6 3 4 2 0"), 5, "refused step 7 no-such-clause 9223372036854775807\n"),
+    ("no closing 0", TWO, seventh(b"17 -1 0 7 6 3 4 2"), 5, "refused bad-line 7\n"),
+    ("two closing 0", TWO, seventh(LEMMA + b" 0"), 5, "refused bad-line 7\n"),
+    ("no 0 at all", TWO, seventh(b"17 -1 7 6 3 4 2"), 5, "refused bad-line 7\n"),
+    ("the id alone", TWO, seventh(b"17"), 5, "refused bad-line 7\n"),
+    ("a line without a word", TWO, seventh(b""), 5, "refused bad-line 7\n"),
+    ("a line of blanks", TWO, seventh(b" \t "), 5, "refused bad-line 7\n"),
+    ("blanks around the words", TWO, seventh(b"\t 17  -1 0\t7 6 3 4 2 0 \t"), 0, REFUTED),
+    ("a carriage return", TWO, seventh(LEMMA + b"\r"), 5, "refused bad-line 7\n"),
+    ("a 0 byte", TWO, seventh(LEMMA + b"\x00"), 5, "refused bad-line 7\n"),
+    ("bytes that are no UTF-8", TWO, seventh(b"17 \xff 0 7 6 3 4 2 0"), 5, "refused bad-line 7\n"),
+    ("digits of another script", TWO, seventh("1７ -1 0 7 6 3 4 2 0".encode()), 5, "refused bad-line 7\n"),
+    ("the greatest literal", TWO, seventh(b"17 2147483647 0 1 0"), 5, "refused step 7 bad-literal 2147483647\n"),
+    ("the least literal", TWO, seventh(b"17 -2147483647 0 1 0"), 5, "refused step 7 bad-literal -2147483647\n"),
+    ("a literal one above the variables", TWO, seventh(b"17 9 0 1 0"), 5, "refused step 7 bad-literal 9\n"),
+    ("a fault of the step before one of the line", TWO, seventh(b"17 -1 0 6 7 3 4 2 x"), 5, "refused bad-line 7\n"),
+    ("a lemma with a million literals", TWO, lambda: seventh(b"17" + b" -1" * 1000000 + b" 0 7 6 3 4 2 0"), 0, REFUTED),
+    ("a lemma with a million hints behind the conflict", TWO, lambda: seventh(b"17 -1 0 7 6 3 4 2" + b" -99" * 1000000 + b" 0"), 0, REFUTED),
+    ("a lemma with a million hints that say nothing new", TWO, lambda: seventh(b"17 -1 0" + b" 7" * 1000000 + b" 6 3 4 2 0"), 0, REFUTED),
+    ("a lemma and its negation", TWO, seventh(b"17 -1 1 0 1 0"), 5, "refused step 7 tautology 1\n"),
+    ("a deletion of what came twice", TWO, seventh(b"17 d 1 1 0"), 5, "refused step 7 no-such-clause 1\n"),
+    ("a deletion of what is not held", TWO, seventh(b"17 d 17 0"), 5, "refused step 7 no-such-clause 17\n"),
+    ("a deletion of what is wanted later", TWO, before(b"17 d 2 0"), 5, "refused step 8 no-such-clause 2\n"),
+    ("an empty deletion", TWO, before(b"17 d 0"), 0, REFUTED),
+    ("a deletion under an old id", TWO, before(b"1 d 16 0"), 0, REFUTED),
+    ("a deletion under the greatest id", TWO, before(b"9223372036854775807 d 16 0"), 0, REFUTED),
+    ("a deletion without an id", TWO, before(b"d 16 0"), 5, "refused bad-line 7\n"),
+    ("a deletion of a negative id", TWO, before(b"17 d -1 0"), 5, "refused bad-line 7\n"),
+    ("a deletion of all clauses", TWO, before(b"17 d" + b"".join(b" %d" % i for i in range(1, 17)) + b" 0"), 5, "refused step 8 no-such-clause 7\n"),
+    ("the same lemma again", TWO, before(LEMMA), 5, "refused step 8 id-order 17 17\n"),
+    ("an empty lemma at once", TWO, seventh(b"17 0 0"), 5, "refused step 7 no-conflict\n"),
+    ("an empty lemma by itself", TWO, seventh(b"17 0 17 0"), 5, "refused step 7 no-such-clause 17\n"),
+    ("a step behind the empty lemma", TWO, REFUTATION.replace(b"end", b"19 d 17 0\nend"), 5, "refused bad-line 9\n"),
+    ("no lemma", TWO, head(TWO, "refutation") + b"formula 8 16\nend\n", 5, "refused not-refuted 7\n"),
+    ("the last line feed missing", TWO, REFUTATION[:-1], 5, "refused truncated 9\n"),
+    ("end missing", TWO, REFUTATION[:-4], 5, "refused truncated 9\n"),
+    ("a byte behind the end", TWO, REFUTATION + b"\n", 5, "refused trailing\n"),
+    ("end and a space", TWO, REFUTATION.replace(b"end", b"end "), 5, "refused bad-line 9\n"),
+    ("no byte", TWO, b"", 5, "refused truncated 1\n"),
+    ("the wrong numbers", TWO, REFUTATION.replace(b"8 16", b"8 17"), 5, "refused formula 6\n"),
+    ("the greatest numbers", TWO, REFUTATION.replace(b"8 16", b"9223372036854775807 9223372036854775807"), 5, "refused formula 6\n"),
+    ("a number of 2^63", TWO, REFUTATION.replace(b"8 16", b"8 9223372036854775808"), 5, "refused bad-line 6\n"),
+    ("no clauses", TWO, REFUTATION.replace(b"8 16", b"8 0"), 5, "refused bad-line 6\n"),
+    ("two spaces", TWO, REFUTATION.replace(b"8 16", b"8  16"), 5, "refused bad-line 6\n"),
+    ("a tab", TWO, REFUTATION.replace(b"8 16", b"8\t16"), 5, "refused bad-line 6\n"),
+    ("an empty lemma of no nodes", EMPTY, head(EMPTY, "refutation") + b"formula 0 2\n3 0 1 0\nend\n", 0, REFUTED),
+    ("a literal of no nodes", EMPTY, head(EMPTY, "refutation") + b"formula 0 2\n3 1 0 1 0\nend\n", 5, "refused step 7 bad-literal 1\n"),
+    ("the empty lemma in a partial certificate", TWO, PARTIAL.replace(b"end", b"18 0 17 1 10 8 0\nend"), 5, "refused bad-line 8\n"),
+    ("a lemma twice in a partial certificate", TWO, PARTIAL.replace(b"end", b"18 -1 0 17 0\nend"), 5, "refused not-new 8\n"),
+    ("a pair", THREE, PAIR, 0, "accepted pair\nfrom\nfaulty a\n"),
+    ("a carriage return on line 1", THREE, PAIR.replace(b"cert 1", b"cert 1\r"), 5, "refused bad-line 1\n"),
+    ("carriage returns", THREE, PAIR.replace(b"\n", b"\r\n"), 5, "refused bad-line 1\n"),
+    ("upper-case digits", THREE, PAIR.replace(PAIR[19:83], PAIR[19:83].upper()), 5, "refused bad-line 2\n"),
+    ("63 digits", THREE, PAIR.replace(PAIR[19:83], PAIR[19:82]), 5, "refused bad-line 2\n"),
+    ("another configuration", TWO, PAIR, 5, "refused digest %s %s\n" % (hashlib.sha256(THREE).hexdigest(), hashlib.sha256(TWO).hexdigest())),
+    ("an unknown name", THREE, PAIR.replace(b"from", b"from z"), 5, "refused unknown-node 3\n"),
+    ("two names", THREE, PAIR.replace(b"from", b"from a b"), 5, "refused bad-line 3\n"),
+    ("faulty nodes out of order", THREE, PAIR.replace(b"faulty a", b"faulty b a"), 5, "refused bad-line 4\n"),
+    ("a faulty node twice", THREE, PAIR.replace(b"faulty a", b"faulty a a"), 5, "refused bad-line 4\n"),
+    ("unknown faulty nodes out of order", THREE, PAIR.replace(b"faulty a", b"faulty z y"), 5, "refused bad-line 4\n"),
+    ("an unknown faulty node", THREE, PAIR.replace(b"faulty a", b"faulty z"), 5, "refused unknown-node 4\n"),
+    ("a name that is no key", THREE, PAIR.replace(b"faulty a", b"faulty a,b"), 5, "refused unknown-node 4\n"),
+    ("an unknown kind", THREE, PAIR.replace(b"kind pair", b"kind other"), 5, "refused bad-line 5\n"),
+    ("no kind", THREE, PAIR.replace(b"kind pair", b"kind"), 5, "refused bad-line 5\n"),
+    ("a set of nobody", THREE, PAIR.replace(b"first b", b"first"), 5, "refused not-quorum 6\n"),
+    ("a faulty node in a set", THREE, PAIR.replace(b"first b", b"first a b"), 5, "refused not-quorum 6\n"),
+    ("the sets in the other order", THREE, PAIR.replace(b"first b\nsecond c", b"first c\nsecond b"), 0, "accepted pair\nfrom\nfaulty a\n"),
+    ("the lines in the other order", THREE, PAIR.replace(b"first b\nsecond c", b"second c\nfirst b"), 5, "refused bad-line 6\n"),
+    ("one set twice", THREE, PAIR.replace(b"second c", b"second b"), 5, "refused overlap 7 b\n"),
+    ("a quorum outside the trust closure", APART, head(APART, "pair", " a") + b"first a b\nsecond c d\nend\n", 5, "refused unknown-node 7\n"),
+    ("a name of a million bytes", THREE, lambda: PAIR.replace(b"first b", b"first " + b"b" * 1000000), 5, "refused unknown-node 6\n"),
+    ("a million names", THREE, lambda: PAIR.replace(b"first b", b"first" + b"".join(b" %06d" % i for i in range(1000000))), 5, "refused unknown-node 6\n"),
+    ("134,217,728 spaces and no more", THREE, lambda: head(THREE, "pair") + b" " * MOST_LINE, 5, "refused truncated 6\n"),
+    ("a line of 134,217,728 spaces", THREE, lambda: head(THREE, "pair") + b" " * MOST_LINE + b"\n", 5, "refused bad-line 6\n"),
+    ("134,217,729 spaces", THREE, lambda: head(THREE, "pair") + b" " * (MOST_LINE + 1), 5, "refused line-too-long 6\n"),
+    ("a first line of 134,217,729 bytes", THREE, lambda: b"x" * (MOST_LINE + 1) + b"\n", 5, "refused line-too-long 1\n"),
+    ("a lemma with blanks up to 134,217,728 bytes", TWO, lambda: seventh(LEMMA.ljust(MOST_LINE)), 0, REFUTED),
+    ("a lemma with blanks up to 134,217,729 bytes", TWO, lambda: seventh(LEMMA.ljust(MOST_LINE + 1)), 5, "refused line-too-long 7\n"),
+]
+
+# The same, of lists of sets.
+BLOCKS = b"q 1 a b\nq 2 a c\nq 3 b c\nb 4 a b\nb 5 a c\nb 6 b c\n7 -1 0 4 5 3 0\n8 0 7 1 2 6 0\nend\n"
+BLOCKING = head(THREE, "blocking") + BLOCKS
+LISTED = "accepted blocking 3\nfrom\nfaulty\nset a b\nset a c\nset b c\n"
+SOME = head(THREE, "partial-blocking")
+
+LISTS = [
+    ("as it should be", THREE, BLOCKING, 0, LISTED),
+    ("a set left out", THREE, BLOCKING.replace(b"b 6 b c\n", b""), 5, "refused step 12 no-such-clause 6\n"),
+    ("a set again", THREE, BLOCKING.replace(b"b 6 b c", b"b 6 a b"), 5, "refused not-new 11\n"),
+    ("a set again once its clause is deleted", THREE, BLOCKING.replace(b"7 -1", b"7 d 6 0\nb 7 b c\n8 -1").replace(b"8 0 7 1 2 6", b"9 0 8 1 2 7"), 0, LISTED),
+    ("a set that does not block", THREE, BLOCKING.replace(b"b 4 a b", b"b 4 a"), 5, "refused not-blocking 9\n"),
+    ("a set of nobody", THREE, BLOCKING.replace(b"b 4 a b", b"b 4"), 5, "refused not-blocking 9\n"),
+    ("a set that is not minimal", THREE, BLOCKING.replace(b"b 4 a b", b"b 4 a b c"), 5, "refused not-minimal 9\n"),
+    ("no quorum", THREE, BLOCKING.replace(b"q 1 a b", b"q 1 a"), 5, "refused not-quorum 6\n"),
+    ("a quorum of nobody", THREE, BLOCKING.replace(b"q 1 a b", b"q 1"), 5, "refused not-quorum 6\n"),
+    ("an unknown node", THREE, BLOCKING.replace(b"q 1 a b", b"q 1 a z"), 5, "refused unknown-node 6\n"),
+    ("names out of order", THREE, BLOCKING.replace(b"q 1 a b", b"q 1 b a"), 5, "refused bad-line 6\n"),
+    ("the id 0", THREE, BLOCKING.replace(b"q 1 a b", b"q 0 a b"), 5, "refused bad-line 6\n"),
+    ("a leading 0", THREE, BLOCKING.replace(b"q 1 a b", b"q 01 a b"), 5, "refused bad-line 6\n"),
+    ("an id of 2^63", THREE, BLOCKING.replace(b"q 1 a b", b"q 9223372036854775808 a b"), 5, "refused bad-line 6\n"),
+    ("the greatest id", THREE, BLOCKING.replace(b"q 1 a b", b"q 9223372036854775807 a b"), 5, "refused step 7 id-order 9223372036854775807 2\n"),
+    ("two spaces", THREE, BLOCKING.replace(b"q 1 a b", b"q 1  a b"), 5, "refused bad-line 6\n"),
+    ("an id again", THREE, BLOCKING.replace(b"q 2", b"q 1"), 5, "refused step 7 id-order 1 1\n"),
+    ("a literal above the nodes", THREE, BLOCKING.replace(b"7 -1", b"7 -4"), 5, "refused step 12 bad-literal -4\n"),
+    ("a line behind the empty lemma", THREE, BLOCKING.replace(b"end", b"q 9 a b\nend"), 5, "refused bad-line 14\n"),
+    ("no empty lemma", THREE, BLOCKING.replace(b"8 0 7 1 2 6 0\n", b""), 5, "refused not-refuted 13\n"),
+    ("a step of a refutation", TWO, before(b"q 17 p q"), 5, "refused bad-line 7\n"),
+    ("one quorum of some", THREE, SOME + b"q 1 a b\nend\n", 2, "accepted partial-blocking 1\nfrom\nfaulty\n"),
+    ("nothing of some", THREE, SOME + b"end\n", 2, "accepted partial-blocking 0\nfrom\nfaulty\n"),
+    ("a greater quorum", THREE, SOME + b"q 1 a b\nq 2 a b c\nend\n", 5, "refused not-new 7\n"),
+    ("a lesser quorum", THREE, SOME + b"q 1 a b c\nq 2 a b\nend\n", 2, "accepted partial-blocking 2\nfrom\nfaulty\n"),
+    ("an empty lemma of some", THREE, SOME + b"q 1 a b\n2 0 1 0\nend\n", 5, "refused bad-line 7\n"),
+    ("nobody blocks no nodes", EMPTY, head(EMPTY, "blocking") + b"b 1\n2 0 1 0\nend\n", 0, "accepted blocking 1\nfrom\nfaulty\nset\n"),
+    ("nobody blocks no nodes, of some", EMPTY, head(EMPTY, "partial-blocking") + b"b 1\nend\n", 2, "accepted partial-blocking 1\nfrom\nfaulty\n"),
+    ("nobody twice", EMPTY, head(EMPTY, "blocking") + b"b 1\nb 2\n", 5, "refused not-new 7\n"),
+]
+
+
+class Trial:
+    def __init__(self, folder, program):
+        self.folder, self.program = folder, os.path.abspath(program)
+        self.passed = self.failed = 0
+
+    def put(self, name, data):
+        """Writes a file; great ones are made when they are wanted."""
+        with open(os.path.join(self.folder, name), "wb") as it:
+            it.write(data() if callable(data) else data)
+
+    def run(self, *words, most=None):
+        """Runs the program, which may write files of so many bytes at most."""
+
+        def prepare():
+            if most is not None:
+                signal.signal(signal.SIGXFSZ, signal.SIG_IGN)
+                resource.setrlimit(resource.RLIMIT_FSIZE, (most, most))
+
+        ended = subprocess.run([self.program] + list(words), cwd=self.folder, stdin=subprocess.DEVNULL, stdout=subprocess.PIPE, stderr=subprocess.PIPE, timeout=300, preexec_fn=prepare)
+        return ended.returncode, ended.stdout.decode("latin-1"), ended.stderr.decode("latin-1")
+
+    def row(self, name, status, text, *words):
+        self.judge(name, self.run(*words), (status, text, ""))
+
+    def judge(self, name, found, wanted):
+        if found == wanted:
+            self.passed += 1
+        else:
+            self.failed += 1
+            print("malicious: %s: found %r, wanted %r" % (name, found, wanted))
+
+    def held(self, name):
+        with open(os.path.join(self.folder, name), "rb") as it:
+            return it.read()
+
+    def full_files(self, *words):
+        """A search whose certificate finds no room behind so many bytes, for each number below its length."""
+        self.put("config", THREE)
+        self.put("made", b"old\n")
+        self.run(*words)
+        whole = self.held("made")
+        for most in range(len(whole)):
+            self.put("made", b"old\n")
+            ended = self.run(*words, most=most)
+            self.judge("room for %d bytes: %s" % (most, " ".join(words)), (ended, self.held("made")), ((7, "", ""), whole[:most]))
+            if most % 8 == 0:
+                line = 1 + whole[:most].count(b"\n")
+                self.row("%d bytes written" % most, 5, "refused truncated %d\n" % line, "check", "config", "made")
+
+
+def main(program=BUILT):
+    with tempfile.TemporaryDirectory() as folder:
+        trial = Trial(folder, program)
+        for name, config, status, text in CONFIGURATIONS:
+            trial.put("config", config)
+            trial.row("configuration: " + name, status, text, "show", "config")
+        trial.put("config", TWO)
+        for name, orgs, status, text in ORGANISATIONS:
+            trial.put("orgs", orgs)
+            trial.row("organisations: " + name, status, text, "greatest", "config", "--orgs", "orgs", "--faulty-orgs", "A")
+        for name, config, cert, status, text in CERTIFICATES + LISTS:
+            trial.put("config", config)
+            trial.put("cert", cert)
+            trial.row("certificate: " + name, status, text, "check", "config", "cert")
+        trial.full_files("intersect", "config", "made")
+        trial.full_files("intersect", "config", "made", "--faulty", "a")
+    print("malicious: %d passed, %d failed" % (trial.passed, trial.failed))
+    return 1 if trial.failed else 0
+
+
+if __name__ == "__main__":
+    sys.exit(main(*sys.argv[1:2]))

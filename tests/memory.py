@@ -1,0 +1,221 @@
+#!/usr/bin/env python3
+"""Runs the built program under limits of memory: an answer or status 8, never a crash, never a part of a certificate.
+
+Configurations of 16 MB and certificates of 1 GB are made, run without a limit (the largest memory is measured) and under
+limits of address space (ulimit -v); then the least stack is sought (ulimit -s) under which deep files are answered.
+Beside the gate, by hand: tests/memory.py [PROGRAM]; it takes some minutes, and its last line is 'memory: N passed, M failed'.
+"""
+
+import os
+import resource
+import subprocess
+import sys
+import tempfile
+import threading
+import time
+
+sys.path.insert(0, os.path.dirname(os.path.abspath(__file__)))
+import malicious
+
+MB = 1 << 20
+MOST_BYTES = 16777216
+GREAT = 1000000000
+LIMITS = [16, 24, 32, 48, 64, 96, 128, 192, 256, 384, 512, 768, 1024, 1536, 2048]
+
+
+def filled(head, piece, tail):
+    """A JSON text as near to 16 MB as whole pieces allow, parted by commas."""
+    count = (MOST_BYTES - len(head) - len(tail)) // (len(piece) + 1)
+    return head + b",".join([piece] * count) + tail, count
+
+
+def configurations():
+    """Names, files and the answers of 'show'."""
+    nothing = b'[{"publicKey":"a","x":['
+    data, _ = filled(nothing, b'{"":0}', b"]}]")
+    yield "two million skipped objects", data, malicious.shown(1, 0, 1)
+    data, _ = filled(nothing, b"[]", b"]}]")
+    yield "five million skipped arrays", data, malicious.shown(1, 0, 1)
+    data, _ = filled(nothing, b"0", b"]}]")
+    yield "eight million skipped numbers", data, malicious.shown(1, 0, 1)
+    yield "one skipped text", nothing[:-1] + b'"' + b"x" * (MOST_BYTES - 30) + b'"}]', malicious.shown(1, 0, 1)
+    sets = malicious.one(b'{"threshold":1,"innerQuorumSets":[' + b",".join([b'{"threshold":0}'] * 1000000) + b"]}")
+    yield "a million empty quorum sets", sets, malicious.shown(1, 1000000, 0, *("threshold a .%d 0 0" % i for i in range(1000000)))
+    keys = malicious.one(b'{"threshold":1,"validators":[' + b",".join([b'"a"'] * 1000000) + b"]}")
+    yield "a million validators", keys, malicious.shown(1, 1000000, 0, "repeated a . a")
+    yield "three nodes and blanks", malicious.THREE.ljust(MOST_BYTES), malicious.shown(3, 9, 0)
+
+
+def certificates():
+    """Names, what makes the pieces of a certificate of 1 GB on two nodes, and the answers of 'check'."""
+    start = malicious.head(malicious.TWO, "refutation") + b"formula 8 16\n"
+
+    def lemmas(deleted):
+        def pieces():
+            yield start
+            number, sent = 17, 0
+            while sent < GREAT:
+                line = b"%d -1 0 7 6 3 4 2 0\n" + b"%d d %d 0\n" * deleted
+                piece = b"".join(line % ((i,) * (1 + 2 * deleted)) for i in range(number, number + 20000))
+                number, sent = number + 20000, sent + len(piece)
+                yield piece
+            yield b"%d -1 0 7 6 3 4 2 0\n%d 0 %d 1 10 8 0\nend\n" % (number, number + 1, number)
+
+        return pieces
+
+    def long_lines(middle):
+        def pieces():
+            yield start
+            for number in range(17, 25):
+                yield b"%d -1" % number + middle * ((GREAT // 8 - 40) // len(middle)) + b" 0 7 6 3 4 2 0\n"
+            yield b"25 0 24 1 10 8 0\nend\n"
+
+        return pieces
+
+    def no_line():
+        for _ in range(GREAT // 1000000):
+            yield b"fbas-cert" * 111111
+
+    yield "forty million lemmas", lemmas(False), (0, malicious.REFUTED)
+    yield "lemmas, each deleted", lemmas(True), (0, malicious.REFUTED)
+    yield "eight lemmas of 125 MB of literals", long_lines(b" -1"), (0, malicious.REFUTED)
+    yield "eight lemmas of 125 MB of blanks", long_lines(b" "), (0, malicious.REFUTED)
+    yield "no line feed", no_line, (5, "refused line-too-long 1\n")
+
+
+class Ended:
+    """How a run ended: status, texts, largest memory in MB, seconds of processor time."""
+
+    def __init__(self, words, folder, limit=None, stack=None, pieces=None):
+        def prepare():
+            if limit:
+                resource.setrlimit(resource.RLIMIT_AS, (limit, limit))
+            if stack:
+                resource.setrlimit(resource.RLIMIT_STACK, (stack, stack))
+
+        with open(os.path.join(folder, "out"), "w+b") as out, open(os.path.join(folder, "err"), "w+b") as err:
+            started = subprocess.Popen(words, cwd=folder, stdin=subprocess.PIPE if pieces else subprocess.DEVNULL, stdout=out, stderr=err, preexec_fn=prepare)
+            if pieces:
+                threading.Thread(target=self.feed, args=(started.stdin, pieces), daemon=True).start()
+            _, ended, used = os.wait4(started.pid, 0)
+            started.returncode = self.status = os.waitstatus_to_exitcode(ended)
+            out.seek(0)
+            err.seek(0)
+            self.text, self.err = out.read().decode("latin-1"), err.read().decode("latin-1")
+        self.memory, self.time = used.ru_maxrss / 1024, used.ru_utime + used.ru_stime
+
+    @staticmethod
+    def feed(pipe, pieces):
+        try:
+            with pipe:
+                for piece in pieces():
+                    pipe.write(piece)
+        except BrokenPipeError:
+            pass
+
+    def is_right(self, status, text):
+        return (self.status, self.text, self.err) == (status, text, "")
+
+    def is_want(self):
+        return self.is_right(8, "")
+
+
+class Trial:
+    def __init__(self, folder, program):
+        self.folder, self.program = folder, os.path.abspath(program)
+        self.passed = self.failed = 0
+
+    def put(self, name, data):
+        with open(os.path.join(self.folder, name), "wb") as it:
+            it.write(data)
+
+    def held(self, name):
+        with open(os.path.join(self.folder, name), "rb") as it:
+            return it.read()
+
+    def judge(self, name, right, ended):
+        if right:
+            self.passed += 1
+        else:
+            self.failed += 1
+            print("memory: %s: status %d, %r, %r" % (name, ended.status, ended.text[:100], ended.err[:100]))
+
+    def limits(self, name, words, status, text, pieces=None, every=LIMITS, after=None):
+        """Without a limit and under each: the answer, or 8 with nothing put out."""
+        ended = Ended([self.program] + words, self.folder, pieces=pieces)
+        self.judge(name, ended.is_right(status, text) and (not after or after(ended)), ended)
+        wanted = []
+        for limit in every:
+            less = Ended([self.program] + words, self.folder, limit=limit * MB, pieces=pieces)
+            right = less.is_right(status, text) or less.is_want()
+            self.judge("%s under %d MB" % (name, limit), right and (not after or after(less)), less)
+            if less.is_want():
+                wanted.append(limit)
+        print("%-40s %5.0f MB, %6.2f s; status 8 under %s" % (name, ended.memory, ended.time, ("at most %d MB" % wanted[-1]) if wanted else "none of the limits"))
+        sys.stdout.flush()
+
+    def searches(self):
+        """A search leaves the certificate as it was, or whole and accepted."""
+        for name, config, command, text in [
+            ("intersect, three nodes and blanks", malicious.THREE.ljust(MOST_BYTES), "intersect", "intersects yes\n"),
+            ("intersect, twelve of sixteen", malicious.system("abcdefghijklmnop", 12), "intersect", "intersects yes\n"),
+        ]:
+            self.put("config", config)
+            self.put("cert", b"old\n")
+
+            def after(ended):
+                if ended.status == 8:
+                    whole = self.held("cert") == b"old\n"
+                else:
+                    whole = Ended([self.program, "check", "config", "cert"], self.folder).is_right(0, malicious.REFUTED)
+                self.put("cert", b"old\n")
+                return whole
+
+            self.limits(name, [command, "config", "cert"], 0, text, after=after)
+
+    def stack(self):
+        """The least stack under which the deepest files are answered."""
+        deep = b"[" * 127 + b"]" * 127
+        skipped = b'[{"publicKey":"a","x":' + b"[" * 125 + b"]" * 125 + b"}]"
+        sets = b"[" + b",".join(b'{"publicKey":"%s","quorumSet":%s}' % (it, malicious.nested(16)) for it in (b"a", b"b")) + b"]"
+        self.put("deep", deep)
+        self.put("skipped", skipped)
+        self.put("sets", sets)
+        self.put("cert", malicious.head(sets, "pair") + b"first a\nsecond b\nend\n")
+        rows = [
+            (["show", "deep"], 4, "config not-node 0\n"),
+            (["show", "skipped"], 0, malicious.shown(1, 0, 1)),
+            (["show", "sets"], 0, malicious.shown(2, 32, 0)),
+            (["greatest", "sets", "--from", "b"], 0, "greatest a b\n"),
+            (["check", "sets", "cert"], 5, "refused not-quorum 7\n"),
+            (["intersect", "sets", "made"], 0, "intersects yes\n"),
+            (["intersect"], 3, None),
+        ]
+        for size in (8192, 1024, 512, 256, 192, 128, 96, 64, 48, 32, 16):
+            bad = []
+            for words, status, text in rows:
+                ended = Ended([self.program] + words, self.folder, stack=size * 1024)
+                if not (ended.status == status and ended.err == "" and text in (None, ended.text)):
+                    bad.append("%s: %d" % (" ".join(words), ended.status))
+            print("stack of %5d kB: %s" % (size, "; ".join(bad) or "all answered"))
+            if size == 8192:
+                self.judge("stack of 8 MB", not bad, ended)
+
+
+def main(program=malicious.BUILT):
+    with tempfile.TemporaryDirectory() as folder:
+        trial = Trial(folder, program)
+        trial.stack()
+        trial.searches()
+        for name, data, text in configurations():
+            trial.put("config", data)
+            trial.limits("show, " + name, ["show", "config"], 0, text)
+        trial.put("config", malicious.TWO)
+        for name, pieces, answer in certificates():
+            trial.limits("check, " + name, ["check", "config", "/dev/stdin"], *answer, pieces=pieces, every=[16, 64, 256, 1024])
+    print("memory: %d passed, %d failed" % (trial.passed, trial.failed))
+    return 1 if trial.failed else 0
+
+
+if __name__ == "__main__":
+    sys.exit(main(*sys.argv[1:2]))

@@ -1,0 +1,608 @@
+#!/usr/bin/env python3
+"""A second checker of certificates, plain and slow, written from docs/FORMATS.md and docs/DEFINITIONS.md and not from the code.
+
+It answers 'check CONFIG CERT' with the program's status and text, and reads organisations, so that tests/fuzz.py can
+compare the two. Nothing here is proved. By hand: tests/plain_checker.py CONFIG CERT
+"""
+
+import hashlib
+import json
+import math
+import re
+import sys
+
+MOST_BYTES = 16777216
+MOST_NAMES = 4096
+MOST_ENTRIES = 1000000
+MOST_DEPTH = 16
+MOST_VARS = 4000000
+MOST_LINE = 134217728
+MOST_ID = 2**63 - 1
+MOST_LIT = 2**31 - 1
+
+KINDS = ("pair", "refutation", "partial", "blocking", "partial-blocking")
+
+sys.setrecursionlimit(10000)
+
+
+class Fault(Exception):
+    """The first fault of a file: what is printed behind the word that names the file, or the whole line and its status."""
+
+
+# ---- JSON, configurations and organisations
+
+
+def whole_or_float(text):
+    """A number without fraction and exponent: whole where 64 bits hold it, else a float, as -0 is."""
+    number = int(text) if len(text) < 30 else None
+    if number is not None and text != "-0" and -(2**63) <= number < 2**64:
+        return number
+    return finite(text)
+
+
+def finite(text):
+    number = float(text)
+    if math.isinf(number):
+        raise ValueError("no binary64 holds it")
+    return number
+
+
+def no_constant(text):
+    raise ValueError(text)
+
+
+def tree_of(data):
+    """The tree of a JSON text; of a member that comes twice the last one counts."""
+    try:
+        text = data.decode("utf-8")
+        depth = 0
+        for mark in re.findall(r'"(?:[^"\\]|\\.)*"?|[\[\]{}]', text, re.DOTALL):
+            depth += {"[": 1, "{": 1, "]": -1, "}": -1}.get(mark, 0)
+            if depth > 127:
+                raise ValueError("too deep")
+            if "\\u" in mark:
+                # Half of a surrogate pair is no text.
+                json.loads(mark).encode("utf-8")
+        return json.loads(text, parse_int=whole_or_float, parse_float=finite, parse_constant=no_constant)
+    except (ValueError, RecursionError):
+        raise Fault("not-json")
+
+
+def is_key(it):
+    return isinstance(it, str) and re.fullmatch(r"[!-+\--~]{1,128}", it) is not None
+
+
+def keys_of(it):
+    """A list of keys that may be missing or null; None where it is something else."""
+    if it is None:
+        return []
+    return it if isinstance(it, list) and all(is_key(key) for key in it) else None
+
+
+def quorum_set_of(it, place, depth):
+    """A quorum set: its threshold and its entries, which are names and quorum sets."""
+    if depth > MOST_DEPTH:
+        raise Fault("too-deep %d" % place)
+    if not isinstance(it, dict):
+        raise Fault("bad-quorum-set %d shape" % place)
+    threshold = it.get("threshold")
+    if type(threshold) is not int or threshold < 0:
+        raise Fault("bad-quorum-set %d threshold" % place)
+    validators = keys_of(it.get("validators"))
+    if validators is None:
+        raise Fault("bad-quorum-set %d validators" % place)
+    inner = it.get("innerQuorumSets")
+    if inner is not None and not isinstance(inner, list):
+        raise Fault("bad-quorum-set %d inner" % place)
+    return threshold, validators + [quorum_set_of(each, place, depth + 1) for each in inner or []]
+
+
+def mentioned(quorum_set):
+    for entry in quorum_set[1]:
+        if isinstance(entry, str):
+            yield entry
+        else:
+            yield from mentioned(entry)
+
+
+def entries(quorum_set):
+    return sum(1 if isinstance(entry, str) else 1 + entries(entry) for entry in quorum_set[1])
+
+
+def system_of(data):
+    """The system of a configuration: a quorum set, or None, by name."""
+    if len(data) > MOST_BYTES:
+        raise Fault("too-long")
+    tree = tree_of(data)
+    if not isinstance(tree, list):
+        raise Fault("not-nodes")
+    declared = {}
+    for place, node in enumerate(tree):
+        if not isinstance(node, dict):
+            raise Fault("not-node %d" % place)
+        key = node.get("publicKey")
+        if not is_key(key):
+            raise Fault("bad-key %d" % place)
+        if key in declared:
+            raise Fault("duplicate %d" % place)
+        given = node.get("quorumSet")
+        declared[key] = None if given is None else quorum_set_of(given, place, 1)
+    sets = [each for each in declared.values() if each]
+    names = set(declared).union(*(mentioned(each) for each in sets))
+    if len(names) > MOST_NAMES:
+        raise Fault("too-many-nodes %d" % len(names))
+    if sum(map(entries, sets)) > MOST_ENTRIES:
+        raise Fault("too-many-entries %d" % sum(map(entries, sets)))
+    return {name: declared.get(name) for name in names}
+
+
+def orgs_of(data, system):
+    """The organisations: their members among the system's nodes, by id."""
+    if len(data) > MOST_BYTES:
+        raise Fault("too-long")
+    tree = tree_of(data)
+    if not isinstance(tree, list):
+        raise Fault("not-orgs")
+    orgs = {}
+    for place, it in enumerate(tree):
+        if not isinstance(it, dict) or not is_key(it.get("id")):
+            raise Fault("bad-org %d" % place)
+        if it["id"] in orgs:
+            raise Fault("duplicate-org %d" % place)
+        validators = keys_of(it.get("validators"))
+        if validators is None:
+            raise Fault("bad-org %d" % place)
+        orgs[it["id"]] = set(validators) & set(system)
+    if len(orgs) > MOST_NAMES:
+        raise Fault("too-many-orgs %d" % len(orgs))
+    return orgs
+
+
+def listed(text, known):
+    """The items of a list of names on the command line, or its first fault with its place."""
+    items = text.split(",") if text else []
+    for place, item in enumerate(items, 1):
+        if not item:
+            raise Fault("empty-name %d" % place)
+        if not is_key(item):
+            raise Fault("bad-name %d" % place)
+        if item not in known:
+            raise Fault("unknown-name %d" % place)
+    return set(items)
+
+
+# ---- Quorums
+
+
+def satisfied(quorum_set, inside):
+    """Whether some choice of the quorum set lies inside the set."""
+    threshold, entry_list = quorum_set
+    met = sum(entry in inside if isinstance(entry, str) else satisfied(entry, inside) for entry in entry_list)
+    return 1 <= threshold <= len(entry_list) and met >= threshold
+
+
+def has_slice(system, node, inside):
+    return system[node] is not None and satisfied(system[node], inside)
+
+
+def is_quorum(system, faulty, nodes):
+    return bool(nodes) and not nodes & faulty and all(has_slice(system, node, nodes | faulty) for node in nodes)
+
+
+def greatest_in(system, faulty, nodes):
+    """The greatest quorum among the nodes, empty where there is none."""
+    left = nodes - faulty
+    while True:
+        stays = {node for node in left if has_slice(system, node, left | faulty)}
+        if stays == left:
+            return left
+        left = stays
+
+
+def blocks(system, faulty, nodes):
+    return not greatest_in(system, faulty, set(system) - nodes)
+
+
+def closure(system, node):
+    reached, fresh = {node}, [node]
+    while fresh:
+        quorum_set = system[fresh.pop()]
+        for name in mentioned(quorum_set) if quorum_set else ():
+            if name not in reached:
+                reached.add(name)
+                fresh.append(name)
+    return reached
+
+
+# ---- The intersection formula
+
+ALWAYS, NEVER = "always", "never"
+
+
+def circuit_of(quorum_set, greatest, faulty):
+    """Always, never, or how many are wanted of which inputs: names and such pairs."""
+    threshold, entry_list = quorum_set
+    if not 1 <= threshold <= len(entry_list):
+        return NEVER
+    inputs = []
+    for entry in entry_list:
+        if isinstance(entry, str):
+            it = ALWAYS if entry in faulty else (entry,) if entry in greatest else NEVER
+        else:
+            it = circuit_of(entry, greatest, faulty)
+        if it == ALWAYS:
+            threshold -= 1
+        elif it != NEVER:
+            inputs.append(it)
+    if threshold <= 0:
+        return ALWAYS
+    return (threshold, inputs) if threshold <= len(inputs) else NEVER
+
+
+def gate_variables(circuit):
+    if len(circuit) == 1:
+        return 0
+    k, inputs = circuit
+    n = len(inputs)
+    own = 1 if k == n or k == 1 else k * (k + 1) // 2 + (n - k) * k
+    return own + sum(map(gate_variables, inputs))
+
+
+class Formula:
+    """The intersection formula: the number of its variables, and its clauses in order."""
+
+    def __init__(self, system, faulty):
+        order = sorted(greatest_in(system, faulty, set(system)))
+        circuits = [circuit_of(system[name], set(order), faulty) for name in order]
+        circuits = [(i, circuit) for i, circuit in enumerate(circuits, 1) if circuit != ALWAYS]
+        g = len(order)
+        self.variables = 2 * g + 2 * sum(gate_variables(circuit) for _, circuit in circuits)
+        self.clauses = []
+        if self.variables > MOST_VARS:
+            return
+        self.used = 2 * g
+        self.clauses += [list(range(1, g + 1)), list(range(g + 1, 2 * g + 1))]
+        self.clauses += [[-i, -(g + i)] for i in range(1, g + 1)]
+        for side in (0, g):
+            self.numbers = {name: side + i for i, name in enumerate(order, 1)}
+            for i, circuit in circuits:
+                self.clauses.append([-(side + i), self.gate(circuit)])
+
+    def fresh(self):
+        self.used += 1
+        return self.used
+
+    def gate(self, circuit):
+        """The variable of a circuit, once its clauses are written."""
+        if len(circuit) == 1:
+            return self.numbers[circuit[0]]
+        k, inputs = circuit
+        x = [self.gate(each) for each in inputs]
+        n = len(x)
+        if k == n:
+            z = self.fresh()
+            self.clauses += [[-z, each] for each in x]
+            return z
+        if k == 1:
+            z = self.fresh()
+            self.clauses.append([-z] + list(dict.fromkeys(x)))
+            return z
+        s = {(i, j): self.fresh() for i in range(1, n + 1) for j in range(1, min(i, k) + 1)}
+        for (i, j), it in s.items():
+            before = [s[i - 1, j]] if j <= i - 1 else []
+            self.clauses.append([-it] + before + [x[i - 1]])
+            if j >= 2:
+                self.clauses.append([-it] + before + [s[i - 1, j - 1]])
+        return s[n, k]
+
+
+# ---- Steps
+
+
+def number_in(word, least, most):
+    if re.fullmatch(r"0|-?[1-9][0-9]*", word) and len(word) < 30 and least <= int(word) <= most:
+        return int(word)
+    raise ValueError(word)
+
+
+def numbers_up_to_zero(words, least, most):
+    numbers = []
+    for word in words:
+        number = number_in(word, least, most)
+        if number == 0:
+            return numbers
+        numbers.append(number)
+    raise ValueError("no zero")
+
+
+def step_in(line):
+    """The step of a line: its id with literals and hints, or None with the ids that it deletes. ValueError where it is none."""
+    if re.search(rb"[^\t -~]", line):
+        raise ValueError("bytes")
+    words = line.decode().split()
+    if not words:
+        raise ValueError("no word")
+    number = number_in(words[0], 1, MOST_ID)
+    if words[1:2] == ["d"]:
+        rest = iter(words[2:])
+        step = (None, numbers_up_to_zero(rest, 0, MOST_ID), [])
+    else:
+        rest = iter(words[1:])
+        literals = numbers_up_to_zero(rest, -MOST_LIT, MOST_LIT)
+        step = (number, literals, numbers_up_to_zero(rest, -MOST_ID, MOST_ID))
+    if next(rest, None) is not None:
+        raise ValueError("extra")
+    return step
+
+
+class Held:
+    """The clauses that are held, by id, with the last id."""
+
+    def __init__(self, variables, clauses):
+        self.variables = variables
+        self.clauses = {i: frozenset(clause) for i, clause in enumerate(clauses, 1)}
+        self.last = len(clauses)
+
+    def in_order(self, number):
+        if number <= self.last:
+            raise Fault("id-order %d %d" % (self.last, number))
+
+    def hold(self, number, literals):
+        self.clauses[number] = frozenset(literals)
+        self.last = number
+
+    def covers(self, literals):
+        literals = set(literals)
+        return any(clause <= literals for clause in self.clauses.values())
+
+    def delete(self, numbers):
+        gone = set()
+        for number in numbers:
+            if number not in self.clauses or number in gone:
+                raise Fault("no-such-clause %d" % number)
+            gone.add(number)
+        for number in numbers:
+            del self.clauses[number]
+
+    def follows(self, number, literals, hints):
+        """Takes no addition; raises the fault of one that does not follow."""
+        self.in_order(number)
+        true = set()
+        for literal in literals:
+            if abs(literal) > self.variables:
+                raise Fault("bad-literal %d" % literal)
+            if literal in true:
+                raise Fault("tautology %d" % literal)
+            true.add(-literal)
+        for place, hint in enumerate(hints, 1):
+            if hint < 0:
+                raise Fault("rat-step %d" % place)
+            if hint not in self.clauses:
+                raise Fault("no-such-clause %d" % hint)
+            open_ones = {literal for literal in self.clauses[hint] if -literal not in true}
+            if not open_ones:
+                return
+            if len(open_ones) > 1:
+                raise Fault("not-unit %d" % place)
+            true |= open_ones
+        raise Fault("no-conflict")
+
+
+# ---- Certificates
+
+
+class Refused(Exception):
+    """The status and the line of a certificate that is not accepted."""
+
+    def __init__(self, text, status=5):
+        super().__init__(text)
+        self.status, self.text = status, text + "\n"
+
+
+def names_of(rest):
+    """The names of a list: one space before each, strictly rising."""
+    if rest and not re.fullmatch(rb"( [!-~]+)+", rest):
+        raise ValueError("no list")
+    names = rest.decode().split(" ")[1:]
+    if any(a >= b for a, b in zip(names, names[1:])):
+        raise ValueError("order")
+    return names
+
+
+def spelled(names):
+    return "".join(" " + name for name in sorted(names))
+
+
+class Check:
+    """Goes through a certificate line by line."""
+
+    def __init__(self, system, digest, data):
+        self.whole, self.digest, self.data = system, digest, data
+        self.at = 0
+        self.line_number = 0
+
+    def refuse(self, word, *rest):
+        raise Refused(" ".join(["refused", word, str(self.line_number)] + list(rest)))
+
+    def line(self):
+        self.line_number += 1
+        end = self.data.find(b"\n", self.at)
+        if (len(self.data) if end < 0 else end) - self.at > MOST_LINE:
+            self.refuse("line-too-long")
+        if end < 0:
+            self.refuse("truncated")
+        line, self.at = self.data[self.at : end], end + 1
+        return line
+
+    def exactly(self, text):
+        if self.line() != text:
+            self.refuse("bad-line")
+
+    def matching(self, pattern, line=None):
+        """The groups of the pattern that the line is."""
+        found = re.fullmatch(pattern, self.line() if line is None else line, re.DOTALL)
+        if not found:
+            self.refuse("bad-line")
+        return found.groups()
+
+    def names(self, rest):
+        try:
+            return names_of(rest)
+        except ValueError:
+            self.refuse("bad-line")
+
+    def known(self, names, system):
+        if not set(names) <= set(system):
+            self.refuse("unknown-node")
+        return set(names)
+
+    def accepted(self):
+        """The status and the text of what is accepted."""
+        self.exactly(b"fbas-cert 1")
+        (digits,) = self.matching(rb"config ([0-9a-f]{64})")
+        if digits.decode() != self.digest:
+            raise Refused("refused digest %s %s" % (digits.decode(), self.digest))
+        (start,) = self.matching(rb"from( [!-~]+)?")
+        start = start.decode()[1:] if start else None
+        part = closure(self.whole, start) if self.known([start] if start else [], self.whole) else set(self.whole)
+        (rest,) = self.matching(rb"faulty(.*)")
+        self.faulty = self.known(self.names(rest), self.whole) & part
+        self.system = {name: self.whole[name] for name in part}
+        (kind,) = self.matching(rb"kind (.*)")
+        if kind.decode("latin-1") not in KINDS:
+            self.refuse("bad-line")
+        answer, status, lines = self.body(kind.decode())
+        if self.at < len(self.data):
+            raise Refused("refused trailing")
+        head = "accepted %s\nfrom%s\nfaulty%s\n" % (answer, spelled([start] if start else []), spelled(self.faulty))
+        return status, head + lines
+
+    def body(self, kind):
+        if kind == "pair":
+            self.pair()
+            return "pair", 0, ""
+        if kind in ("refutation", "partial"):
+            self.formula()
+        else:
+            self.order = sorted(greatest_in(self.system, self.faulty, set(self.system)))
+            self.held = Held(len(self.order), [])
+        units, sets = self.steps(kind)
+        if kind == "refutation":
+            return kind, 0, ""
+        if kind == "blocking":
+            return "blocking %d" % len(sets), 0, "".join("set%s\n" % spelled(each) for each in sorted(sets))
+        return "%s %d" % (kind, units), 2, ""
+
+    def pair(self):
+        (rest,) = self.matching(rb"first(.*)")
+        first = self.quorum(rest)
+        (rest,) = self.matching(rb"second(.*)")
+        second = self.quorum(rest)
+        if first & second:
+            self.refuse("overlap", min(first & second))
+        self.exactly(b"end")
+
+    def quorum(self, rest):
+        nodes = self.known(self.names(rest), self.system)
+        if not is_quorum(self.system, self.faulty, nodes):
+            self.refuse("not-quorum")
+        return nodes
+
+    def formula(self):
+        said = self.matching(rb"formula (0|[1-9][0-9]*) ([1-9][0-9]*)")
+        if any(len(it) > 19 or int(it) > MOST_ID for it in said):
+            self.refuse("bad-line")
+        formula = Formula(self.system, self.faulty)
+        if formula.variables > MOST_VARS:
+            raise Refused("too-large %d" % formula.variables, 9)
+        if [int(it) for it in said] != [formula.variables, len(formula.clauses)]:
+            self.refuse("formula")
+        self.held = Held(formula.variables, formula.clauses)
+
+    def steps(self, kind):
+        """The number of units, and the sets of the lines b."""
+        whole = kind in ("refutation", "blocking")
+        units, sets, closed = 0, set(), False
+        while True:
+            line = self.line()
+            if line == b"end":
+                if whole and not closed:
+                    self.refuse("not-refuted")
+                return units, sets
+            if closed:
+                self.refuse("bad-line")
+            if kind.endswith("blocking") and line[:1] in (b"q", b"b"):
+                nodes = self.list_line(line, kind)
+                if line[:1] == b"b":
+                    sets.add(tuple(sorted(nodes)))
+                units += 1
+                continue
+            try:
+                number, literals, hints = step_in(line)
+            except ValueError:
+                self.refuse("bad-line")
+            if number is None:
+                self.judged(self.held.delete, literals)
+                continue
+            if not literals and not whole:
+                self.refuse("bad-line")
+            self.judged(self.held.follows, number, literals, hints)
+            self.hold(number, literals, new=not whole)
+            closed = not literals
+            units += 1
+
+    def judged(self, call, *words):
+        try:
+            call(*words)
+        except Fault as fault:
+            self.refuse("step", str(fault))
+
+    def hold(self, number, literals, new):
+        if new and self.held.covers(literals):
+            self.refuse("not-new")
+        self.held.hold(number, literals)
+
+    def list_line(self, line, kind):
+        letter, digits, rest = self.matching(rb"([qb]) ([1-9][0-9]*)(.*)", line)
+        if len(digits) > 19 or int(digits) > MOST_ID:
+            self.refuse("bad-line")
+        number, names = int(digits), self.names(rest)
+        self.judged(self.held.in_order, number)
+        nodes = self.known(names, self.system)
+        if letter == b"q":
+            if not is_quorum(self.system, self.faulty, nodes):
+                self.refuse("not-quorum")
+        else:
+            if nodes & self.faulty or not blocks(self.system, self.faulty, nodes):
+                self.refuse("not-blocking")
+            if any(blocks(self.system, self.faulty, nodes - {node}) for node in nodes):
+                self.refuse("not-minimal")
+        sign = 1 if letter == b"q" else -1
+        literals = [sign * (self.order.index(name) + 1) for name in sorted(nodes)]
+        self.hold(number, literals, new=kind == "partial-blocking" or letter == b"b")
+        return nodes
+
+
+def check(config, cert):
+    """The status and the text of 'check' of these bytes."""
+    try:
+        system = system_of(config)
+    except Fault as fault:
+        return 4, "config %s\n" % fault
+    try:
+        return Check(system, hashlib.sha256(config).hexdigest(), cert).accepted()
+    except Refused as refused:
+        return refused.status, refused.text
+
+
+def main(config, cert):
+    with open(config, "rb") as it:
+        config_bytes = it.read(MOST_BYTES + 1)
+    with open(cert, "rb") as it:
+        status, text = check(config_bytes, it.read())
+    sys.stdout.write(text)
+    return status
+
+
+if __name__ == "__main__":
+    sys.exit(main(*sys.argv[1:3]))

@@ -1,0 +1,40 @@
+"""Reads what `quorum_cli export` puts out, and writes the lines of a certificate that it tells."""
+
+import sys
+
+
+class Exported:
+    """The header of a certificate, the numbers of the formula, and what the nodes' variables stand for."""
+
+    def __init__(self, path):
+        self.sides = {}
+        comments = []
+        with open(path) as it:
+            for line in it:
+                words = line.split()
+                if words[:2] == ["p", "cnf"]:
+                    self.variables, self.clauses = words[2:]
+                    break
+                comments.append(line[2:].rstrip("\n"))
+        if [line.split(" ")[0] for line in comments[:3]] != ["config", "from", "faulty"]:
+            raise ValueError("%s is not what `quorum_cli export` puts out" % path)
+        self.header = comments[:3]
+        for line in comments[3:]:
+            variable, side, name = line.split(" ")
+            self.sides[int(variable)] = (side, name)
+
+    def certificate(self, kind, body):
+        return "".join(line + "\n" for line in ["fbas-cert 1", *self.header, "kind " + kind, *body, "end"])
+
+
+def run(make):
+    """Puts out the certificate of the two files that the words name; 1 where there is none, 2 for other words."""
+    if len(sys.argv) != 3:
+        print(sys.modules["__main__"].__doc__.strip(), file=sys.stderr)
+        return 2
+    try:
+        sys.stdout.write(make(Exported(sys.argv[1]), sys.argv[2]))
+    except (OSError, ValueError) as why:
+        print("%s: %s" % (sys.argv[0], why), file=sys.stderr)
+        return 1
+    return 0
