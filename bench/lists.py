@@ -19,7 +19,7 @@ CRATE = os.path.join(TOP, "crates", "lists_bench")
 PROGRAM = os.path.join(CRATE, "out", "lists_bench")
 UNITS = "1000000000"
 SYSTEMS = 1000
-LIMIT = 600
+LIMIT = 300
 
 
 # ---- systems: for each node a quorum set (threshold, nodes, inner sets) or None
@@ -132,12 +132,11 @@ def clasp(n, quorums):
 
 
 NETWORKS = [
-    ("7 organisations (5 needed), 2 of 3 each", organisations(7, 5, 3, 2)),
-    ("8 organisations (6 needed), 2 of 3 each", organisations(8, 6, 3, 2)),
-    ("9 organisations (7 needed), 2 of 3 each", organisations(9, 7, 3, 2)),
-    ("6 organisations (4 needed), 3 of 5 each", organisations(6, 4, 5, 3)),
-    ("10 organisations (9 needed), 2 of 3 each", organisations(10, 9, 3, 2)),
-    ("20 organisations (20 needed), 2 of 3 each", organisations(20, 20, 3, 2)),
+    ("7 organisations (5 needed), each 2 of 3", organisations(7, 5, 3, 2)),
+    ("8 organisations (6 needed), each 2 of 3", organisations(8, 6, 3, 2)),
+    ("4 organisations (3 needed), each 5 of 6", organisations(4, 3, 6, 5)),
+    ("4 organisations (all needed), each 9 of 10", organisations(4, 4, 10, 9)),
+    ("3 organisations (all needed), each 19 of 20", organisations(3, 3, 20, 19)),
 ]
 
 
