@@ -1,4 +1,4 @@
-// `run` over a desk in memory: the printed texts and statuses of worked cases, and that an answer comes at all.
+//! `run` over a desk in memory: the printed texts and statuses of worked cases, and that an answer comes at all.
 ghost use Rattle.std.specs.Prelude.{◌<◌};
 
 use crate::run::run;
