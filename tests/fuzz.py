@@ -608,7 +608,7 @@ def main():
     parser.add_argument("--seed", type=int, default=1)
     parser.add_argument("program", nargs="?", default=BUILT)
     asked = parser.parse_args()
-    passed, failed, statuses = 0, 0, collections.Counter()
+    passed = failed = 0
     with tempfile.TemporaryDirectory(dir="/dev/shm" if os.path.isdir("/dev/shm") else None) as folder:
         program = Program(asked.program, folder)
         maker = Maker(random.Random(asked.seed), program)

@@ -7,12 +7,9 @@ Beside the gate, by hand: tests/memory.py [PROGRAM]; it takes some minutes, and 
 """
 
 import os
-import resource
 import subprocess
 import sys
 import tempfile
-import threading
-import time
 
 sys.path.insert(0, os.path.dirname(os.path.abspath(__file__)))
 import malicious
@@ -83,26 +80,37 @@ def certificates():
     yield "no line feed", no_line, (5, "refused line-too-long 1\n")
 
 
+# Starts the program under limits, and tells how it ended; a small process, since its own memory counts for the program's.
+STARTER = """
+import os, resource, sys
+pid = os.fork()
+if not pid:
+    for kind, limit in ((resource.RLIMIT_AS, int(sys.argv[1])), (resource.RLIMIT_STACK, int(sys.argv[2]))):
+        if limit:
+            resource.setrlimit(kind, (limit, limit))
+    os.execv(sys.argv[3], sys.argv[3:])
+_, ended, used = os.wait4(pid, 0)
+with open("used", "w") as it:
+    it.write("%d %d %f" % (os.waitstatus_to_exitcode(ended), used.ru_maxrss, used.ru_utime + used.ru_stime))
+"""
+
+
 class Ended:
     """How a run ended: status, texts, largest memory in MB, seconds of processor time."""
 
-    def __init__(self, words, folder, limit=None, stack=None, pieces=None):
-        def prepare():
-            if limit:
-                resource.setrlimit(resource.RLIMIT_AS, (limit, limit))
-            if stack:
-                resource.setrlimit(resource.RLIMIT_STACK, (stack, stack))
-
+    def __init__(self, words, folder, limit=0, stack=0, pieces=None):
+        words = [sys.executable, "-S", "-c", STARTER, str(limit), str(stack)] + words
         with open(os.path.join(folder, "out"), "w+b") as out, open(os.path.join(folder, "err"), "w+b") as err:
-            started = subprocess.Popen(words, cwd=folder, stdin=subprocess.PIPE if pieces else subprocess.DEVNULL, stdout=out, stderr=err, preexec_fn=prepare)
+            started = subprocess.Popen(words, cwd=folder, stdin=subprocess.PIPE if pieces else subprocess.DEVNULL, stdout=out, stderr=err)
             if pieces:
-                threading.Thread(target=self.feed, args=(started.stdin, pieces), daemon=True).start()
-            _, ended, used = os.wait4(started.pid, 0)
-            started.returncode = self.status = os.waitstatus_to_exitcode(ended)
+                self.feed(started.stdin, pieces)
+            started.wait()
             out.seek(0)
             err.seek(0)
             self.text, self.err = out.read().decode("latin-1"), err.read().decode("latin-1")
-        self.memory, self.time = used.ru_maxrss / 1024, used.ru_utime + used.ru_stime
+        with open(os.path.join(folder, "used")) as it:
+            status, memory, time = it.read().split(" ")
+        self.status, self.memory, self.time = int(status), int(memory) / 1024, float(time)
 
     @staticmethod
     def feed(pipe, pieces):
