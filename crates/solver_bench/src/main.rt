@@ -14,9 +14,8 @@ mod trial;
 use crate::outcome::{Outcome, dimacs, outcome_of, outcome_of_text};
 use crate::trial::MOST;
 use anyhow::{Context, Result, bail};
-use std::env;
-use std::fs;
 use std::str::from_utf8;
+use std::{env, fs};
 
 /// The units of the solver's budget.
 const UNITS: u64 = 4_000_000;

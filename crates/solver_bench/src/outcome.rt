@@ -1,7 +1,5 @@
 //! What the solver and the checker say of a trial configuration.
 ghost use Rattle.std.specs.Prelude.{◌≡◌, ◌≤◌, ◌<◌, ◌^◌, IfOk, length};
-ghost use Rattle.fbas_model.specs.Nodes.{members};
-ghost use Rattle.fbas_model.specs.Fbas.{IsGreatestQuorum, all_nodes};
 ghost use Rattle.lrat_model.specs.Ranges.{AreInRange};
 
 use crate::reading::read_dimacs;
@@ -11,7 +9,7 @@ use cdcl_core::{Budget, Solver, Verdict};
 use clause_encoder::{VarMap, encode, write_dimacs};
 use clause_store::Store;
 use fbas_core::System;
-use greatest_quorum::shrink;
+use greatest_quorum::greatest;
 use lrat_checker::Checker;
 use lrat_model::Progress;
 use name_set::NodeSet;
@@ -33,18 +31,6 @@ pub struct Outcome {
     pub is_refuted: bool,
     /// The value of each variable, where all clauses can be satisfied.
     pub model: Vec<bool>,
-}
-
-/// The greatest quorum, no node deleted.
-fn greatest_of(alloc: Global, system: &System, faulty: &NodeSet) -> Result<NodeSet, AllocError>
-    requires { length faulty.now ≡ length system.now.sets }
-    ensures same_n { IfOk result (λ g. length g ≡ length system.now.sets) }
-    ensures greatest { IfOk result (λ g. IsGreatestQuorum system.now.sets (members faulty.now) (all_nodes system.now.sets) (members g)) }
-{
-    let mut greatest = NodeSet::new(alloc, system.len())?;
-    greatest.fill();
-    shrink(system, &mut greatest, faulty);
-    Ok(greatest)
 }
 
 /// Whether the checker takes each step of the log, and the empty lemma last.
@@ -129,8 +115,8 @@ fn formula(alloc: Global, system: &System) -> Result<(Store, VarMap)>
     ensures range { IfOk result (λ r. AreInRange r.1.count r.0.held) }
     ensures same_n { IfOk result (λ r. length r.1.greatest ≡ length system.now.names) }
 {
-    let faulty = NodeSet::new(alloc, system.len())?;
-    let greatest = greatest_of(alloc, system, &faulty)?;
+    let faulty = NodeSet::new(system.len());
+    let greatest = greatest(system, &faulty);
     Ok(encode(alloc, system, &faulty, &greatest)?)
 }
 
