@@ -10,6 +10,7 @@ import shutil
 import subprocess
 import sys
 import tempfile
+import threading
 
 TOP = os.path.dirname(os.path.dirname(os.path.abspath(__file__)))
 BUILT = os.path.join(TOP, "crates", "quorum_cli", "out", "quorum_cli")
@@ -147,11 +148,17 @@ class Trial:
         self.judge("'%s'" % words, (found, held), ((status, text, ""), files))
 
     def from_a_pipe(self):
-        reading, writing = os.pipe()
-        os.write(writing, THREE.encode())
-        os.close(writing)
-        found = self.run("greatest /dev/stdin --faulty a", stdin=reading)
-        os.close(reading)
+        os.mkfifo(self.path("pipe"))
+        os.chmod(self.path("pipe"), 0o666)
+
+        def fill():
+            with open(self.path("pipe"), "w") as pipe:
+                pipe.write(THREE)
+
+        filling = threading.Thread(target=fill, daemon=True)
+        filling.start()
+        found = self.run("greatest pipe --faulty a")
+        filling.join(10)
         self.judge("a configuration from a pipe", found, (0, "greatest b c\n", ""))
 
     def to_a_full_device(self):
