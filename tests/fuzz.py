@@ -2,8 +2,8 @@
 """Mutates configurations, organisations, certificates of every kind and command words, and runs the built program on them.
 
 The program must end with one of its statuses, put out what fits that status, and nothing on standard error. What 'check'
-says of a configuration and a certificate, and 'greatest' of organisations, must be what tests/plain_checker.py says. A
-certificate that a search wrote must be one that the plain checker accepts, and its answer that of trying all sets of nodes.
+says of a configuration and a certificate, 'greatest' of organisations, and what the plain questions and 'export' answer,
+must be what tests/plain_checker.py says. A certificate that a search wrote must be one that it accepts, and the answer that of trying all sets of nodes.
 
 tests/fuzz.py [--cases N] [--seed S] [PROGRAM]; its last line is 'fuzz: N passed, M failed'.
 """
@@ -152,7 +152,7 @@ class Subject:
         return plain.greatest_in(self.system, self.faulty, nodes)
 
     def options(self):
-        return (["--from", self.start] if self.start else []) + ["--faulty", ",".join(self.given)]
+        return (["--from=" + self.start] if self.start else []) + ["--faulty=" + ",".join(self.given)]
 
 
 def quorums(subject, most):
@@ -402,6 +402,8 @@ class Program:
             return plain.check(case.files["config"], case.files["cert"])
         if case.kind == "orgs":
             return wanted_of_orgs(case)
+        if case.kind == "question":
+            return wanted_of_question(case)
         return None
 
     def search_fault(self, case, status, text, cert):
@@ -471,6 +473,41 @@ def wanted_of_orgs(case):
     return 0, "greatest%s\n" % plain.spelled(plain.greatest_in(system, faulty, set(system)))
 
 
+def wanted_of_question(case):
+    """What a plain question or 'export' answers."""
+    command, subject, node, given = case.wanted
+    try:
+        plain.system_of(subject.data)
+    except plain.Fault as fault:
+        return 4, "config %s\n" % fault
+    given &= set(subject.system)
+    everyone = set(subject.system)
+    if command == "closure":
+        return 0, "closure%s\n" % plain.spelled(plain.closure(subject.whole, node))
+    if command == "greatest":
+        return 0, "greatest%s\n" % plain.spelled(subject.shrunk(everyone))
+    if command == "available":
+        unmet = [it for it in everyone - given if not plain.has_slice(subject.system, it, everyone - given)]
+        return (1, "available no\nunmet%s\n" % plain.spelled(unmet)) if unmet else (0, "available yes\n")
+    if command == "blocks":
+        left = subject.shrunk(everyone - given)
+        return (1, "blocks no\nquorum%s\n" % plain.spelled(left)) if left else (0, "blocks yes\n")
+    if command == "vblocks":
+        avoids = node not in given and plain.has_slice(subject.whole, node, set(subject.whole) - given)
+        return (1, "vblocks no\n") if avoids else (0, "vblocks yes\n")
+    return 0, exported(subject)
+
+
+def exported(subject):
+    """What 'export' prints, small formulas only."""
+    formula = plain.Formula(subject.system, subject.faulty)
+    order = sorted(subject.shrunk(set(subject.system)))
+    lines = ["c " + line for line in subject.header("")[1:3]] + ["c faulty" + plain.spelled(subject.faulty)]
+    lines += ["c %d %s %s" % (i, side, it) for i, (side, it) in enumerate(((side, it) for side in "ab" for it in order), 1)]
+    lines.append("p cnf %d %d" % (formula.variables, len(formula.clauses)))
+    return "".join(line + "\n" for line in lines + [" ".join(map(str, clause + [0])) for clause in formula.clauses])
+
+
 # ---- Cases
 
 
@@ -484,8 +521,10 @@ class Maker:
 
     def case(self):
         chance = self.rng.random()
-        if chance < 0.62:
+        if chance < 0.54:
             return self.check()
+        if chance < 0.62:
+            return self.question()
         if chance < 0.74:
             return self.search() if self.program.searches else self.check()
         if chance < 0.84:
@@ -521,7 +560,7 @@ class Maker:
         budget = rng.choice([0, 1, 2, 3, 5, 20, 1000000])
         words = [command, "config", "cert", "--budget", str(budget)]
         if command == "dset":
-            words += (["--from", subject.start] if subject.start else []) + ["--set=" + ",".join(subject.given)]
+            words += (["--from=" + subject.start] if subject.start else []) + ["--set=" + ",".join(subject.given)]
         elif command == "splits":
             words += subject.options() + ["--set="]
         else:
@@ -535,6 +574,22 @@ class Maker:
             cert = it.read()
         if cert != b"old\n" and len(cert) < 5000:
             self.written = (self.written + [(case.wanted[1], cert.decode().split("\n")[:-1])])[-200:]
+
+    def question(self):
+        rng = self.rng
+        subject = Subject(rng, self.config())
+        command = rng.choice(["closure", "greatest", "available", "blocks", "vblocks", "export"])
+        if command in ("available", "closure", "vblocks"):
+            subject.given, subject.faulty = [], set()
+        if command in ("closure", "vblocks"):
+            subject.start, subject.system = None, subject.whole
+        node = rng.choice(subject.names or ["a"])
+        given = set(rng.sample(subject.names, rng.randint(0, min(4, len(subject.names)))))
+        words = [command, "config"] + (["--from=" + subject.start] if subject.start else [])
+        words += ["--faulty=" + ",".join(subject.given)] if subject.given else []
+        words += ["--node=" + node] if command in ("closure", "vblocks") else []
+        words += ["--set=" + ",".join(sorted(given))] if command in ("available", "blocks", "vblocks") else []
+        return Case("question", words, {"config": subject.data}, (command, subject, node, given))
 
     def orgs(self):
         rng = self.rng
@@ -593,7 +648,7 @@ def shrunk(program, case):
 
 def show(program, number, case):
     """Prints a failing case, made smaller where that is no change of the question."""
-    if case.kind != "search":
+    if case.kind not in ("search", "question"):
         case = shrunk(program, case)
     print("fuzz: case %d: %s" % (number, program.fault(case)))
     print("  words %r" % (case.words,))
