@@ -1,13 +1,16 @@
 -- The values of variables when one changes.
-use Rattle.std.proofs.Common.{◌≡◌, ◌≢◌, ℕ, zero, suc, ◌<◌, ◌≤◌, ◌+◌, Bool, true, false, ◌||◌, List, [], ◌∷◌, ◌++◌, length, get_or, set, drop, replicate, refl, sym, ap, ◌∙◌, subst, arith, ⊎_elim, get_or-set_same, get_or-set_other}
-use Rattle.std.proofs.lemmas.Bool.{cases_eq, eq-eqb, false≢true, false_from_ne_true}
+use Rattle.std.proofs.Common.{◌≡◌, ◌≢◌, ℕ, zero, suc, ◌<◌, ◌≤◌, ◌+◌, Bool, true, false, ◌||◌, List, [], ◌∷◌, ◌++◌, length, get_or, set, drop, replicate, refl, sym, ap, ◌∙◌, subst, arith, ⊎_elim, inl, inr, get_or-set_same, get_or-set_other}
+use Rattle.std.proofs.lemmas.Bool.{cases_eq, cases_lt, eq-eqb, false≢true, true≢false, false_from_ne_true}
 use Rattle.std.proofs.lemmas.List.{drop_more, length-set, length-append}
-use Rattle.std.proofs.lemmas.List.Elements.{All-push, All-weaker}
+use Rattle.std.proofs.lemmas.List.Elements.{All-push, All-pop, All-weaker}
+use Rattle.std.proofs.Math.ListN.{get_or-append}
+use Rattle.std.proofs.Math.Seq.{get_or-append_seam}
+use Rattle.std.specs.Prelude.{◌⊎◌, All, Some}
 use Rattle.lrat_model.specs.Literal.{Literal, Plus, Minus, variable_of, negated, same, has}
-use Rattle.lrat_model.proofs.Literals.{has-cons, has-push, same-true, variable_of-negated}
+use Rattle.lrat_model.proofs.Literals.{has-cons, has-push, has-first, has-rest, same-true, variable_of-negated}
 use Rattle.partial_assignment.specs.declared.assignment.Value.{Value}
 use Rattle.partial_assignment.specs.declared.assignment.Value.TheVariants.{Unassigned, True, False}
-use Rattle.partial_assignment.specs.Values.{makes_true, true_by, value_of, assigned, IsAssignment}
+use Rattle.partial_assignment.specs.Values.{makes_true, true_by, value_of, assigned, ArePlaces, IsAssignment}
 
 pub true_by-set_other : (values : List Value) (place : ℕ) (v : Value) (l : Literal) → variable_of l ≢ place → true_by (set values place v) l ≡ true_by values l
 true_by-set_other values place v l other = ap (λ u. makes_true u l) (get_or-set_other values place (variable_of l) v Unassigned other)
@@ -137,3 +140,64 @@ none_true-replicate n l = ap (λ v. makes_true v l) (unassigned_at n (variable_o
   unassigned_at zero place = refl
   unassigned_at (suc n) zero = refl
   unassigned_at (suc n) (suc place) = unassigned_at n place
+
+-- a value is taken away
+assigned-unset : (values : List Value) (place : ℕ) → (get_or values place Unassigned ≡ Unassigned → ⊥) → assigned (set values place Unassigned) + 1 ≡ assigned values
+assigned-unset [] place some = absurd (some refl)
+assigned-unset (Unassigned ∷ values) zero some = absurd (some refl)
+assigned-unset (True ∷ values) zero some = omega arith
+assigned-unset (False ∷ values) zero some = omega arith
+assigned-unset (Unassigned ∷ values) (suc place) some = assigned-unset values place some
+assigned-unset (True ∷ values) (suc place) some = omega (arith, assigned-unset values place some)
+assigned-unset (False ∷ values) (suc place) some = omega (arith, assigned-unset values place some)
+
+false_or : (a b : Bool) → a ≡ false → (a || b) ≡ b
+false_or a b e = ap (λ x. x || b) e
+
+pub sound_less : (values : List Value) (trail : List Literal) (t : Literal) (room : ℕ) → IsAssignment values (trail ++ t ∷ []) room → ((m : Literal) → has trail m ≡ true → variable_of m ≢ variable_of t) → IsAssignment (set values (variable_of t) Unassigned) trail room
+sound_less values trail t room sound apart =
+    let x : ℕ = variable_of t in
+    let long : length (set values x Unassigned) ≡ length values = length-set values x Unassigned in
+    let inside : x + 1 ≤ length values = (All-pop (λ m. variable_of m + 1 ≤ length values) (trail ++ t ∷ []) trail (Some t) refl sound.in_range).1 in
+    let rest : All (λ m. variable_of m + 1 ≤ length values) trail = (All-pop (λ m. variable_of m + 1 ≤ length values) (trail ++ t ∷ []) trail (Some t) refl sound.in_range).0 in
+    let is_true : true_by values t ≡ true = sound.agree t inside ∙ has-push trail t t ∙ has-first t trail in
+    record {
+      some_place = omega (arith, long, sound.some_place);
+      enough_room = omega (arith, long, sound.enough_room);
+      counted = omega (arith, sound.counted, length-append trail (t ∷ []), assigned-unset values x (λ none. false≢true (sym (ap (λ u. makes_true u t) none) ∙ is_true)));
+      in_range = All-weaker (λ m. variable_of m + 1 ≤ length values) (λ m. variable_of m + 1 ≤ length (set values x Unassigned)) (λ m less. omega (arith, less, long)) trail rest;
+      agree = λ m less. ⊎_elim
+          (λ own. true_by-set_same values x Unassigned m (omega (arith, inside)) own ∙ sym (false_from_ne_true (has trail m) (λ h. apart m h own)))
+          (λ other. true_by-set_other values x Unassigned m other ∙ sound.agree m (omega (arith, less, long)) ∙ has-push trail t m
+          ∙ false_or (same m t) (has trail m) (false_from_ne_true (same m t) (λ e. other (ap variable_of (same-true m t e)))))
+          (cases_eq (variable_of m) x);
+    }
+
+has_member : (trail : List Literal) (i : ℕ) (d : Literal) → i < length trail → has trail (get_or trail i d) ≡ true
+has_member [] i d within = absurd (omega arith)
+has_member (x ∷ xs) zero d within = has-first x xs
+has_member (x ∷ xs) (suc i) d within = has-rest x (get_or xs i d) xs (has_member xs i d (omega arith))
+
+alike : (m l : Literal) → variable_of m ≡ variable_of l → (m ≡ l) ⊎ (m ≡ negated l)
+alike (Plus x) (Plus y) e = inl (ap Plus e)
+alike (Plus x) (Minus y) e = inr (ap Plus e)
+alike (Minus x) (Plus y) e = inr (ap Minus e)
+alike (Minus x) (Minus y) e = inl (ap Minus e)
+
+-- the place of one literal more, whose variable has no value
+pub placed_more : (trail : List Literal) (places : List ℕ) (l : Literal) (x n : ℕ) → ArePlaces trail places → x ≡ variable_of l → x < length places → n ≡ length trail → has trail l ≡ false → has trail (negated l) ≡ false → ArePlaces (trail ++ l ∷ []) (set places x n)
+placed_more trail places l x n placed own inside at open_l open_negated i d within =
+    ⊎_elim
+    (λ less.
+    let m : Literal = get_or trail i d in
+    let there : has trail m ≡ true = has_member trail i d less in
+    let other : variable_of m ≢ x = λ e. ⊎_elim
+    (λ is. true≢false (sym there ∙ ap (λ k. has trail k) is ∙ open_l))
+    (λ is. true≢false (sym there ∙ ap (λ k. has trail k) is ∙ open_negated))
+    (alike m l (e ∙ own)) in
+    ap (λ k. get_or (set places x n) (variable_of k) 0) (get_or-append trail (l ∷ []) d i less) ∙ get_or-set_other places x (variable_of m) n 0 other ∙ placed i d less)
+    (λ more.
+    let last : i ≡ length trail = omega (arith, within, length-append trail (l ∷ []), more) in
+    ap (λ k. get_or (set places x n) (variable_of k) 0) (ap (λ k. get_or (trail ++ l ∷ []) k d) last ∙ get_or-append_seam trail l [] d)
+    ∙ ap (λ k. get_or (set places x n) k 0) (sym own) ∙ get_or-set_same places x n 0 inside ∙ at ∙ sym last)
+    (cases_lt i (length trail))

@@ -1,7 +1,7 @@
 //! Which literals are true.
-ghost use Rattle.std.specs.Prelude.{◌≡◌, ◌+◌, ◌≤◌, ◌<◌, ◌^◌, [], ◌∷◌, ◌++◌, true, false, length, All, IfOk};
+ghost use Rattle.std.specs.Prelude.{◌≡◌, ◌≢◌, ℕ, ◌+◌, ◌≤◌, ◌<◌, ◌^◌, [], ◌∷◌, ◌++◌, true, false, length, take, slice_index_or, All, IfOk};
 ghost use Rattle.lrat_model.specs.Literal.{Literal, has, negated, variable_of};
-ghost use Rattle.partial_assignment.specs.Values.{value_of, true_by};
+ghost use Rattle.partial_assignment.specs.Values.{value_of, true_by, ArePlaces, IsAssignment};
 
 use lrat_model::Lit;
 use std::alloc::{AllocError, Global};
@@ -15,10 +15,12 @@ pub enum Value {
     False,
 }
 
-/// The values of variables, and the trail: the literals that were made true, in order.
+/// The values of variables, and the trail: the literals that were made true, in order. A variable's place
+/// is where it stands on the trail, or stood last.
 #[derive(Drop)]
 pub struct Assignment {
     values: Vec<Value>,
+    places: Vec<usize>,
     trail: Vec<Lit>,
 }
 
@@ -40,10 +42,15 @@ impl Assignment {
         ensures vars { IfOk result (λ a. a.vars ≡ vars) }
         ensures trues { IfOk result (λ a. a.trues ≡ []) }
     {
-        let places = vars as usize + 1;
-        let values = vec![in alloc; Value::Unassigned; places]?;
-        let trail = Vec::with_capacity(alloc, places)?;
-        Ok(Assignment { values, trail })
+        let room = vars as usize + 1;
+        let values = vec![in alloc; Value::Unassigned; room]?;
+        let places = vec![in alloc; 0; room]?;
+        let trail = Vec::with_capacity(alloc, room)?;
+        Ok(Assignment {
+            values,
+            places,
+            trail,
+        })
     }
 
     /// The number of variables. O(1).
@@ -51,6 +58,21 @@ impl Assignment {
         ensures { result ≡ self.now.vars }
     {
         self.values.len() as u64 - 1
+    }
+
+    /// The literals that are true, in the order in which they were made so. O(1).
+    pub fn trail(&self) -> &[Lit]
+        ensures { result.now ≡ self.now.trues }
+    {
+        &self.trail
+    }
+
+    /// The place on the trail of each variable that has a value, at its number. O(1).
+    pub fn places(&self) -> &[usize]
+        ensures long { length result.now ≡ self.now.vars + 1 }
+        ensures placed { ArePlaces self.now.trues result.now }
+    {
+        &self.places
     }
 
     /// Whether the literal is true. O(1).
@@ -73,7 +95,9 @@ impl Assignment {
         ensures trues { self.new.trues ≡ self.old.trues ++ l ∷ [] }
         ensures vars { self.new.vars ≡ self.old.vars }
     {
-        self.values[l.variable() as usize] = value_of(l);
+        let x = l.variable() as usize;
+        self.places[x] = self.trail.len();
+        self.values[x] = value_of(l);
         self.trail.push(l).unwrap();
     }
 
@@ -87,6 +111,17 @@ impl Assignment {
         if !self.is_true(l) {
             self.make_true(l);
         }
+    }
+
+    /// Takes the values of the last literals away, so that this many are left. O(those that are taken).
+    pub fn back_to(&mut self, len: usize)
+        requires within { len ≤ length self.old.trues }
+        requires apart { (place : ℕ) (d m : Literal) → place < length self.old.trues → has (take place self.old.trues) m ≡ true → variable_of m ≢ variable_of (slice_index_or self.old.trues place d) }
+        ensures trues { self.new.trues ≡ take len self.old.trues }
+        ensures vars { self.new.vars ≡ self.old.vars }
+    {
+        undo(&mut self.values, &self.trail, len);
+        self.trail.truncate(len);
     }
 
     /// No variable has a value any more. O(literals that are true).
@@ -107,6 +142,21 @@ fn value_of(l: Lit) -> Value
         Value::True
     } else {
         Value::False
+    }
+}
+
+/// Takes the values of the last literals away, from the last one down to this place.
+fn undo(values: &mut Vec<Value>, trail: &[Lit], len: usize)
+    requires within { len ≤ length trail.now }
+    requires range { All (λ l. variable_of l < length values.old.items) trail.now }
+    requires apart { (place : ℕ) (d m : Literal) → place < length trail.now → has (take place trail.now) m ≡ true → variable_of m ≢ variable_of (slice_index_or trail.now place d) }
+    ensures long { length values.new.items ≡ length values.old.items }
+    ensures sound { (room : ℕ) → IsAssignment values.old.items trail.now room → IsAssignment values.new.items (take len trail.now) room }
+{
+    let mut left = trail.len();
+    while left > len {
+        left -= 1;
+        values[trail[left].variable() as usize] = Value::Unassigned;
     }
 }
 

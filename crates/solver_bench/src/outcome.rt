@@ -4,6 +4,7 @@ ghost use Rattle.fbas_model.specs.Nodes.{members};
 ghost use Rattle.fbas_model.specs.Fbas.{IsGreatestQuorum, all_nodes};
 ghost use Rattle.lrat_model.specs.Ranges.{AreInRange};
 
+use crate::reading::read_dimacs;
 use crate::trial::configuration;
 use anyhow::{Result, bail};
 use cdcl_core::{Budget, Solver, Verdict};
@@ -21,7 +22,7 @@ use std::alloc::{AllocError, Global};
 const MOST_CLAUSES: u64 = 1_000_000_000;
 
 /// What the solver and the checker said.
-#[derive(Clone, Copy)]
+#[derive(Drop)]
 pub struct Outcome {
     pub variables: u64,
     pub clauses: u64,
@@ -30,6 +31,8 @@ pub struct Outcome {
     pub lemmas: u64,
     /// Whether the checker takes each step of the log, and the empty lemma last.
     pub is_refuted: bool,
+    /// The value of each variable, where all clauses can be satisfied.
+    pub model: Vec<bool>,
 }
 
 /// The greatest quorum, no node deleted.
@@ -81,13 +84,43 @@ fn solve(alloc: Global, store: Store, vars: u64, units: u64) -> Result<Outcome>
     let mut budget = Budget::of(units);
     let verdict = solver.solve(&mut budget)?;
     let is_refuted = is_refutation(alloc, store, vars, &solver)?;
+    let model = model_of(alloc, &solver, vars, verdict)?;
     Ok(Outcome {
         variables: vars,
         clauses,
         verdict,
         lemmas: units - budget.left(),
         is_refuted,
+        model,
     })
+}
+
+/// The value of each variable after `Sat`, else none.
+fn model_of(
+    alloc: Global,
+    solver: &Solver,
+    vars: u64,
+    verdict: Verdict,
+) -> Result<Vec<bool>, AllocError>
+    requires { solver.now.vars ≡ vars }
+{
+    let mut model = Vec::new(alloc);
+    if verdict == Verdict::Sat {
+        let mut x = 0;
+        while x < vars {
+            x += 1;
+            model.push(solver.model(x))?;
+        }
+    }
+    Ok(model)
+}
+
+/// Solves a formula in DIMACS form within a budget, and checks the log.
+pub fn outcome_of_text(alloc: Global, text: &str, units: u64) -> Result<Outcome>
+    requires { units ≤ 4000000 }
+{
+    let (store, vars) = read_dimacs(alloc, text)?;
+    solve(alloc, store, vars, units)
 }
 
 /// The intersection formula of a system, no node deleted.

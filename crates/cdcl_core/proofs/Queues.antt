@@ -1,0 +1,142 @@
+-- A list that is taken out and put in again, and the queue's end.
+use Rattle.std.proofs.Common.{◌≡◌, ◌≢◌, ℕ, suc, ◌+◌, ◌*◌, ◌<◌, ◌≤◌, true, false, not, cond, List, [], ◌∷◌, ◌++◌, ⊎_elim, inl, inr, refl, sym, ap, ◌∙◌, subst, arith, length, get_or, set, take, get_or-set_same, get_or-set_other, Some}
+use Rattle.std.specs.Prelude.{◌==◌, All}
+use Rattle.std.specs.List.{list_all}
+use Rattle.std.proofs.lemmas.List.{take_all}
+use Rattle.std.proofs.lemmas.List.Folds.{list_any-append}
+use Rattle.cdcl_core.proofs.Walks.{has-at}
+use Rattle.cdcl_core.specs.Search.{IsState, IsClosed}
+use Rattle.cdcl_core.proofs.Jumps.{not_so}
+use Rattle.cdcl_core.proofs.Tops.{take_within}
+use Rattle.std.proofs.lemmas.List.Elements.{All-nil}
+use Rattle.std.proofs.lemmas.Bool.{true≢false, false≢true, not_from_false, or_left}
+use Rattle.lrat_model.specs.Literal.{Literal, variable_of, negated, same, has}
+use Rattle.lrat_model.specs.Clauses.{Held, clause_at}
+use Rattle.lrat_model.specs.Propagation.{not_false, status_of, status}
+use Rattle.lrat_model.specs.declared.step.ClauseStatus.TheVariants.{Forces, Unresolved}
+use Rattle.lrat_model.proofs.Literals.{has-cons, same-true, same-itself, has-filter_from, list_all-has, negated-negated, variable_of-negated}
+use Rattle.cdcl_core.specs.Fixpoint.{IsQuiet, IsFixpoint}
+use Rattle.cdcl_core.specs.declared.watches.Watch.{Watch}
+use Rattle.cdcl_core.specs.declared.watches.Pair.{Pair}
+use Rattle.cdcl_core.specs.Watches.{index_of, list_at, lits_at, pair_at, mentions, IsKept, AreKept, IsSound, IsListed, IsWatched, IsQueued, IsVisiting}
+use Rattle.cdcl_core.proofs.Visits.{kept_next, index-apart, same_or_not, same_at, index_within}
+
+module _ (held : Held) (pairs : List Pair) (lists : List (List Watch)) (trues : List Literal) (reasons : List ℕ) (head : ℕ) (l : Literal) (inside_l : index_of l < length lists) where
+  at_own : (ws : List Watch) → list_at (set lists (index_of l) ws) l ≡ ws
+  at_own ws = get_or-set_same lists (index_of l) ws [] inside_l
+
+  at_others : (ws : List Watch) (k : Literal) → k ≢ l → list_at (set lists (index_of l) ws) k ≡ list_at lists k
+  at_others ws k e = get_or-set_other lists (index_of l) (index_of k) ws [] (λ i. e (index-apart k l i))
+
+  -- the list of the literal that became false, taken out
+  pub take_out : (d : Literal) → head < length trues → l ≡ negated (get_or trues head d) → IsWatched held pairs lists l [] → IsQueued held pairs trues reasons head → IsVisiting held pairs (set lists (index_of l) []) trues reasons head l [] (list_at lists l)
+  take_out d within is w q =
+      let at : (p : ℕ) (k : Literal) → IsListed lists l [] p k → mentions (list_at lists k) p ≡ true = λ p k h. ⊎_elim (λ m. m) (λ none. absurd (false≢true none.1)) h in
+      let move : (p : ℕ) (k : Literal) → IsListed lists l [] p k → IsListed (set lists (index_of l) []) l (list_at lists l) p k =
+      λ p k h. ⊎_elim (λ e. inr (e, subst (λ x. mentions (list_at lists x) p ≡ true) e (at p k h))) (λ e. inl (subst (λ ws. mentions ws p ≡ true) (sym (at_others [] k e)) (at p k h))) (same_or_not l k) in
+      record {
+        watched = record {
+          long = w.long;
+          inside = w.inside;
+          listed = λ p less differ. let both = w.listed p less differ in (move p (pair_at pairs p).first both.0, move p (pair_at pairs p).second both.1);
+          sound = λ k. ⊎_elim
+              (λ e. subst (λ x. All (IsSound held) (list_at (set lists (index_of l) []) x)) (sym e) (subst (λ ws. All (IsSound held) ws) (sym (at_own [])) (All-nil (IsSound held))))
+              (λ e. subst (λ ws. All (IsSound held) ws) (sym (at_others [] k e)) (w.sound k))
+              (same_or_not l k);
+          sound_spare = w.sound l;
+        };
+        taken_out = at_own [];
+        queued = q;
+        visited = λ p less.
+            let pair : Pair = pair_at pairs p in
+            ⊎_elim (λ t. inr (inl t))
+            (λ o.
+            let both = w.listed p less o.differ in
+            ⊎_elim (λ e. inl (subst (λ x. mentions (list_at lists x) p ≡ true) e (at p pair.first both.0)))
+            (λ first. ⊎_elim (λ e. inl (subst (λ x. mentions (list_at lists x) p ≡ true) e (at p pair.second both.1)))
+            (λ second. inr (kept_next trues (lits_at held p) head d l pair within is (λ _. (first, second)) (inr o)))
+            (same_or_not l pair.second))
+            (same_or_not l pair.first))
+            (q.kept p less);
+      }
+
+  -- and what is left of it, put in again
+  pub put_in : (spare : List Watch) → IsWatched held pairs lists l spare → list_at lists l ≡ [] → (k : Literal) → IsWatched held pairs (set lists (index_of l) spare) k []
+  put_in spare w none k =
+      let new : List (List Watch) = set lists (index_of l) spare in
+      let move : (p : ℕ) (m : Literal) → IsListed lists l spare p m → IsListed new k [] p m =
+      λ p m h. ⊎_elim
+      (λ at. ⊎_elim (λ e. absurd (false≢true (sym (ap (λ ws. mentions ws p) (ap (λ x. list_at lists x) e ∙ none)) ∙ at))) (λ e. inl (subst (λ ws. mentions ws p ≡ true) (sym (at_others spare m e)) at)) (same_or_not l m))
+      (λ own. inl (subst (λ x. mentions (list_at new x) p ≡ true) (sym own.0) (subst (λ ws. mentions ws p ≡ true) (sym (at_own spare)) own.1))) h in
+      record {
+        long = w.long;
+        inside = w.inside;
+        listed = λ p less differ. let both = w.listed p less differ in (move p (pair_at pairs p).first both.0, move p (pair_at pairs p).second both.1);
+        sound = λ m. ⊎_elim
+            (λ e. subst (λ x. All (IsSound held) (list_at new x)) (sym e) (subst (λ ws. All (IsSound held) ws) (sym (at_own spare)) w.sound_spare))
+            (λ e. subst (λ ws. All (IsSound held) ws) (sym (at_others spare m e)) (w.sound m))
+            (same_or_not l m);
+        sound_spare = All-nil (IsSound held);
+      }
+
+-- all watches of the literal at the head are visited
+pub queued_next : (held : Held) (pairs : List Pair) (lists : List (List Watch)) (trues : List Literal) (reasons : List ℕ) (head : ℕ) (l : Literal) (done : List Watch) → head < length trues → IsVisiting held pairs lists trues reasons head l done [] → IsQueued held pairs trues reasons (head + 1)
+queued_next held pairs lists trues reasons head l done within v = record {
+  within = omega (arith, within);
+  kept = λ p less. ⊎_elim (λ none. absurd (false≢true none)) (λ k. k) (v.visited p less);
+  at_decisions = v.queued.at_decisions;
+}
+
+-- a clause that is kept is quiet
+pub kept_quiet : (trues clause : List Literal) (pair : Pair) → ((l : Literal) → has trues l ≡ true → has trues (negated l) ≡ false) → (has clause pair.first ≡ true) × (has clause pair.second ≡ true) → IsKept trues trues clause pair → IsQuiet trues (status trues clause)
+kept_quiet trues clause pair consistent inside kept =
+    let left : (l : Literal) → has clause l ≡ true → has trues (negated l) ≡ false → has (not_false trues clause) l ≡ true = λ l there free. has-filter_from (λ j. not (has trues (negated j))) clause l there (not_from_false (has trues (negated l)) free) in
+    ⊎_elim (λ t. quiet_with (not_false trues clause) t.0 (left t.0 t.1 (consistent t.0 t.2)) t.2)
+    (λ o. quiet_two (not_false trues clause) pair.first pair.second (left pair.first inside.0 o.first_free) (left pair.second inside.1 o.second_free) o.differ) kept
+  where
+    is_first : (x : Literal) (xs : List Literal) → list_all (same x) xs ≡ true → (k : Literal) → has (x ∷ xs) k ≡ true → k ≡ x
+    is_first x xs all k h = ⊎_elim (λ is. is) (λ there. sym (same-true x k (list_all-has (same x) xs all k there))) (has-cons x k xs h)
+
+    quiet_with : (ls : List Literal) (b : Literal) → has ls b ≡ true → has trues b ≡ true → IsQuiet trues (status_of ls)
+    quiet_with [] b here is = absurd (false≢true here)
+    quiet_with (x ∷ xs) b here is = elim (list_all (same x) xs) as (λ t. list_all (same x) xs ≡ t → IsQuiet trues (cond t (Forces x) Unresolved)) [
+      | true ↦ λ all. subst (λ k. has trues k ≡ true) (is_first x xs all b here) is
+      | false ↦ λ _. tt
+    ] refl
+
+    quiet_two : (ls : List Literal) (a b : Literal) → has ls a ≡ true → has ls b ≡ true → same a b ≡ false → IsQuiet trues (status_of ls)
+    quiet_two [] a b has_a has_b differ = absurd (false≢true has_a)
+    quiet_two (x ∷ xs) a b has_a has_b differ = elim (list_all (same x) xs) as (λ t. list_all (same x) xs ≡ t → IsQuiet trues (cond t (Forces x) Unresolved)) [
+      | true ↦ λ all. absurd (true≢false (sym (subst (λ k. same a k ≡ true) (is_first x xs all a has_a ∙ sym (is_first x xs all b has_b)) (same-itself a)) ∙ differ))
+      | false ↦ λ _. tt
+    ] refl
+
+-- a clause that is found stands at a place
+pub place_found : (held : Held) (id : ℕ) (clause : List Literal) → clause_at held id ≡ Some clause → (p : ℕ) × (p < length held) × (lits_at held p ≡ clause)
+place_found [] id clause at = cc
+place_found (e ∷ held) id clause at =
+    elim (e.0 == id) as (λ b. cond b (Some e.1) (clause_at held id) ≡ Some clause → (p : ℕ) × (p < length (e ∷ held)) × (lits_at (e ∷ held) p ≡ clause)) [
+      | true ↦ λ is. (0, omega arith, cc)
+      | false ↦ λ is. let rest : (p : ℕ) × (p < length held) × (lits_at held p ≡ clause) = place_found held id clause is in (suc rest.0, omega (arith, rest.1), rest.2)
+    ] at
+
+-- where all clauses are kept, propagation is at a fixpoint
+pub kept_fixpoint : (held : Held) (pairs : List Pair) (trues : List Literal) → ((l : Literal) → has trues l ≡ true → has trues (negated l) ≡ false) → ((p : ℕ) → p < length held → (has (lits_at held p) (pair_at pairs p).first ≡ true) × (has (lits_at held p) (pair_at pairs p).second ≡ true)) → AreKept held pairs trues trues → IsFixpoint held trues
+kept_fixpoint held pairs trues consistent inside kept id clause at =
+    let found : (p : ℕ) × (p < length held) × (lits_at held p ≡ clause) = place_found held id clause at in
+    subst (λ c. IsQuiet trues (status trues c)) found.2 (kept_quiet trues (lits_at held found.0) (pair_at pairs found.0) consistent (inside found.0 found.1) (kept found.0 found.1))
+
+pub kept_at_end : (held : Held) (pairs : List Pair) (trues : List Literal) (reasons : List ℕ) (head : ℕ) → IsQueued held pairs trues reasons head → length trues ≤ head → AreKept held pairs trues trues
+kept_at_end held pairs trues reasons head q end p less = subst (λ ls. IsKept ls trues (lits_at held p) (pair_at pairs p)) (take_all head trues end) (q.kept p less)
+
+-- the literal that became false is so still
+pub false_at : (trues more : List Literal) (head : ℕ) (l : Literal) → head < length trues → ((d : Literal) → l ≡ negated (get_or trues head d)) → has (trues ++ more) (negated l) ≡ true
+false_at trues more head l within is =
+    let t : Literal = get_or trues head l in
+    let there : negated l ≡ t = ap negated (is l) ∙ negated-negated t in
+    list_any-append (same (negated l)) trues more ∙ or_left (has trues (negated l)) (has more (negated l)) (has-at trues head (negated l) within (there ∙ same_at trues head l (negated l) within))
+
+-- the list of the literal that becomes false is there
+pub index_of_false : (n : ℕ) (held : Held) (trues : List Literal) (reasons : List ℕ) (room head : ℕ) (t l : Literal) → IsState n held trues reasons → head < length trues → t ≡ get_or trues head t → l ≡ negated t → room ≡ 2 * (n + 1) → index_of l < room
+index_of_false n held trues reasons room head t l s within is l_is long =
+    index_within l n room (subst (λ k. k ≤ n) (sym (ap variable_of l_is ∙ variable_of-negated t)) (s.range t (has-at trues head t within is)).1) long

@@ -1,0 +1,9 @@
+use Rattle.cdcl_core.proofs.Grows.{watched_with}
+use Rattle.cdcl_core.proofs.growth.attach.Goals as goal
+
+pub returns-clause-watched : goal.returns-clause-watched
+returns-clause-watched c = λ held id lits long has_first has_second w l.
+    let pairs = c.args.pairs.now.items in
+    let lists = c.args.lists.now in
+    let made = watched_with held pairs id lits c.args.pair (w l).long lists has_first has_second c.requires.inside_first c.requires.inside_second w l in
+    rw (c.in_ok-push.ensures.items, c.in_ok-push-3.ensures, c.in_ok-push-2.ensures, ← long) made

@@ -1,0 +1,58 @@
+use Rattle.std.proofs.Common.{◌≡◌, ◌+◌, ◌*◌, ◌++◌, [], ◌∙◌, List, sym, ap, subst, arith, length, take, drop}
+use Rattle.lrat_model.specs.Literal.{Literal, Plus}
+use Rattle.cdcl_core.specs.declared.watches.Pair.{Pair}
+use Rattle.cdcl_core.specs.Search.{IsState}
+use Rattle.cdcl_core.specs.Trail.{InRange, open_count}
+use Rattle.cdcl_core.specs.Watches.{AreKept, IsQueued, IsWatched}
+use Rattle.cdcl_core.proofs.OpenCounts.{open_count-append}
+use Rattle.cdcl_core.proofs.Runs.{written_back, each_id}
+use Rattle.cdcl_core.proofs.search.Search.propagate.Goals as goal
+
+pub propagate-requires-clause-range : goal.propagate-requires-clause-range
+propagate-requires-clause-range c = subst (λ k. InRange k c.args.self.now.clauses) (sym c.requires.searching.vars) c.requires.holding.range
+
+pub propagate-requires-clause-ids : goal.propagate-requires-clause-ids
+propagate-requires-clause-ids c = each_id c.args.self.now.clauses c.args.self.now.last c.requires.holding.rise c.requires.holding.ids c.requires.room
+
+pub propagate-requires-clause-state : goal.propagate-requires-clause-state
+propagate-requires-clause-state c = subst (λ k. IsState k c.args.self.now.clauses c.args.self.now.assignment.trues c.args.self.now.reasons.items) (sym c.requires.searching.vars) c.requires.searching.state
+
+pub propagate-requires-clause-lists : goal.propagate-requires-clause-lists
+propagate-requires-clause-lists c = c.requires.searching.lists ∙ ap (λ k. 2 * (k + 1)) (sym c.requires.searching.vars)
+
+pub propagate-requires-clause-watched : goal.propagate-requires-clause-watched
+propagate-requires-clause-watched c = λ l. subst (λ (ps : List Pair). IsWatched c.args.self.now.clauses ps c.args.self.now.lists l []) (sym c.deref_mut.ensures.value) (c.requires.searching.watched l)
+
+pub propagate-requires-clause-queued : goal.propagate-requires-clause-queued
+propagate-requires-clause-queued c = subst (λ (ps : List Pair). IsQueued c.args.self.now.clauses ps c.args.self.now.assignment.trues c.args.self.now.reasons.items c.args.self.now.head) (sym c.deref_mut.ensures.value) c.requires.searching.queued
+
+pub returns-clause-searching : goal.returns-clause-searching
+returns-clause-searching c =
+    let s = c.args.self.now in
+    let was = c.requires.searching in
+    let did = c.in_ok-found.ensures in
+    let new = c.propagate.new in
+    let pairs_are : take s.pairs.len (new.pairs ++ drop (length new.pairs) s.pairs.items) ≡ new.pairs = written_back s.pairs.len new.pairs s.pairs.items ((did.watched (Plus 0)).long ∙ sym (was.watched (Plus 0)).long ∙ sym s.pairs.ok.0) in
+    record {
+      vars = did.vars ∙ was.vars;
+      guide = was.guide;
+      state = subst (λ k. IsState k s.clauses new.assignment.trues new.reasons.items) was.vars did.state;
+      lists = did.lists ∙ was.lists;
+      watched = λ l. subst (λ (ps : List Pair). IsWatched s.clauses ps new.lists l []) (sym pairs_are) (did.watched l);
+      queued = subst (λ (ps : List Pair). IsQueued s.clauses ps new.assignment.trues new.reasons.items new.head) (sym pairs_are) did.queued;
+    }
+
+pub returns-clause-fixpoint : goal.returns-clause-fixpoint
+returns-clause-fixpoint c = λ is.
+    let s = c.args.self.now in
+    let was = c.requires.searching in
+    let did = c.in_ok-found.ensures in
+    let new = c.propagate.new in
+    let pairs_are : take s.pairs.len (new.pairs ++ drop (length new.pairs) s.pairs.items) ≡ new.pairs = written_back s.pairs.len new.pairs s.pairs.items ((did.watched (Plus 0)).long ∙ sym (was.watched (Plus 0)).long ∙ sym s.pairs.ok.0) in
+    (did.fixpoint is, subst (λ (ps : List Pair). AreKept s.clauses ps new.assignment.trues new.assignment.trues) (sym pairs_are) (did.kept is))
+
+pub returns-clause-fewer : goal.returns-clause-fewer
+returns-clause-fewer c =
+    let s = c.args.self.now in
+    let did = c.in_ok-found.ensures in
+    omega (arith, ap (λ (ls : List Literal). open_count ls s.vars) did.longer.1, open_count-append s.assignment.trues did.longer.0 s.vars)

@@ -1,0 +1,9 @@
+use Rattle.std.proofs.Common.{arith}
+use Rattle.cdcl_core.proofs.Same.{holding_same}
+use Rattle.cdcl_core.proofs.search.Search.settle.Goals as goal
+
+pub propagate-requires-clause-room : goal.propagate-requires-clause-room
+propagate-requires-clause-room c = omega (arith, c.requires.room, c.turns.invariant.same.last)
+
+pub propagate-requires-clause-holding : goal.propagate-requires-clause-holding
+propagate-requires-clause-holding c = holding_same c.args.self.now c.turns.self c.turns.invariant.same c.requires.holding

@@ -1,0 +1,12 @@
+use Rattle.cdcl_core.specs.Searching.{HasSame, IsSearching}
+use Rattle.cdcl_core.specs.Trail.{open_count}
+use Rattle.cdcl_core.proofs.search.Search.settle.Given as goal
+
+abbrev pub invariant-turns : goal.invariant-turns
+invariant-turns l = record {
+  same : HasSame l.initial.self l.self;
+  searching : IsSearching l.self.clauses l.self;
+}
+
+abbrev pub decreases-turns : goal.decreases-turns
+decreases-turns l = open_count l.self.assignment.trues l.self.vars

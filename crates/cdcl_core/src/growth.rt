@@ -1,0 +1,185 @@
+//! What a search holds more: a jump back on the trail, a clause that begins to be watched, a lemma that is
+//! held and logged.
+ghost use Rattle.std.specs.Prelude.{◌≡◌, ◌≢◌, ◌⊎◌, ℕ, ◌<◌, ◌≤◌, ◌^◌, ◌+◌, ◌*◌, ◌++◌, [], ◌∷◌, true, false, List, Ok, None, All, OnOk, OnErr, length, take, slice_index};
+ghost use Rattle.lrat_model.specs.Literal.{Literal, has, negated, same, variable_of};
+ghost use Rattle.lrat_model.specs.Clauses.{Held, with_clause};
+ghost use Rattle.lrat_model.specs.Propagation.{status};
+ghost use Rattle.lrat_model.specs.Steps.{Addition};
+ghost use Rattle.lrat_model.specs.declared.step.ClauseStatus.TheVariants.{Falsified};
+ghost use Rattle.cdcl_core.specs.Guides.{IsGuide};
+ghost use Rattle.cdcl_core.specs.Search.{IsState};
+ghost use Rattle.cdcl_core.specs.Trail.{IsTrail, IsVariable};
+ghost use Rattle.cdcl_core.specs.Watches.{index_of, IsWatched, IsQueued};
+
+use crate::clauses::Clauses;
+use crate::guide::Guide;
+use crate::watches::{Pair, Watch, WatchLists};
+use lrat_model::Lit;
+use lrat_text::Log;
+use partial_assignment::Assignment;
+use std::alloc::AllocError;
+
+/// Goes back to where a decision stands: it and all above it are taken away.
+pub fn back(
+    guide: &mut Guide,
+    assignment: &mut Assignment,
+    reasons: &mut Vec<u64>,
+    head: &mut usize,
+    jump: usize,
+)
+    requires trail { (held : Held) × IsTrail held assignment.old.trues reasons.old.items }
+    requires within { jump < length assignment.old.trues }
+    requires decision { slice_index reasons.old.items jump ≡ 0 }
+    ensures vars { assignment.new.vars ≡ assignment.old.vars }
+    ensures trues { assignment.new.trues ≡ take jump assignment.old.trues }
+    ensures reasons { reasons.new.items ≡ take jump reasons.old.items }
+    ensures head { head.new ≡ jump }
+    ensures guide { (vars : ℕ) → IsGuide vars guide.old → IsGuide vars guide.new }
+    ensures queued { (held : Held) (pairs : List Pair) → IsQueued held pairs assignment.old.trues reasons.old.items head.old → IsQueued held pairs assignment.new.trues reasons.new.items head.new }
+{
+    guide.leave(&assignment.trail()[jump..], jump);
+    assignment.back_to(jump);
+    reasons.truncate(jump);
+    *head = jump;
+}
+
+/// Lets the clause at a place, the next that has none, watch two of its literals, one where it has no two
+/// that differ. A place takes 32 bits, since propagation waits for the load of watches: more clauses than
+/// these can name are want of memory.
+pub fn attach(
+    pairs: &mut Vec<Pair>,
+    lists: &mut WatchLists,
+    place: usize,
+    pair: Pair,
+) -> Result<(), AllocError>
+    requires inside_first { index_of pair.first < length lists.old }
+    requires inside_second { index_of pair.second < length lists.old }
+    ensures pairs { OnOk result (pairs.new.items ≡ pairs.old.items ++ pair ∷ []) }
+    ensures lists { OnOk result (length lists.new ≡ length lists.old) }
+    ensures watched { OnOk result ((held : Held) (id : ℕ) (lits : List Literal) → length held ≡ place → has lits pair.first ≡ true → has lits pair.second ≡ true → ((l : Literal) → IsWatched held pairs.old.items lists.old l []) → (l : Literal) → IsWatched (held ++ (id, lits) ∷ []) pairs.new.items lists.new l []) }
+{
+    if place > u32::MAX as usize {
+        return Err(AllocError);
+    }
+    let place = place as u32;
+    let Pair { first, second } = pair;
+    pairs.push(Pair { first, second })?;
+    let watch = Watch {
+        place,
+        blocker: second,
+    };
+    lists.push(first, watch)?;
+    let watch = Watch {
+        place,
+        blocker: first,
+    };
+    lists.push(second, watch)?;
+    Ok(())
+}
+
+/// Holds a lemma under the id after the last, and logs it. Where memory runs out neither is done.
+pub fn record(
+    clauses: &mut Clauses,
+    log: &mut Log,
+    last: &mut u64,
+    lits: &[Lit],
+    hints: &[i64],
+) -> Result<(), AllocError>
+    requires { last.old + 1 < 2 ^ 63 }
+    ensures clauses { OnOk result (clauses.new ≡ with_clause clauses.old (last.old + 1) lits.now) }
+    ensures log { OnOk result (log.new ≡ log.old ++ Addition (last.old + 1) lits.now hints.now ∷ []) }
+    ensures last { OnOk result (last.new ≡ last.old + 1) }
+    ensures unchanged { OnErr result ((clauses.new ≡ clauses.old) × (log.new ≡ log.old) × (last.new ≡ last.old)) }
+{
+    let id = *last + 1;
+    clauses.push(id, lits)?;
+    match log.push_addition(id, lits, hints) {
+        Ok(()) => {
+            *last = id;
+            Ok(())
+        }
+        Err(error) => {
+            clauses.pop();
+            Err(error)
+        }
+    }
+}
+
+/// The literals of a clause that are not false: two that differ, one, or none.
+#[derive(Clone, Copy)]
+pub enum Free {
+    Two(Lit, Lit),
+    One(Lit),
+    Nothing,
+}
+
+/// The first two different literals of a clause that are not false.
+fn two_free(assignment: &Assignment, clause: &[Lit]) -> Free
+    requires { (l : Literal) → has clause.now l ≡ true → variable_of l ≤ assignment.now.vars }
+    ensures two { (a b : Literal) → result ≡ Free.Two a b → (has clause.now a ≡ true) × (has clause.now b ≡ true) × (same a b ≡ false) × (has assignment.now.trues (negated a) ≡ false) × (has assignment.now.trues (negated b) ≡ false) }
+    ensures one { (a : Literal) → result ≡ Free.One a → (has clause.now a ≡ true) × (has assignment.now.trues (negated a) ≡ false) × ((m : Literal) → has clause.now m ≡ true → (m ≡ a) ⊎ (has assignment.now.trues (negated m) ≡ true)) }
+    ensures nothing { result ≡ Free.Nothing → (m : Literal) → has clause.now m ≡ true → has assignment.now.trues (negated m) ≡ true }
+{
+    let mut found: Option<Lit> = None;
+    for m in clause {
+        if !assignment.is_true(m.negated()) {
+            match found {
+                None => found = Some(*m),
+                Some(k) => {
+                    if !k.same(*m) {
+                        return Free::Two(k, *m);
+                    }
+                }
+            }
+        }
+    }
+    match found {
+        None => Free::Nothing,
+        Some(l) => Free::One(l),
+    }
+}
+
+/// Lets the next clause be watched, while nothing is decided. Where it forces a literal, that is made true;
+/// false where the clause is false.
+pub fn watch_next(
+    pairs: &mut Vec<Pair>,
+    lists: &mut WatchLists,
+    assignment: &mut Assignment,
+    reasons: &mut Vec<u64>,
+    id: u64,
+    lits: &[Lit],
+) -> Result<bool, AllocError>
+    requires id { (0 < id) × (id < 2 ^ 63) }
+    requires lists { length lists.old ≡ 2 * (assignment.old.vars + 1) }
+    requires range { (m : Literal) → has lits.now m ≡ true → IsVariable assignment.old.vars m }
+    requires undecided { (p : ℕ) → p < length assignment.old.trues → slice_index reasons.old.items p ≢ 0 }
+    requires long { length reasons.old.items ≡ length assignment.old.trues }
+    ensures vars { assignment.new.vars ≡ assignment.old.vars }
+    ensures lists { OnOk result (length lists.new ≡ length lists.old) }
+    ensures pairs { result ≡ Ok true → length pairs.new.items ≡ length pairs.old.items + 1 }
+    ensures state { result ≡ Ok true → (held : Held) → All (λ e. e.0 < id) held → IsState assignment.old.vars held assignment.old.trues reasons.old.items → IsState assignment.old.vars (with_clause held id lits.now) assignment.new.trues reasons.new.items }
+    ensures undecided { result ≡ Ok true → (p : ℕ) → p < length assignment.new.trues → slice_index reasons.new.items p ≢ 0 }
+    ensures watched { result ≡ Ok true → (held : Held) → length held ≡ length pairs.old.items → ((l : Literal) → IsWatched held pairs.old.items lists.old l []) → (l : Literal) → IsWatched (with_clause held id lits.now) pairs.new.items lists.new l [] }
+    ensures queued { result ≡ Ok true → (held : Held) (head : ℕ) → All (λ e. e.0 < id) held → IsState assignment.old.vars held assignment.old.trues reasons.old.items → length pairs.old.items ≡ length held → IsQueued held pairs.old.items assignment.old.trues reasons.old.items head → IsQueued (with_clause held id lits.now) pairs.new.items assignment.new.trues reasons.new.items head }
+    ensures conflict { result ≡ Ok false → (status assignment.old.trues lits.now ≡ Falsified) × (assignment.new.trues ≡ assignment.old.trues) × (reasons.new.items ≡ reasons.old.items) }
+{
+    match two_free(assignment, lits) {
+        Free::Two(first, second) => {
+            attach(pairs, lists, pairs.len(), Pair { first, second })?;
+            Ok(true)
+        }
+        Free::One(l) => {
+            let pair = Pair {
+                first: l,
+                second: l,
+            };
+            attach(pairs, lists, pairs.len(), pair)?;
+            if !assignment.is_true(l) {
+                assignment.make_true(l);
+                reasons.push(id)?;
+            }
+            Ok(true)
+        }
+        Free::Nothing => Ok(false),
+    }
+}

@@ -1,0 +1,244 @@
+//! What guides a search and no answer depends on: the order of decisions, restarts, and which literals of a
+//! lemma are derived from others (recursive minimisation, of Sörensson and Biere, 'Minimizing learned
+//! clauses', 2009). Proved of it is that it is safe, and that it keeps its size.
+ghost use Rattle.std.specs.Prelude.{◌≡◌, ◌<◌, ◌+◌, ◌^◌, AllPairs, IfOk, length};
+ghost use Rattle.cdcl_core.specs.Guides.{IsGuide};
+
+use crate::clauses::Clauses;
+use crate::marks::Marks;
+use crate::order::Order;
+use crate::restarts::Restarts;
+use lrat_model::Lit;
+use std::alloc::{AllocError, Global};
+
+/// The order of decisions, the marks of an analysis, where the first decision stood last, and what is known
+/// of literals that may be derived.
+#[derive(Drop)]
+pub struct Guide {
+    pub order: Order,
+    pub marks: Marks,
+    pub base: usize,
+    pub minimiser: Minimiser,
+    pub restarts: Restarts,
+}
+
+impl Guide {
+    /// For this many variables.
+    pub fn new(alloc: Global, vars: u32) -> Result<Guide, AllocError>
+        requires { vars < 2 ^ 31 }
+        ensures { IfOk result (λ guide. IsGuide vars guide) }
+    {
+        Ok(Guide {
+            order: Order::new(alloc, vars)?,
+            marks: Marks::new(alloc, vars)?,
+            base: 0,
+            minimiser: Minimiser::new(alloc, vars)?,
+            restarts: Restarts::new(),
+        })
+    }
+
+    /// Takes note of the variables that a conflict has seen, down to the implication point.
+    pub fn note(&mut self, reasons: &[u64], places: &[usize], last: usize) -> Result<(), AllocError>
+        ensures order { self.new.order ≡ self.old.order }
+        ensures marks { self.new.marks ≡ self.old.marks }
+    {
+        self.order.raise(self.marks.listed());
+        self.minimiser
+            .begin(reasons, self.marks.listed(), places, last)
+    }
+
+    /// Whether the literal at a place below the last decision follows from marked ones.
+    pub fn follows(
+        &mut self,
+        clauses: &Clauses,
+        trail: &[Lit],
+        reasons: &[u64],
+        places: &[usize],
+        place: usize,
+        last: usize,
+    ) -> Result<bool, AllocError>
+        requires { AllPairs (λ e f. e.0 < f.0) clauses.now }
+        ensures order { self.new.order ≡ self.old.order }
+        ensures marks { self.new.marks ≡ self.old.marks }
+    {
+        if place < self.base || last <= place {
+            return Ok(false);
+        }
+        self.minimiser
+            .follows(clauses, trail, reasons, places, &self.marks, place)
+    }
+
+    /// Keeps the values of literals that are taken from a trail, from this place on.
+    pub fn leave(&mut self, undone: &[Lit], place: usize)
+        ensures order { self.new.order ≡ self.old.order }
+        ensures marks { self.new.marks ≡ self.old.marks }
+    {
+        self.order.reopen(undone);
+        self.minimiser.cut(place);
+    }
+}
+
+/// The decision level of each place of the trail; the levels of a lemma's literals; the variables that follow
+/// from the lemma's literals, and those that do not.
+#[derive(Drop)]
+pub struct Minimiser {
+    levels: Vec<u32>,
+    met: Marks,
+    implied: Marks,
+    refused: Marks,
+    waiting: Vec<usize>,
+    tried: Vec<usize>,
+}
+
+impl Minimiser {
+    /// For this many variables.
+    fn new(alloc: Global, vars: u32) -> Result<Minimiser, AllocError>
+        requires { vars < 2 ^ 31 }
+    {
+        Ok(Minimiser {
+            levels: Vec::new(alloc),
+            met: Marks::new(alloc, vars)?,
+            implied: Marks::new(alloc, vars)?,
+            refused: Marks::new(alloc, vars)?,
+            waiting: Vec::new(alloc),
+            tried: Vec::new(alloc),
+        })
+    }
+
+    /// Forgets the levels from this place on.
+    pub fn cut(&mut self, len: usize) {
+        self.levels.truncate(len);
+    }
+
+    /// Begins with a lemma whose literals stand at the places of these variables that are below the last
+    /// decision.
+    pub fn begin(
+        &mut self,
+        reasons: &[u64],
+        variables: &[u32],
+        places: &[usize],
+        last: usize,
+    ) -> Result<(), AllocError> {
+        self.level(reasons)?;
+        self.met.clear();
+        self.implied.clear();
+        self.refused.clear();
+        for x in variables {
+            let place = at(places, *x as usize);
+            if place < last {
+                self.met.add(at_level(&self.levels, place));
+            }
+        }
+        Ok(())
+    }
+
+    /// Finds the levels of the places that are new.
+    fn level(&mut self, reasons: &[u64]) -> Result<(), AllocError> {
+        let mut place = self.levels.len();
+        let mut level = if place > 0 { self.levels[place - 1] } else { 0 };
+        while place < reasons.len() {
+            if reasons[place] == 0 {
+                level = level.saturating_add(1);
+            }
+            self.levels.push(level)?;
+            place += 1;
+        }
+        Ok(())
+    }
+
+    /// Whether the literal at a place follows from marked ones, by reasons alone.
+    pub fn follows(
+        &mut self,
+        clauses: &Clauses,
+        trail: &[Lit],
+        reasons: &[u64],
+        places: &[usize],
+        marks: &Marks,
+        place: usize,
+    ) -> Result<bool, AllocError>
+        requires { AllPairs (λ e f. e.0 < f.0) clauses.now }
+    {
+        if at_reason(reasons, place) == 0 {
+            return Ok(false);
+        }
+        if place < trail.len() && self.implied.has(trail[place].variable() as usize) {
+            return Ok(true);
+        }
+        self.waiting.clear();
+        self.tried.clear();
+        self.waiting.push(place)?;
+        let mut left = reasons.len();
+        while left > 0 {
+            left -= 1;
+            let Some(next) = self.waiting.pop() else {
+                return Ok(true);
+            };
+            let clause = clauses.under(at_reason(reasons, next));
+            if !self.looks_on(clause, reasons, places, marks, next)? {
+                self.give_up(trail, next);
+                return Ok(false);
+            }
+        }
+        Ok(false)
+    }
+
+    /// Notes which other literals of a reason have to follow too; false where one cannot.
+    fn looks_on(
+        &mut self,
+        clause: &[Lit],
+        reasons: &[u64],
+        places: &[usize],
+        marks: &Marks,
+        own: usize,
+    ) -> Result<bool, AllocError> {
+        for m in clause {
+            let x = m.variable() as usize;
+            let place = at(places, x);
+            let level = at_level(&self.levels, place);
+            if place == own || level == 0 || marks.has(x) || self.implied.has(x) {
+                continue;
+            }
+            if at_reason(reasons, place) == 0 || self.refused.has(x) || !self.met.has(level) {
+                return Ok(false);
+            }
+            self.implied.add(x);
+            self.tried.push(x)?;
+            self.waiting.push(place)?;
+        }
+        Ok(true)
+    }
+
+    /// The literal at a place does not follow, and of what was tried with it nothing is known.
+    fn give_up(&mut self, trail: &[Lit], place: usize) {
+        for x in &self.tried {
+            self.implied.remove(*x);
+        }
+        if place < trail.len() {
+            self.refused.add(trail[place].variable() as usize);
+        }
+    }
+}
+
+/// The entry at a place, 0 where there is none.
+fn at(places: &[usize], x: usize) -> usize {
+    match places.get(x) {
+        Some(place) => *place,
+        None => 0,
+    }
+}
+
+/// The level of a place, 0 where it is not known.
+fn at_level(levels: &[u32], place: usize) -> usize {
+    match levels.get(place) {
+        Some(level) => *level as usize,
+        None => 0,
+    }
+}
+
+/// The reason of a place, 0 where there is none.
+fn at_reason(reasons: &[u64], place: usize) -> u64 {
+    match reasons.get(place) {
+        Some(reason) => *reason,
+        None => 0,
+    }
+}
