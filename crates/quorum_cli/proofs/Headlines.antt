@@ -1,9 +1,6 @@
 -- What is so where a search prints its answer.
-use Rattle.std.proofs.Common.{◌≡◌, ◌⊎◌, ◌↔◌, inl, inr, IsTrue, Bool, true, false, ℕ, List, ◌++◌, Option, Some, Ok, refl, sym, ◌∙◌, ap, subst, codes}
-use Rattle.std.specs.Str.{bytes_eq}
+use Rattle.std.proofs.Common.{◌≡◌, ◌⊎◌, ◌↔◌, inl, inr, IsTrue, Bool, true, false, ℕ, List, ◌++◌, Some, Result, Ok, Err, refl, sym, ◌∙◌, ap, subst, codes}
 use Rattle.std.proofs.lemmas.Slice.Eq.{bytes_eq-Decides}
-use Rattle.fbas_model.specs.Nodes.{Table, members}
-use Rattle.fbas_model.specs.Fbas.{Available}
 use Rattle.witness_pair.specs.declared.Pair.{Pair}
 use Rattle.lrat_model.specs.Steps.{ProofStep}
 use Rattle.quorum_questions.specs.declared.answers.Size.{Size}
@@ -11,17 +8,20 @@ use Rattle.quorum_questions.specs.declared.answers.Answer.{Answer as Found}
 use Rattle.quorum_questions.specs.declared.answers.Answer.TheVariants.{Yes as together, No as apart, Spent as spent}
 use Rattle.desk_io.specs.State.{Files, DeskState, with_file}
 use Rattle.certificate_file.specs.Acceptance.{checked}
-use Rattle.cert_writer.specs.Finding.{Finds}
+use Rattle.cert_writer.specs.Finding.{Finds, accepted_as}
 use Rattle.cli_words.specs.declared.orders.Goal.{Goal}
 use Rattle.cli_words.specs.declared.orders.Goal.TheVariants.{Intersect, Dset, Splits}
 use Rattle.report.specs.Lines.{Text, with_pair}
+use Rattle.quorum_cli.specs.declared.early.Early.{Early}
+use Rattle.quorum_cli.specs.declared.reading.Asked.{Asked}
+use Rattle.quorum_cli.specs.declared.reading.Asked.TheVariants as asked
 use Rattle.quorum_cli.specs.declared.searches.Search.{Search}
 use Rattle.quorum_cli.specs.declared.reply.Reply.{Reply as Answer}
 use Rattle.quorum_cli.specs.declared.status.Status.{Status}
 use Rattle.quorum_cli.specs.declared.status.Status.TheVariants.{Yes, No, Unknown, TooLarge}
-use Rattle.quorum_cli.specs.Replies.{intersect_answer, splits_answer, dset_status, Replies, RepliesDset, RepliesTooLarge}
-use Rattle.quorum_cli.specs.Printing.{part, deleted, request, FindsReply, PrintsFound, PrintsTooLarge, PrintsSearch}
-use Rattle.quorum_cli.specs.Headline.{ShowsPair, PrintsPair, ShowsNone, ShowsUnknown, IsAvailable, HasPair, SearchMeans}
+use Rattle.quorum_cli.specs.Replies.{intersect_answer, splits_answer, dset_status, Replies, RepliesDset}
+use Rattle.quorum_cli.specs.Printing.{part, deleted, request, FindsReply, PrintsFound, PrintsTooLarge, PrintsSearch, Prints}
+use Rattle.quorum_cli.specs.Headline.{ShowsPair, PrintsPair, ShowsNone, ShowsUnknown, IsAvailable, HasPair, SearchMeans, AskedMeans}
 
 held_there : (path : List ℕ) (cert : Text) (files now : Files) → now ≡ with_file path cert files → now path ≡ Some cert
 held_there path cert files now e = ap (λ (f : Files). f path) e ∙ rw ((bytes_eq-Decides path path).1 refl) refl
@@ -142,6 +142,7 @@ found_means s old new status p =
     let finds = p.reply.finds in
     let files = p.put.files in
     record {
+      accepted = λ at. record { cert = cert; held = held_there s.path cert old.files new.files files; answer = accepted_as (request s) f; accepted = finds.accepted };
       intersect_yes = λ goal at. intersect_yes s old new f cert finds files (status_of s old new status p _ Yes (replied s p.reply Intersect goal) at);
       intersect_no = λ goal at. found_intersect_no s old new status p goal at;
       intersect_unknown = λ goal at. intersect_unknown s old new f cert finds files (status_of s old new status p _ Unknown (replied s p.reply Intersect goal) at);
@@ -170,6 +171,10 @@ pub too_large_means : (s : Search) (old new : DeskState) (status : Status) → P
 too_large_means s old new status p =
     let large = too_large_at s old new status p in
     record {
+      accepted = λ at. elim at [
+        | inl yes_is ↦ absurd cc
+        | inr other ↦ elim other [ inl no_is ↦ absurd cc | inr unknown_is ↦ absurd cc ]
+      ];
       intersect_yes = λ goal at. absurd cc;
       intersect_no = λ goal at. absurd cc;
       intersect_unknown = λ goal at. absurd cc;
@@ -184,3 +189,10 @@ too_large_means s old new status p =
 pub search_means : (s : Search) (old new : DeskState) (status : Status) → PrintsSearch s old new status → SearchMeans s old new status
 search_means s old new status (inl p) = found_means s old new status p
 search_means s old new status (inr p) = too_large_means s old new status p
+
+-- ---- the same of what comes of the words
+
+pub asked_means : (r : Result Asked Early) (old new : DeskState) (status : Status) → Prints r old new status → AskedMeans r old new status
+asked_means (Ok (asked.Search s)) old new status p = search_means s old new status p
+asked_means (Ok (asked.Question f q)) old new status p = tt
+asked_means (Err e) old new status p = tt

@@ -1,4 +1,7 @@
 pub mod Unions
-pub mod Files
+pub mod Puts
 pub mod Replied
 pub mod Headlines
+pub mod Cuts
+pub mod After
+pub mod Told

@@ -1,8 +1,12 @@
 -- A reply of a search has the status of an answer.
-use Rattle.std.proofs.Common.{◌≡◌, ℕ, IsTrue, Bool, true, false, refl, sym, subst}
+use Rattle.std.proofs.Common.{◌≡◌, ◌<◌, ℕ, IsTrue, Bool, true, false, refl, sym, subst, ap, ◌∙◌}
 use Rattle.fbas_model.specs.Nodes.{Table}
-use Rattle.fbas_model.specs.Names.{Name}
 use Rattle.fbas_model.specs.Systems.{System}
+use Rattle.quorum_questions.specs.Evidence.{vars_of}
+use Rattle.clause_encoder.specs.declared.limits.TheConstants.{MOST_VARS}
+use Rattle.cert_writer.specs.Finding.{CanBeWritten}
+use Rattle.report.specs.Lines.{too_large}
+use Rattle.quorum_cli.specs.declared.status.Status.TheVariants.{TooLarge}
 use Rattle.quorum_questions.specs.declared.answers.Answer.{Answer as Found}
 use Rattle.quorum_questions.specs.declared.answers.Answer.TheVariants.{Yes as together, No as apart, Spent as spent}
 use Rattle.cli_words.specs.declared.orders.Goal.{Goal}
@@ -35,3 +39,13 @@ reply_answered Dset f deleted budget found a is = subst Answered (sym is.said) (
 
 pub too_large_answered : (f : System) (deleted : Table) (a : Answer) → RepliesTooLarge f deleted a → IsTrue (is_answer a.status)
 too_large_answered f deleted a is = subst Answered (sym is.said) refl
+
+pub too_large_fits : (f : System) (deleted : Table) (vars : ℕ) (a : Answer) → vars ≡ vars_of f.sets deleted → MOST_VARS < vars → a ≡ record { status = TooLarge; text = too_large vars } → RepliesTooLarge f deleted a
+too_large_fits f deleted vars a same large said = record {
+  large = subst (λ (n : ℕ). MOST_VARS < n) same large;
+  said = said ∙ ap (λ (n : ℕ). record { status = TooLarge; text = too_large n }) same;
+}
+
+-- what is found can be written, by the number of quorum sets
+pub written_there : (n m : ℕ) (found : Found) → n ≡ m → CanBeWritten n found → CanBeWritten m found
+written_there n m found same can = subst (λ (k : ℕ). CanBeWritten k found) same can

@@ -1,5 +1,5 @@
 -- What the program asks or answers, by its words and the files that they name.
-use Rattle.std.specs.Prelude.{◌≡◌, ℕ, nat_le, List, [], length, IsTrue, Option, Some, None, Result, Ok, Err, if◌then◌else◌, map, string_bytes, String}
+use Rattle.std.specs.Prelude.{ℕ, nat_le, List, [], length, Option, Some, None, Result, Ok, Err, if◌then◌else◌, map, string_bytes, String}
 use Rattle.std.specs.declared.alloc.Global.{Global}
 use Rattle.sha2.specs.Sha256.{sha256}
 use Rattle.desk_io.specs.State.{Files}
@@ -9,6 +9,8 @@ use Rattle.cli_words.specs.Order.{Ordered}
 use Rattle.cli_words.specs.Words.{order_of}
 use Rattle.cli_words.specs.declared.orders.Command.{Command}
 use Rattle.cli_words.specs.declared.orders.Command.TheVariants as command
+use Rattle.cli_words.specs.declared.orders.Query.{Query}
+use Rattle.cli_words.specs.declared.orders.Goal.{Goal}
 use Rattle.cli_words.specs.declared.orders.OrderFault.{OrderFault}
 use Rattle.cli_words.specs.declared.orders.OrderFault.TheVariants as fault
 use Rattle.node_json.specs.Configuration.{system_of}
@@ -93,6 +95,18 @@ check_in f config (Some cert) = Ok (checked_answer f.names (checked f (sha256 co
 abbrev pub asked_about : System → Inquiry → Asked
 asked_about f inquiry = asked.Question (part_of f inquiry.closure) inquiry.question
 
+-- what an order with this question asks, once the organisations were read
+abbrev pub query_asked : Query → Ordered → System → List ℕ → List Org → Result Asked Early
+query_asked q o f config orgs = do
+  inquiry ← question_of q f config orgs o
+  Ok (asked_about f inquiry)
+
+-- what an order with this goal asks, once the organisations were read
+abbrev pub goal_asked : Goal → Ordered → System → List ℕ → List Org → Result Asked Early
+goal_asked goal o f config orgs = do
+  search ← search_of goal f config orgs o
+  Ok (asked.Search search)
+
 -- what a command asks over a configuration that was read, or its early answer
 abbrev pub command_asked : Command → Ordered → System → List ℕ → Files → Result Asked Early
 command_asked command.Check o f config files = do
@@ -100,19 +114,22 @@ command_asked command.Check o f config files = do
   Err (Told answer)
 command_asked (command.Query q) o f config files = do
   orgs ← orgs_given f.names files o.orgs
-  inquiry ← question_of q f config orgs o
-  Ok (asked_about f inquiry)
+  query_asked q o f config orgs
 command_asked (command.Search goal) o f config files = do
   orgs ← orgs_given f.names files o.orgs
-  search ← search_of goal f config orgs o
-  Ok (asked.Search search)
+  goal_asked goal o f config orgs
+
+-- what an order asks over the bytes of its configuration, or its early answer
+abbrev pub config_asked : Ordered → Files → List ℕ → Result Asked Early
+config_asked o files config = do
+  f ← system_in config
+  command_asked o.command o f config files
 
 -- what an order asks, or its early answer
 abbrev pub order_asked : Ordered → Files → Result Asked Early
 order_asked o files = do
   config ← file_in config_too_long (files o.config)
-  f ← system_in config
-  command_asked o.command o f config files
+  config_asked o files config
 
 -- the early end where the words are no order
 abbrev pub refused_words : OrderFault → Early

@@ -1,20 +1,20 @@
 -- What is so where a search prints its answer.
-use Rattle.std.specs.Prelude.{◌≡◌, ◌⊎◌, ℕ, ◌++◌, List, Some, Result, Ok, Err, codes}
+use Rattle.std.specs.Prelude.{◌≡◌, ◌⊎◌, ℕ, ◌++◌, true, List, Some, Result, Ok, Err, codes}
 use Rattle.std.specs.Str.{bytes_eq}
-use Rattle.desk_io.specs.State.{DeskState, Files}
+use Rattle.desk_io.specs.State.{DeskState}
 use Rattle.fbas_model.specs.Nodes.{members}
 use Rattle.fbas_model.specs.Fbas.{Available, Intersects}
 use Rattle.witness_pair.specs.Pairs.{IsPair}
 use Rattle.witness_pair.specs.declared.Pair.{Pair}
 use Rattle.lrat_model.specs.Steps.{ProofStep}
 use Rattle.certificate_file.specs.Acceptance.{checked}
+use Rattle.certificate_file.specs.declared.places.Answer.{Answer as Shown}
 use Rattle.certificate_file.specs.declared.places.Answer.TheVariants as shown
 use Rattle.cert_writer.specs.Promises.{raised_pair}
 use Rattle.cert_writer.specs.Finding.{cert_of}
 use Rattle.quorum_questions.specs.Evidence.{IsRefutation, IsSpent}
 use Rattle.quorum_questions.specs.declared.answers.Size.{Size}
 use Rattle.quorum_questions.specs.declared.answers.Answer.TheVariants.{Yes as together, Spent as spent}
-use Rattle.cli_words.specs.declared.orders.Goal.{Goal}
 use Rattle.cli_words.specs.declared.orders.Goal.TheVariants.{Intersect, Dset, Splits}
 use Rattle.report.specs.Lines.{Text, with_pair}
 use Rattle.quorum_cli.specs.declared.early.Early.{Early}
@@ -56,6 +56,13 @@ pub record ShowsUnknown (s : Search) (new : DeskState) : Type 0 where
   pub held : new.files s.path ≡ Some (cert_of (request s) (spent log size))
   pub accepted : checked s.whole s.digest (cert_of (request s) (spent log size)) ≡ Ok (record { header = s.header; answer = shown.Partial s.budget })
 
+-- the certificate is accepted, for the asked node and the deleted nodes
+pub record WritesAccepted (s : Search) (new : DeskState) : Type 0 where
+  pub cert : Text
+  pub held : new.files s.path ≡ Some cert
+  pub answer : Shown
+  pub accepted : checked s.whole s.digest cert ≡ Ok (record { header = s.header; answer = answer })
+
 -- whether the others are available despite the deleted nodes
 abbrev pub IsAvailable : Search → Type 0
 IsAvailable s = Available (part s).sets (members (deleted s))
@@ -66,6 +73,7 @@ HasPair s new = (p : Pair) × ShowsPair s p new
 
 -- what is so where the answer has this status, by what is sought
 pub record SearchMeans (s : Search) (old new : DeskState) (status : Status) : Type 0 where
+  pub accepted : (status ≡ Yes) ⊎ ((status ≡ No) ⊎ (status ≡ Unknown)) → WritesAccepted s new
   pub intersect_yes : s.goal ≡ Intersect → status ≡ Yes → ShowsNone s new
   pub intersect_no : s.goal ≡ Intersect → status ≡ No → PrintsPair s (codes "intersects no\n") old new
   pub intersect_unknown : s.goal ≡ Intersect → status ≡ Unknown → ShowsUnknown s new
@@ -86,3 +94,7 @@ AskedMeans (Err e) old new status = Unit {0}
 abbrev pub IsCertOf : List ℕ → Asked → Type 0
 IsCertOf path (asked.Search s) = bytes_eq path s.path ≡ true
 IsCertOf path (asked.Question f question) = ⊥
+
+abbrev pub MayChange : List ℕ → Result Asked Early → Type 0
+MayChange path (Ok a) = IsCertOf path a
+MayChange path (Err e) = ⊥

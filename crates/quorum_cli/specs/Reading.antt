@@ -3,7 +3,7 @@ use Rattle.std.specs.Prelude.{◌≡◌, Bool, true, false, IsTrue, Result, Ok, 
 use Rattle.quorum_cli.specs.declared.early.Early.{Early}
 use Rattle.quorum_cli.specs.declared.early.Early.TheVariants.{Told, Read, Memory}
 use Rattle.quorum_cli.specs.declared.status.Status.{Status}
-use Rattle.quorum_cli.specs.declared.status.Status.TheVariants.{Yes, Usage, ConfigRefused}
+use Rattle.quorum_cli.specs.declared.status.Status.TheVariants.{Usage, ConfigRefused}
 use Rattle.quorum_cli.specs.Status.{is_answer}
 
 infixl 10 ◌>>=◌

@@ -1,10 +1,10 @@
 -- What a search is asked for.
-use Rattle.std.specs.Prelude.{◌≡◌, ◌≤◌, ℕ, List, Option, Some, None, Result, Ok, codes}
+use Rattle.std.specs.Prelude.{◌≡◌, ◌≤◌, ℕ, List, length, Option, Some, None, Result, Ok, codes}
 use Rattle.sha2.specs.Sha256.{sha256}
-use Rattle.fbas_model.specs.Nodes.{Table}
+use Rattle.hex.specs.Hex.{IsBytes}
+use Rattle.fbas_model.specs.Nodes.{Table, members, ◌∩◌}
 use Rattle.fbas_model.specs.Systems.{System}
-use Rattle.fbas_model.specs.Restriction.{closure_of, union}
-use Rattle.witness_pair.specs.Making.{shared}
+use Rattle.fbas_model.specs.Restriction.{closure_of, table_from, union}
 use Rattle.cert_writer.specs.Promises.{IsHeader}
 use Rattle.node_json.specs.Organisations.{Org}
 use Rattle.cli_words.specs.Order.{Ordered}
@@ -28,7 +28,7 @@ deleted_by Splits f orgs o = do
 -- the nodes of a set that are in the part, the whole system or the trust closure of a node
 abbrev pub cut_within : System → Option ℕ → Table → Table
 cut_within f None set = set
-cut_within f (Some v) set = shared set (closure_of f.sets v)
+cut_within f (Some v) set = table_from 0 (length set) (members set ∩ members (closure_of f.sets v))
 
 -- what an order with this goal asks of the system of a configuration's bytes
 abbrev pub search_of : Goal → System → List ℕ → List Org → Ordered → Result Search Early
@@ -37,7 +37,9 @@ search_of goal f config orgs o = do
   named ← deleted_by goal f orgs o
   Ok (record { goal = goal; path = o.cert; whole = f; digest = sha256 config; header = record { from = from; faulty = cut_within f from named }; budget = o.budget })
 
--- its node and the deleted nodes are of the system, and within the part, and its units are not too many
+-- its node and the deleted nodes are of the system, and within the part, its digest is one, and its units are not too many
 pub record FitsSearch (s : Search) : Type 0 where
   pub header : IsHeader s.whole s.header
+  pub long : length s.digest ≡ 32
+  pub bytes : IsBytes s.digest
   pub few : s.budget ≤ MOST_BUDGET

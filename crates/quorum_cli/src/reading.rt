@@ -7,10 +7,9 @@ ghost use Rattle.cli_words.specs.Words.{order_of};
 ghost use Rattle.cli_words.specs.declared.budget.TheConstants.{MOST_BUDGET};
 ghost use Rattle.report.specs.Lines.{config_refused, orgs_refused};
 ghost use Rattle.node_json.specs.Organisations.{orgs_of};
-ghost use Rattle.quorum_cli.specs.Answers.{words_of, asked_of, or_words_refused, order_asked, command_asked, asked_about, system_in, or_orgs_refused, orgs_given, FitsAsked};
+ghost use Rattle.quorum_cli.specs.Answers.{words_of, asked_of, or_words_refused, order_asked, config_asked, command_asked, query_asked, system_in, or_orgs_refused, orgs_given, FitsAsked};
 ghost use Rattle.quorum_cli.specs.Meaning.{HasCert, HasAccepted, NamesFiles, NamesAccepted, YesMeans, IsCheck, IsUsage};
-ghost use Rattle.quorum_cli.specs.Questions.{question_of};
-ghost use Rattle.quorum_cli.specs.Reading.{Fails, Gives, GivesReading, IsRefusal, IsAnswer, ◌>>=◌};
+ghost use Rattle.quorum_cli.specs.Reading.{Fails, Gives, GivesReading, IsRefusal, IsAnswer};
 
 use crate::checking::check;
 use crate::early::Early;
@@ -130,7 +129,7 @@ fn ask_about(
     orgs: &Orgs,
 ) -> Result<Asked, Early>
     requires { All (λ org. length org.members ≡ length system.names) orgs.now }
-    ensures gives { Gives result (question_of query system config.now orgs.now (order_view order.now) >>= λ inquiry. Ok (asked_about system inquiry)) }
+    ensures gives { Gives result (query_asked query (order_view order.now) system config.now orgs.now) }
     ensures refused { IfErr result IsRefusal }
     ensures fits { IfOk result FitsAsked }
 {
@@ -219,7 +218,7 @@ fn over_config<D: Desk>(
 ) -> Result<Asked, Early>
     requires { order.now.budget ≤ MOST_BUDGET }
     ensures gives { IsTrue D.tells → GivesReading (D.state desk.old).plain result
-        (system_in config.now >>= λ f. command_asked order.now.command (order_view order.now) f config.now (D.state desk.old).files) }
+        (config_asked (order_view order.now) (D.state desk.old).files config.now) }
     ensures answers { IfErr result IsAnswer }
     ensures fits { IfOk result FitsAsked }
     ensures checked { order.now.command ≡ Command.Check → IsErr result }

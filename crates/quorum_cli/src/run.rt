@@ -1,10 +1,11 @@
 //! The program, over the words and a desk.
-ghost use Rattle.std.specs.Prelude.{◌≡◌, ◌⊎◌, ◌<◌, ℕ, Ok, Err, IsTrue, IsOk, IsErr, IfErr, length, take};
+ghost use Rattle.std.specs.Prelude.{◌≡◌, ◌⊎◌, ◌<◌, ℕ, List, Ok, Err, IsTrue, IsOk, IsErr, IfErr, length, take};
 ghost use Rattle.desk_io.specs.State.{OnlyReads, written};
 ghost use Rattle.desk_io.specs.Faults.{Rose, WriteFails, CountedWhere};
 ghost use Rattle.cli_words.specs.Words.{order_of};
 ghost use Rattle.quorum_cli.specs.Status.{is_answer};
 ghost use Rattle.quorum_cli.specs.Answers.{words_of, asked_of, FitsAsked};
+ghost use Rattle.quorum_cli.specs.Headline.{AskedMeans, MayChange};
 ghost use Rattle.quorum_cli.specs.Meaning.{NamesAccepted, IsCheck};
 ghost use Rattle.quorum_cli.specs.Printing.{PrintsAnswer, PrintsAnswerPart, PrintsAsked, PrintsAskedPart, LacksRoomAsked, Prints, PrintsPart, LacksRoom};
 
@@ -37,12 +38,16 @@ fn answer<D: Desk>(alloc: Global, desk: &mut D, asked: &Asked) -> Status
 }
 
 /// All that the program does. The words begin with the program's name; the files are those of the desk, to whose output
-/// the text of the answer goes, and nothing else is changed. Everything is read, and all memory is taken, before the
-/// first byte is put out.
+/// the text of the answer goes. A search writes its certificate before that, and nothing else is changed. Everything is read,
+/// and all memory is taken, before a file is made or the first byte is put out.
 pub fn run<D: Desk>(alloc: Global, words: &[String], desk: &mut D) -> Status
     // An answer is the defined one, and its text is all that goes to the output.
     ensures answered { IsTrue D.tells → IsTrue (is_answer result) →
         Prints (asked_of (words_of words.now) (D.state desk.old).files) (D.state desk.old) (D.state desk.new) result }
+    // Where a search answers, its certificate is accepted for what was asked, and shows what is so: two disjoint quorums, which
+    // are printed, or that every two quorums share a node, or so many useful lemmas as the budget has units, with one due.
+    ensures searched { IsTrue D.tells → IsTrue (is_answer result) →
+        AskedMeans (asked_of (words_of words.now) (D.state desk.old).files) (D.state desk.old) (D.state desk.new) result }
     // A certificate is accepted only where what it shows is so.
     ensures accepts { IsTrue D.tells → IsCheck (order_of (words_of words.now)) → result ≡ Status.Yes
         → NamesAccepted (words_of words.now) (D.state desk.old).files }
@@ -51,8 +56,11 @@ pub fn run<D: Desk>(alloc: Global, words: &[String], desk: &mut D) -> Status
         PrintsPart (asked_of (words_of words.now) (D.state desk.old).files) (D.state desk.old) (D.state desk.new) }
     ensures silent { IsTrue D.tells → (result ≡ Status.ReadFault) ⊎ (result ≡ Status.Memory) →
         (D.state desk.new).out ≡ (D.state desk.old).out }
-    // Files stay as they are.
-    ensures files { IsTrue D.tells → (D.state desk.new).files ≡ (D.state desk.old).files }
+    ensures untouched { IsTrue D.tells → (result ≡ Status.ReadFault) ⊎ (result ≡ Status.Memory) →
+        (D.state desk.new).files ≡ (D.state desk.old).files }
+    // No file changes but the certificate of a search.
+    ensures files { IsTrue D.tells → (path : List ℕ)
+        → (MayChange path (asked_of (words_of words.now) (D.state desk.old).files) → ⊥) → (D.state desk.new).files path ≡ (D.state desk.old).files path }
 
     // For words that are no order, what is left to read of each file stays as it was.
     ensures unread { IsTrue D.tells → IsErr (order_of (words_of words.now)) → (D.state desk.new).left ≡ (D.state desk.old).left }

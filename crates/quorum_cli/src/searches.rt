@@ -4,6 +4,8 @@ ghost use Rattle.cli_words.specs.Order.{order_view};
 ghost use Rattle.cli_words.specs.declared.budget.TheConstants.{MOST_BUDGET};
 ghost use Rattle.quorum_cli.specs.Questions.{set_named as set_by_option, faulty_named as faulty_by_options};
 ghost use Rattle.quorum_cli.specs.Searches.{deleted_by, cut_within as spec_cut_within, search_of, FitsSearch};
+ghost use Rattle.hex.specs.Hex.{IsBytes};
+ghost use Rattle.cert_writer.specs.Promises.{IsHeader};
 ghost use Rattle.quorum_cli.specs.Reading.{Gives, IsRefusal};
 
 use crate::early::Early;
@@ -81,6 +83,29 @@ fn cut_within(system: &System, from: Option<u32>, set: NodeSet) -> NodeSet
     set
 }
 
+// The part that is meant, and the nodes of it that are deleted.
+fn header_of(system: &System, from: Option<u32>, named: NodeSet) -> Header
+    requires node { IfSome from (λ v. v < length system.now.sets) }
+    requires same_n { length named ≡ length system.now.sets }
+    ensures value { result ≡ record { from = from; faulty = spec_cut_within system.now from named } }
+    ensures fits { IsHeader system.now result }
+{
+    let _ = system.len();
+    let faulty = cut_within(system, from, named);
+    Header { from, faulty }
+}
+
+// What is known of the bytes of an array is known where it is handed to a call.
+fn hand(_digest: &[u8; 32]) {}
+
+// Shows that a digest has 32 bytes.
+fn look(digest: &[u8; 32])
+    ensures long { length digest.now ≡ 32 }
+    ensures bytes { IsBytes digest.now }
+{
+    hand(digest);
+}
+
 /// What an order with this goal asks of the system of a configuration. The names are read in the order of the options `--from`,
 /// `--faulty`, `--faulty-orgs`, `--set`.
 pub fn search_asked(
@@ -99,13 +124,16 @@ pub fn search_asked(
 {
     let from = from_named(alloc, &system, &order.from)?;
     let named = deleted(alloc, goal, &system, orgs, order)?;
-    let faulty = cut_within(&system, from, named);
+    let header = header_of(&system, from, named);
+    let path = Word::of(alloc, &order.cert)?;
+    let digest = digest(config);
+    look(&digest);
     Ok(Search {
         goal,
-        path: Word::of(alloc, &order.cert)?,
+        path,
         whole: system,
-        digest: digest(config),
-        header: Header { from, faulty },
+        digest,
+        header,
         budget: order.budget,
     })
 }

@@ -124,7 +124,7 @@ fn dset_ready(alloc: Global, part: &System, set: &NodeSet, budget: u64) -> Resul
 }
 
 // What answers the search, with all the memory that is wanted to put it.
-fn ready(
+fn make_ready(
     alloc: Global,
     goal: Goal,
     part: &System,
@@ -226,7 +226,7 @@ fn search_in<D: Desk>(
     ensures plain { IsTrue D.tells → IsTrue (D.state desk.old).plain → result ≡ Status.WriteFault → LacksForSearch search.now (D.state desk.old) }
     ensures faults { WriteFails (D.faults desk.old) (D.faults desk.new) (result ≡ Status.WriteFault) }
 {
-    match ready(alloc, search.goal, part, faulty, search.budget) {
+    match make_ready(alloc, search.goal, part, faulty, search.budget) {
         Ok(Ready::Found(held)) => put_found(desk, search, part, held),
         Ok(Ready::TooLarge(reply)) => print(desk, &reply),
         Err(AllocError) => Status::Memory,

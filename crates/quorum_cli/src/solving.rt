@@ -151,6 +151,7 @@ fn export(
     requires { length faulty.now ≡ length system.now.sets }
     ensures { IfOk result (AnswersExport system.now origin.now faulty.now) }
 {
+    let _ = system.len();
     let quorum = greatest_quorum::greatest(system, faulty);
     formula(alloc, system, origin, faulty, &quorum)
 }

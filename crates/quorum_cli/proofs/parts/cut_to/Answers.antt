@@ -1,5 +1,4 @@
 use Rattle.std.proofs.Common.{sym, ◌∙◌, subst}
-use Rattle.std.proofs.lemmas.Result.{IfOk-weaker}
 use Rattle.fbas_model.proofs.Renumbered.{length-restricted_sets}
 use Rattle.quorum_cli.specs.Questions.{FitsClosure}
 use Rattle.quorum_cli.proofs.parts.cut_to.Goals as goal
@@ -8,4 +7,4 @@ pub returns-in-Some-clause-places : goal.returns-in-Some-clause-places
 returns-in-Some-clause-places c =
     let f = c.args.system.now in
     let fits = subst (FitsClosure f) c.in-Some.is c.requires.fits in
-    rw c.in-Some.is (IfOk-weaker c.cut.result _ _ (λ s e. e ∙ sym (length-restricted_sets c.in-Some.closure f.sets fits.0)) c.cut.ensures.size)
+    rw c.in-Some.is (c.cut.ensures.size ∙ sym (length-restricted_sets c.in-Some.closure f.sets fits.0))

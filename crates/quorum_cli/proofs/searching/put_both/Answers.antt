@@ -1,5 +1,5 @@
 use Rattle.cert_writer.specs.Finding.{cert_over}
-use Rattle.quorum_cli.proofs.Files.{any_err, err_more, some_cert, lacks_cert, some_text}
+use Rattle.quorum_cli.proofs.Puts.{any_err, err_more, some_cert, lacks_cert, some_text}
 use Rattle.quorum_cli.proofs.searching.put_both.Goals as goal
 
 pub returns-in_err-write_found-clause-part : goal.returns-in_err-write_found-clause-part

@@ -8,7 +8,7 @@ pub returns : goal.returns
 returns c = inr (record {
   not = λ a. false≢true (sym c.if-available.false ∙ c.available.ensures.available.1 a);
   unmet = c.available.new.scratch;
-  places = c.available.ensures.same_n ∙ (c.in_ok-unmet.ensures.size ∙ c.len.ensures.sets);
+  places = c.available.ensures.same_n ∙ (c.new-unmet.ensures.size ∙ c.len.ensures.sets);
   are = c.available.ensures.unmet;
-  said = c.new-2.ensures ∙ ap {B = Reply} (λ (t : List ℕ). record { status = No; text = t }) c.in_ok-text.ensures;
+  said = c.new.ensures ∙ ap {B = Reply} (λ (t : List ℕ). record { status = No; text = t }) c.in_ok-text.ensures;
 })

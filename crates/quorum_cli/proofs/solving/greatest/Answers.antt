@@ -5,8 +5,8 @@ use Rattle.quorum_cli.proofs.solving.greatest.Goals as goal
 
 pub returns : goal.returns
 returns c = record {
-  quorum = c.in_ok-quorum.quorum;
-  places = c.in_ok-quorum.ensures.same_n;
-  is = c.in_ok-quorum.ensures.greatest;
+  quorum = c.greatest-quorum.result;
+  places = c.greatest-quorum.ensures.same_n;
+  is = c.greatest-quorum.ensures.greatest;
   said = c.new.ensures ∙ ap {B = Reply} (λ (t : List ℕ). record { status = Yes; text = t }) c.in_ok-text.ensures;
 }

@@ -1,5 +1,5 @@
 -- What is on the desk after a certificate and a text were put, whole or in part.
-use Rattle.std.proofs.Common.{◌≡◌, ℕ, ◌+◌, ◌<◌, List, [], ◌++◌, length, take, Some, None, Result, Ok, Err, OnErr, IsTrue, inl, inr, refl, ◌∙◌, ap, subst, arith}
+use Rattle.std.proofs.Common.{◌≡◌, ℕ, ◌+◌, ◌<◌, List, [], length, take, Some, Result, Ok, Err, OnErr, IsTrue, inl, inr, refl, ◌∙◌, ap, subst}
 use Rattle.std.specs.Str.{bytes_eq}
 use Rattle.std.proofs.lemmas.Bool.{cases_Bool}
 use mathlib.Core.Path.{fun_ext}
@@ -9,7 +9,6 @@ use Rattle.cert_writer.specs.Promises.{PutsPart}
 use Rattle.cert_writer.specs.declared.writer.TheConstants.{BUFFER}
 use Rattle.report.specs.Lines.{Text}
 use Rattle.quorum_cli.specs.declared.reply.Reply.{Reply as Answer}
-use Rattle.quorum_cli.specs.declared.status.Status.{Status}
 use Rattle.quorum_cli.specs.Putting.{put_whole, PutsSome, unmade, cert_part, text_part, PutsBoth, CameTo, uncreated, in_cert, in_text, LacksPlace, no_room}
 
 appended-created : (path bytes : List ℕ) (files : Files) → appended (Some path) bytes (with_file path [] files) ≡ with_file path bytes files
