@@ -1,4 +1,6 @@
-ghost use Rattle.std.specs.Prelude.{◌≡◌, true, ◌≤◌, ◌<◌, ◌^◌, IfOk};
+//! Tests of the solver, whose logs are fed to the checker and written.
+ghost use Rattle.std.specs.Prelude.{◌≡◌, true, ◌+◌, ◌≤◌, ◌<◌, ◌^◌, IfOk, OnOk};
+ghost use Rattle.lrat_model.specs.Literal.{variable_of};
 ghost use Rattle.lrat_model.specs.Ranges.{AreInRange, IsInRange};
 
 use cdcl_core::{Budget, Solver, Verdict};
@@ -26,22 +28,6 @@ const TWO_OF_TWO: [&[i32]; 16] = [
     &[-3, 7],
     &[-8, 3],
     &[-8, 4],
-    &[-4, 8],
-];
-
-// The formula of three nodes that each need two, one of them faulty: two others can part.
-const TWO_OF_THREE: [&[i32]; 12] = [
-    &[1, 2],
-    &[3, 4],
-    &[-1, -3],
-    &[-2, -4],
-    &[-5, 1, 2],
-    &[-1, 5],
-    &[-6, 1, 2],
-    &[-2, 6],
-    &[-7, 3, 4],
-    &[-3, 7],
-    &[-8, 3, 4],
     &[-4, 8],
 ];
 
@@ -76,6 +62,25 @@ fn store(alloc: Global, clauses: &[&[i32]], vars: u64) -> Result<Store, AllocErr
         store.push(last + 1, &clause)?;
     }
     Ok(store)
+}
+
+// Searches. Of the contract of `solve` it keeps what the next call wants, so that a test of many calls is cheap to prove.
+fn solve(solver: &mut Solver, budget: &mut Budget) -> Result<Verdict, AllocError>
+    requires room { solver.old.database.last + budget.old + 1 < 2 ^ 63 }
+    ensures last { solver.new.database.last + budget.new ≤ solver.old.database.last + budget.old + 1 }
+    ensures vars { solver.new.vars ≡ solver.old.vars }
+{
+    solver.solve(budget)
+}
+
+// Gives the clause of one literal.
+fn give(solver: &mut Solver, l: Lit) -> Result<u64, AllocError>
+    requires room { solver.old.database.last + 1 < 2 ^ 63 }
+    requires range { variable_of l ≤ solver.old.vars }
+    ensures last { OnOk result (solver.new.database.last ≡ solver.old.database.last + 1) }
+    ensures vars { solver.new.vars ≡ solver.old.vars }
+{
+    solver.add(&[l])
 }
 
 // Whether the checker takes each step of the log, and the empty lemma last.
@@ -115,10 +120,10 @@ fn two_of_two_is_refuted_within_its_budget(rt: HostRuntime) -> Result<(), Fail> 
     let store = store(alloc, &TWO_OF_TWO, 8)?;
     let mut solver = Solver::start(alloc, &store, 8)?;
     let mut none = Budget::of(0);
-    assert_eq!(rt; solver.solve(&mut none)?, Verdict::Spent);
+    assert_eq!(rt; solve(&mut solver, &mut none)?, Verdict::Spent);
     assert_eq!(rt; solver.log().len(), 0);
     let mut budget = Budget::of(6561);
-    assert_eq!(rt; solver.solve(&mut budget)?, Verdict::Unsat);
+    assert_eq!(rt; solve(&mut solver, &mut budget)?, Verdict::Unsat);
     assert!(rt; is_refutation(alloc, store, 8, &solver)?);
     Ok(())
 }
@@ -129,43 +134,44 @@ fn empty_clauses_are_refuted_at_no_cost(rt: HostRuntime) -> Result<(), Fail> {
     let store = store(alloc, &[&[], &[]], 0)?;
     let mut solver = Solver::start(alloc, &store, 0)?;
     let mut budget = Budget::of(0);
-    assert_eq!(rt; solver.solve(&mut budget)?, Verdict::Unsat);
+    assert_eq!(rt; solve(&mut solver, &mut budget)?, Verdict::Unsat);
     let lines = lines(alloc, &solver)?;
     assert_eq!(rt; lines.as_slice(), b"3 0 1 0\n".as_slice());
     assert!(rt; is_refutation(alloc, store, 0, &solver)?);
     Ok(())
 }
 
-// A clause that is given later is held from then on, after a refutation too.
+// A clause that is given later is held from then on.
 #[test]
-fn clauses_added_until_none_satisfies(rt: HostRuntime) -> Result<(), Fail> {
+fn clauses_are_given_until_none_satisfies(rt: HostRuntime) -> Result<(), Fail> {
     let alloc = rt.alloc();
     let store = store(alloc, &[&[1, 2]], 2)?;
     let mut solver = Solver::start(alloc, &store, 2)?;
     let mut budget = Budget::of(100);
-    assert_eq!(rt; solver.add(&[Lit::negative(1)])?, 2);
-    assert_eq!(rt; solver.solve(&mut budget)?, Verdict::Sat);
-    assert_eq!(rt; (solver.model(1), solver.model(2)), (false, true));
-    assert_eq!(rt; solver.add(&[Lit::negative(2)])?, 3);
-    assert_eq!(rt; solver.solve(&mut budget)?, Verdict::Unsat);
-    assert_eq!(rt; budget.left(), 100);
-    assert_eq!(rt; solver.log().len(), 1);
-    assert_eq!(rt; solver.add(&[Lit::positive(1)])?, 5);
-    assert_eq!(rt; solver.solve(&mut budget)?, Verdict::Unsat);
-    assert_eq!(rt; solver.log().len(), 1);
+    let first = give(&mut solver, Lit::negative(1))?;
+    let satisfied = solve(&mut solver, &mut budget)?;
+    let values = (solver.model(1), solver.model(2));
+    let second = give(&mut solver, Lit::negative(2))?;
+    let refuted = solve(&mut solver, &mut budget)?;
+    assert_eq!(rt;
+        (first, satisfied, values),
+        (2, Verdict::Sat, (false, true))
+    );
+    assert_eq!(rt; (second, refuted, budget.left()), (3, Verdict::Unsat, 100));
     Ok(())
 }
 
+// What is refuted stays so at no cost, whatever is given later.
 #[test]
-fn two_of_three_with_one_faulty_part(rt: HostRuntime) -> Result<(), Fail> {
+fn a_refutation_is_final(rt: HostRuntime) -> Result<(), Fail> {
     let alloc = rt.alloc();
-    let store = store(alloc, &TWO_OF_THREE, 8)?;
-    let mut solver = Solver::start(alloc, &store, 8)?;
-    let mut budget = Budget::of(6561);
-    assert_eq!(rt; solver.solve(&mut budget)?, Verdict::Sat);
-    // One of the two is alone on the one side, the other on the other.
-    assert_eq!(rt; solver.model(1), solver.model(4));
-    assert_eq!(rt; solver.model(2), solver.model(3));
-    assert_eq!(rt; solver.model(1), !solver.model(2));
+    let store = store(alloc, &[&[1], &[-1]], 1)?;
+    let mut solver = Solver::start(alloc, &store, 1)?;
+    let mut budget = Budget::of(0);
+    let refuted = solve(&mut solver, &mut budget)?;
+    let id = give(&mut solver, Lit::positive(1))?;
+    let again = solve(&mut solver, &mut budget)?;
+    assert_eq!(rt; (refuted, id, again), (Verdict::Unsat, 4, Verdict::Unsat));
+    assert_eq!(rt; solver.log().len(), 1);
     Ok(())
 }
