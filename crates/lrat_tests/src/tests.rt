@@ -141,23 +141,29 @@ fn empty_clauses_are_refuted_at_no_cost(rt: HostRuntime) -> Result<(), Fail> {
     Ok(())
 }
 
-// A clause that is given later is held from then on.
 #[test]
-fn clauses_are_given_until_none_satisfies(rt: HostRuntime) -> Result<(), Fail> {
+fn an_assignment_is_told(rt: HostRuntime) -> Result<(), Fail> {
     let alloc = rt.alloc();
-    let store = store(alloc, &[&[1, 2]], 2)?;
+    let store = store(alloc, &[&[1, 2], &[-1]], 2)?;
     let mut solver = Solver::start(alloc, &store, 2)?;
     let mut budget = Budget::of(100);
-    let first = give(&mut solver, Lit::negative(1))?;
+    assert_eq!(rt; solve(&mut solver, &mut budget)?, Verdict::Sat);
+    assert_eq!(rt; (solver.model(1), solver.model(2)), (false, true));
+    Ok(())
+}
+
+// A clause that is given after a search is held from then on.
+#[test]
+fn a_clause_is_given_between_two_searches(rt: HostRuntime) -> Result<(), Fail> {
+    let alloc = rt.alloc();
+    let store = store(alloc, &[&[1, 2], &[-1]], 2)?;
+    let mut solver = Solver::start(alloc, &store, 2)?;
+    let mut budget = Budget::of(100);
     let satisfied = solve(&mut solver, &mut budget)?;
-    let values = (solver.model(1), solver.model(2));
-    let second = give(&mut solver, Lit::negative(2))?;
+    let id = give(&mut solver, Lit::negative(2))?;
     let refuted = solve(&mut solver, &mut budget)?;
-    assert_eq!(rt;
-        (first, satisfied, values),
-        (2, Verdict::Sat, (false, true))
-    );
-    assert_eq!(rt; (second, refuted, budget.left()), (3, Verdict::Unsat, 100));
+    assert_eq!(rt; (satisfied, id, refuted), (Verdict::Sat, 3, Verdict::Unsat));
+    assert_eq!(rt; budget.left(), 100);
     Ok(())
 }
 
