@@ -31,6 +31,7 @@ REFUSALS = {
     4: rb"(config|orgs) .*\n",
     5: rb"refused .*\n",
     6: rb"",
+    7: rb"",
     8: rb"",
     9: rb"too-large [0-9]+\n",
 }
