@@ -31,6 +31,7 @@ REFUSALS = {
     4: rb"(config|orgs) .*\n",
     5: rb"refused .*\n",
     6: rb"",
+    7: rb"",
     8: rb"",
     9: rb"too-large [0-9]+\n",
 }
@@ -260,7 +261,7 @@ def still_a_line(rng, line, subject):
     if words[0] in ("faulty", "first", "second", "q", "b"):
         fixed = 2 if words[0] in ("q", "b") else 1
         names = set(words[fixed:]) ^ {rng.choice(subject.names + ["z"])}
-        if fixed == 2 and rng.random() < 0.2:
+        if fixed == 2 and len(words) > 1 and rng.random() < 0.2:
             words[1] = rng.choice(["1", "2", "7", "9223372036854775807"])
         return " ".join(words[:fixed] + sorted(names))
     places = [i for i, word in enumerate(words) if re.fullmatch("-?[1-9][0-9]*", word)]
