@@ -1,3 +1,6 @@
 pub mod Fronts
+pub mod PieceCuts
+pub mod PartRuns
 pub mod Cuts
 pub mod WordLaws
+pub mod StepStarts

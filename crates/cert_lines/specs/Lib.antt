@@ -1,4 +1,6 @@
 pub mod Lines
 pub mod Limits
+pub mod Parts
+pub mod Steps
 pub mod Words
 pub mod Saying

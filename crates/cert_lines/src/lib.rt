@@ -6,10 +6,12 @@ mod faults;
 mod lines;
 mod pieces;
 mod saying;
+mod steps;
 mod words;
 
 pub use faults::CertError;
 pub use lines::{Lines, MAX_LINE_BYTES, MAX_LINES};
 pub use lrat_model::{Step, StepFault};
 pub use saying::{Counts, counts_in, digits_in, step_in};
+pub use steps::line_or_step;
 pub use words::{Words, begins, follows, is_name};

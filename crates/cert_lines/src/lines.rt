@@ -1,9 +1,10 @@
 //! The lines of a certificate, and the limits on them.
-ghost use Rattle.std.specs.Prelude.{◌≡◌, ◌≢◌, ℕ, List, [], ◌∷◌, ◌+◌, ◌++◌, ◌≤◌, ◌⊎◌, length, IsTrue, IfOk, IfErr, IsErrOf, OnOk};
+ghost use Rattle.std.specs.Prelude.{◌≡◌, ◌≢◌, ℕ, List, [], ◌+◌, ◌++◌, ◌<◌, ◌≤◌, ◌⊎◌, length, true, false, IsTrue, IfOk, IfErr, IsErrOf, OnOk, if◌then◌else◌};
 ghost use Rattle.desk_io.specs.State.{left_of, with_left};
 ghost use Rattle.desk_io.specs.Faults.{ReadFails};
 ghost use Rattle.cert_lines.specs.Lines.{lines_of};
 ghost use Rattle.cert_lines.specs.Limits.{next_line};
+ghost use Rattle.cert_lines.specs.Parts.{with_front, IsPart};
 
 use crate::faults::CertError;
 use crate::pieces::Pieces;
@@ -17,19 +18,25 @@ pub const MAX_LINES: u64 = 17_179_869_184;
 /// Bytes that a line may have before its line feed.
 pub const MAX_LINE_BYTES: u64 = 134_217_728;
 
-/// What is left of a certificate, and the number of its next line.
+/// What is left of a certificate, and the number of its next line, of which some bytes may be taken.
 #[derive(Drop)]
 pub struct Lines {
     bytes: Pieces,
     number: u64,
+    taken: u64,
 }
 
 impl Model for Lines {
+    ghost use Rattle.std.specs.Prelude.{◌≤◌};
     ghost use Rattle.cert_lines.specs.Limits.{Unread};
 
     ghost Value = { Unread };
 
-    ghost view = { λ l. record { unread = l.bytes; number = l.number } };
+    ghost view = { λ l. record { unread = l.bytes.unread; number = l.number; taken = l.taken; part = l.bytes.part } };
+
+    ghost use Rattle.cert_lines.specs.declared.lines.TheConstants.{MAX_LINE_BYTES};
+
+    ghost invariant = { λ l. l.taken ≤ MAX_LINE_BYTES };
 }
 
 impl Lines {
@@ -37,31 +44,107 @@ impl Lines {
     pub fn start(alloc: Global) -> Result<Lines, AllocError>
         ensures unread { IfOk result (λ l. l.unread ≡ []) }
         ensures number { IfOk result (λ l. l.number ≡ 1) }
+        ensures taken { IfOk result (λ l. l.taken ≡ 0) }
     {
         Ok(Lines {
             bytes: Pieces::start(alloc)?,
             number: 1,
+            taken: 0,
         })
     }
 
     /// The next line without its line feed, or the first fault of its number, its length and its end.
     pub fn line<D: Desk>(&mut self, alloc: Global, desk: &mut D) -> Result<Vec<u8>, CertError>
+        requires { self.old.taken ≡ 0 }
         ensures line { IfOk result (λ text. IsTrue D.tells → next_line self.old.number (lines_of (self.old.unread ++ left_of Which.Cert (D.state desk.old)))
             ≡ Ok (record { text = text.items; more = lines_of (self.new.unread ++ left_of Which.Cert (D.state desk.new)) })) }
         ensures few { OnOk result (self.old.number ≤ MAX_LINES) }
         ensures number { OnOk result (self.new.number ≡ self.old.number + 1) }
+        ensures taken { OnOk result (self.new.taken ≡ 0) }
         ensures err { IfErr result (λ e. IsTrue D.tells → (e ≡ CertError.Memory) ⊎ (e ≡ CertError.Read)
             ⊎ (next_line self.old.number (lines_of (self.old.unread ++ left_of Which.Cert (D.state desk.old))) ≡ Err e)) }
         ensures plain { IsErrOf result CertError.Read → IsTrue D.tells → IsTrue (D.state desk.old).plain → ⊥ }
         ensures rest { IsTrue D.tells → D.state desk.new ≡ with_left Which.Cert (left_of Which.Cert (D.state desk.new)) (D.state desk.old) }
         ensures faults { ReadFails (D.faults desk.old) (D.faults desk.new) (IsErrOf result CertError.Read) }
     {
+        self.begin()?;
+        let mut text = Vec::new(alloc);
+        self.rest_of_line(desk, &mut text)?;
+        Ok(text)
+    }
+
+    /// That there may be a next line.
+    pub fn begin(&self) -> Result<(), CertError>
+        ensures ok { OnOk result (self.now.number ≤ MAX_LINES) }
+        ensures err { IfErr result (λ e. (e ≡ CertError.TooManyLines) × ((bytes : List ℕ) → next_line self.now.number (lines_of bytes) ≡ Err e)) }
+    {
         if self.number > MAX_LINES {
             return Err(CertError::TooManyLines);
         }
-        let text = read_line(alloc, &mut self.bytes, desk, self.number)?;
-        self.number += 1;
-        Ok(text)
+        Ok(())
+    }
+
+    /// Puts what is left of the line behind the text.
+    pub fn rest_of_line<D: Desk>(
+        &mut self,
+        desk: &mut D,
+        text: &mut Vec<u8>,
+    ) -> Result<(), CertError>
+        requires { self.old.number ≤ MAX_LINES }
+        ensures line { OnOk result ((suffix : List ℕ) × (text.new.items ≡ text.old.items ++ suffix)
+            × (IsTrue D.tells → (front : List ℕ) → length front ≡ self.old.taken → IsPart true self.old.number front suffix (lines_of (self.old.unread ++ left_of Which.Cert (D.state desk.old))) (lines_of (self.new.unread ++ left_of Which.Cert (D.state desk.new))))) }
+        ensures number { OnOk result (self.new.number ≡ self.old.number + 1) }
+        ensures taken { OnOk result (self.new.taken ≡ 0) }
+        ensures err { IfErr result (λ e. IsTrue D.tells → (e ≡ CertError.Memory) ⊎ (e ≡ CertError.Read)
+            ⊎ ((front : List ℕ) → length front ≡ self.old.taken → next_line self.old.number (with_front front (lines_of (self.old.unread ++ left_of Which.Cert (D.state desk.old)))) ≡ Err e)) }
+        ensures plain { IsErrOf result CertError.Read → IsTrue D.tells → IsTrue (D.state desk.old).plain → ⊥ }
+        ensures rest { IsTrue D.tells → D.state desk.new ≡ with_left Which.Cert (left_of Which.Cert (D.state desk.new)) (D.state desk.old) }
+        ensures faults { ReadFails (D.faults desk.old) (D.faults desk.new) (IsErrOf result CertError.Read) }
+    {
+        'parts: loop {
+            let ends = self.next_part(desk)?;
+            text.extend_from_slice(self.part())?;
+            if ends {
+                return Ok(());
+            }
+        }
+    }
+
+    /// Takes the next part of the line: whether it ends the line.
+    pub fn next_part<D: Desk>(&mut self, desk: &mut D) -> Result<bool, CertError>
+        requires few { self.old.number ≤ MAX_LINES }
+        ensures part { IfOk result (λ ends. IsTrue D.tells → (front : List ℕ) → length front ≡ self.old.taken → IsPart ends self.old.number front self.new.part (lines_of (self.old.unread ++ left_of Which.Cert (D.state desk.old))) (lines_of (self.new.unread ++ left_of Which.Cert (D.state desk.new)))) }
+        ensures number { IfOk result (λ ends. self.new.number ≡ (if ends then self.old.number + 1 else self.old.number)) }
+        ensures taken { IfOk result (λ ends. self.new.taken ≡ (if ends then 0 else self.old.taken + length self.new.part)) }
+        ensures short { OnOk result (self.old.taken + length self.new.part ≤ MAX_LINE_BYTES) }
+        ensures grows { IfOk result (λ ends. ends ≡ false → 0 < length self.new.part) }
+        ensures err { IfErr result (λ e. IsTrue D.tells → (e ≡ CertError.Read) ⊎ ((front : List ℕ) → length front ≡ self.old.taken → next_line self.old.number (with_front front (lines_of (self.old.unread ++ left_of Which.Cert (D.state desk.old)))) ≡ Err e)) }
+        ensures plain { IsErrOf result CertError.Read → IsTrue D.tells → IsTrue (D.state desk.old).plain → ⊥ }
+        ensures rest { IsTrue D.tells → D.state desk.new ≡ with_left Which.Cert (left_of Which.Cert (D.state desk.new)) (D.state desk.old) }
+        ensures faults { ReadFails (D.faults desk.old) (D.faults desk.new) (IsErrOf result CertError.Read) }
+    {
+        if !self.bytes.fill(desk)? {
+            return Err(CertError::Truncated(self.number));
+        }
+        let ends = self.bytes.cut();
+        let taken = self.taken + self.bytes.part().len() as u64;
+        if taken > MAX_LINE_BYTES {
+            return Err(CertError::LineTooLong(self.number));
+        }
+        if ends {
+            self.number += 1;
+            self.taken = 0;
+        } else {
+            self.taken = taken;
+        }
+        Ok(ends)
+    }
+
+    /// The part that was taken last.
+    pub fn part(&self) -> &[u8]
+        ensures { result.now ≡ self.now.part }
+    {
+        self.bytes.part()
     }
 
     /// The number of the next line.
@@ -80,40 +163,9 @@ impl Lines {
         ensures rest { IsTrue D.tells → D.state desk.new ≡ with_left Which.Cert (left_of Which.Cert (D.state desk.new)) (D.state desk.old) }
         ensures faults { ReadFails (D.faults desk.old) (D.faults desk.new) (IsErrOf result CertError.Read) }
     {
-        match self.bytes.next(desk)? {
-            Some(_) => Err(CertError::Trailing),
-            None => Ok(()),
+        if self.bytes.fill(desk)? {
+            return Err(CertError::Trailing);
         }
-    }
-}
-
-/// The bytes to the next line feed, which is taken too, or the first fault of the length and the end of this line.
-fn read_line<D: Desk>(
-    alloc: Global,
-    bytes: &mut Pieces,
-    desk: &mut D,
-    number: u64,
-) -> Result<Vec<u8>, CertError>
-    requires { number ≤ MAX_LINES }
-    ensures line { IfOk result (λ text. IsTrue D.tells → next_line number (lines_of (bytes.old ++ left_of Which.Cert (D.state desk.old)))
-        ≡ Ok (record { text = text.items; more = lines_of (bytes.new ++ left_of Which.Cert (D.state desk.new)) })) }
-    ensures err { IfErr result (λ e. IsTrue D.tells → (e ≡ CertError.Memory) ⊎ (e ≡ CertError.Read)
-        ⊎ (next_line number (lines_of (bytes.old ++ left_of Which.Cert (D.state desk.old))) ≡ Err e)) }
-    ensures plain { IsErrOf result CertError.Read → IsTrue D.tells → IsTrue (D.state desk.old).plain → ⊥ }
-    ensures rest { IsTrue D.tells → D.state desk.new ≡ with_left Which.Cert (left_of Which.Cert (D.state desk.new)) (D.state desk.old) }
-    ensures faults { ReadFails (D.faults desk.old) (D.faults desk.new) (IsErrOf result CertError.Read) }
-{
-    let mut text = Vec::new(alloc);
-    'bytes: loop {
-        let Some(byte) = bytes.next(desk)? else {
-            return Err(CertError::Truncated(number));
-        };
-        if byte == b'\n' {
-            return Ok(text);
-        }
-        if text.len() as u64 >= MAX_LINE_BYTES {
-            return Err(CertError::LineTooLong(number));
-        }
-        text.push(byte).map_err(|_| CertError::Memory)?;
+        Ok(())
     }
 }

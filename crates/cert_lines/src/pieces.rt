@@ -1,60 +1,57 @@
-//! The bytes of the certificate, taken from a desk in pieces.
-ghost use Rattle.std.specs.Prelude.{◌≡◌, ℕ, List, [], ◌∷◌, ◌++◌, ◌≤◌, length, IsTrue, IfOk, IfErr, IsErr, OnOk, OnErr};
+//! The bytes of the certificate, taken from a desk in pieces, and cut at the line feeds.
+ghost use Rattle.std.specs.Prelude.{◌≡◌, ◌<◌, ◌≤◌, ◌∷◌, ◌++◌, [], drop, length, true, false, IsTrue, IfOk, IfErr, IsErr, OnOk, OnErr};
 ghost use Rattle.desk_io.specs.State.{left_of, with_left};
 ghost use Rattle.desk_io.specs.Faults.{ReadFails};
-ghost use Rattle.cert_lines.specs.Limits.{IsNext};
+ghost use Rattle.cert_lines.specs.Parts.{IsFeedless};
 
 use crate::faults::CertError;
 use desk_io::{Desk, Which};
+use memchr::memchr;
 use std::alloc::{AllocError, Global};
 use std::marker::Model;
 
 /// Bytes that are asked of the desk at once.
 const PIECE: usize = 65_536;
 
-/// The part of the last piece that is not taken yet.
+/// The part of a line that was cut off last, and what is not taken yet of the last piece behind it. Both lie in one buffer.
 #[derive(Drop)]
 pub struct Pieces {
     piece: Vec<u8>,
+    start: usize,
+    stop: usize,
     at: usize,
     end: usize,
 }
 
 impl Model for Pieces {
-    ghost use Rattle.std.specs.Prelude.{◌≤◌, ◌<◌, ℕ, List, length, drop, take};
+    ghost use Rattle.std.specs.Prelude.{◌≤◌, ◌<◌, List, length, slice_range};
+    ghost use Rattle.cert_lines.specs.Parts.{Piece};
 
-    ghost Value = { List ℕ };
+    ghost Value = { Piece };
 
-    ghost view = { λ p. drop p.at (take p.end p.piece.items) };
+    ghost view = { λ p. record { part = slice_range p.piece.items p.start p.stop; unread = slice_range p.piece.items p.at p.end } };
 
-    ghost invariant = { λ p. (p.at ≤ p.end) × (p.end ≤ length p.piece.items) × (0 < length p.piece.items) };
+    ghost invariant = { λ p. (p.start ≤ p.stop) × (p.stop ≤ length p.piece.items) × (p.at ≤ p.end) × (p.end ≤ length p.piece.items) × (0 < length p.piece.items) };
 }
 
 impl Pieces {
+    /// Takes the buffer.
     pub fn start(alloc: Global) -> Result<Pieces, AllocError>
-        ensures { IfOk result (λ p. p ≡ []) }
+        ensures { IfOk result (λ p. p.unread ≡ []) }
     {
         Ok(Pieces {
             piece: vec![in alloc; 0u8; PIECE]?,
+            start: 0,
+            stop: 0,
             at: 0,
             end: 0,
         })
     }
 
-    fn pop(&mut self) -> Option<u8>
-        ensures { IsNext result self.old self.new }
-    {
-        if self.at == self.end {
-            return None;
-        }
-        let byte = self.piece[self.at];
-        self.at += 1;
-        Some(byte)
-    }
-
+    /// Takes the next piece in the place of the last one.
     fn refill<D: Desk>(&mut self, desk: &mut D) -> Result<(), CertError>
-        ensures all { OnOk result (IsTrue D.tells → left_of Which.Cert (D.state desk.old) ≡ self.new ++ left_of Which.Cert (D.state desk.new)) }
-        ensures end { OnOk result (IsTrue D.tells → self.new ≡ [] → left_of Which.Cert (D.state desk.old) ≡ []) }
+        ensures all { OnOk result (IsTrue D.tells → left_of Which.Cert (D.state desk.old) ≡ self.new.unread ++ left_of Which.Cert (D.state desk.new)) }
+        ensures end { OnOk result (IsTrue D.tells → self.new.unread ≡ [] → left_of Which.Cert (D.state desk.old) ≡ []) }
         ensures err { IfErr result (λ e. e ≡ CertError.Read) }
         ensures plain { OnErr result (IsTrue D.tells → IsTrue (D.state desk.old).plain → ⊥) }
         ensures rest { IsTrue D.tells → D.state desk.new ≡ with_left Which.Cert (left_of Which.Cert (D.state desk.new)) (D.state desk.old) }
@@ -63,23 +60,71 @@ impl Pieces {
         let Ok(count) = desk.next(Which::Cert, self.piece.as_mut_slice()) else {
             return Err(CertError::Read);
         };
+        self.start = 0;
+        self.stop = 0;
         self.at = 0;
         self.end = count;
         Ok(())
     }
 
-    /// The next byte, if there is one.
-    pub fn next<D: Desk>(&mut self, desk: &mut D) -> Result<Option<u8>, CertError>
-        ensures byte { IfOk result (λ b. IsTrue D.tells → IsNext b (self.old ++ left_of Which.Cert (D.state desk.old)) (self.new ++ left_of Which.Cert (D.state desk.new))) }
+    /// Takes the next piece, where nothing is unread: whether something is unread then.
+    pub fn fill<D: Desk>(&mut self, desk: &mut D) -> Result<bool, CertError>
+        ensures all { OnOk result (IsTrue D.tells → self.old.unread ++ left_of Which.Cert (D.state desk.old) ≡ self.new.unread ++ left_of Which.Cert (D.state desk.new)) }
+        ensures some { IfOk result (λ more. more ≡ true → 0 < length self.new.unread) }
+        ensures none { IfOk result (λ more. more ≡ false → IsTrue D.tells → self.old.unread ++ left_of Which.Cert (D.state desk.old) ≡ []) }
         ensures err { IfErr result (λ e. e ≡ CertError.Read) }
         ensures plain { OnErr result (IsTrue D.tells → IsTrue (D.state desk.old).plain → ⊥) }
         ensures rest { IsTrue D.tells → D.state desk.new ≡ with_left Which.Cert (left_of Which.Cert (D.state desk.new)) (D.state desk.old) }
         ensures faults { ReadFails (D.faults desk.old) (D.faults desk.new) (IsErr result) }
     {
-        if let Some(byte) = self.pop() {
-            return Ok(Some(byte));
+        if !self.is_empty() {
+            return Ok(true);
         }
         self.refill(desk)?;
-        Ok(self.pop())
+        Ok(!self.is_empty())
+    }
+
+    /// Whether nothing is unread.
+    fn is_empty(&self) -> bool
+        ensures yes { result ≡ true → self.now.unread ≡ [] }
+        ensures no { result ≡ false → 0 < length self.now.unread }
+    {
+        self.unread().is_empty()
+    }
+
+    /// What is unread of the piece.
+    fn unread(&self) -> &[u8]
+        ensures { result.now ≡ self.now.unread }
+    {
+        &self.piece[self.at..self.end]
+    }
+
+    /// The part that was cut off last.
+    pub fn part(&self) -> &[u8]
+        ensures { result.now ≡ self.now.part }
+    {
+        &self.piece[self.start..self.stop]
+    }
+
+    /// Cuts off what is unread up to the next line feed, which is taken too, or all of it: whether there was a line feed.
+    pub fn cut(&mut self) -> bool
+        ensures feed { result ≡ true → self.old.unread ≡ self.new.part ++ 10 ∷ self.new.unread }
+        ensures all { result ≡ false → (self.new.part ≡ self.old.unread) × (self.new.unread ≡ []) }
+        ensures feedless { IsFeedless self.new.part }
+    {
+        let found = memchr(b'\n', self.unread());
+        self.start = self.at;
+        match found {
+            Some(place) => {
+                self.stop = self.at + place;
+                self.at = self.stop + 1;
+                true
+            }
+            None => {
+                self.stop = self.end;
+                self.at = self.end;
+                false
+            }
+        }
     }
 }

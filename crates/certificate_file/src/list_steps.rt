@@ -62,7 +62,7 @@ fn take_list_step(
 }
 
 /// The place of the line after a step.
-fn after_list_step(subject: Subject, listing: Listing, progress: Progress) -> Place
+pub fn after_list_step(subject: Subject, listing: Listing, progress: Progress) -> Place
     requires { (n : ℕ) × All (λ s. length s ≡ n) listing.sets }
     ensures { State.Going result ≡ after_list_step subject listing progress }
 {

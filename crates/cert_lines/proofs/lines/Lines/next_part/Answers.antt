@@ -1,0 +1,41 @@
+use Rattle.std.proofs.Common.{◌≡◌, ℕ, ◌+◌, ◌<◌, ◌≤◌, ◌++◌, List, length, Err, ap, sym, ◌∙◌, inr, arith}
+use Rattle.desk_io.specs.State.{left_of}
+use Rattle.desk_io.specs.declared.Which.TheVariants.{Cert}
+use Rattle.cert_lines.specs.Limits.{Unread}
+use Rattle.cert_lines.specs.declared.lines.TheConstants.{MAX_LINES, MAX_LINE_BYTES}
+use Rattle.cert_lines.specs.declared.faults.CertError.TheVariants.{LineTooLong}
+use Rattle.cert_lines.proofs.Fronts.{cut_bytes, ended_bytes, begun_bytes, part_ends, part_more, part_long}
+use Rattle.cert_lines.proofs.lines.Lines.next_part.Goals.{then-ends, else-ends}
+use Rattle.cert_lines.proofs.lines.Lines.next_part.Goals as goal
+
+pub returns-then-taken-gt-MAX_LINE_BYTES-clause-err : goal.returns-then-taken-gt-MAX_LINE_BYTES-clause-err
+returns-then-taken-gt-MAX_LINE_BYTES-clause-err g c = λ tells. inr (λ front is.
+    let n = c.args.self.now.number in
+    let left = left_of Cert (g.D.Desk.state c.args.desk.now) in
+    let later = left_of Cert (g.D.Desk.state c.fill.new.desk) in
+    let part = c.cut-ends.new.self.part in
+    let all = sym (ap (λ (u : Unread). u.unread ++ left) c.self.view_is) ∙ c.in_ok-fill.ensures.all tells in
+    let bytes = cut_bytes c.cut-ends.result (c.args.self.now.unread ++ left) c.fill.new.self.unread part c.cut-ends.new.self.unread later all c.cut-ends.ensures.feed c.cut-ends.ensures.all in
+    let taken : c.self.inside.taken ≡ c.args.self.now.taken = ap (λ (u : Unread). u.taken) c.self.view_is in
+    let size : length c.part.result.now ≡ length part = ap (λ (xs : List ℕ). length xs) c.part.ensures in
+    let long : MAX_LINE_BYTES < length front + length part = omega (arith, is, taken, size, c.if-taken-gt-MAX_LINE_BYTES.true) in
+    part_long n front part (c.args.self.now.unread ++ left) bytes.0 c.requires.few long c.cut-ends.ensures.feedless bytes.1
+    ∙ ap (λ (k : ℕ). Err (LineTooLong k)) (sym (ap (λ (u : Unread). u.number) c.self.view_is)))
+
+pub returns-clause-part : goal.returns-clause-part
+returns-clause-part g c = λ tells front is.
+    let n = c.args.self.now.number in
+    let left = left_of Cert (g.D.Desk.state c.args.desk.now) in
+    let later = left_of Cert (g.D.Desk.state c.fill.new.desk) in
+    let part = c.cut-ends.new.self.part in
+    let unread = c.cut-ends.new.self.unread in
+    let all = sym (ap (λ (u : Unread). u.unread ++ left) c.self.view_is) ∙ c.in_ok-fill.ensures.all tells in
+    let taken : c.self.inside.taken ≡ c.args.self.now.taken = ap (λ (u : Unread). u.taken) c.self.view_is in
+    let size : length c.part.result.now ≡ length part = ap (λ (xs : List ℕ). length xs) c.part.ensures in
+    let short : length front + length part ≤ MAX_LINE_BYTES = omega (arith, is, taken, size, c.if-taken-gt-MAX_LINE_BYTES.false) in
+    elim c.if-ends.branch [
+      | then-ends w ↦ rw (w.self-is, w.if-ends.true)
+          (part_ends n front part (c.args.self.now.unread ++ left) (unread ++ later) c.requires.few short c.cut-ends.ensures.feedless (ended_bytes (c.args.self.now.unread ++ left) c.fill.new.self.unread part unread later all (c.cut-ends.ensures.feed w.if-ends.true)))
+      | else-ends w ↦ rw (w.self-is, w.if-ends.false)
+          (part_more n front part (c.args.self.now.unread ++ left) (unread ++ later) c.cut-ends.ensures.feedless (begun_bytes (c.args.self.now.unread ++ left) c.fill.new.self.unread part unread later all (c.cut-ends.ensures.all w.if-ends.false)))
+    ]
