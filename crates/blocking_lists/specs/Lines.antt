@@ -1,9 +1,10 @@
 -- The lines that listed sets, steps and logs stand for.
-use Rattle.std.specs.Prelude.{ℕ, ◌-◌, ◌≤◌, List, [], ◌∷◌, ◌++◌, map, take, drop}
+use Rattle.std.specs.Prelude.{ℕ, ◌+◌, ◌-◌, ◌≤◌, List, [], ◌∷◌, ◌++◌, length, map, take, drop}
 use Rattle.fbas_model.specs.Nodes.{Table}
-use Rattle.lrat_model.specs.Steps.{ProofStep}
+use Rattle.lrat_model.specs.Steps.{ProofStep, Addition, Deletion}
 use Rattle.lrat_text.specs.Lent.{lent_step}
-use Rattle.lrat_text.specs.Texts.{IsId, HasNumbers}
+use Rattle.lrat_text.specs.Texts.{IsId, HasNumbers, HasLiterals}
+use Rattle.cdcl_core.specs.Log.{IsDistinct}
 use Rattle.list_journal.specs.Listed.{list_line}
 use Rattle.list_journal.specs.Journals.{JournalLine, QuorumLine, BlockingLine, StepLine}
 use Rattle.blocking_lists.specs.declared.journal.Line.{Line}
@@ -55,3 +56,13 @@ abbrev pub HasLineNumbers : JournalLine → Type 0
 HasLineNumbers (QuorumLine id u) = IsId id
 HasLineNumbers (BlockingLine id s) = IsId id
 HasLineNumbers (StepLine step) = HasNumbers step
+
+-- a lemma of so many variables: each literal can be said in text, none stands twice, and at most one hint more than there are variables
+abbrev pub IsShortStep : ℕ → ProofStep → Type 0
+IsShortStep vars (Addition id lits hints) = HasLiterals (Addition id lits hints) × IsDistinct lits × (length hints ≤ vars + 1)
+IsShortStep vars (Deletion id ids) = ⊥
+
+abbrev pub HasFewWords : ℕ → JournalLine → Type 0
+HasFewWords vars (QuorumLine id u) = Unit {0}
+HasFewWords vars (BlockingLine id s) = Unit {0}
+HasFewWords vars (StepLine step) = IsShortStep vars step
