@@ -1,5 +1,5 @@
 -- What a search for the minimal blocking sets comes to, and the certificate that shows it.
-use Rattle.std.specs.Prelude.{◌≡◌, ℕ, List, map, length, All, Ok}
+use Rattle.std.specs.Prelude.{◌≡◌, ℕ, List, length, All, Ok}
 use Rattle.lrat_text.specs.Texts.{HasNumbers}
 use Rattle.fbas_model.specs.Nodes.{Table, size}
 use Rattle.fbas_model.specs.Fbas.{Fbas}
@@ -12,12 +12,11 @@ use Rattle.blocking_lists.specs.Outcomes.{OutcomeHolds, journal_in}
 use Rattle.blocking_lists.specs.declared.outcome.ListOutcome.{ListOutcome}
 use Rattle.blocking_lists.specs.declared.outcome.ListOutcome.TheVariants.{Whole, Spent}
 use Rattle.certificate_file.specs.Acceptance.{checked}
-use Rattle.certificate_file.specs.Meaning.{part_from}
 use Rattle.certificate_file.specs.declared.places.Header.{Header}
 use Rattle.certificate_file.specs.declared.places.Answer.{Answer}
 use Rattle.certificate_file.specs.declared.places.Answer.TheVariants as shown
-use Rattle.cert_writer.specs.Texts.{Text, list_text, raised_table}
-use Rattle.cert_writer.specs.Promises.{part_of}
+use Rattle.cert_writer.specs.Texts.{Text, list_text}
+use Rattle.cert_writer.specs.Promises.{part_of, raised_sets}
 use Rattle.cert_writer.specs.Finding.{Search, part, faulty}
 
 -- the certificate of a list, whole or in part
@@ -27,10 +26,6 @@ list_cert_over f digest h (Spent journal) = list_text f.names (part_of f h.from)
 
 abbrev pub list_cert_of : Search → ListOutcome → Text
 list_cert_of s outcome = list_cert_over s.whole s.digest s.header outcome
-
--- sets of the part, by the numbers of the whole system
-abbrev pub raised_sets : System → Header → List Table → List Table
-raised_sets f h sets = map (raised_table (part_from f h.from)) sets
 
 -- what the check says of it: the minimal blocking sets in name order, or how many units were spent
 abbrev pub list_accepted_as : Search → ListOutcome → Answer

@@ -8,5 +8,5 @@ mod writer;
 
 pub use finding::{what_is_shown_is_found, write_found};
 pub use listing::{what_is_listed_is_found, write_list};
-pub use whole::{a_written_certificate_is_accepted, write_log, write_pair};
+pub use whole::{a_written_certificate_is_accepted, write_journal, write_log, write_pair};
 pub use writer::CertWriter;

@@ -13,20 +13,13 @@ ghost use Rattle.cert_writer.specs.Promises.{IsHeader, part_of, PutsPart};
 ghost use Rattle.cert_writer.specs.Finding.{Search, part, faulty};
 ghost use Rattle.cert_writer.specs.Listing.{list_cert_over, list_cert_of, ListShows, FindsList, CanBeListed};
 
+use crate::whole::write_journal;
 use crate::writer::CertWriter;
-use blocking_lists::{Journal, ListOutcome};
+use blocking_lists::ListOutcome;
 use certificate_file::Header;
 use desk_io::{Desk, To, WriteFailed};
 use fbas_core::System;
 use list_journal::ListKind;
-
-/// The kind of the list, and its journal.
-fn kind_and_journal(outcome: &ListOutcome) -> (ListKind, &Journal) {
-    match outcome {
-        ListOutcome::Whole(_, journal) => (ListKind::Whole, journal),
-        ListOutcome::Spent(journal) => (ListKind::Partial, journal),
-    }
-}
 
 /// Writes the certificate of a list, whole or in part, to the created file. `check` accepts it.
 ///
@@ -48,9 +41,28 @@ pub fn write_list<D: Desk>(
     ensures part { OnErr result (IsTrue D.tells → PutsPart (list_cert_over whole.now digest.now header.now outcome.now) (D.state desk.old) (D.state desk.new)) }
     ensures faults { WriteFails (D.faults desk.old) (D.faults desk.new) (IsErr result) }
 {
-    let (kind, journal) = kind_and_journal(outcome);
-    let _ = writer.list(desk, digest, header, whole, kept, kind, journal);
-    writer.finish(desk)
+    match outcome {
+        ListOutcome::Whole(_, journal) => write_journal(
+            writer,
+            desk,
+            digest,
+            header,
+            whole,
+            kept,
+            ListKind::Whole,
+            journal,
+        ),
+        ListOutcome::Spent(journal) => write_journal(
+            writer,
+            desk,
+            digest,
+            header,
+            whole,
+            kept,
+            ListKind::Partial,
+            journal,
+        ),
+    }
 }
 
 /// What a search for the minimal blocking sets shows can be written, and its certificate is accepted.

@@ -249,13 +249,13 @@ impl CertWriter {
         self.byte(desk, letter);
         self.number(desk, id);
         self.names(desk, names, set);
-        self.byte(desk, b'\n');
+        self.text(desk, b"\n");
     }
 
     /// Writes a line of a journal: a quorum, a minimal blocking set, or a step.
     fn journal_line<D: Desk>(&mut self, desk: &mut D, names: &Names, line: Line<'_>)
         requires { CanBeLine (length names.now) (said_line line) }
-        ensures { Writes D.tells (journal_line names.now (said_line line) ++ 10 ∷ []) self.old (D.state desk.old) (D.faults desk.old) self.new (D.state desk.new) (D.faults desk.new) }
+        ensures { Writes D.tells (journal_line names.now (said_line line.entry) ++ 10 ∷ []) self.old (D.state desk.old) (D.faults desk.old) self.new (D.state desk.new) (D.faults desk.new) }
     {
         match line {
             Line::Quorum(id, set) => self.set_line(desk, b'q', id, names, set),
@@ -270,7 +270,7 @@ impl CertWriter {
         ensures { Writes D.tells (joined (map (journal_line names.now) journal.now)) self.old (D.state desk.old) (D.faults desk.old) self.new (D.state desk.new) (D.faults desk.new) }
     {
         let mut lines = journal.lines();
-        while let Some(line) = lines.next_line() {
+        'each: while let Some(line) = lines.next_line() {
             if self.has_failed {
                 return;
             }
