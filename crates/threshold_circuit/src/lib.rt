@@ -23,7 +23,7 @@ use quorum_set::QuorumSet;
 use std::alloc::{AllocError, Global};
 
 /// A circuit over the nodes, without negation.
-#[derive(Debug, Drop)]
+#[derive(Debug, Drop, PartialEq, Eq, Hash)]
 pub enum Circuit {
     /// True.
     Always,
@@ -36,6 +36,24 @@ pub enum Circuit {
 }
 
 impl Circuit {
+    /// The same circuit once more: O(e) for e entries at all depths.
+    pub fn copy(&self, alloc: Global) -> Result<Circuit, AllocError>
+        ensures { IfOk result (λ c. circuit_view c ≡ circuit_view self.now) }
+    {
+        match self {
+            Circuit::Always => Ok(Circuit::Always),
+            Circuit::Never => Ok(Circuit::Never),
+            Circuit::Node(node) => Ok(Circuit::Node(*node)),
+            Circuit::AtLeast(threshold, entries) => {
+                let mut copies = Vec::new(alloc);
+                for entry in entries {
+                    copies.push(entry.copy(alloc)?)?;
+                }
+                Ok(Circuit::AtLeast(*threshold, copies))
+            }
+        }
+    }
+
     /// The value where exactly the nodes of the set are present: O(e) for e entries at all depths.
     pub fn value(&self, set: &NodeSet) -> bool
         requires { NodesBelow (length set.now) (circuit_view self.now) }
@@ -80,7 +98,7 @@ impl Circuit {
 }
 
 /// How many variables a gate has for itself that wants `k` of `n` inputs.
-fn own_vars(k: u64, n: u64) -> u64
+pub fn own_vars(k: u64, n: u64) -> u64
     requires some { 1 ≤ k }
     requires within { k ≤ n }
     requires few { n ≤ MOST_ENTRIES }
