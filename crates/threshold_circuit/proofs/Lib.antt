@@ -6,3 +6,4 @@ pub mod SetLaws
 pub mod Sizes
 pub mod CountLaws
 pub mod SameLaws
+pub mod EqLaws

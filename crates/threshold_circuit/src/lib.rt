@@ -12,6 +12,7 @@ ghost use Rattle.threshold_circuit.specs.Circuits.{NodesBelow, HasThresholds, Is
 ghost use Rattle.threshold_circuit.specs.Gathering.{joined};
 ghost use Rattle.threshold_circuit.specs.Gates.{gate_variables, own_variables};
 ghost use Rattle.threshold_circuit.specs.Simplified.{simplified, simplified_entries, validator_circuit, always_count, undecided};
+ghost use Rattle.threshold_circuit.specs.Same.{same_circuit};
 ghost use Rattle.threshold_circuit.specs.Value.{circuit_value};
 ghost use Rattle.threshold_circuit.specs.Views.{circuit_view, inputs_view};
 
@@ -36,6 +37,13 @@ pub enum Circuit {
 }
 
 impl Circuit {
+    /// Whether the circuits are equal, as `==` says: equal thresholds, and equal entries in order.
+    pub fn same(&self, other: &Circuit) -> bool
+        ensures { result ≡ same_circuit (circuit_view self.now) (circuit_view other.now) }
+    {
+        self == other
+    }
+
     /// The same circuit once more: O(e) for e entries at all depths.
     pub fn copy(&self, alloc: Global) -> Result<Circuit, AllocError>
         ensures { IfOk result (λ c. circuit_view c ≡ circuit_view self.now) }
