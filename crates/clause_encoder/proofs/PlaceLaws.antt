@@ -60,7 +60,7 @@ mutual
   open_thresholds inside always is = tt
   open_thresholds inside never is = tt
   open_thresholds inside (leaf v) is = tt
-  open_thresholds inside (at_least k inputs) is = (is.0, (is.1, open_inputs inside inputs is.2))
+  open_thresholds inside (at_least k inputs) is = (is.0, is.1, open_inputs inside inputs is.2)
 
   pub open_inputs : (inside : Nodes) (inputs : Inputs) → AreOpen inside inputs → HaveThresholds inputs
   open_inputs inside end_of_gate is = tt

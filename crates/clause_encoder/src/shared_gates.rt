@@ -2,11 +2,11 @@
 ghost use Rattle.std.specs.Prelude.{◌≡◌, None, OnOk, []};
 ghost use Rattle.threshold_circuit.specs.Views.{circuit_view};
 ghost use Rattle.clause_encoder.specs.CircuitClauses.{variable_among, one_gate_more};
+ghost use Rattle.clause_encoder.specs.SharedGates.{gates_in};
 
 use crate::version::Version;
 use indexmap::IndexMap;
 use std::alloc::{AllocError, Global};
-use std::marker::Model;
 use threshold_circuit::Circuit;
 
 /// The gates that are written and may be used again, each with its variable, in the order in which they were written.
@@ -16,18 +16,11 @@ pub struct SharedGates {
     gates: IndexMap<Circuit, u64>,
 }
 
-impl Model for SharedGates {
-    ghost use Rattle.clause_encoder.specs.SharedGates.{Sharing, shown};
-
-    ghost Value = { Sharing };
-
-    ghost view = { shown };
-}
-
 impl SharedGates {
     /// No gate. Takes no memory.
     pub fn new(alloc: Global, version: Version) -> SharedGates
-        ensures { result ≡ record { version = version; gates = [] } }
+        ensures version { result.version ≡ version }
+        ensures gates { gates_in result ≡ [] }
     {
         SharedGates {
             version,
@@ -37,7 +30,7 @@ impl SharedGates {
 
     /// The variable of an equal circuit, where there is one: O(e) for e entries at all depths, on average.
     pub fn find(&self, circuit: &Circuit) -> Option<u64>
-        ensures { result ≡ variable_among self.now.gates (circuit_view circuit.now) }
+        ensures { result ≡ variable_among (gates_in self.now) (circuit_view circuit.now) }
     {
         self.gates.get(circuit).copied()
     }
@@ -49,8 +42,8 @@ impl SharedGates {
         circuit: &Circuit,
         variable: u64,
     ) -> Result<(), AllocError>
-        requires { variable_among self.old.gates (circuit_view circuit.now) ≡ None }
-        ensures gates { OnOk result (self.new.gates ≡ one_gate_more self.old.version self.old.gates (circuit_view circuit.now) variable) }
+        requires { variable_among (gates_in self.old) (circuit_view circuit.now) ≡ None }
+        ensures gates { OnOk result (gates_in self.new ≡ one_gate_more self.old.version (gates_in self.old) (circuit_view circuit.now) variable) }
         ensures version { self.new.version ≡ self.old.version }
     {
         match self.version {

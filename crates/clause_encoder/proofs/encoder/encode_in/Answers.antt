@@ -28,13 +28,13 @@ count_vars-vars-requires-clause-nodes c =
     let all = prepared f c.args.faulty.now g c.deref.result.now c.in_ok-nodes.nodes.items c.deref-2.result.now c.in_ok-circuits.circuits.items c.requires.same_n c.deref.ensures.value c.in_ok-nodes.ensures c.deref-2.ensures.value c.in_ok-circuits.ensures.n c.in_ok-circuits.ensures.circuits c.in_ok-circuits.ensures.writable in
     subst (λ (m : ℕ). All (λ v. v < m) c.deref.result.now) (sym all.long) (nodes_low g c.deref.result.now all.nodes_are)
 
-pub returns-then-vars-gt-MOST_c.in_ok-vars.vars-clause-too_large : goal.returns-then-vars-gt-MOST_c.in_ok-vars.vars-clause-too_large
-returns-then-vars-gt-MOST_c.in_ok-vars.vars-clause-too_large c vars is =
+pub returns-then-vars-gt-MOST_VARS-clause-too_large : goal.returns-then-vars-gt-MOST_VARS-clause-too_large
+returns-then-vars-gt-MOST_VARS-clause-too_large c vars is =
     let f = c.args.system.now.sets in
     let g = c.args.greatest.now in
     let all = prepared f c.args.faulty.now g c.deref.result.now c.in_ok-nodes.nodes.items c.deref-2.result.now c.in_ok-circuits.circuits.items c.requires.same_n c.deref.ensures.value c.in_ok-nodes.ensures c.deref-2.ensures.value c.in_ok-circuits.ensures.n c.in_ok-circuits.ensures.circuits c.in_ok-circuits.ensures.writable in
     let same : vars ≡ c.in_ok-vars.vars = cc in
-    (same ∙ (counted_vars c.args.version f c.args.faulty.now g c.in_ok-vars.vars c.deref.result.now c.deref-2.result.now all c.in_ok-vars.ensures.vars), omega (arith, same, c.if-vars-gt-MOST_c.in_ok-vars.vars.true))
+    (same ∙ (counted_vars c.args.version f c.args.faulty.now g c.in_ok-vars.vars c.deref.result.now c.deref-2.result.now all c.in_ok-vars.ensures.vars), omega (arith, same, c.if-vars-gt-MOST_VARS.true))
 
 pub of-map-requires-clause-vars : goal.of-map-requires-clause-vars
 of-map-requires-clause-vars c = members_fit c.args.greatest.now c.deref.result.now c.in_ok-vars.vars (c.deref.ensures.value ∙ c.in_ok-nodes.ensures) c.in_ok-vars.ensures.members
@@ -58,7 +58,7 @@ returns-clause-small c =
     let f = c.args.system.now.sets in
     let g = c.args.greatest.now in
     let all = prepared f c.args.faulty.now g c.deref.result.now c.in_ok-nodes.nodes.items c.deref-2.result.now c.in_ok-circuits.circuits.items c.requires.same_n c.deref.ensures.value c.in_ok-nodes.ensures c.deref-2.ensures.value c.in_ok-circuits.ensures.n c.in_ok-circuits.ensures.circuits c.in_ok-circuits.ensures.writable in
-    omega (arith, counted_vars c.args.version f c.args.faulty.now g c.in_ok-vars.vars c.deref.result.now c.deref-2.result.now all c.in_ok-vars.ensures.vars, c.if-vars-gt-MOST_c.in_ok-vars.vars.false)
+    omega (arith, counted_vars c.args.version f c.args.faulty.now g c.in_ok-vars.vars c.deref.result.now c.deref-2.result.now all c.in_ok-vars.ensures.vars, c.if-vars-gt-MOST_VARS.false)
 
 pub returns-clause-in_range : goal.returns-clause-in_range
 returns-clause-in_range c =
