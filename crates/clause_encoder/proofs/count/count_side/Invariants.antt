@@ -7,6 +7,6 @@ use Rattle.clause_encoder.proofs.count.count_side.Given as goal
 
 abbrev pub invariant-loop-node : goal.invariant-loop-node
 invariant-loop-node l = record {
-  counting : CountingSide l.version (circuit_in l.circuits) (side_from l.fn.next) (place_of l.free l.shared) l.node-index l.nodes;
-  version : l.shared.version ≡ l.version;
+  counting : CountingSide l.fn.version (circuit_in l.circuits) (side_from l.fn.next) (place_of l.free l.shared) l.node-index l.nodes;
+  version : l.shared.version ≡ l.fn.version;
 }

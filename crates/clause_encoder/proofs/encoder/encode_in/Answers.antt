@@ -14,15 +14,15 @@ use Rattle.clause_encoder.proofs.RangeLaws.{formula_in_range}
 use Rattle.clause_encoder.proofs.FormulaLaw.{says_quorums_in, tells_quorums_in, intersects_law_in}
 use Rattle.clause_encoder.proofs.encoder.encode_in.Goals as goal
 
-pub count_vars-vars-requires-clause-few : goal.count_vars-vars-requires-clause-few
-count_vars-vars-requires-clause-few c =
+pub count_vars-requires-clause-few : goal.count_vars-requires-clause-few
+count_vars-requires-clause-few c =
     let f = c.args.system.now.sets in
     let g = c.args.greatest.now in
     let all = prepared f c.args.faulty.now g c.deref.result.now c.in_ok-nodes.nodes.items c.deref-2.result.now c.in_ok-circuits.circuits.items c.requires.same_n c.deref.ensures.value c.in_ok-nodes.ensures c.deref-2.ensures.value c.in_ok-circuits.ensures.n c.in_ok-circuits.ensures.circuits c.in_ok-circuits.ensures.writable in
     few_nodes f c.args.faulty.now g c.deref.result.now c.deref-2.result.now all (omega (arith, c.requires.same_n, c.len-n.ensures.sets, c.len-n.ensures.few))
 
-pub count_vars-vars-requires-clause-nodes : goal.count_vars-vars-requires-clause-nodes
-count_vars-vars-requires-clause-nodes c =
+pub count_vars-requires-clause-nodes : goal.count_vars-requires-clause-nodes
+count_vars-requires-clause-nodes c =
     let f = c.args.system.now.sets in
     let g = c.args.greatest.now in
     let all = prepared f c.args.faulty.now g c.deref.result.now c.in_ok-nodes.nodes.items c.deref-2.result.now c.in_ok-circuits.circuits.items c.requires.same_n c.deref.ensures.value c.in_ok-nodes.ensures c.deref-2.ensures.value c.in_ok-circuits.ensures.n c.in_ok-circuits.ensures.circuits c.in_ok-circuits.ensures.writable in
