@@ -5,9 +5,8 @@ use Rattle.threshold_circuit.specs.Circuits.{Circuit, Inputs, always, never, lea
 use Rattle.fbas_model.specs.Nodes.{Nodes}
 use Rattle.threshold_circuit.specs.Gates.{own_variables}
 use Rattle.clause_encoder.specs.declared.version.Version.{Version}
-use Rattle.clause_encoder.specs.declared.version.Version.TheVariants.{One, Two}
 use Rattle.clause_encoder.specs.GateClauses.{gate_variable}
-use Rattle.clause_encoder.specs.CircuitClauses.{Gate, Place, Written, WrittenInputs, variable_among, one_gate_more, gate_over, stands_for, used_again, circuit_clauses, inputs_clauses}
+use Rattle.clause_encoder.specs.CircuitClauses.{Gate, Place, Written, WrittenInputs, variable_among, one_gate_more, gate_over, used_again, circuit_clauses, inputs_clauses}
 use Rattle.clause_encoder.specs.Formula.{node_clauses, side_clauses}
 use Rattle.clause_encoder.proofs.CircuitLaws.{inputs_written}
 use Rattle.clause_encoder.proofs.CircuitFills.{gate_variables_some}

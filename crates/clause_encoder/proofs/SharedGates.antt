@@ -1,8 +1,8 @@
 -- What holds of each gate that is used again.
-use Rattle.std.proofs.Common.{◌≡◌, ℕ, ◌+◌, ◌≤◌, ◌<◌, ◌==◌, ◌&&◌, Bool, true, false, if◌then◌else◌, List, [], ◌∷◌, ◌++◌, Option, Some, None, cond, refl, ap, subst, sym, ◌∙◌, arith}
-use Rattle.std.proofs.lemmas.Bool.{eqb-true, eq-eqb, and_parts, and_from, false≢true}
-use Rattle.threshold_circuit.specs.Circuits.{Circuit, Inputs, always, never, leaf, at_least, end_of_gate, input, all_inputs}
-use Rattle.threshold_circuit.specs.Same.{same_circuit, same_inputs}
+use Rattle.std.proofs.Common.{◌≡◌, ℕ, ◌<◌, Bool, true, false, if◌then◌else◌, List, [], ◌∷◌, ◌++◌, Option, Some, None, cond, refl, ap, subst, sym, ◌∙◌, arith}
+use Rattle.std.proofs.lemmas.Bool.{false≢true}
+use Rattle.threshold_circuit.specs.Circuits.{Circuit, all_inputs}
+use Rattle.threshold_circuit.specs.Same.{same_circuit}
 use Rattle.threshold_circuit.proofs.SameLaws.{same_is}
 use Rattle.clause_encoder.specs.declared.version.Version.{Version}
 use Rattle.clause_encoder.specs.declared.version.Version.TheVariants.{One, Two}

@@ -1,11 +1,11 @@
-use Rattle.std.proofs.Common.{◌≡◌, ℕ, ◌+◌, ◌-◌, ◌<◌, [], length, rules, refl, ap, subst, sym, ◌∙◌, arith}
+use Rattle.std.proofs.Common.{ℕ, ◌+◌, [], length, rules, refl, ap, subst, sym, ◌∙◌, arith}
 use Rattle.threshold_circuit.specs.Circuits.{at_least, HasThresholds}
 use Rattle.threshold_circuit.specs.Gates.{own_variables}
 use Rattle.threshold_circuit.specs.Views.{circuit_view, inputs_view}
 use Rattle.threshold_circuit.specs.declared.Circuit.TheViews.{the_lemmas}
 use Rattle.threshold_circuit.proofs.ViewLaws.{gate_view}
 use Rattle.threshold_circuit.proofs.CountLaws.{gate_facts}
-use Rattle.clause_encoder.specs.CircuitClauses.{one_gate_more, inputs_clauses}
+use Rattle.clause_encoder.specs.CircuitClauses.{inputs_clauses}
 use Rattle.clause_encoder.specs.SharedGates.{place_of, gates_in}
 use Rattle.clause_encoder.proofs.CountLaws.{counting_none, next_counted, counting_more, counting_all}
 use Rattle.clause_encoder.proofs.GateWriting.{AllWritten, none_by, gate_absent, gate_after_is}

@@ -1,4 +1,4 @@
-use Rattle.std.proofs.Common.{◌≡◌, ◌+◌, length, get_or, refl, ap, sym, ◌∙◌, arith}
+use Rattle.std.proofs.Common.{get_or, refl, ap, ◌∙◌, arith}
 use Rattle.threshold_circuit.specs.Gates.{gate_variables}
 use Rattle.threshold_circuit.specs.Views.{circuit_view}
 use Rattle.clause_encoder.specs.CircuitClauses.{Place}

@@ -1,4 +1,4 @@
-use Rattle.std.proofs.Common.{◌≡◌, ℕ, ◌+◌, length, ap, ◌∙◌, arith}
+use Rattle.std.proofs.Common.{ℕ, ◌+◌, length, ap, ◌∙◌, arith}
 use Rattle.clause_encoder.specs.Formula.{side_clauses, side_from}
 use Rattle.clause_encoder.specs.Written.{circuit_in}
 use Rattle.clause_encoder.proofs.PlaceLaws.{side_grows}

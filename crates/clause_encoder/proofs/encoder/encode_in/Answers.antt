@@ -8,7 +8,6 @@ use Rattle.lrat_model.specs.Steps.{Database}
 use Rattle.clause_encoder.specs.Formula.{vars_in}
 use Rattle.clause_encoder.specs.Meaning.{Tells}
 use Rattle.clause_encoder.specs.Variables.{Variables}
-use Rattle.clause_encoder.specs.Written.{circuit_in}
 use Rattle.clause_encoder.proofs.EncodeLaws.{prepared, few_nodes, nodes_low, store_is, counted_vars, members_fit}
 use Rattle.clause_encoder.proofs.RangeLaws.{formula_in_range}
 use Rattle.clause_encoder.proofs.FormulaLaw.{says_quorums_in, tells_quorums_in, intersects_law_in}

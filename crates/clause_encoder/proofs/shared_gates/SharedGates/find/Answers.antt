@@ -1,4 +1,4 @@
-use Rattle.std.proofs.Common.{◌≡◌, ◌∙◌}
+use Rattle.std.proofs.Common.{◌∙◌}
 use Rattle.clause_encoder.proofs.SharedGates.{among_is}
 use Rattle.clause_encoder.proofs.shared_gates.SharedGates.find.Goals as goal
 

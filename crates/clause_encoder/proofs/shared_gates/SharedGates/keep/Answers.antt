@@ -1,11 +1,11 @@
-use Rattle.std.proofs.Common.{◌≡◌, ℕ, None, List, [], ◌∷◌, ◌++◌, ap, sym, ◌∙◌}
+use Rattle.std.proofs.Common.{◌≡◌, None, [], ◌∷◌, ◌++◌, ap, sym, ◌∙◌}
 use Rattle.indexmap.specs.IndexMap.{get}
 use Rattle.indexmap.proofs.CallerLemmas.{insert_entry-new}
 use Rattle.threshold_circuit.specs.Circuits.{Circuit}
 use Rattle.threshold_circuit.specs.Views.{circuit_view}
 use Rattle.threshold_circuit.specs.contracts.CircuitPartialEq.TheImpl as own
 use Rattle.clause_encoder.specs.declared.version.Version.{Version}
-use Rattle.clause_encoder.specs.CircuitClauses.{Gate, variable_among, one_gate_more}
+use Rattle.clause_encoder.specs.CircuitClauses.{variable_among, one_gate_more}
 use Rattle.clause_encoder.specs.SharedGates.{gates_in, gates_of}
 use Rattle.clause_encoder.proofs.SharedGates.{among_is, gates_more}
 use Rattle.clause_encoder.proofs.shared_gates.SharedGates.keep.Goals as goal
