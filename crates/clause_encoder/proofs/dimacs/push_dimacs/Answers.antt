@@ -1,4 +1,4 @@
-use Rattle.std.proofs.Common.{◌≡◌, ◌∙◌, List, length, codes, rules, ap, sym}
+use Rattle.std.proofs.Common.{length, codes, rules, ap}
 use Rattle.fbas_model.specs.Nodes.{listed_from}
 use Rattle.lrat_model.specs.Steps.{Database}
 use Rattle.clause_encoder.specs.Formula.{side_a, side_b}
