@@ -1,5 +1,5 @@
 -- A list that is written is accepted.
-use Rattle.std.proofs.Common.{◌≡◌, ℕ, zero, suc, ◌+◌, ◌≤◌, ◌<◌, List, [], ◌∷◌, ◌++◌, length, map, Option, IfSome, Ok, refl, sym, ◌∙◌, ap, subst, arith, codes, ℤ, length-append}
+use Rattle.std.proofs.Common.{◌≡◌, ℕ, ◌+◌, ◌≤◌, ◌<◌, List, [], ◌∷◌, ◌++◌, length, map, IfSome, Ok, refl, sym, ◌∙◌, ap, subst, arith, codes, length-append}
 use Rattle.std.specs.List.{All, AllByRecursion}
 use Rattle.std.specs.List.Sorted.{IsStrictlySortedBy}
 use Rattle.std.proofs.lemmas.List.{length-map, append-nil}
@@ -15,11 +15,9 @@ use Rattle.fbas_model.proofs.Closure.{size_le_length}
 use Rattle.fbas_model.proofs.Renumbered.{length-restricted_sets}
 use Rattle.greatest_quorum.specs.Greatest.{greatest_of}
 use Rattle.greatest_quorum.proofs.GreatestLaws.{length-greatest_of}
-use Rattle.lrat_model.specs.Literal.{Literal}
 use Rattle.lrat_model.specs.Steps.{Addition, Deletion, Database, after_step}
 use Rattle.lrat_model.specs.declared.step.Progress.TheVariants.{Going as going, Refuted}
-use Rattle.lrat_text.specs.Texts.{line_of}
-use Rattle.list_journal.specs.Journals.{JournalLine, QuorumLine, BlockingLine, StepLine, JournalRun, IsTaken, IsNewLine, IsOpen, EndsRefuted, after_line, line_progress, nothing_held, blocking_sets, journal_units}
+use Rattle.list_journal.specs.Journals.{JournalLine, QuorumLine, BlockingLine, StepLine, JournalRun, after_line, line_progress, nothing_held, blocking_sets, journal_units}
 use Rattle.list_journal.specs.declared.kinds.ListKind.{ListKind}
 use Rattle.list_journal.specs.declared.kinds.ListKind.TheVariants.{Whole, Partial as Part}
 use Rattle.list_journal.specs.declared.kinds.Listed.TheVariants as listed
@@ -30,7 +28,6 @@ use Rattle.certificate_file.specs.Acceptance.{take_line, checked, list_part, lis
 use Rattle.certificate_file.specs.Meaning.{part_from}
 use Rattle.certificate_file.specs.Known.{IsPart}
 use Rattle.certificate_file.specs.declared.places.Header.{Header}
-use Rattle.certificate_file.specs.declared.places.Subject.{Subject}
 use Rattle.certificate_file.specs.declared.places.Answer.{Answer}
 use Rattle.certificate_file.specs.declared.places.Answer.TheVariants.{Blocking, PartialBlocking}
 use Rattle.certificate_file.specs.declared.places.Place.TheVariants.{AtTitle, AtKind, AtList}
@@ -38,7 +35,7 @@ use Rattle.certificate_file.specs.declared.places.State.TheVariants.{Going, Done
 use Rattle.certificate_file.proofs.WholeLaws.{part_is}
 use Rattle.cert_lines.specs.declared.lines.TheConstants.{MAX_LINES}
 use Rattle.cert_writer.specs.Texts.{Text, header_lines, list_kind_of, journal_line, list_lines, list_text, raised_table}
-use Rattle.cert_writer.specs.Promises.{IsHeader, subject, part_of, faulty_in, raised_sets, ListEndsAs, listed_by, IsJournalOf}
+use Rattle.cert_writer.specs.Promises.{IsHeader, subject, part_of, raised_sets, ListEndsAs, listed_by, IsJournalOf}
 use Rattle.cert_writer.proofs.Joined.{Takes, takes-append, IsLine, AreLines, are_lines-append, accepted_text}
 use Rattle.cert_writer.proofs.Words.{is_plain}
 use Rattle.cert_writer.proofs.Names.{AreNames, are_keys, names-kept}
