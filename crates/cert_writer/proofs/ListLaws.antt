@@ -35,7 +35,7 @@ use Rattle.certificate_file.specs.declared.places.State.TheVariants.{Going, Done
 use Rattle.certificate_file.proofs.WholeLaws.{part_is}
 use Rattle.cert_lines.specs.declared.lines.TheConstants.{MAX_LINES}
 use Rattle.cert_writer.specs.Texts.{Text, header_lines, list_kind_of, journal_line, list_lines, list_text, raised_table}
-use Rattle.cert_writer.specs.Promises.{IsHeader, subject, part_of, raised_sets, ListEndsAs, listed_by, IsJournalOf}
+use Rattle.cert_writer.specs.Promises.{IsHeader, subject, part_of, raised_sets, ListEndsAs, shown_by_list, IsJournalOf}
 use Rattle.cert_writer.proofs.Joined.{Takes, takes-append, IsLine, AreLines, are_lines-append, accepted_text}
 use Rattle.cert_writer.proofs.Words.{is_plain}
 use Rattle.cert_writer.proofs.Names.{AreNames, are_keys, names-kept}
@@ -132,7 +132,7 @@ module _ (f : System) (d : List ℕ) (h : Header) (is : IsSystem f.names f.sets)
   IsFine line = HasLineNumbers line × HasFewWords (size greatest) line
 
   takes_body : (kind : ListKind) (new : Database) (journal : List JournalLine) → JournalRun kind fbas (members gone) greatest nothing_held journal new → AllByRecursion IsFine journal → ListEndsAs kind journal
-      → Takes f d 6 (Going (AtList (subject f h) (no_listing f kind (subject f h)))) (map (journal_line (kept nodes f.names)) journal ++ codes "end" ∷ []) (Done (record { header = h; answer = listed_by f h kind journal }))
+      → Takes f d 6 (Going (AtList (subject f h) (no_listing f kind (subject f h)))) (map (journal_line (kept nodes f.names)) journal ++ codes "end" ∷ []) (Done (record { header = h; answer = shown_by_list f h kind journal }))
   takes_body Part new journal run fine ends =
       let s = subject f h in
       let on = recursion_from_All (λ line. line_progress line ≡ going) journal ends in
@@ -166,14 +166,14 @@ module _ (f : System) (d : List ℕ) (h : Header) (is : IsSystem f.names f.sets)
   kind_taken Part = refl
 
   list_accepted : (kind : ListKind) (new : Database) (journal : List JournalLine) → JournalRun kind fbas (members gone) greatest nothing_held journal new → All HasLineNumbers journal → All (HasFewWords (size greatest)) journal → length journal + 6 ≤ MAX_LINES → ListEndsAs kind journal
-      → checked f d (list_text f.names (kept nodes f.names) d h kind journal) ≡ Ok (record { header = h; answer = listed_by f h kind journal })
+      → checked f d (list_text f.names (kept nodes f.names) d h kind journal) ≡ Ok (record { header = h; answer = shown_by_list f h kind journal })
   list_accepted kind new journal run numbers words few ends =
       let s = subject f h in
       let fine = both_all HasLineNumbers (HasFewWords (size greatest)) journal (recursion_from_All HasLineNumbers journal numbers) (recursion_from_All (HasFewWords (size greatest)) journal words) in
       let head_lines = header_lines f.names d h in
       let texts = map (journal_line (kept nodes f.names)) journal in
       let body = list_lines (kept nodes f.names) kind journal in
-      let answer : Answer = listed_by f h kind journal in
+      let answer : Answer = shown_by_list f h kind journal in
       let taken : Takes f d 5 (Going (AtKind s)) body (Done (record { header = h; answer = answer })) = (Going (AtList s (no_listing f kind s)), kind_taken kind, takes_body kind new journal run fine ends) in
       let whole = takes-append f d 1 5 (Going AtTitle) (Going (AtKind s)) (Done (record { header = h; answer = answer })) head_lines body refl (takes_header f d h are size_is bytes head) taken in
       let last_line : IsLine (codes "end") = record { plain = is_plain (codes "end") refl; short = omega arith } in
@@ -183,7 +183,7 @@ module _ (f : System) (d : List ℕ) (h : Header) (is : IsSystem f.names f.sets)
       accepted_text f d (head_lines ++ body) (record { header = h; answer = answer }) lines total whole
 
   -- the same over the system of the part
-  pub list_of_accepted : (p : System) (kind : ListKind) (journal : List JournalLine) → p ≡ part_of f h.from → IsJournalOf f h kind journal → checked f d (list_text f.names p.names d h kind journal) ≡ Ok (record { header = h; answer = listed_by f h kind journal })
+  pub list_of_accepted : (p : System) (kind : ListKind) (journal : List JournalLine) → p ≡ part_of f h.from → IsJournalOf f h kind journal → checked f d (list_text f.names p.names d h kind journal) ≡ Ok (record { header = h; answer = shown_by_list f h kind journal })
   list_of_accepted p kind journal p_is j =
       let e : part_of f h.from ≡ restricted nodes f = part_is_restricted f h.from is in
       ap (λ (x : System). checked f d (list_text f.names x.names d h kind journal)) (p_is ∙ e)
