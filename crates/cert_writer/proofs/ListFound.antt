@@ -1,21 +1,20 @@
 -- From what a search for the minimal blocking sets shows to a certificate that is accepted.
-use Rattle.std.proofs.Common.{◌≡◌, ◌↔◌, ℕ, ◌+◌, ◌≤◌, List, [], ◌∷◌, ◌++◌, length, map, Bool, cond, ◌==◌, IfSome, Ok, Contains, refl, sym, ◌∙◌, ap, subst, arith, length-append, ◌<◌}
+use Rattle.std.proofs.Common.{◌≡◌, ℕ, ◌+◌, ◌≤◌, List, [], ◌∷◌, ◌++◌, length, map, Bool, cond, IfSome, Ok, refl, sym, ◌∙◌, ap, subst, arith, length-append, ◌<◌}
 use Rattle.std.specs.List.{All, AllByRecursion}
 use Rattle.std.specs.List.Sorted.{IsStrictlySortedBy}
-use Rattle.std.proofs.lemmas.Bool.{ne_eqb}
 use Rattle.std.proofs.lemmas.List.Elements.{All-nil, All-cons, All-head, All-tail, recursion_from_All}
 use Rattle.hex.specs.Hex.{IsBytes}
 use Rattle.fbas_model.specs.Nodes.{Table, members, size, set_cmp}
 use Rattle.fbas_model.specs.Names.{name_cmp}
 use Rattle.fbas_model.specs.Fbas.{Fbas}
 use Rattle.fbas_model.specs.Systems.{System, IsSystem}
-use Rattle.fbas_model.specs.Restriction.{restricted, restricted_sets, kept}
+use Rattle.fbas_model.specs.Restriction.{restricted_sets}
 use Rattle.fbas_model.proofs.Kept.{length-kept}
 use Rattle.fbas_model.proofs.Renumbered.{length-restricted_sets}
 use Rattle.greatest_quorum.specs.Greatest.{greatest_of}
 use Rattle.lrat_model.specs.Steps.{Addition, Deletion, Database}
-use Rattle.lrat_model.specs.declared.step.Progress.TheVariants.{Going, Refuted}
-use Rattle.list_journal.specs.Journals.{JournalLine, QuorumLine, BlockingLine, StepLine, JournalRun, IsOpen, EndsRefuted, IsWholeJournal, after_line, line_progress, nothing_held, blocking_sets, line_units, journal_units}
+use Rattle.lrat_model.specs.declared.step.Progress.TheVariants.{Going}
+use Rattle.list_journal.specs.Journals.{JournalLine, QuorumLine, BlockingLine, StepLine, JournalRun, IsOpen, EndsRefuted, IsWholeJournal, after_line, line_progress, nothing_held, blocking_sets, journal_units}
 use Rattle.list_journal.specs.Lists.{IsListOfBlocks}
 use Rattle.list_journal.specs.Order.{ordered}
 use Rattle.list_journal.specs.declared.kinds.ListKind.{ListKind}
@@ -25,19 +24,16 @@ use Rattle.list_journal.proofs.OrderLaws.{HavePlaces, is_ordered}
 use Rattle.list_journal.proofs.Runs.{units_append}
 use Rattle.list_journal.proofs.Whole.{whole_has_each}
 use Rattle.blocking_lists.specs.Lines.{HasLineNumbers, HasFewWords}
-use Rattle.blocking_lists.specs.Outcomes.{OutcomeHolds, journal_in}
 use Rattle.blocking_lists.specs.declared.outcome.ListOutcome.{ListOutcome}
 use Rattle.blocking_lists.specs.declared.outcome.ListOutcome.TheVariants.{Whole, Spent}
-use Rattle.certificate_file.specs.Acceptance.{checked}
 use Rattle.certificate_file.specs.Known.{IsPart}
 use Rattle.certificate_file.specs.Meaning.{part_from}
-use Rattle.certificate_file.specs.declared.places.Header.{Header}
 use Rattle.certificate_file.specs.declared.places.Answer.TheVariants as shown
 use Rattle.certificate_file.proofs.WholeLaws.{part_is}
 use Rattle.quorum_questions.specs.declared.asking.TheConstants.{MOST_UNITS}
 use Rattle.cert_lines.specs.declared.lines.TheConstants.{MAX_LINES}
 use Rattle.cert_writer.specs.Texts.{raised_table}
-use Rattle.cert_writer.specs.Promises.{IsHeader, part_of, faulty_in, raised_sets, IsJournalOf}
+use Rattle.cert_writer.specs.Promises.{IsHeader}
 use Rattle.cert_writer.specs.Finding.{Search, part, faulty}
 use Rattle.cert_writer.specs.Listing.{list_cert_of, ListShows, FindsList, CanBeLine, CanBeListed}
 use Rattle.cert_writer.proofs.ListLaws.{list_of_accepted}

@@ -1,5 +1,5 @@
 -- A list that is written is accepted.
-use Rattle.std.proofs.Common.{◌≡◌, ℕ, zero, suc, ◌+◌, ◌≤◌, ◌<◌, List, [], ◌∷◌, ◌++◌, length, map, Option, IfSome, Ok, refl, sym, ◌∙◌, ap, subst, arith, codes, ℤ, length-append}
+use Rattle.std.proofs.Common.{◌≡◌, ℕ, ◌+◌, ◌≤◌, ◌<◌, List, [], ◌∷◌, ◌++◌, length, map, IfSome, Ok, refl, sym, ◌∙◌, ap, subst, arith, codes, length-append}
 use Rattle.std.specs.List.{All, AllByRecursion}
 use Rattle.std.specs.List.Sorted.{IsStrictlySortedBy}
 use Rattle.std.proofs.lemmas.List.{length-map, append-nil}
@@ -15,11 +15,9 @@ use Rattle.fbas_model.proofs.Closure.{size_le_length}
 use Rattle.fbas_model.proofs.Renumbered.{length-restricted_sets}
 use Rattle.greatest_quorum.specs.Greatest.{greatest_of}
 use Rattle.greatest_quorum.proofs.GreatestLaws.{length-greatest_of}
-use Rattle.lrat_model.specs.Literal.{Literal}
 use Rattle.lrat_model.specs.Steps.{Addition, Deletion, Database, after_step}
 use Rattle.lrat_model.specs.declared.step.Progress.TheVariants.{Going as going, Refuted}
-use Rattle.lrat_text.specs.Texts.{line_of}
-use Rattle.list_journal.specs.Journals.{JournalLine, QuorumLine, BlockingLine, StepLine, JournalRun, IsTaken, IsNewLine, IsOpen, EndsRefuted, after_line, line_progress, nothing_held, blocking_sets, journal_units}
+use Rattle.list_journal.specs.Journals.{JournalLine, QuorumLine, BlockingLine, StepLine, JournalRun, after_line, line_progress, nothing_held, blocking_sets, journal_units}
 use Rattle.list_journal.specs.declared.kinds.ListKind.{ListKind}
 use Rattle.list_journal.specs.declared.kinds.ListKind.TheVariants.{Whole, Partial as Part}
 use Rattle.list_journal.specs.declared.kinds.Listed.TheVariants as listed
@@ -30,7 +28,6 @@ use Rattle.certificate_file.specs.Acceptance.{take_line, checked, list_part, lis
 use Rattle.certificate_file.specs.Meaning.{part_from}
 use Rattle.certificate_file.specs.Known.{IsPart}
 use Rattle.certificate_file.specs.declared.places.Header.{Header}
-use Rattle.certificate_file.specs.declared.places.Subject.{Subject}
 use Rattle.certificate_file.specs.declared.places.Answer.{Answer}
 use Rattle.certificate_file.specs.declared.places.Answer.TheVariants.{Blocking, PartialBlocking}
 use Rattle.certificate_file.specs.declared.places.Place.TheVariants.{AtTitle, AtKind, AtList}
@@ -38,7 +35,7 @@ use Rattle.certificate_file.specs.declared.places.State.TheVariants.{Going, Done
 use Rattle.certificate_file.proofs.WholeLaws.{part_is}
 use Rattle.cert_lines.specs.declared.lines.TheConstants.{MAX_LINES}
 use Rattle.cert_writer.specs.Texts.{Text, header_lines, list_kind_of, journal_line, list_lines, list_text, raised_table}
-use Rattle.cert_writer.specs.Promises.{IsHeader, subject, part_of, faulty_in, raised_sets, ListEndsAs, listed_by, IsJournalOf}
+use Rattle.cert_writer.specs.Promises.{IsHeader, subject, part_of, raised_sets, ListEndsAs, shown_by_list, IsJournalOf}
 use Rattle.cert_writer.proofs.Joined.{Takes, takes-append, IsLine, AreLines, are_lines-append, accepted_text}
 use Rattle.cert_writer.proofs.Words.{is_plain}
 use Rattle.cert_writer.proofs.Names.{AreNames, are_keys, names-kept}
@@ -135,7 +132,7 @@ module _ (f : System) (d : List ℕ) (h : Header) (is : IsSystem f.names f.sets)
   IsFine line = HasLineNumbers line × HasFewWords (size greatest) line
 
   takes_body : (kind : ListKind) (new : Database) (journal : List JournalLine) → JournalRun kind fbas (members gone) greatest nothing_held journal new → AllByRecursion IsFine journal → ListEndsAs kind journal
-      → Takes f d 6 (Going (AtList (subject f h) (no_listing f kind (subject f h)))) (map (journal_line (kept nodes f.names)) journal ++ codes "end" ∷ []) (Done (record { header = h; answer = listed_by f h kind journal }))
+      → Takes f d 6 (Going (AtList (subject f h) (no_listing f kind (subject f h)))) (map (journal_line (kept nodes f.names)) journal ++ codes "end" ∷ []) (Done (record { header = h; answer = shown_by_list f h kind journal }))
   takes_body Part new journal run fine ends =
       let s = subject f h in
       let on = recursion_from_All (λ line. line_progress line ≡ going) journal ends in
@@ -169,14 +166,14 @@ module _ (f : System) (d : List ℕ) (h : Header) (is : IsSystem f.names f.sets)
   kind_taken Part = refl
 
   list_accepted : (kind : ListKind) (new : Database) (journal : List JournalLine) → JournalRun kind fbas (members gone) greatest nothing_held journal new → All HasLineNumbers journal → All (HasFewWords (size greatest)) journal → length journal + 6 ≤ MAX_LINES → ListEndsAs kind journal
-      → checked f d (list_text f.names (kept nodes f.names) d h kind journal) ≡ Ok (record { header = h; answer = listed_by f h kind journal })
+      → checked f d (list_text f.names (kept nodes f.names) d h kind journal) ≡ Ok (record { header = h; answer = shown_by_list f h kind journal })
   list_accepted kind new journal run numbers words few ends =
       let s = subject f h in
       let fine = both_all HasLineNumbers (HasFewWords (size greatest)) journal (recursion_from_All HasLineNumbers journal numbers) (recursion_from_All (HasFewWords (size greatest)) journal words) in
       let head_lines = header_lines f.names d h in
       let texts = map (journal_line (kept nodes f.names)) journal in
       let body = list_lines (kept nodes f.names) kind journal in
-      let answer : Answer = listed_by f h kind journal in
+      let answer : Answer = shown_by_list f h kind journal in
       let taken : Takes f d 5 (Going (AtKind s)) body (Done (record { header = h; answer = answer })) = (Going (AtList s (no_listing f kind s)), kind_taken kind, takes_body kind new journal run fine ends) in
       let whole = takes-append f d 1 5 (Going AtTitle) (Going (AtKind s)) (Done (record { header = h; answer = answer })) head_lines body refl (takes_header f d h are size_is bytes head) taken in
       let last_line : IsLine (codes "end") = record { plain = is_plain (codes "end") refl; short = omega arith } in
@@ -186,7 +183,7 @@ module _ (f : System) (d : List ℕ) (h : Header) (is : IsSystem f.names f.sets)
       accepted_text f d (head_lines ++ body) (record { header = h; answer = answer }) lines total whole
 
   -- the same over the system of the part
-  pub list_of_accepted : (p : System) (kind : ListKind) (journal : List JournalLine) → p ≡ part_of f h.from → IsJournalOf f h kind journal → checked f d (list_text f.names p.names d h kind journal) ≡ Ok (record { header = h; answer = listed_by f h kind journal })
+  pub list_of_accepted : (p : System) (kind : ListKind) (journal : List JournalLine) → p ≡ part_of f h.from → IsJournalOf f h kind journal → checked f d (list_text f.names p.names d h kind journal) ≡ Ok (record { header = h; answer = shown_by_list f h kind journal })
   list_of_accepted p kind journal p_is j =
       let e : part_of f h.from ≡ restricted nodes f = part_is_restricted f h.from is in
       ap (λ (x : System). checked f d (list_text f.names x.names d h kind journal)) (p_is ∙ e)

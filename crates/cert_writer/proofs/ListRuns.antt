@@ -1,5 +1,5 @@
 -- The lines of a journal, taken.
-use Rattle.std.proofs.Common.{◌≡◌, ℕ, ◌+◌, ◌≤◌, ◌<◌, List, [], ◌∷◌, ◌++◌, length, map, Bool, true, false, not, ◌&&◌, ◌==◌, if◌then◌else◌, cond, Option, Some, None, Result, Ok, inl, inr, refl, sym, ◌∙◌, ap, subst, arith, codes, append_assoc, ℤ}
+use Rattle.std.proofs.Common.{◌≡◌, ℕ, ◌+◌, ◌<◌, List, [], ◌∷◌, ◌++◌, length, map, Bool, false, not, ◌&&◌, ◌==◌, if◌then◌else◌, cond, Option, None, Result, Ok, refl, sym, ◌∙◌, ap, arith, codes, append_assoc, ℤ}
 use Rattle.std.specs.List.{All, AllByRecursion}
 use Rattle.std.specs.Fmt.{decimal}
 use Rattle.std.specs.Str.{bytes_eq}
@@ -10,22 +10,18 @@ use Rattle.std.proofs.lemmas.List.Elements.{recursion_from_All}
 use Rattle.std.proofs.lemmas.Str.Parse.{digit_from_value}
 use Rattle.std.proofs.lemmas.Fmt.{decimal_is_IsNumeral}
 use Rattle.fbas_model.specs.Nodes.{Table, members, size}
-use Rattle.fbas_model.specs.Names.{Name}
 use Rattle.fbas_model.specs.Systems.{System}
-use Rattle.fbas_model.specs.Restriction.{kept, restricted_sets}
+use Rattle.fbas_model.specs.Restriction.{kept}
 use Rattle.lrat_model.specs.Literal.{Literal}
 use Rattle.lrat_model.specs.Steps.{ProofStep, Addition, Deletion, Database, step_fault, after_step, progress_of, progress_at}
 use Rattle.lrat_model.specs.declared.step.StepFault.{StepFault}
 use Rattle.lrat_model.specs.declared.step.Progress.{Progress}
 use Rattle.lrat_model.specs.declared.step.Progress.TheVariants.{Going as going, Refuted}
-use Rattle.lrat_text.specs.Lines.{step_in}
-use Rattle.lrat_text.specs.Texts.{line_of, IsLiteral, HasNumbers, HasLiterals}
+use Rattle.lrat_text.specs.Texts.{line_of, IsLiteral, HasNumbers}
 use Rattle.lrat_text.specs.declared.faults.LineFault.{LineFault}
 use Rattle.lrat_text.proofs.BackLaws.{step_back}
 use Rattle.cdcl_core.specs.Trail.{IsVariable}
-use Rattle.greatest_quorum.specs.Greatest.{greatest_of}
-use Rattle.list_journal.specs.Journals.{JournalLine, QuorumLine, BlockingLine, StepLine, JournalRun, IsTaken, IsNewLine, IsNewStep, after_line, line_progress, blocking_sets, journal_units}
-use Rattle.list_journal.specs.Numbering.{quorum_clause, blocking_clause}
+use Rattle.list_journal.specs.Journals.{JournalLine, QuorumLine, BlockingLine, StepLine, JournalRun, IsNewStep, after_line, line_progress, blocking_sets, journal_units}
 use Rattle.list_journal.specs.declared.kinds.ListKind.{ListKind}
 use Rattle.list_journal.specs.declared.kinds.ListKind.TheVariants.{Whole, Partial as Part}
 use Rattle.list_journal.specs.declared.kinds.Listed.{Listed}
@@ -36,12 +32,11 @@ use Rattle.cert_lines.specs.Saying.{or_bad_line}
 use Rattle.cert_lines.specs.Words.{Word, words_of}
 use Rattle.cert_lines.specs.declared.faults.CertError.{CertError}
 use Rattle.cert_lines.specs.declared.faults.CertError.TheVariants.{NotNew}
-use Rattle.certificate_file.specs.Acceptance.{and_then, listed_by, literal_in, is_old_step, with_step, after_list_step, list_step, list_step_unless, list_end, list_text, list_part, listing_on, take_line, asks_new, adds_covered, is_covered}
+use Rattle.certificate_file.specs.Acceptance.{and_then, listed_by, literal_in, is_old_step, with_step, after_list_step, list_step, list_step_unless, list_end, list_text, list_part, listing_on, take_line, asks_new, is_covered}
 use Rattle.certificate_file.specs.declared.places.Subject.{Subject}
 use Rattle.certificate_file.specs.declared.places.Listing.{Listing}
 use Rattle.certificate_file.specs.declared.places.Place.TheVariants.{AtList, AtEnd}
 use Rattle.certificate_file.specs.declared.places.Answer.TheVariants.{Blocking, PartialBlocking}
-use Rattle.certificate_file.specs.declared.places.State.{State}
 use Rattle.certificate_file.specs.declared.places.State.TheVariants.{Going, Done}
 use Rattle.list_journal.specs.Order.{ordered}
 use Rattle.cert_writer.specs.Texts.{Text, journal_line}
@@ -169,7 +164,7 @@ takes_refuted f d s are part places same count small l old new sets units (StepL
 takes_refuted f d s are part places same count small l old new sets units (StepLine (Addition id lits hints)) fine ends run = (
   Going (AtEnd (record { header = s.header; answer = Blocking (ordered sets) })),
   lemma_taken f d s Whole are part places same count small l id lits hints old sets units fine refl run.0 run.1
-  ∙ ap (λ (p : Progress). Ok (after_list_step s (listing_on Whole (list_part f s) (size (list_part f s).greatest) (after_step old (Addition id lits hints)) sets (units + 1)) p)) ends,
+      ∙ ap (λ (p : Progress). Ok (after_list_step s (listing_on Whole (list_part f s) (size (list_part f s).greatest) (after_step old (Addition id lits hints)) sets (units + 1)) p)) ends,
   (Done (record { header = s.header; answer = Blocking (ordered sets) }), refl, refl),
 )
 

@@ -21,7 +21,6 @@ use Rattle.lrat_text.specs.Left.{spaced}
 use Rattle.lrat_text.proofs.TextLaws.{id_back}
 use Rattle.lrat_text.proofs.BackLaws.{step_back}
 use Rattle.cdcl_core.specs.Log.{AreLemmas, units}
-use Rattle.clause_encoder.specs.Formula.{formula}
 use Rattle.certificate_file.specs.Formulas.{formula_of}
 use Rattle.cert_lines.specs.Saying.{number_in, counts_in}
 use Rattle.certificate_file.specs.Acceptance.{take_line, checked, steps_from}

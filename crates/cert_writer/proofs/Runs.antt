@@ -1,5 +1,5 @@
 -- Steps that are written are taken.
-use Rattle.std.proofs.Common.{◌≡◌, ℕ, ◌+◌, ◌<◌, List, [], ◌∷◌, ◌++◌, length, map, Bool, false, not, ◌==◌, None, Ok, cond, inl, inr, refl, sym, ◌∙◌, ap, subst, arith, codes, ℤ}
+use Rattle.std.proofs.Common.{◌≡◌, ℕ, ◌+◌, ◌<◌, List, [], ◌∷◌, ◌++◌, length, map, Bool, false, ◌==◌, None, Ok, cond, inl, inr, refl, sym, ◌∙◌, ap, subst, arith, codes, ℤ}
 use Rattle.std.specs.List.{AllByRecursion}
 use Rattle.std.specs.Str.{bytes_eq}
 use Rattle.std.proofs.lemmas.Bool.{cases_Bool, ne_eqb}

@@ -1,26 +1,23 @@
 -- The line of a listed set, taken.
-use Rattle.std.proofs.Common.{◌≡◌, ℕ, ◌+◌, ◌≤◌, ◌<◌, List, [], ◌∷◌, ◌++◌, length, Bool, true, false, not, ◌&&◌, nat_lt, if◌then◌else◌, Option, Some, None, ok_or, Result, Ok, Err, refl, sym, ◌∙◌, ap, arith, codes, length-append}
+use Rattle.std.proofs.Common.{◌≡◌, ℕ, ◌≤◌, ◌<◌, List, ◌∷◌, length, Bool, false, not, ◌&&◌, if◌then◌else◌, Option, Some, ok_or, Result, Ok, refl, sym, ◌∙◌, ap, arith, codes, length-append}
 use Rattle.std.specs.Fmt.{decimal}
 use Rattle.std.specs.Str.{bytes_eq}
-use Rattle.std.proofs.lemmas.Bool.{and_parts, lt-ltb}
+use Rattle.std.proofs.lemmas.Bool.{lt-ltb}
 use Rattle.std.proofs.lemmas.Fmt.{length-decimal-le}
-use Rattle.fbas_model.specs.Nodes.{Nodes, Table, members, size}
+use Rattle.fbas_model.specs.Nodes.{Table, members, size}
 use Rattle.fbas_model.specs.Names.{Name}
-use Rattle.fbas_model.specs.Counting.{is_quorum}
 use Rattle.fbas_model.specs.Systems.{System}
-use Rattle.fbas_model.specs.Restriction.{kept, rank}
+use Rattle.fbas_model.specs.Restriction.{kept}
 use Rattle.fbas_model.proofs.Kept.{kept_le}
 use Rattle.fbas_model.proofs.QuorumLaw.{quorum-from}
-use Rattle.lrat_model.specs.Literal.{Literal}
 use Rattle.lrat_model.specs.Clauses.{Held}
-use Rattle.lrat_model.specs.Steps.{Database}
 use Rattle.lrat_model.specs.declared.step.StepFault.TheVariants.{IdOrder}
 use Rattle.lrat_text.specs.Left.{spaced}
 use Rattle.lrat_text.specs.Texts.{IsId}
 use Rattle.lrat_text.proofs.TextLaws.{id_back}
 use Rattle.list_journal.specs.Journals.{IsTaken, IsNewLine}
 use Rattle.list_journal.specs.Listed.{list_line as listed_line, clause_for}
-use Rattle.list_journal.specs.Tests.{is_blocking, is_least}
+use Rattle.list_journal.specs.Tests.{is_least}
 use Rattle.list_journal.specs.declared.kinds.ListKind.{ListKind}
 use Rattle.list_journal.specs.declared.kinds.ListKind.TheVariants.{Whole, Partial as Part}
 use Rattle.list_journal.specs.declared.kinds.Listed.{Listed}
@@ -30,14 +27,14 @@ use Rattle.cert_lines.specs.Limits.{unless}
 use Rattle.cert_lines.specs.Words.{Word, words_of, names_in}
 use Rattle.cert_lines.specs.declared.faults.CertError.{CertError}
 use Rattle.cert_lines.specs.declared.faults.CertError.TheVariants.{BadLine, Step, NotQuorum, NotBlocking, NotMinimal, NotNew}
-use Rattle.certificate_file.specs.Acceptance.{and_then, nodes_of, within, is_covered, listed_by, Numbered, numbered_if_any, numbered_in, right_set, asks_new, is_old, new_set, with_listed, list_set, set_line as take_set_line, list_end, list_text, take_line}
+use Rattle.certificate_file.specs.Acceptance.{and_then, nodes_of, within, is_covered, listed_by, Numbered, numbered_if_any, numbered_in, right_set, asks_new, new_set, with_listed, list_set, set_line as take_set_line, list_end, list_text, take_line}
 use Rattle.certificate_file.specs.declared.places.Subject.{Subject}
 use Rattle.certificate_file.specs.declared.places.Listing.{Listing}
 use Rattle.certificate_file.specs.declared.places.Place.TheVariants.{AtList}
 use Rattle.certificate_file.specs.declared.places.State.{State}
 use Rattle.certificate_file.specs.declared.places.State.TheVariants.{Going}
 use Rattle.certificate_file.proofs.PartLaws.{apart_from_others}
-use Rattle.cert_writer.specs.Texts.{Text, worded, set_line}
+use Rattle.cert_writer.specs.Texts.{Text, set_line}
 use Rattle.cert_writer.proofs.Joined.{IsLine}
 use Rattle.cert_writer.proofs.Words.{IsWord, is_word, words_of-worded, plain-worded, length-spaced_keys}
 use Rattle.cert_writer.proofs.Names.{AreNames, keys-kept, words-keys, short-keys, names_in-kept, nodes_of-kept}

@@ -85,9 +85,9 @@ ListEndsAs kind.Whole journal = EndsRefuted journal
 ListEndsAs kind.Partial journal = IsOpen journal
 
 -- what its certificate shows: the blocking sets in name order, or the units of its lines
-abbrev pub listed_by : System → Header → ListKind → List JournalLine → Answer
-listed_by f h kind.Whole journal = Blocking (ordered (raised_sets f h (blocking_sets journal)))
-listed_by f h kind.Partial journal = PartialBlocking (journal_units journal)
+abbrev pub shown_by_list : System → Header → ListKind → List JournalLine → Answer
+shown_by_list f h kind.Whole journal = Blocking (ordered (raised_sets f h (blocking_sets journal)))
+shown_by_list f h kind.Partial journal = PartialBlocking (journal_units journal)
 
 -- a journal of a list of the part, by the variables of the part's greatest quorum
 pub record IsJournalOf (f : System) (h : Header) (kind : ListKind) (journal : List JournalLine) : Type 0 where

@@ -235,14 +235,7 @@ impl CertWriter {
     }
 
     /// Writes the line of a listed set: a letter, the id of its clause, and the names of its nodes.
-    fn set_line<D: Desk>(
-        &mut self,
-        desk: &mut D,
-        letter: u8,
-        id: u64,
-        names: &Names,
-        set: &NodeSet,
-    )
+    fn set_line<D: Desk>(&mut self, desk: &mut D, letter: u8, id: u64, names: &Names, set: &NodeSet)
         requires { length set.now ≡ length names.now }
         ensures { Writes D.tells (set_line (letter ∷ []) id names.now set.now ++ 10 ∷ []) self.old (D.state desk.old) (D.faults desk.old) self.new (D.state desk.new) (D.faults desk.new) }
     {

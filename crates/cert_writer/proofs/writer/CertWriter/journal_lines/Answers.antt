@@ -1,5 +1,4 @@
 use Rattle.std.proofs.Common.{◌≡◌, ◌∙◌, [], ◌∷◌, ◌++◌, List, map, true, sym, ap, subst, append_assoc, Contains}
-use Rattle.std.specs.Prelude.{All}
 use Rattle.std.proofs.lemmas.List.Elements.{All-contains, Contains-append_right}
 use Rattle.list_journal.specs.Journals.{JournalLine}
 use Rattle.list_journal.proofs.Elements.{first_in}
