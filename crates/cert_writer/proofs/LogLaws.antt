@@ -49,7 +49,7 @@ fine_literals : (o p : Option StepFault) → option_or o p ≡ None → o ≡ No
 fine_literals None p e = refl
 fine_literals (Some fault) p e = absurd cc
 
-literals_of : (vars : ℕ) (old : Database) (id : ℕ) (lits : List Literal) (hints : List ℤ) → step_fault vars old (Addition id lits hints) ≡ None → literal_fault vars [] lits ≡ None
+pub literals_of : (vars : ℕ) (old : Database) (id : ℕ) (lits : List Literal) (hints : List ℤ) → step_fault vars old (Addition id lits hints) ≡ None → literal_fault vars [] lits ≡ None
 literals_of vars old id lits hints e = elim (cases_Bool (nat_le id old.last)) [
   | inl low ↦ let k = rw low at e in absurd cc
   | inr above ↦ fine_literals (literal_fault vars [] lits) _ (rw above at e)

@@ -106,7 +106,7 @@ not_below x y h = grind (arith, nat_tests)
 in_spread : (part p : Table) (v k : ℕ) → members part v ≡ true → rank part v ≡ k → members p k ≡ true → members (spread part p) v ≡ true
 in_spread part p v k here at m = ap (λ (s : Nodes). s v) (nodes-spread part p) ∙ and_from (members part v) (members p (rank part v)) here (ap (members p) at ∙ m)
 
-out_spread : (part p : Table) (v : ℕ) → members (spread part p) v ≡ true → (members part v ≡ true) × (members p (rank part v) ≡ true)
+pub out_spread : (part p : Table) (v : ℕ) → members (spread part p) v ≡ true → (members part v ≡ true) × (members p (rank part v) ≡ true)
 out_spread part p v m = and_parts (members part v) (members p (rank part v)) (sym (ap (λ (s : Nodes). s v) (nodes-spread part p)) ∙ m)
 
 -- the least node of the first set is not above that of the second
