@@ -1,5 +1,5 @@
-//! Files that were made to break the program: each has its one exact answer. Those of more than a few megabytes are in
-//! `tests/malicious.py`.
+//! Files that were made to break the program: each has its one exact answer. The great ones (1,000,001 entries, a line of
+//! 134,217,729 spaces) are in `tests/malicious.py`, which has these too.
 use crate::status::Status;
 use crate::tests::certificates::{DIGEST_OF_THREE, DIGEST_OF_TWO, certificate, of_kind};
 use crate::tests::desks::{Files, run_over};
@@ -14,8 +14,6 @@ enum Made {
     Config(&'static str),
     /// So many arrays in one another as the configuration of `show`.
     Arrays(usize),
-    /// One node that has itself so many times as an entry, as the configuration of `show`.
-    Entries(usize),
     /// What stands between the formula and the last lemma of a refutation of two of two.
     Lemma(&'static str),
     /// That refutation with this much of its end: behind the last lemma.
@@ -30,7 +28,7 @@ const REFUSED: Status = Status::CertRefused;
 
 const REFUTED: &str = "accepted refutation\nfrom\nfaulty\n";
 
-const ROWS: [(Made, Status, &str); 47] = [
+const ROWS: [(Made, Status, &str); 46] = [
     (
         Made::Arrays(127),
         Status::ConfigRefused,
@@ -64,11 +62,6 @@ const ROWS: [(Made, Status, &str); 47] = [
         ),
         Status::ConfigRefused,
         "config bad-quorum-set 0 threshold\n",
-    ),
-    (
-        Made::Entries(1_000_001),
-        Status::ConfigRefused,
-        "config too-many-entries 1000001\n",
     ),
     (Made::Lemma("17 -1 0 7 6 3 4 2 0\n"), Status::Yes, REFUTED),
     // ids
@@ -274,14 +267,6 @@ fn shown_arrays(alloc: Global, count: usize) -> Result<(Status, Vec<u8>), AllocE
     shown(alloc, &config)
 }
 
-fn shown_entries(alloc: Global, count: usize) -> Result<(Status, Vec<u8>), AllocError> {
-    let head = r#"[{"publicKey":"a","quorumSet":{"threshold":1,"validators":["a""#;
-    let mut config = String::from_str(alloc, head)?;
-    config.push_str(&r#","a""#.repeat(alloc, count.saturating_sub(1))?)?;
-    config.push_str("]}}]")?;
-    shown(alloc, &config)
-}
-
 // How `check` ends over a certificate for two of three.
 fn checked(alloc: Global, cert: &str) -> Result<(Status, Vec<u8>), AllocError> {
     let held = Files::with_cert(TWO_OF_THREE.as_bytes(), cert.as_bytes());
@@ -304,7 +289,6 @@ fn ends_over(alloc: Global, made: &Made) -> Result<(Status, Vec<u8>), AllocError
     match made {
         Made::Config(config) => shown(alloc, config),
         Made::Arrays(count) => shown_arrays(alloc, *count),
-        Made::Entries(count) => shown_entries(alloc, *count),
         Made::Lemma(lemma) => refuted(alloc, lemma, "end\n"),
         Made::End(end) => refuted(alloc, "17 -1 0 7 6 3 4 2 0\n", end),
         Made::Lines(lines) => checked(alloc, &certificate(alloc, DIGEST_OF_THREE, lines)?),
