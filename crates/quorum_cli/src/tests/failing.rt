@@ -189,6 +189,18 @@ fn each_call_of_intersect_fails_once(rt: HostRuntime) -> Result<(), Fail> {
 }
 
 #[test]
+fn each_call_of_blocking_fails_once(rt: HostRuntime) -> Result<(), Fail> {
+    let accepted = "accepted blocking 3\nfrom\nfaulty\nset a b\nset a c\nset b c\n";
+    wants_search(
+        &rt,
+        rt.alloc(),
+        "blocking config cert",
+        TWO_OF_THREE,
+        accepted,
+    )
+}
+
+#[test]
 fn each_call_of_dset_fails_once(rt: HostRuntime) -> Result<(), Fail> {
     let accepted = "accepted refutation\nfrom\nfaulty a\n";
     wants_search(
