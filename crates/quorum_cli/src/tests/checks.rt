@@ -1,10 +1,9 @@
 //! What `check` says of certificates, and of configurations.
-use crate::run::run;
 use crate::status::Status;
 use crate::tests::certificates::{
     DIGEST_OF_HALF, DIGEST_OF_NONE, DIGEST_OF_THREE, DIGEST_OF_TWO, PAIR, certificate, of_kind,
 };
-use crate::tests::desks::{Files, desk, wants_checked, words};
+use crate::tests::desks::{Files, run_over, wants_checked};
 use crate::tests::systems::{TWO_OF_THREE, TWO_OF_TWO, half_of_two_hundred};
 use std::test::Fail;
 
@@ -90,10 +89,10 @@ fn check_refuses_a_configuration_by_its_first_fault(rt: HostRuntime) -> Result<(
 fn check_refuses_a_configuration_that_is_too_long(rt: HostRuntime) -> Result<(), Fail> {
     let alloc = rt.alloc();
     let spaces = vec![in alloc; b' '; 16_777_217]?;
-    let mut desk = desk(alloc, &Files::of(&spaces), 65_536, Vec::new(alloc))?;
-    let status = run(alloc, &words(alloc, "check config cert")?, &mut desk);
-    assert_eq!(rt; status, Status::ConfigRefused);
-    assert_eq!(rt; desk.out(), b"config too-long\n".as_slice());
+    let held = Files::of(&spaces);
+    let left = run_over(alloc, "check config cert", &held, 65_536, Vec::new(alloc))?;
+    assert_eq!(rt; left.status, Status::ConfigRefused);
+    assert_eq!(rt; left.out.as_slice(), b"config too-long\n".as_slice());
     Ok(())
 }
 

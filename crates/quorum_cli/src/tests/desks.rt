@@ -56,8 +56,8 @@ fn push_file(
     Ok(())
 }
 
-/// A desk with the three files, which may create the file `c`, moves so many bytes at once and fails these calls.
-pub fn desk(
+// A desk with the three files, which may create the file `c`, moves so many bytes at once and fails these calls.
+fn desk(
     alloc: Global,
     held: &Files,
     piece: usize,
@@ -74,8 +74,8 @@ pub fn desk(
     MemDesk::new(alloc, files, may_create, piece, 100_000, failing)
 }
 
-/// The words of a line behind the program's name.
-pub fn words(alloc: Global, line: &str) -> Result<Vec<String>, AllocError> {
+// The words of a line behind the program's name.
+fn words(alloc: Global, line: &str) -> Result<Vec<String>, AllocError> {
     let mut words = Vec::new(alloc);
     words.push(String::from_str(alloc, "quorum_cli")?)?;
     for word in line.split(' ') {
@@ -94,7 +94,35 @@ fn made(alloc: Global, desk: &MemDesk) -> Result<Option<Vec<u8>>, AllocError> {
     }
 }
 
-/// What the command line leaves on a desk that moves so many bytes at once and fails these calls.
+// What is left on the desk of a run that ended so.
+fn left_on(alloc: Global, desk: &MemDesk, status: Status) -> Result<Left, AllocError> {
+    let out = Vec::from_slice(alloc, desk.out())?;
+    let cert = Vec::from_slice(alloc, desk.file("cert").unwrap_or(b""))?;
+    let made = made(alloc, desk)?;
+    Ok(Left {
+        status,
+        out,
+        cert,
+        made,
+    })
+}
+
+/// What the words leave on a desk that moves so many bytes at once and fails these calls.
+pub fn run_words(
+    alloc: Global,
+    words: &[String],
+    held: &Files,
+    piece: usize,
+    failing: Vec<(Call, u64)>,
+) -> Result<Left, AllocError>
+    requires { 0 < piece }
+{
+    let mut desk = desk(alloc, held, piece, failing)?;
+    let status = run(alloc, words, &mut desk);
+    left_on(alloc, &desk, status)
+}
+
+/// The same of the words of a line behind the program's name.
 pub fn run_over(
     alloc: Global,
     line: &str,
@@ -104,14 +132,7 @@ pub fn run_over(
 ) -> Result<Left, AllocError>
     requires { 0 < piece }
 {
-    let mut desk = desk(alloc, held, piece, failing)?;
-    let status = run(alloc, &words(alloc, line)?, &mut desk);
-    Ok(Left {
-        status,
-        out: Vec::from_slice(alloc, desk.out())?,
-        cert: Vec::from_slice(alloc, desk.file("cert").unwrap_or(b""))?,
-        made: made(alloc, &desk)?,
-    })
+    run_words(alloc, &words(alloc, line)?, held, piece, failing)
 }
 
 /// How the command line ends over the files, in pieces of 7 bytes, and what is out then.

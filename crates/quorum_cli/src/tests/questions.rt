@@ -1,8 +1,7 @@
 //! What the plain questions and `export` answer, and which words are no order.
-use crate::run::run;
 use crate::status::Status;
 use crate::tests::certificates::{DIGEST_OF_PAIRS, certificate};
-use crate::tests::desks::{Files, desk, wants, wants_checked, words};
+use crate::tests::desks::{Files, run_words, wants, wants_checked};
 use crate::tests::systems::{
     LARGE_THRESHOLD, ORG, REPEATED, TWO_OF_THREE, TWO_OF_TWO, TWO_PAIRS, UNDECLARED, ZERO_INSIDE,
     half_of_two_hundred, organisations,
@@ -40,9 +39,9 @@ fn words_that_are_no_order_and_missing_files_end_the_program(rt: HostRuntime) ->
 #[test]
 fn no_word_at_all_is_no_order(rt: HostRuntime) -> Result<(), Fail> {
     let alloc = rt.alloc();
-    let mut desk = desk(alloc, &Files::of(b""), 1, Vec::new(alloc))?;
-    assert_eq!(rt; run(alloc, &[], &mut desk), Status::Usage);
-    assert_eq!(rt; desk.out(), USAGE.as_bytes());
+    let left = run_words(alloc, &[], &Files::of(b""), 1, Vec::new(alloc))?;
+    assert_eq!(rt; left.status, Status::Usage);
+    assert_eq!(rt; left.out.as_slice(), USAGE.as_bytes());
     Ok(())
 }
 
