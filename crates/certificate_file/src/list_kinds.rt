@@ -10,7 +10,7 @@ use clause_store::Store;
 use fbas_core::System;
 use greatest_quorum::greatest;
 use list_journal::{ListKind, SetList};
-use lrat_checker::Checker;
+use lrat_checker::IdleChecker;
 use std::alloc::{AllocError, Global};
 
 /// A list of the part before its first line: nothing is held, and each node of the greatest quorum has a variable.
@@ -26,7 +26,7 @@ fn no_listing(
     let part = system.restrict(alloc, &subject.nodes)?;
     let faulty = system.cut(&subject.header.faulty, &subject.nodes);
     let greatest = greatest(&part, &faulty);
-    let mut checker = Checker::start(alloc, Store::new(alloc), u64::from(greatest.count()))?;
+    let mut checker = IdleChecker::start(alloc, Store::new(alloc), u64::from(greatest.count()))?;
     checker.expect_covers(alloc);
     Ok(Listing {
         kind,

@@ -11,7 +11,7 @@ use crate::places::{Listing, Place, State, Subject};
 use cert_lines::CertError;
 use fbas_core::System;
 use list_journal::{ListKind, Listed, SetList, clause_of, is_blocking, is_least};
-use lrat_checker::Checker;
+use lrat_checker::IdleChecker;
 use lrat_model::Lit;
 use name_set::NodeSet;
 use std::alloc::{AllocError, Global};
@@ -82,7 +82,7 @@ fn asks_new(kind: ListKind, which: Listed) -> bool
 }
 
 /// Whether a clause held under a smaller id is a subset of this one. Linear in the literals that are held.
-pub fn is_covered(checker: &Checker, id: u64, clause: &[Lit]) -> bool
+pub fn is_covered(checker: &IdleChecker, id: u64, clause: &[Lit]) -> bool
     ensures { result ≡ is_covered checker.now.database.held id clause.now }
 {
     checker.covers(id, clause)

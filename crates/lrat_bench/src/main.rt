@@ -12,7 +12,7 @@ ghost use Rattle.lrat_model.specs.Ranges.{IsInRange};
 
 use anyhow::{Context, Result, bail};
 use clause_store::Store;
-use lrat_checker::Checker;
+use lrat_checker::IdleChecker;
 use lrat_model::{Lit, Step};
 use lrat_text::{HintsRef, Log, StepRef, read_step};
 use std::alloc::Global;
@@ -46,7 +46,7 @@ fn in_range(lits: &[Lit], vars: u64) -> bool
 }
 
 /// Takes a clause of the formula.
-fn give(checker: &mut Checker, vars: u64, step: &Step) -> Result<()>
+fn give(checker: &mut IdleChecker, vars: u64, step: &Step) -> Result<()>
     requires { checker.old.vars ≡ vars }
     ensures { checker.new.vars ≡ vars }
 {
@@ -88,7 +88,7 @@ fn read_all<R: BufRead>(alloc: Global, input: &mut R) -> Result<Counts> {
 }
 
 /// Whether a clause covers a lemma.
-fn is_covered(checker: &Checker, step: &Step) -> bool {
+fn is_covered(checker: &IdleChecker, step: &Step) -> bool {
     match step {
         Step::Add { id, lits, hints: _ } => checker.covers(*id, lits),
         Step::Delete { .. } => false,
@@ -110,7 +110,7 @@ fn check_all<R: BufRead>(
         deletions: 0,
         covered: 0,
     };
-    let mut checker = Checker::start(alloc, Store::new(alloc), vars)?;
+    let mut checker = IdleChecker::start(alloc, Store::new(alloc), vars)?;
     if asks {
         checker.expect_covers(alloc);
     }

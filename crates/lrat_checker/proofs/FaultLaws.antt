@@ -1,6 +1,6 @@
 -- What the faults of a lemma tell.
 use Rattle.std.proofs.Common.{◌≡◌, ◌≢◌, ℕ, ◌≤◌, ◌+◌, true, false, cond, List, [], ◌∷◌, ◌++◌, refl, Option, Some, None, ℤ, pos, negsuc, Result, Ok, Err, OnOk, OnErr}
-use Rattle.std.specs.Prelude.{nat_lt, is_err}
+use Rattle.std.specs.Prelude.{nat_lt, is_ok, is_err}
 use Rattle.std.specs.Option.{option_or}
 use Rattle.std.proofs.lemmas.Bool.{ltb-false}
 use Rattle.std.proofs.lemmas.List.Elements.{All-nil, All-cons}
@@ -91,3 +91,7 @@ where_ok (Err e) P ok p = cc
 pub either : {A E : Type 0} (r : Result A E) (P Q R : Type 0) → OnOk r P → OnErr r Q → (P → R) → (Q → R) → R
 either (Ok x) P Q R p q f g = f p
 either (Err e) P Q R p q f g = g q
+
+pub taken : {A E B : Type 0} (r : Result A E) (x y : B) → is_err r ≡ false → cond (is_ok r) x y ≡ x
+taken (Ok v) x y ok = refl
+taken (Err e) x y ok = cc

@@ -3,4 +3,5 @@ pub mod RangeLaws
 pub mod HintLaws
 pub mod LemmaLaws
 pub mod FaultLaws
+pub mod AddingLaws
 pub mod SubsetLaws

@@ -1,3 +1,4 @@
+pub mod Adding
 pub mod Hints
 pub mod Covers
 pub mod Checking

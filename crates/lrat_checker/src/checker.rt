@@ -1,5 +1,7 @@
 //! The checker.
-ghost use Rattle.std.specs.Prelude.{◌≡◌, ◌≢◌, ℕ, ◌<◌, ◌^◌, [], ◌∷◌, Some, None, Err, IfOk, IfErr, OnErr, OnOk, MatchBool};
+mod adding;
+
+ghost use Rattle.std.specs.Prelude.{◌≡◌, ◌≢◌, ℕ, ◌<◌, ◌^◌, [], ◌∷◌, Some, None, Err, IsSome, IfSome, IfOk, IfErr, OnErr, OnOk, MatchBool};
 ghost use Rattle.lrat_model.specs.Clauses.{clause_at, with_clause, without};
 ghost use Rattle.lrat_model.specs.Steps.{step_of, step_fault, addition_fault, deletion_fault, after_step, progress_of, progress_at};
 ghost use Rattle.lrat_model.specs.declared.step.StepFault.TheVariants.{Memory};
@@ -15,18 +17,31 @@ use partial_assignment::Assignment;
 use std::alloc::{AllocError, Global};
 use std::marker::Model;
 
-/// A checker of steps: the clauses that are held, by id, the last id, and the number of variables.
+/// What is known of an open addition beside its literals: its id, how many hints were looked at, and whether one of
+/// their clauses was false.
+#[derive(Clone, Copy)]
+pub struct Opened {
+    pub id: u64,
+    pub hints: u64,
+    pub met: bool,
+}
+
+/// A checker of steps: the clauses that are held, by id, the last id, the number of variables, and the addition that is
+/// open, if one is.
 #[derive(Drop)]
 pub struct Checker {
     store: Store,
     assignment: Assignment,
     subsets: Option<SubsetIndex>,
+    opened: Option<Opened>,
+    // The literals of the addition that is open, or of one before it: their room is kept.
+    lits: Vec<Lit>,
 }
 
 impl Model for Checker {
-    ghost use Rattle.lrat_checker.specs.Checking.{Checking};
+    ghost use Rattle.lrat_checker.specs.Checking.{Stepping};
 
-    ghost Value = { Checking };
+    ghost Value = { Stepping };
 
     ghost use Rattle.lrat_checker.specs.State.{shown, IsReady};
 
@@ -37,18 +52,24 @@ impl Model for Checker {
 
 impl Checker {
     /// A checker that holds the clauses of a store, among this many variables. Takes all the memory that
-    /// it ever needs, other than for the clauses that it adds: O(vars).
+    /// it ever needs, other than for the clauses that it adds and for the literals of an addition whose hints come one after
+    /// another: O(vars).
+    ///
+    /// There are fewer than 2^31 variables since a literal is a signed number of 32 bits, so no clause has a greater one.
     pub fn start(alloc: Global, store: Store, vars: u64) -> Result<Checker, AllocError>
         requires small { vars < 2 ^ 31 }
         requires range { AreInRange vars store.held }
         ensures database { IfOk result (λ c. c.database ≡ store) }
         ensures vars { IfOk result (λ c. c.vars ≡ vars) }
+        ensures closed { IfOk result (λ c. c.open_addition ≡ None) }
     {
         let assignment = Assignment::new(alloc, vars)?;
         Ok(Checker {
             store,
             assignment,
             subsets: None,
+            opened: None,
+            lits: Vec::new(alloc),
         })
     }
 
@@ -66,6 +87,7 @@ impl Checker {
     ///
     /// O(literals of the step and of the clauses that its hints name), and O(log n) for each id.
     pub fn step(&mut self, step: &Step) -> Result<Progress, StepFault>
+        requires { self.old.open_addition ≡ None }
         ensures taken { OnOk result (step_fault self.old.vars self.old.database (step_of step.now) ≡ None) }
         ensures database { OnOk result (self.new.database ≡ after_step self.old.database (step_of step.now)) }
         ensures progress { IfOk result (λ progress. progress ≡ progress_of (step_of step.now)) }
@@ -73,6 +95,7 @@ impl Checker {
         ensures memory { result ≡ Err Memory → IsAddition (step_of step.now) × (step_fault self.old.vars self.old.database (step_of step.now) ≡ None) }
         ensures unchanged { OnErr result (self.new ≡ self.old) }
         ensures vars { self.new.vars ≡ self.old.vars }
+        ensures closed { self.new.open_addition ≡ None }
     {
         match step {
             Step::Add { id, lits, hints } => self.add(*id, lits, hints),
@@ -83,12 +106,14 @@ impl Checker {
     /// Holds a clause that is given, under an id above the last one. Where memory runs out the checker is
     /// as it was.
     pub fn give(&mut self, id: u64, lits: &[Lit]) -> Result<(), AllocError>
+        requires closed { self.old.open_addition ≡ None }
         requires above { self.old.database.last < id }
         requires range { IsInRange self.old.vars lits.now }
         ensures held { OnOk result (self.new.database.held ≡ with_clause self.old.database.held id lits.now) }
         ensures last { OnOk result (self.new.database.last ≡ id) }
         ensures unchanged { OnErr result (self.new ≡ self.old) }
         ensures vars { self.new.vars ≡ self.old.vars }
+        ensures closed { self.new.open_addition ≡ None }
     {
         self.store.push(id, lits)?;
         self.subsets = with_clause(self.subsets.take(), id, lits);
@@ -116,6 +141,7 @@ impl Checker {
     }
 
     fn add(&mut self, id: u64, lits: &[Lit], hints: &[i64]) -> Result<Progress, StepFault>
+        requires { self.old.open_addition ≡ None }
         ensures taken { OnOk result (addition_fault self.old.vars self.old.database id lits.now hints.now ≡ None) }
         ensures held { OnOk result (self.new.database.held ≡ with_clause self.old.database.held id lits.now) }
         ensures last { OnOk result (self.new.database.last ≡ id) }
@@ -124,6 +150,7 @@ impl Checker {
         ensures memory { result ≡ Err Memory → addition_fault self.old.vars self.old.database id lits.now hints.now ≡ None }
         ensures unchanged { OnErr result (self.new ≡ self.old) }
         ensures vars { self.new.vars ≡ self.old.vars }
+        ensures closed { self.new.open_addition ≡ None }
     {
         let last = self.store.last();
         if id <= last {
@@ -135,14 +162,13 @@ impl Checker {
         if self.give(id, lits).is_err() {
             return Err(StepFault::Memory);
         }
-        Ok(if lits.is_empty() {
-            Progress::Refuted
-        } else {
-            Progress::Going
-        })
+        Ok(progress_at(lits))
     }
 
-    fn delete(&mut self, ids: &[u64]) -> Result<Progress, StepFault>
+    /// Takes the clauses of these ids out, or answers the first of them that is not held, a second time in the list among
+    /// them. O(their literals), amortised, and O(log n) for each id at worst.
+    pub fn delete(&mut self, ids: &[u64]) -> Result<Progress, StepFault>
+        requires { self.old.open_addition ≡ None }
         ensures taken { OnOk result (deletion_fault self.old.database.held [] ids.now ≡ None) }
         ensures held { OnOk result (self.new.database.held ≡ without self.old.database.held ids.now) }
         ensures last { self.new.database.last ≡ self.old.database.last }
@@ -151,6 +177,7 @@ impl Checker {
         ensures no_memory { result ≢ Err Memory }
         ensures unchanged { OnErr result (self.new ≡ self.old) }
         ensures vars { self.new.vars ≡ self.old.vars }
+        ensures closed { self.new.open_addition ≡ None }
     {
         match self.store.remove_all(ids) {
             Ok(()) => {
@@ -162,193 +189,13 @@ impl Checker {
     }
 }
 
-#[cfg(test)]
-mod tests {
-    use super::*;
-    use std::test::Fail;
-
-    // The formula of two nodes that each need both: its 16 clauses, over 8 variables.
-    const FORMULA: [&[i32]; 16] = [
-        &[1, 2],
-        &[3, 4],
-        &[-1, -3],
-        &[-2, -4],
-        &[-5, 1],
-        &[-5, 2],
-        &[-1, 5],
-        &[-6, 1],
-        &[-6, 2],
-        &[-2, 6],
-        &[-7, 3],
-        &[-7, 4],
-        &[-3, 7],
-        &[-8, 3],
-        &[-8, 4],
-        &[-4, 8],
-    ];
-
-    fn lits(alloc: Global, numbers: &[i32]) -> Result<Vec<Lit>, AllocError> {
-        let mut lits = Vec::new(alloc);
-        for number in numbers {
-            if *number != 0 && *number != i32::MIN {
-                lits.push(Lit::of(*number))?;
-            }
-        }
-        Ok(lits)
-    }
-
-    fn addition(
-        alloc: Global,
-        id: u64,
-        numbers: &[i32],
-        hints: &[i64],
-    ) -> Result<Step, AllocError> {
-        Ok(Step::Add {
-            id,
-            lits: lits(alloc, numbers)?,
-            hints: Vec::from_slice(alloc, hints)?,
-        })
-    }
-
-    fn checker(alloc: Global) -> Result<Checker, AllocError> {
-        let mut checker = Checker::start(alloc, Store::new(alloc), 8)?;
-        for numbers in FORMULA {
-            let clause = lits(alloc, numbers)?;
-            let last = checker.last();
-            if last < 16 && clause.iter().all(|l| l.variable() <= 8) {
-                checker.give(last + 1, &clause)?;
-            }
-        }
-        Ok(checker)
-    }
-
-    fn shown(alloc: Global, answer: Result<Progress, StepFault>) -> Result<String, AllocError> {
-        match answer {
-            Ok(progress) => format!(in alloc; "{progress:?}"),
-            Err(fault) => format!(in alloc; "{fault}"),
-        }
-    }
-
-    // One checker takes these in turn: a fault leaves no literal true, and no id behind.
-    #[test]
-    fn steps_of_two_of_two(rt: HostRuntime) -> Result<(), Fail> {
-        let alloc = rt.alloc();
-        let mut checker = checker(alloc)?;
-        let cases: [(u64, &[i32], &[i64], &str); 12] = [
-            (16, &[-1], &[7, 6, 3, 4, 2], "id-order 16 16"),
-            (17, &[9, -9], &[], "bad-literal 9"),
-            (17, &[-1, 2, 1, 9], &[], "tautology 1"),
-            (17, &[-1], &[6, 7, 3, 4, 2], "not-unit 1"),
-            (17, &[-1], &[7, 1, 6, 3, 4, 2], "not-unit 2"),
-            (17, &[-1], &[7, -6, 3, 4, 2], "rat-step 2"),
-            (17, &[-1], &[7, 40, 3, 4, 2], "no-such-clause 40"),
-            (17, &[-1], &[7, 5, 6, 3, 4], "no-conflict"),
-            (17, &[], &[], "no-conflict"),
-            (17, &[-1], &[7, 6, 3, 4, 2], "Going"),
-            (19, &[-1, -1], &[17, -9], "Going"),
-            (20, &[], &[17, 1, 10, 8], "Refuted"),
-        ];
-        for (id, numbers, hints, want) in cases {
-            let step = addition(alloc, id, numbers, hints)?;
-            let answer = checker.step(&step);
-            assert_eq!(rt; shown(alloc, answer)?.as_str(), want, "{step:?}");
-        }
-        assert_eq!(rt; checker.last(), 20);
-        Ok(())
-    }
-
-    // Whether the checker takes the deletion of an id.
-    fn delete(alloc: Global, checker: &mut Checker, id: u64) -> Result<bool, AllocError> {
-        let ids = Vec::from_slice(alloc, &[id])?;
-        Ok(is_going(checker.step(&Step::Delete { id: 1, ids })))
-    }
-
-    // The index learns of lemmas that are added, and of clauses that are deleted.
-    #[test]
-    fn covered_after_changes(rt: HostRuntime) -> Result<(), Fail> {
-        let alloc = rt.alloc();
-        let mut checker = checker(alloc)?;
-        checker.expect_covers(alloc);
-        let (one, two) = (lits(alloc, &[8, -1])?, lits(alloc, &[-4, -2, 7])?);
-        assert!(rt; !checker.covers(18, &one) && checker.covers(18, &two));
-        let lemma = addition(alloc, 17, &[-1], &[7, 6, 3, 4, 2])?;
-        assert!(rt; is_going(checker.step(&lemma)));
-        assert!(rt; checker.covers(18, &one) && !checker.covers(17, &one));
-        for id in 1..17_u64 {
-            assert!(rt; delete(alloc, &mut checker, id)?);
-        }
-        assert!(rt; checker.covers(18, &one) && !checker.covers(18, &two));
-        assert!(rt; delete(alloc, &mut checker, 17)?);
-        assert!(rt; !checker.covers(18, &one));
-        Ok(())
-    }
-
-    fn is_going(answer: Result<Progress, StepFault>) -> bool {
-        matches!(answer, Ok(Progress::Going))
-    }
-
-    // The lemma -1 from itself under this id, and then this id is deleted: whether the checker takes both.
-    fn renew(alloc: Global, checker: &mut Checker, id: u32) -> Result<bool, AllocError> {
-        let lemma = addition(alloc, u64::from(id) + 1, &[-1], &[i64::from(id)])?;
-        let deletion = Step::Delete {
-            id: u64::from(id),
-            ids: Vec::from_slice(alloc, &[u64::from(id)])?,
-        };
-        Ok(is_going(checker.step(&lemma)) && is_going(checker.step(&deletion)))
-    }
-
-    fn renew_all(alloc: Global, checker: &mut Checker) -> Result<bool, AllocError> {
-        for id in 17..517_u32 {
-            if !renew(alloc, checker, id)? {
-                return Ok(false);
-            }
-        }
-        Ok(true)
-    }
-
-    // The lemma -1, which is then renewed 500 times, and the empty lemma from the last of them.
-    #[test]
-    fn a_thousand_steps(rt: HostRuntime) -> Result<(), Fail> {
-        let alloc = rt.alloc();
-        let mut checker = checker(alloc)?;
-        let first = addition(alloc, 17, &[-1], &[7, 6, 3, 4, 2])?;
-        assert!(rt; is_going(checker.step(&first)));
-        assert!(rt; renew_all(alloc, &mut checker)?);
-        let last = addition(alloc, 518, &[], &[517, 1, 10, 8])?;
-        let answer = checker.step(&last);
-        assert_eq!(rt; shown(alloc, answer)?.as_str(), "Refuted");
-        Ok(())
-    }
-
-    #[test]
-    fn deleted_and_covered(rt: HostRuntime) -> Result<(), Fail> {
-        let alloc = rt.alloc();
-        let mut checker = checker(alloc)?;
-        for (ids, want) in [
-            ([3, 17], "no-such-clause 17"),
-            ([7, 7], "no-such-clause 7"),
-            ([7, 3], "Going"),
-            ([4, 3], "no-such-clause 3"),
-        ] {
-            let step = Step::Delete {
-                id: 1,
-                ids: Vec::from_slice(alloc, &ids)?,
-            };
-            let answer = checker.step(&step);
-            assert_eq!(rt; shown(alloc, answer)?.as_str(), want, "{ids:?}");
-        }
-        let step = addition(alloc, 17, &[-1], &[7, 6, 3, 4, 2])?;
-        let answer = checker.step(&step);
-        assert_eq!(rt; shown(alloc, answer)?.as_str(), "no-such-clause 7");
-        let list = lits(alloc, &[-4, 5, -2, -3])?;
-        let cases = [(4, false), (5, true), (17, true)];
-        for (id, want) in cases {
-            assert_eq!(rt; checker.covers(id, &list), want, "{id}");
-        }
-        checker.expect_covers(alloc);
-        for (id, want) in cases {
-            assert_eq!(rt; checker.covers(id, &list), want, "{id} by the index");
-        }
-        Ok(())
+/// Where an addition of these literals leads: the empty lemma ends a refutation.
+fn progress_at(lits: &[Lit]) -> Progress
+    ensures { result ≡ progress_at lits.now }
+{
+    if lits.is_empty() {
+        Progress::Refuted
+    } else {
+        Progress::Going
     }
 }

@@ -28,7 +28,7 @@ fn id_of(hint: i64) -> Option<u64>
 }
 
 /// Takes one hint.
-fn take_hint(
+pub fn take_hint(
     store: &Store,
     assignment: &mut Assignment,
     place: u64,
@@ -72,7 +72,7 @@ fn propagate(store: &Store, assignment: &mut Assignment, hints: &[i64]) -> Optio
 
 /// Makes the negations of a lemma's literals true, or gives the first literal that is out of range or
 /// whose negation came before.
-fn assume_negations(assignment: &mut Assignment, lits: &[Lit]) -> Option<StepFault>
+pub fn assume_negations(assignment: &mut Assignment, lits: &[Lit]) -> Option<StepFault>
     requires { assignment.old.trues ≡ [] }
     ensures fault { result ≡ literal_fault assignment.old.vars [] lits.now }
     ensures trues { result ≡ None → Alike (map negated lits.now) assignment.new.trues }

@@ -6,6 +6,10 @@ use Rattle.std.specs.Str.Parse.{digits_value}
 use Rattle.lrat_model.specs.Literal.{Literal, Plus, Minus}
 use Rattle.lrat_text.specs.Words.{Word}
 
+-- the number that decimal digits say, if it is not above this one
+abbrev pub digits_in : ℕ → Word → Option ℕ
+digits_in most word = if list_all is_ascii_digit word && nat_le (digits_value 10 word) most then Some (digits_value 10 word) else None
+
 -- decimal digits, of which the first is not 0
 abbrev pub is_numeral : Word → Bool
 is_numeral [] = false

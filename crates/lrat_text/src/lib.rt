@@ -23,8 +23,9 @@ pub use faults::LineFault;
 pub use lent::{HintsRef, StepRef};
 pub use log::Log;
 pub use lrat_model::{Lit, Step};
-pub use numbers::read_id;
-pub use reading::read_step;
+pub use numbers::{read_hint, read_id, read_literal};
+pub use reading::{is_zero, read_step};
+pub use words::{Words, blank_end, is_mark, word_len};
 pub use writing::{StepBytes, write_lent, write_step};
 
 /// A line is read as a step exactly where its words are those of the step and the step's numbers are in range.

@@ -1,13 +1,14 @@
 //! The numbers of a step line.
 ghost use Rattle.std.specs.Prelude.{◌≡◌, ◌<◌, ◌≤◌, ℕ, List, Option, IfSome};
-ghost use Rattle.std.specs.List.{list_all};
-ghost use Rattle.std.specs.Char.{is_ascii_digit};
-ghost use Rattle.lrat_text.specs.Numbers.{is_numeral, positive_in, IsSigned, id_in, hint_in, literal_in};
+ghost use Rattle.lrat_text.specs.Numbers.{digits_in, positive_in, IsSigned, id_in, hint_in, literal_in};
 
 use lrat_model::Lit;
 
 /// The greatest id, and the greatest magnitude of a hint.
 const MOST_ID: u64 = 9_223_372_036_854_775_807;
+
+/// The greatest number behind which one more digit may give a number that is not above the greatest id.
+const MOST_TENTH: u64 = 922_337_203_685_477_580;
 
 /// The greatest variable.
 const MOST_VARIABLE: u64 = 2_147_483_647;
@@ -34,9 +35,7 @@ impl Number for i64 {
     ghost number_in = { hint_in };
 
     fn read(word: &[u8]) -> Option<i64> {
-        let (is_negative, digits) = sign(word);
-        let number = positive(digits, MOST_ID)? as i64;
-        Some(if is_negative { -number } else { number })
+        read_hint(word)
     }
 }
 
@@ -44,13 +43,7 @@ impl Number for Lit {
     ghost number_in = { literal_in };
 
     fn read(word: &[u8]) -> Option<Lit> {
-        let (is_negative, digits) = sign(word);
-        let variable = positive(digits, MOST_VARIABLE)? as u32;
-        Some(if is_negative {
-            Lit::negative(variable)
-        } else {
-            Lit::positive(variable)
-        })
+        read_literal(word)
     }
 }
 
@@ -60,6 +53,29 @@ pub fn read_id(word: &[u8]) -> Option<u64>
     ensures { result ≡ id_in word.now }
 {
     positive(word, MOST_ID)
+}
+
+/// The hint that a word says: an id, or its negation with a `-` before it. None for any other word. In time linear in the word.
+pub fn read_hint(word: &[u8]) -> Option<i64>
+    ensures { result ≡ hint_in word.now }
+{
+    let (is_negative, digits) = sign(word);
+    let number = positive(digits, MOST_ID)? as i64;
+    Some(if is_negative { -number } else { number })
+}
+
+/// The literal that a word says: a variable from 1 to 2^31 - 1, with a `-` before it where it is negated. None for any other
+/// word. In time linear in the word.
+pub fn read_literal(word: &[u8]) -> Option<Lit>
+    ensures { result ≡ literal_in word.now }
+{
+    let (is_negative, digits) = sign(word);
+    let variable = positive(digits, MOST_VARIABLE)? as u32;
+    Some(if is_negative {
+        Lit::negative(variable)
+    } else {
+        Lit::positive(variable)
+    })
 }
 
 /// Whether a `-` comes first, and what follows it.
@@ -72,34 +88,33 @@ fn sign(word: &[u8]) -> (bool, &[u8])
     }
 }
 
-fn is_numeral(word: &[u8]) -> bool
-    ensures { result ≡ is_numeral word.now }
-{
-    match word.first() {
-        Some(first) => *first > b'0' && has_digits(word),
-        None => false,
-    }
-}
-
-fn has_digits(word: &[u8]) -> bool
-    ensures { result ≡ list_all is_ascii_digit word.now }
-{
-    word.iter().all(|byte| byte.is_ascii_digit())
-}
-
-/// The number that digits say, if it is not above this one.
+/// The number that digits say, if the first is not 0 and the number is not above this one: in one pass.
 fn positive(word: &[u8], most: u64) -> Option<u64>
+    requires { most ≤ MOST_ID }
     ensures value { result ≡ positive_in most word.now }
     ensures range { IfSome result (λ number. (0 < number) × (number ≤ most)) }
 {
-    if !is_numeral(word) {
-        return None;
-    }
-    let Ok(digits) = str::from_utf8(word) else {
-        return None;
-    };
-    match digits.parse::<u64>() {
-        Ok(number) if number <= most => Some(number),
+    match word.first() {
+        Some(first) if *first > b'0' => digits(word, most),
         _ => None,
     }
+}
+
+/// The number that digits say, if it is not above this one. The value is kept and the digits are looked at together.
+fn digits(word: &[u8], most: u64) -> Option<u64>
+    requires { most ≤ MOST_ID }
+    ensures value { result ≡ digits_in most word.now }
+    ensures range { IfSome result (λ number. number ≤ most) }
+{
+    let mut number: u64 = 0;
+    for byte in word {
+        if !byte.is_ascii_digit() {
+            return None;
+        }
+        if number > MOST_TENTH {
+            return None;
+        }
+        number = number * 10 + u64::from(*byte - b'0');
+    }
+    if number <= most { Some(number) } else { None }
 }

@@ -95,7 +95,8 @@ fn end(words: &mut Words<'_>) -> Result<(), LineFault>
     }
 }
 
-fn is_zero(word: &[u8]) -> bool
+/// Whether the word closes a list.
+pub fn is_zero(word: &[u8]) -> bool
     ensures { result ≡ is_zero word.now }
 {
     word == b"0".as_slice()

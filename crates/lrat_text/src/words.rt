@@ -1,6 +1,6 @@
 //! The words of a line.
-ghost use Rattle.std.specs.Prelude.{◌≡◌, List, ◌∷◌, drop, if◌then◌else◌};
-ghost use Rattle.std.specs.List.{position_or_len, prefix_len};
+ghost use Rattle.std.specs.Prelude.{◌≡◌, ◌<◌, ◌≤◌, ◌-◌, List, ◌∷◌, true, false, length, drop, slice_index, if◌then◌else◌};
+ghost use Rattle.std.specs.List.{list_any, position_or_len, prefix_len};
 ghost use Rattle.std.specs.Iterator.{YieldsFirstRef, item_count};
 ghost use Rattle.lrat_text.specs.Words.{Word, words_of, is_blank};
 ghost use Rattle.lrat_text.specs.Lines.{is_mark, is_marked};
@@ -66,7 +66,7 @@ impl<'a> Iterator for Words<'a> {
 }
 
 /// The word that begins a deletion.
-fn is_mark(word: &[u8]) -> bool
+pub fn is_mark(word: &[u8]) -> bool
     ensures { result ≡ is_mark word.now }
 {
     word == b"d".as_slice()
@@ -91,7 +91,7 @@ fn blanks(text: &[u8]) -> usize
 }
 
 /// How many bytes come before the first blank.
-fn word_len(text: &[u8]) -> usize
+pub fn word_len(text: &[u8]) -> usize
     ensures { result ≡ position_or_len is_blank text.now }
 {
     for (i, byte) in text.iter().enumerate() {
@@ -100,4 +100,20 @@ fn word_len(text: &[u8]) -> usize
         }
     }
     text.len()
+}
+
+/// The place behind the last blank, 0 where there is none.
+pub fn blank_end(text: &[u8]) -> usize
+    ensures within { result ≤ length text.now }
+    ensures ends { 0 < result → is_blank (slice_index text.now (result - 1)) ≡ true }
+    ensures none { list_any is_blank (drop result text.now) ≡ false }
+{
+    let mut end = text.len();
+    while end > 0 {
+        if is_blank(text[end - 1]) {
+            return end;
+        }
+        end -= 1;
+    }
+    0
 }

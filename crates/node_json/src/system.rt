@@ -148,7 +148,8 @@ fn system(alloc: Global, nodes: &[NamedNode]) -> Result<System, ConfigFault>
     if entries > MOST_ENTRIES {
         return Err(ConfigFault::TooManyEntries(entries));
     }
-    Ok(System::of(names, sets))
+    let system = System::of(alloc, names, sets)?;
+    Ok(system)
 }
 
 /// The system of a configuration, or its first fault.

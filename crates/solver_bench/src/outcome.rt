@@ -10,7 +10,7 @@ use clause_encoder::{VarMap, encode, write_dimacs};
 use clause_store::Store;
 use fbas_core::System;
 use greatest_quorum::greatest;
-use lrat_checker::Checker;
+use lrat_checker::IdleChecker;
 use lrat_model::Progress;
 use name_set::NodeSet;
 use node_json::read_config;
@@ -43,7 +43,7 @@ fn is_refutation(
     requires small { vars < 2 ^ 31 }
     requires range { AreInRange vars store.held }
 {
-    let mut checker = Checker::start(alloc, store, vars)?;
+    let mut checker = IdleChecker::start(alloc, store, vars)?;
     let mut progress = Progress::Going;
     let log = solver.log();
     for place in 0..log.len() {

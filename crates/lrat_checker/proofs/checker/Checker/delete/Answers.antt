@@ -1,4 +1,7 @@
-use Rattle.std.proofs.Common.{sym, subst}
+use Rattle.std.proofs.Common.{◌≡◌, ◌<◌, sym, ap, ◌∙◌, subst, Option, None}
+use Rattle.lrat_checker.specs.Checking.{Stepping}
+use Rattle.lrat_checker.specs.declared.checker.Opened.{Opened}
+use Rattle.lrat_checker.proofs.AddingLaws.{not_opened}
 use Rattle.std.specs.Prelude.{IfSome}
 use Rattle.lrat_model.specs.Clauses.{Held}
 use Rattle.lrat_model.specs.Ranges.{AreInRange}
@@ -17,8 +20,11 @@ pub invariant_of-self : goal.invariant_of-self
 invariant_of-self c =
     let inside = c.self.inside in
     let vars = inside.assignment.vars in
+    let none : inside.opened ≡ None = not_opened inside.lits.items inside.assignment.trues inside.opened (ap (λ (s : Stepping). s.open_addition) c.self.view_is ∙ c.requires) in
     record {
       nothing_true = c.self.invariant.nothing_true;
+      above = subst (λ (o : Option Opened). IfSome o (λ k. c.remove_all.new.self.last < k.id)) (sym none) tt;
+      literals = c.self.invariant.literals;
       in_range = subst (λ (h : Held). AreInRange vars h) (sym c.in-Ok.ensures.held) (range-without vars inside.store.held c.args.ids.now c.self.invariant.in_range);
       found = c.without.ensures;
     }
