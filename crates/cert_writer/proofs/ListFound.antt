@@ -37,6 +37,7 @@ use Rattle.cert_writer.specs.Promises.{IsHeader}
 use Rattle.cert_writer.specs.Finding.{Search, part, faulty}
 use Rattle.cert_writer.specs.Listing.{list_cert_of, ListShows, FindsList, CanBeLine, CanBeListed}
 use Rattle.cert_writer.proofs.ListLaws.{list_of_accepted}
+use Rattle.cert_writer.proofs.LogLaws.{front_all}
 use Rattle.cert_writer.proofs.Pairs.{part_is_restricted}
 use Rattle.cert_writer.proofs.Raised.{spread, is_raised}
 use Rattle.cert_writer.proofs.RaisedOrder.{same_order, ordered-map}
@@ -53,15 +54,11 @@ open_units vars (StepLine (Addition id lits hints) ∷ lines) words on =
     let rest = open_units vars lines words.1 on.1 in
     ap (λ (b : Bool). cond b 0 1 + journal_units lines) (going_long lits on.0).1 ∙ (omega (arith, rest))
 
-front : {A : Type 0} (P : A → Type 0) (xs : List A) (y : A) → AllByRecursion P (xs ++ y ∷ []) → AllByRecursion P xs
-front P [] y all = tt
-front P (x ∷ xs) y all = (all.0, front P xs y all.1)
-
 whole_length : (vars : ℕ) (journal : List JournalLine) → All (HasFewWords vars) journal → EndsRefuted journal → length journal ≤ journal_units journal + 1
 whole_length vars journal words ends =
     let before = ends.before in
     let all = recursion_from_All (HasFewWords vars) journal words in
-    let units = open_units vars before (front (HasFewWords vars) before ends.last (subst (λ (ls : List JournalLine). AllByRecursion (HasFewWords vars) ls) ends.is all)) (recursion_from_All (λ line. line_progress line ≡ Going) before ends.only) in
+    let units = open_units vars before (front_all (HasFewWords vars) before ends.last (subst (λ (ls : List JournalLine). AllByRecursion (HasFewWords vars) ls) ends.is all)).0 (recursion_from_All (λ line. line_progress line ≡ Going) before ends.only) in
     omega (arith, units, ap length ends.is, ap journal_units ends.is, length-append before (ends.last ∷ []), units_append before (ends.last ∷ []))
 
 part_length : (vars : ℕ) (journal : List JournalLine) → All (HasFewWords vars) journal → IsOpen journal → journal_units journal ≡ length journal

@@ -43,7 +43,7 @@ use Rattle.cert_writer.proofs.Raised.{spread}
 use Rattle.cert_writer.proofs.RaisedOrder.{all_raised}
 use Rattle.cert_writer.proofs.Headers.{takes_header, lines_header}
 use Rattle.cert_writer.proofs.Pairs.{part_is_restricted}
-use Rattle.cert_writer.proofs.LogLaws.{literals_of}
+use Rattle.cert_writer.proofs.LogLaws.{literals_of, front_all}
 use Rattle.cert_writer.proofs.SetLines.{line_set}
 use Rattle.cert_writer.proofs.StepLines.{line_addition, few_literals}
 use Rattle.cert_writer.proofs.ListRuns.{short_literals, takes_journal, takes_refuted, takes_part_end}
@@ -76,10 +76,6 @@ run_split : (kind : ListKind) (f : Fbas) (b g : Table) (old new : Database) (lin
     → (middle : Database) × JournalRun kind f (members b) g old lines middle × JournalRun kind f (members b) g middle (last ∷ []) new
 run_split kind f b g old new [] last run = (old, refl, run)
 run_split kind f b g old new (line ∷ lines) last run = let rest = run_split kind f b g (after_line g old line) new lines last run.2 in (rest.0, (run.0, run.1, rest.1), rest.2)
-
-split_all : {A : Type 0} (P : A → Type 0) (xs : List A) (y : A) → AllByRecursion P (xs ++ y ∷ []) → AllByRecursion P xs × P y
-split_all P [] y all = (tt, all.0)
-split_all P (x ∷ xs) y all = let rest = split_all P xs y all.1 in ((all.0, rest.0), rest.1)
 
 split_lines : (names : List Name) (xs : List JournalLine) (y : JournalLine) (zs : List Text) → map (journal_line names) (xs ++ y ∷ []) ++ zs ≡ map (journal_line names) xs ++ journal_line names y ∷ zs
 split_lines names [] y zs = refl
@@ -145,7 +141,7 @@ module _ (f : System) (d : List ℕ) (h : Header) (is : IsSystem f.names f.sets)
       let s = subject f h in
       let before = ends.before in
       let last = ends.last in
-      let each = split_all IsFine before last (subst (λ (ls : List JournalLine). AllByRecursion IsFine ls) ends.is fine) in
+      let each = front_all IsFine before last (subst (λ (ls : List JournalLine). AllByRecursion IsFine ls) ends.is fine) in
       let split = run_split Whole fbas gone greatest nothing_held new before last (subst (λ (ls : List JournalLine). JournalRun Whole fbas (members gone) greatest nothing_held ls new) ends.is run) in
       let on = recursion_from_All (λ line. line_progress line ≡ going) before ends.only in
       let sets = map (spread nodes) (blocking_sets before) in

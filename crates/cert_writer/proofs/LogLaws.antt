@@ -118,7 +118,7 @@ lines-split : (xs : List ProofStep) (y : ProofStep) (zs : List Text) → map lin
 lines-split [] y zs = refl
 lines-split (x ∷ xs) y zs = ap (λ (ls : List Text). line_of x ∷ ls) (lines-split xs y zs)
 
-front_all : {A : Type 0} (P : A → Type 0) (xs : List A) (y : A) → AllByRecursion P (xs ++ y ∷ []) → AllByRecursion P xs × P y
+pub front_all : {A : Type 0} (P : A → Type 0) (xs : List A) (y : A) → AllByRecursion P (xs ++ y ∷ []) → AllByRecursion P xs × P y
 front_all P [] y all = (tt, all.0)
 front_all P (x ∷ xs) y all = let rest = front_all P xs y all.1 in ((all.0, rest.0), rest.1)
 
