@@ -1,7 +1,7 @@
 //! Words, numbers and names, one behind another.
 ghost use Rattle.std.specs.Prelude.{◌≡◌, ◌<◌, ◌++◌, ◌∷◌, [], length, decimal, codes, option_map, All, OnOk, IfOk};
 ghost use Rattle.certificate_file.specs.Meaning.{HasPlaces, AnswerHasPlaces};
-ghost use Rattle.report.specs.Lines.{numbered, worded, list, listed, line, word_if_any, accepted as spec_accepted, accepted_kind, set_lines, answer_sets, with_list as spec_with_list, counts as spec_counts, export_head as spec_export_head, export_comments as spec_export_comments, exported as spec_exported, with_pair as spec_with_pair, with_sets as spec_with_sets, counted as spec_counted, name_at as spec_name_at};
+ghost use Rattle.report.specs.Lines.{numbered, worded, list, listed, line, word_if_any, accepted as spec_accepted, accepted_kind, set_lines, answer_sets, with_list as spec_with_list, counts as spec_counts, export_head as spec_export_head, export_comments as spec_export_comments, with_pair as spec_with_pair, with_sets as spec_with_sets, counted as spec_counted, name_at as spec_name_at};
 
 use certificate_file::{Accepted, Answer, Pair};
 use fbas_core::System;
@@ -246,24 +246,6 @@ pub fn export_comments(
 {
     let mut text = export_head(alloc, digest, from)?;
     push_list(&mut text, "c faulty", system, faulty)?;
-    Ok(text)
-}
-
-/// An exported formula: its comment lines, and its DIMACS text. The comments name the digest of the configuration, the node of
-/// whose trust closure the formula speaks, and the faulty nodes.
-pub fn exported(
-    alloc: Global,
-    digest: &[u8; 32],
-    from: Option<&[u8]>,
-    system: &System,
-    faulty: &NodeSet,
-    dimacs: &[u8],
-) -> Result<Vec<u8>, AllocError>
-    requires { length faulty.now ≡ length system.now.sets }
-    ensures { IfOk result (λ text. text.items ≡ spec_exported digest.now (option_map (λ name. name.now) from.entry) system.now.names faulty.now dimacs.now) }
-{
-    let mut text = export_comments(alloc, digest, from, system, faulty)?;
-    text.extend_from_slice(dimacs)?;
     Ok(text)
 }
 
