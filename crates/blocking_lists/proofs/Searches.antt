@@ -207,10 +207,10 @@ module _ (f : Fbas) (b : Nodes) (g : Table) (total left left_then : ℕ) (lines 
       let n_is = is.search.vars in
       let below = below_run Partial f b g nothing_held (merged 0 lines old.log) old.database is.search.run empty_database in
       let more = short_steps g old.database new.database (logged old new)
-          (subst (λ (n : ℕ). Run n old.database (logged old new) new.database) n_is run)
-          (subst (λ (n : ℕ). AreLemmas n old.database (logged old new)) n_is lemmas)
-          below
-          (subst (λ (n : ℕ). InRange n new.database.held) (vars ∙ n_is) range) in
+      (subst (λ (n : ℕ). Run n old.database (logged old new) new.database) n_is run)
+      (subst (λ (n : ℕ). AreLemmas n old.database (logged old new)) n_is lemmas)
+      below
+      (subst (λ (n : ℕ). InRange n new.database.held) (vars ∙ n_is) range) in
       subst (λ (steps : List ProofStep). All (IsShortStep (size g)) steps) (sym log_is) (All-append (IsShortStep (size g)) old.log (logged old new) is.short more)
 
   pub listing_steps : HasNoEmptyLemma new.log → new.database.last + left_then ≡ old.database.last + left

@@ -14,6 +14,7 @@ both a b c d e f = ap (λ x. x && c) e ∙ ap (λ x. b && x) f
 
 mutual
   unfolding Rattle.threshold_circuit.specs.declared.Circuit.TheViews.out-Circuit denote.Hole.Carrier.out
+
   unfolded_is : (a b : Circuit) → laws.unfolded a b ≡ same_circuit (circuit_view a) (circuit_view b)
   unfolded_is Always Always = refl
   unfolded_is Always Never = refl
@@ -30,7 +31,7 @@ mutual
   unfolded_is (AtLeast' k s r) Always = refl
   unfolded_is (AtLeast' k s r) Never = refl
   unfolded_is (AtLeast' k s r) (Node w) = refl
-  unfolded_is (AtLeast' k s r) (AtLeast' j t q) = 
+  unfolded_is (AtLeast' k s r) (AtLeast' j t q) =
       ap (λ (xs : List Circuit). (k == j) && pointwise own.ghosts.eq xs (shown-the_row-Circuit-0 t q).items) (items_shown-the_row-Circuit-0 s r)
       ∙ ap (λ (ys : List Circuit). (k == j) && pointwise own.ghosts.eq (items-the_row-Circuit _ r) ys) (items_shown-the_row-Circuit-0 t q)
       ∙ ap (λ (x : Bool). (k == j) && x) (rows_are _ r _ q)
