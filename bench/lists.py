@@ -1,12 +1,12 @@
 #!/usr/bin/env python3
-"""Holds `list` against trying everything, and times it beside clasp: bench/lists.py [random | times] [SEED].
+"""Holds `list` against trying everything, and times it beside clasp: bench/lists.py [random | times | program] [SEED].
 
 Builds crates/lists_bench (with its proofs, some minutes the first time). `random` makes a thousand random systems of up to 12
 nodes, finds the minimal blocking sets of each by trying all sets of nodes, and compares. `times` lists those of networks of
 20 to 60 nodes in organisations, one of 10,000 sets among them, and lets clasp (Debian packages clasp and gringo) enumerate the
 subset-minimal sets that meet the minimal quorums which the list found: the times are processor times of a run, without
 gringo's and without the finding of the quorums for clasp, and the memory is the largest that a run had. Both numbers of sets
-are compared.
+are compared. `program` times `quorum_cli` on the same networks: `blocking`, which writes a certificate, and `check` of it.
 """
 import json
 import os
@@ -18,6 +18,7 @@ import tempfile
 
 TOP = os.path.dirname(os.path.dirname(os.path.abspath(__file__)))
 CRATE = os.path.join(TOP, "crates", "lists_bench")
+QUORUM_CLI = os.path.join(TOP, "crates", "quorum_cli", "out", "quorum_cli")
 PROGRAM = os.path.join(CRATE, "out", "lists_bench")
 UNITS = "1000000000"
 SYSTEMS = 1000
@@ -162,7 +163,27 @@ def times():
         print("| %s | %d | %s | %s | %s | %.2f s | %d MB | %s | %.2f s |" % (name, len(system), words[2], words[5], words[10], seconds, memory, models, its), flush=True)
 
 
+def program():
+    print("| network | sets | certificate | `blocking` | memory | `check` | memory |")
+    print("|---|---|---|---|---|---|---|")
+    for name, system in NETWORKS:
+        with tempfile.TemporaryDirectory() as folder:
+            config, cert = os.path.join(folder, "config"), os.path.join(folder, "cert")
+            with open(config, "w") as it:
+                it.write(as_json(system))
+            told, seconds, memory = timed([QUORUM_CLI, "blocking", config, cert, "--budget", UNITS], "")
+            again, its, needed = timed([QUORUM_CLI, "check", config, cert], "")
+            sets = told.splitlines()[1:]
+            if again.splitlines()[3:] != sets or again.splitlines()[0] != "accepted blocking %d" % len(sets):
+                sys.exit("%s: %s, then %s" % (name, told[:200], again[:200]))
+            size = os.path.getsize(cert) / 1e6
+            print("| %s | %d | %.1f MB | %.2f s | %d MB | %.2f s | %d MB |" % (name, len(sets), size, seconds, memory, its, needed), flush=True)
+
+
 def main():
+    if sys.argv[1:2] == ["program"]:
+        subprocess.run([os.path.join(TOP, "quorum_cli")], capture_output=True)
+        return program()
     build = subprocess.run(["rt", "run", "--", UNITS], cwd=CRATE, stdin=open(os.path.join(CRATE, "stdin")), capture_output=True)
     if not os.path.exists(PROGRAM):
         sys.exit(build.stderr.decode()[-2000:])
