@@ -72,7 +72,7 @@ def chain(nodes, name, step):
 
 
 def zigzag(nodes, entries):
-    """A chain whose next node stands in the upper and in the lower half of the names in turn, so that each sweep takes out one.
+    """A chain whose next node stands in the upper and in the lower half of the names in turn, so that sweeps take out one each.
 
     The node at place i of the chain needs the one before it, named entries(i) times.
     """
@@ -80,6 +80,19 @@ def zigzag(nodes, entries):
     out = [{"publicKey": name[0]}]
     for i in range(1, nodes):
         out.append(node(name[i], {"threshold": 1, "validators": [name[i - 1]] * entries(i), "innerQuorumSets": []}))
+    return out
+
+
+def behind(nodes, share):
+    """Each node needs one of so many that come after it by name, and the last has no quorum set.
+
+    So the nodes fall from the last to the first, each when all that it names have fallen, and those that name one that falls
+    are looked at again from the first of them on: all in vain but the last.
+    """
+    out = []
+    for v in range(nodes):
+        after = ["%04x" % w for w in range(v + 1, min(nodes, v + 1 + share))]
+        out.append(node("%04x" % v, {"threshold": 1, "validators": after, "innerQuorumSets": []}) if after else {"publicKey": "%04x" % v})
     return out
 
 
@@ -99,6 +112,7 @@ def main():
     # The last node has almost all of a million entries; each has its share of them.
     write(os.path.join(folder, "zigzag-large.json"), zigzag(4096, lambda i: 995_900 if i == 4095 else 1))
     write(os.path.join(folder, "zigzag-even.json"), zigzag(4096, lambda i: 244))
+    write(os.path.join(folder, "behind.json"), behind(4096, 244))
 
 
 main()

@@ -3,7 +3,8 @@
 
 The program must end with one of its statuses, put out what fits that status, and nothing on standard error. What 'check'
 says of a configuration and a certificate, 'greatest' of organisations, and what the plain questions and 'export' answer,
-must be what tests/plain_checker.py says. A certificate that a search wrote must be one that it accepts, and the answer that of trying all sets of nodes.
+must be what tests/plain_checker.py says. A certificate that a search wrote must be one that it accepts, and the answer that of
+trying all sets of nodes; where the answer is unknown, each unit of the certificate must be useful and its clauses must not close.
 
 tests/fuzz.py [--cases N] [--seed S] [PROGRAM]; its last line is 'fuzz: N passed, M failed'.
 """
@@ -78,6 +79,21 @@ def compact(tree):
 
 def random_config(rng):
     return compact(random_nodes(rng))
+
+
+def trial_config(count):
+    """The trial configuration of so many organisations of three nodes."""
+    names = ["t%03d" % i for i in range(3 * count)]
+    inner = [{"innerQuorumSets": [], "threshold": 2, "validators": names[i : i + 3]} for i in range(0, 3 * count, 3)]
+    common = {"innerQuorumSets": inner, "threshold": count - (count - 1) // 3, "validators": []}
+    return compact([{"publicKey": name, "quorumSet": common} for name in names])
+
+
+def sizes_of_trial(subject):
+    """What 'trial' prints before the answer."""
+    formula = plain.Formula(subject.system, set())
+    nodes = len(subject.system)
+    return "trial %d\nnodes %d\nvariables %d\nclauses %d\nintersects " % (nodes // 3, nodes, formula.variables, len(formula.clauses))
 
 
 JSON_WORDS = [b"null", b"true", b"{}", b"[]", b'""', b"1e400", b"1e-400", b'"a"', b'"\\u0061"', b'"\\ud83d"', b'"a,b"', b"[null]", b'{"threshold":1}', b"\xff", b"\xef\xbb\xbf", b'"a\nb"']
@@ -202,6 +218,55 @@ def propagated(held, literals):
                 hints.append(number)
                 changed = True
     return None
+
+
+def made_true(held, true):
+    """All literals that unit propagation makes true from these, or None where it comes to a conflict."""
+    true, changed = set(true), True
+    while changed:
+        changed = False
+        for clause in held.values():
+            left = {it for it in clause if -it not in true}
+            if not left:
+                return None
+            if len(left) == 1 and not left <= true:
+                true |= left
+                changed = True
+    return true
+
+
+def is_useful(held, clause):
+    """Whether for some literal of the clause propagation from the negations of the others neither fails nor makes it true."""
+    for literal in clause:
+        true = made_true(held, {-it for it in clause if it != literal})
+        if true is not None and literal not in true:
+            return True
+    return False
+
+
+def fault_of_units(subject, cert):
+    """What is wrong with the units of a partial certificate that a search wrote: one is not useful, or the clauses close at its end."""
+    lines = cert.decode().split("\n")[5:-2]
+    order = sorted(subject.shrunk(set(subject.system)))
+    held = {}
+    if lines and lines[0].startswith("formula"):
+        held = {i: frozenset(it) for i, it in enumerate(plain.Formula(subject.system, subject.faulty).clauses, 1)}
+        lines = lines[1:]
+    for line in lines:
+        words = line.split(" ")
+        if words[0] in ("q", "b"):
+            number, sign = int(words[1]), 1 if words[0] == "q" else -1
+            clause = frozenset(sign * (order.index(it) + 1) for it in words[2:])
+        elif words[1] == "d":
+            for it in words[2:-1]:
+                del held[int(it)]
+            continue
+        else:
+            number, clause = int(words[0]), frozenset(map(int, words[1 : words.index("0")]))
+        if not is_useful(held, clause):
+            return "a unit that is not useful: %r" % line
+        held[number] = clause
+    return "the clauses close at the end" if made_true(held, set()) is None else None
 
 
 def random_steps(rng, held, variables, last):
@@ -361,6 +426,7 @@ class Program:
         self.program, self.folder = os.path.abspath(program), folder
         usage = self.run(Case("words", [], {}, None))[1]
         self.searches = [it for it in SEARCHES if b"\n" + it.encode() + b" CONFIG CERT" in usage]
+        self.has_trial = b"\ntrial N CERT" in usage
 
     def run(self, case):
         """The status, what is put out, what is on standard error, and what the file 'cert' then holds."""
@@ -411,7 +477,7 @@ class Program:
         if status not in (0, 1, 2):
             return None if cert == case.files["cert"] else "refused, and the certificate has changed"
         command, subject, budget = case.wanted
-        found, said = plain.check(case.files["config"], cert)
+        found, said = plain.check(subject.data, cert)
         head = "".join(line + "\n" for line in said.split("\n")[1:3])
         start = " " + subject.start if subject.start else ""
         if head != "from%s\nfaulty%s\n" % (start, plain.spelled(subject.faulty)):
@@ -423,20 +489,26 @@ class Program:
             if kind == "blocking" and status == 0 and text == said.split("\n", 3)[3].join(["blocking %s\n" % said.split("\n")[0].split(" ")[2], ""]):
                 return None if wanted is None or text == wanted else "found %r, wanted %r" % (text, wanted)
             if said.startswith("accepted partial-blocking %d\n" % budget) and (status, text) == (2, "blocking unknown %d\n" % budget):
-                return None
+                return fault_of_units(subject, cert)
             return "found %r with %r" % ((status, text), said)
+        if command == "trial" and not text.startswith(sizes_of_trial(subject)):
+            return "the sizes are others: %r" % text
         apart = None if every is None else any(not a & b for a, b in itertools.combinations(every, 2))
         answer = {"pair": "no", "refutation": "yes", "partial": "unknown"}.get(kind)
         if (answer, apart) in (("no", False), ("yes", True)):
             return "found %s, and trying all sets says otherwise" % answer
         if answer == "unknown" and said != "accepted partial %d\nfrom%s\nfaulty%s\n" % (budget, start, plain.spelled(subject.faulty)):
             return "unknown with %r" % said
-        return None if self.says(command, answer, status, text, budget) else "found %r with %r" % ((status, text), said)
+        if not self.says(command, answer, status, text, budget):
+            return "found %r with %r" % ((status, text), said)
+        return fault_of_units(subject, cert) if answer == "unknown" else None
 
     @staticmethod
     def says(command, answer, status, text, budget):
         """Whether the text and the status of a search fit the kind of certificate that it wrote."""
         units = " %d" % budget if answer == "unknown" else ""
+        if command == "trial":
+            return text.endswith("\nintersects %s%s\n" % (answer, units)) and status == {"yes": 0, "unknown": 2}.get(answer)
         if command == "intersect":
             return text.startswith("intersects %s%s\n" % (answer, units)) and status == {"yes": 0, "no": 1, "unknown": 2}[answer]
         if command == "splits":
@@ -528,6 +600,8 @@ class Maker:
             return self.question()
         if chance < 0.74:
             return self.search() if self.program.searches else self.check()
+        if chance < 0.75 and self.program.has_trial:
+            return self.trial()
         if chance < 0.84:
             return self.orgs()
         return self.words()
@@ -568,6 +642,15 @@ class Maker:
             words += subject.options()
         case = Case("search", words, {"config": subject.data, "cert": b"old\n"}, (command, subject, budget))
         return case
+
+    def trial(self):
+        """The trial configuration of a few organisations."""
+        rng = self.rng
+        count, budget = rng.choice([1, 1, 2, 2, 3, 4]), rng.choice([0, 1, 2, 5, 30, 1000000])
+        subject = Subject(rng, trial_config(count))
+        subject.start, subject.given, subject.faulty, subject.system = None, [], set(), subject.whole
+        words = ["trial", str(count), "cert"] + (["--budget", str(budget)] if budget != 1000000 else [])
+        return Case("search", words, {"cert": b"old\n"}, ("trial", subject, budget))
 
     def keep(self, case):
         """Keeps the certificate that the search wrote."""
@@ -617,6 +700,7 @@ class Maker:
                 ["blocking", "config", "cert"],
                 ["check", "config", "cert"],
                 ["export", "config", "--faulty", names],
+                ["trial", "1", "cert", "--budget", "2"],
             ]
         )
         words = mutated_words(rng, words) if rng.random() < 0.8 else words

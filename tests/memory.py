@@ -167,6 +167,7 @@ class Trial:
         for name, config, command, text in [
             ("intersect, three nodes and blanks", malicious.THREE.ljust(MOST_BYTES), "intersect", "intersects yes\n"),
             ("intersect, twelve of sixteen", malicious.system("abcdefghijklmnop", 12), "intersect", "intersects yes\n"),
+            ("blocking, three nodes and blanks", malicious.THREE.ljust(MOST_BYTES), "blocking", "blocking 3\nset a b\nset a c\nset b c\n"),
         ]:
             self.put("config", config)
             self.put("cert", b"old\n")
@@ -175,7 +176,8 @@ class Trial:
                 if ended.status == 8:
                     whole = self.held("cert") == b"old\n"
                 else:
-                    whole = Ended([self.program, "check", "config", "cert"], self.folder).is_right(0, malicious.REFUTED)
+                    said = malicious.LISTED if command == "blocking" else malicious.REFUTED
+                    whole = Ended([self.program, "check", "config", "cert"], self.folder).is_right(0, said)
                 self.put("cert", b"old\n")
                 return whole
 
@@ -197,6 +199,7 @@ class Trial:
             (["greatest", "sets", "--from", "b"], 0, "greatest a b\n"),
             (["check", "sets", "cert"], 5, "refused not-quorum 7\n"),
             (["intersect", "sets", "made"], 0, "intersects yes\n"),
+            (["blocking", "sets", "made"], 0, "blocking 1\nset a\n"),
             (["intersect"], 3, None),
         ]
         for size in (8192, 1024, 512, 256, 192, 128, 96, 64, 48, 32, 16):

@@ -25,6 +25,7 @@ dset CONFIG CERT --set NAMES [--from NAME] [--budget UNITS]
 blocks CONFIG --set NAMES [COMMON]
 vblocks CONFIG --node NAME --set NAMES
 splits CONFIG CERT --set NAMES [COMMON] [--budget UNITS]
+blocking CONFIG CERT [COMMON] [--budget UNITS]
 check CONFIG CERT
 export CONFIG [COMMON]
 COMMON: --from NAME --faulty NAMES --orgs ORGS --faulty-orgs IDS
@@ -43,6 +44,9 @@ THREE = system("abc", 2)
 HEAD = "fbas-cert 1\nconfig f823e204944abcff32c8dadffba2a0178a590a613358f9a6f271b651cd4e6fbb\nfrom\n"
 PAIR = HEAD + "faulty a\nkind pair\nfirst b\nsecond c\nend\n"
 SPENT = HEAD + "faulty\nkind partial\nformula 36 53\nend\n"
+LISTED = HEAD + "faulty\nkind blocking\nq 1 a b\nq 2 a c\nq 3 b c\nb 4 a b\nb 5 a c\nb 6 b c\n7 -1 0 4 5 3 0\n8 0 7 1 2 6 0\nend\n"
+UNLISTED = HEAD + "faulty\nkind partial-blocking\nend\n"
+SETS = "set a b\nset a c\nset b c\n"
 WIDE = system(["w%03d" % i for i in range(200)], 100)
 
 FILES = {
@@ -51,6 +55,7 @@ FILES = {
     "wide": WIDE,
     "none": "[]",
     "bad": "{",
+    "listed": LISTED,
     "cut": PAIR[:9],
     "hidden": THREE,
     "longer": PAIR + "x" * 100000,
@@ -61,6 +66,7 @@ FILES = {
 ROWS = [
     ("show three", 0, "nodes 3\nentries 9\nunset 0\n", {}),
     ("check three pair", 0, "accepted pair\nfrom\nfaulty a\n", {"pair": PAIR}),
+    ("check three listed", 0, "accepted blocking 3\nfrom\nfaulty\n" + SETS, {"listed": LISTED}),
     ("available three --set a,b", 1, "available no\nunmet c\n", {}),
     ("", 3, USAGE, {}),
     ("--help", 3, USAGE, {}),
@@ -80,6 +86,12 @@ ROWS = [
     ("check three refuted", 0, "accepted refutation\nfrom\nfaulty\n", {}),
     ("dset three dispensable --set a", 1, "available yes\nintersects no\nfirst b\nsecond c\ndset no\n", {"dispensable": PAIR}),
     ("splits three split --set a", 0, "splits yes\nfirst b\nsecond c\n", {"split": PAIR}),
+    ("blocking three list", 0, "blocking 3\n" + SETS, {}),
+    ("check three list", 0, "accepted blocking 3\nfrom\nfaulty\n" + SETS, {}),
+    ("blocking three list --faulty c", 0, "blocking 1\nset a b\n", {}),
+    ("blocking three unlisted --budget 0", 2, "blocking unknown 0\n", {"unlisted": UNLISTED}),
+    ("check three unlisted", 2, "accepted partial-blocking 0\nfrom\nfaulty\n", {}),
+    ("blocking three three", 3, "usage same-path\n", {"three": THREE}),
     ("intersect three longer --faulty a", 1, "intersects no\nfirst b\nsecond c\n", {"longer": PAIR}),
     ("intersect three three", 3, "usage same-path\n", {"three": THREE}),
     ("intersect three kept --faulty z", 3, "usage unknown-name --faulty 1\n", {"kept": None}),

@@ -3,7 +3,7 @@ use Rattle.std.proofs.Common.{◌≡◌, ℕ, ◌+◌, List, length, sym, ap, �
 use Rattle.std.specs.Prelude.{All, Contains, ◌↔◌}
 use Rattle.std.specs.List.Sorted.{IsStrictlySortedBy}
 use Rattle.std.proofs.lemmas.List.Elements.{All-contains}
-use Rattle.fbas_model.specs.Nodes.{Table, members, set_cmp}
+use Rattle.fbas_model.specs.Nodes.{Table, members, size, set_cmp}
 use Rattle.fbas_model.specs.Fbas.{Fbas}
 use Rattle.greatest_quorum.specs.Greatest.{greatest_of}
 use Rattle.lrat_model.specs.Steps.{ProofStep}
@@ -15,11 +15,11 @@ use Rattle.list_journal.specs.Lists.{IsMinimalBlock, IsLeastQuorum}
 use Rattle.list_journal.proofs.Greatest.{counted_greatest}
 use Rattle.list_journal.proofs.Whole.{listed_blocks, whole_has_each}
 use Rattle.list_journal.proofs.WholeQuorums.{has_quorum}
-use Rattle.blocking_lists.specs.Lines.{merged, blocks_in, quorums_in}
+use Rattle.blocking_lists.specs.Lines.{merged, blocks_in, quorums_in, IsShortStep, HasFewWords}
 use Rattle.blocking_lists.specs.Outcomes.{WholeHolds, PartHolds}
 use Rattle.blocking_lists.specs.Search.{IsListing, IsWholeListing}
 use Rattle.blocking_lists.specs.declared.journal.ListLine.{ListLine}
-use Rattle.blocking_lists.proofs.Merged.{blocks_merged, quorums_merged}
+use Rattle.blocking_lists.proofs.Merged.{blocks_merged, quorums_merged, few_words_merged}
 use Rattle.blocking_lists.proofs.Searches.{search_spent}
 
 -- each listed blocking set has a place for each node
@@ -59,3 +59,9 @@ pub listing_spent : (f : Fbas) (b g : Table) (units left : ℕ) (lines : List Li
 listing_spent f b g units left lines solver journal g_is journal_is none unclosed is =
     subst (λ (ls : List JournalLine). PartHolds f b units ls) (sym journal_is)
     (search_spent f b units left (merged 0 lines solver.log) solver (subst (λ (t : Table). IsListing f (members b) t units left lines solver) g_is is).search none unclosed)
+
+-- the steps of the journal are the lemmas of the log
+pub listing_few : (f : Fbas) (b g : Table) (lines : List ListLine) (log : List ProofStep) (journal : List JournalLine) → g ≡ greatest_of f b → journal ≡ merged 0 lines log → All (IsShortStep (size g)) log → All (HasFewWords (size (greatest_of f b))) journal
+listing_few f b g lines log journal g_is journal_is short =
+    subst (λ (ls : List JournalLine). All (HasFewWords (size (greatest_of f b))) ls) (sym journal_is)
+    (subst (λ (t : Table). All (HasFewWords (size t)) (merged 0 lines log)) g_is (few_words_merged (size g) 0 lines log short))

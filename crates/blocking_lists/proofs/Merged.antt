@@ -8,7 +8,7 @@ use Rattle.lrat_model.specs.Steps.{ProofStep}
 use Rattle.lrat_text.specs.Texts.{IsId, HasNumbers}
 use Rattle.list_journal.specs.Listed.{list_line}
 use Rattle.list_journal.specs.Journals.{JournalLine, StepLine, blocking_sets, quorum_sets}
-use Rattle.blocking_lists.specs.Lines.{step_lines, merged, AreBetween, blocks_in, quorums_in, block_of, quorum_of, HasLineNumbers}
+use Rattle.blocking_lists.specs.Lines.{step_lines, merged, AreBetween, blocks_in, quorums_in, block_of, quorum_of, HasLineNumbers, IsShortStep, HasFewWords}
 use Rattle.blocking_lists.specs.declared.journal.ListLine.{ListLine}
 use Rattle.list_journal.specs.declared.kinds.Listed.{Listed}
 use Rattle.list_journal.specs.declared.kinds.Listed.TheVariants as listed
@@ -163,33 +163,48 @@ quorums_merged k (l ∷ lines) steps =
     ∙ quorum_behind l.which l.id l.set rest
     ∙ ap (λ (xs : List Table). quorum_of l.which l.set ++ xs) (quorums_merged l.after lines (drop (l.after - k) steps))
 
--- ---- the numbers
+-- ---- what each line says
 
-step_numbers : (steps : List ProofStep) → All HasNumbers steps → All HasLineNumbers (step_lines steps)
-step_numbers [] h = All-nil HasLineNumbers
-step_numbers (step ∷ steps) h = All-cons HasLineNumbers (StepLine step) (step_lines steps) (All-head HasNumbers step steps h) (step_numbers steps (All-tail HasNumbers step steps h))
+-- what all steps say, and all listed sets
+module _ (P : ProofStep → Type 0) (Q : JournalLine → Type 0) (said : (step : ProofStep) → P step → Q (StepLine step)) where
+  all_steps : (steps : List ProofStep) → All P steps → All Q (step_lines steps)
+  all_steps [] h = All-nil Q
+  all_steps (step ∷ steps) h = All-cons Q (StepLine step) (step_lines steps) (said step (All-head P step steps h)) (all_steps steps (All-tail P step steps h))
+
+  -- the first lines have what all of a list have that is taken apart at a place
+  all_behind : (c : ℕ) (steps : List ProofStep) (lines : List JournalLine) → All P steps → All Q lines → All Q (step_lines (take c steps) ++ lines)
+  all_behind zero steps lines h rest = rest
+  all_behind (suc c) [] lines h rest = rest
+  all_behind (suc c) (step ∷ steps) lines h rest = All-cons Q (StepLine step) (step_lines (take c steps) ++ lines) (said step (All-head P step steps h)) (all_behind c steps lines (All-tail P step steps h) rest)
+
+  all_left : (c : ℕ) (steps : List ProofStep) → All P steps → All P (drop c steps)
+  all_left zero steps h = h
+  all_left (suc c) [] h = h
+  all_left (suc c) (step ∷ steps) h = all_left c steps (All-tail P step steps h)
+
+  all_merged : (k : ℕ) (lines : List ListLine) (steps : List ProofStep) → All (λ l. Q (list_line l.which l.id l.set)) lines → All P steps → All Q (merged k lines steps)
+  all_merged k [] steps sets h = all_steps steps h
+  all_merged k (l ∷ lines) steps sets h =
+      let c : ℕ = l.after - k in
+      let rest : List JournalLine = merged l.after lines (drop c steps) in
+      all_behind c steps (list_line l.which l.id l.set ∷ rest) h
+      (All-cons Q (list_line l.which l.id l.set) rest (All-head (λ (x : ListLine). Q (list_line x.which x.id x.set)) l lines sets)
+      (all_merged l.after lines (drop c steps) (All-tail (λ (x : ListLine). Q (list_line x.which x.id x.set)) l lines sets) (all_left c steps h)))
 
 line_numbers : (which : Listed) (id : ℕ) (set : Table) → IsId id → HasLineNumbers (list_line which id set)
 line_numbers listed.Quorum id set h = h
 line_numbers listed.Blocking id set h = h
 
--- the first lines have what all of a list have that is taken apart at a place
-numbers_behind : (c : ℕ) (steps : List ProofStep) (lines : List JournalLine) → All HasNumbers steps → All HasLineNumbers lines → All HasLineNumbers (step_lines (take c steps) ++ lines)
-numbers_behind zero steps lines h rest = rest
-numbers_behind (suc c) [] lines h rest = rest
-numbers_behind (suc c) (step ∷ steps) lines h rest =
-    All-cons HasLineNumbers (StepLine step) (step_lines (take c steps) ++ lines) (All-head HasNumbers step steps h) (numbers_behind c steps lines (All-tail HasNumbers step steps h) rest)
-
-numbers_left : (c : ℕ) (steps : List ProofStep) → All HasNumbers steps → All HasNumbers (drop c steps)
-numbers_left zero steps h = h
-numbers_left (suc c) [] h = h
-numbers_left (suc c) (step ∷ steps) h = numbers_left c steps (All-tail HasNumbers step steps h)
-
 pub numbers_merged : (k : ℕ) (lines : List ListLine) (steps : List ProofStep) → All (λ l. IsId l.id) lines → All HasNumbers steps → All HasLineNumbers (merged k lines steps)
-numbers_merged k [] steps ids h = step_numbers steps h
-numbers_merged k (l ∷ lines) steps ids h =
-    let c : ℕ = l.after - k in
-    let rest : List JournalLine = merged l.after lines (drop c steps) in
-    numbers_behind c steps (list_line l.which l.id l.set ∷ rest) h
-    (All-cons HasLineNumbers (list_line l.which l.id l.set) rest (line_numbers l.which l.id l.set (All-head (λ (x : ListLine). IsId x.id) l lines ids))
-    (numbers_merged l.after lines (drop c steps) (All-tail (λ (x : ListLine). IsId x.id) l lines ids) (numbers_left c steps h)))
+numbers_merged k lines steps ids h = all_merged HasNumbers HasLineNumbers (λ step numbers. numbers) k lines steps (All-map ids) h
+  where
+    All-map : All (λ l. IsId l.id) lines → All (λ l. HasLineNumbers (list_line l.which l.id l.set)) lines
+    All-map all i d low = let l : ListLine = slice_index_or lines i d in line_numbers l.which l.id l.set (all i d low)
+
+few_in_set : (vars : ℕ) (which : Listed) (id : ℕ) (set : Table) → HasFewWords vars (list_line which id set)
+few_in_set vars listed.Quorum id set = tt
+few_in_set vars listed.Blocking id set = tt
+
+pub few_words_merged : (vars k : ℕ) (lines : List ListLine) (steps : List ProofStep) → All (IsShortStep vars) steps → All (HasFewWords vars) (merged k lines steps)
+few_words_merged vars k lines steps h =
+    all_merged (IsShortStep vars) (HasFewWords vars) (λ step short. short) k lines steps (λ i d low. let l : ListLine = slice_index_or lines i d in few_in_set vars l.which l.id l.set) h

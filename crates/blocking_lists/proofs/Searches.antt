@@ -18,12 +18,13 @@ use Rattle.lrat_model.proofs.Literals.{has-first, has-rest}
 use Rattle.lrat_model.proofs.Runs.{clause_at-more}
 use Rattle.cdcl_core.specs.Log.{AreLemmas, units, HasNoEmptyLemma, EndsEmpty}
 use Rattle.cdcl_core.specs.Solving.{Solving, logged}
+use Rattle.cdcl_core.specs.Trail.{InRange}
 use Rattle.list_journal.specs.Numbering.{variable_in, quorum_clause, blocking_clause}
 use Rattle.list_journal.specs.Journals.{JournalLine, QuorumLine, BlockingLine, nothing_held, JournalRun, line_progress, IsOpen, EndsRefuted, IsWholeJournal, journal_units, AreUseful}
 use Rattle.list_journal.specs.declared.kinds.ListKind.TheVariants.{Whole, Partial}
 use Rattle.lrat_text.specs.Texts.{IsId}
 use Rattle.list_journal.specs.Listed.{list_line, clause_for}
-use Rattle.blocking_lists.specs.Lines.{step_lines, merged, AreBetween, quorum_of, quorums_in}
+use Rattle.blocking_lists.specs.Lines.{step_lines, merged, AreBetween, quorum_of, quorums_in, IsShortStep}
 use Rattle.list_journal.specs.Lists.{IsLeastQuorum}
 use Rattle.blocking_lists.specs.Outcomes.{PartHolds}
 use Rattle.blocking_lists.specs.Search.{HoldsEmpty, IsSearch, IsListing, IsWholeListing}
@@ -35,6 +36,7 @@ use Rattle.list_journal.proofs.Runs.{run_append, whole_from_partial, useful_appe
 use Rattle.blocking_lists.proofs.Runs.{steps_partial, steps_whole, steps_useful, units_steps, open_steps, ends_in_steps, ends_refuted}
 use Rattle.list_journal.proofs.Ids.{AreBelow, below_run, found_new}
 use Rattle.blocking_lists.proofs.Merged.{between_more, between_push, merged_steps, merged_line}
+use Rattle.blocking_lists.proofs.Short.{short_steps}
 use Rattle.list_journal.proofs.Places.{next_place, same_place}
 
 -- ---- steps
@@ -189,7 +191,8 @@ search_line f b g total left journal journal_then old new which set is a solves 
 -- a log that goes on
 module _ (f : Fbas) (b : Nodes) (g : Table) (total left left_then : ℕ) (lines : List ListLine) (old new : Solving)
     (is : IsListing f b g total left lines old) (log_is : new.log ≡ old.log ++ logged old new)
-    (run : Run old.vars old.database (logged old new) new.database) (lemmas : AreLemmas old.vars old.database (logged old new)) (count : left_then + units (logged old new) ≡ left) where
+    (run : Run old.vars old.database (logged old new) new.database) (lemmas : AreLemmas old.vars old.database (logged old new)) (count : left_then + units (logged old new) ≡ left)
+    (vars : new.vars ≡ old.vars) (range : InRange new.vars new.database.held) where
   longer : length old.log ≤ length new.log
   longer = omega (arith, ap (λ (steps : List ProofStep). length steps) log_is, length-append old.log (logged old new))
 
@@ -199,12 +202,24 @@ module _ (f : Fbas) (b : Nodes) (g : Table) (total left left_then : ℕ) (lines 
   journal_goes_on : merged 0 lines new.log ≡ merged 0 lines old.log ++ step_lines (logged old new)
   journal_goes_on = ap (λ (steps : List ProofStep). merged 0 lines steps) log_is ∙ merged_steps 0 (length old.log) lines old.log (logged old new) is.between (omega arith)
 
-  pub listing_steps : new.vars ≡ old.vars → HasNoEmptyLemma new.log → new.database.last + left_then ≡ old.database.last + left
+  still_short : All (IsShortStep (size g)) new.log
+  still_short =
+      let n_is = is.search.vars in
+      let below = below_run Partial f b g nothing_held (merged 0 lines old.log) old.database is.search.run empty_database in
+      let more = short_steps g old.database new.database (logged old new)
+      (subst (λ (n : ℕ). Run n old.database (logged old new) new.database) n_is run)
+      (subst (λ (n : ℕ). AreLemmas n old.database (logged old new)) n_is lemmas)
+      below
+      (subst (λ (n : ℕ). InRange n new.database.held) (vars ∙ n_is) range) in
+      subst (λ (steps : List ProofStep). All (IsShortStep (size g)) steps) (sym log_is) (All-append (IsShortStep (size g)) old.log (logged old new) is.short more)
+
+  pub listing_steps : HasNoEmptyLemma new.log → new.database.last + left_then ≡ old.database.last + left
       → ((id : ℕ) (clause : List Literal) → clause_at old.database.held id ≡ Some clause → clause_at new.database.held id ≡ Some clause) → IsListing f b g total left_then lines new
-  listing_steps vars opens room kept = record {
+  listing_steps opens room kept = record {
     between = still_between;
     ids = is.ids;
     quorums = is.quorums;
+    short = still_short;
     search = search_steps f b g total left left_then (merged 0 lines old.log) (merged 0 lines new.log) old new (logged old new) is.search journal_goes_on log_is run lemmas count vars opens room kept;
   }
 
@@ -214,6 +229,7 @@ module _ (f : Fbas) (b : Nodes) (g : Table) (total left left_then : ℕ) (lines 
         between = still_between;
         ids = is.ids;
         quorums = is.quorums;
+        short = still_short;
         journal_is = whole.0;
         taken = whole.1;
       }
@@ -248,5 +264,6 @@ listing_line f b g total left small lines lines_then old new which set is a solv
       between = subst (λ (ls : List ListLine). AreBetween 0 (length new.log) ls) back (between_push 0 (length old.log) (length new.log) lines l is.between (omega arith) (omega (arith, ap (λ (steps : List ProofStep). length steps) log_is)));
       ids = subst (λ (ls : List ListLine). All (λ x. IsId x.id) ls) back (All-append (λ (x : ListLine). IsId x.id) lines (l ∷ []) is.ids (All-cons (λ (x : ListLine). IsId x.id) l [] id_is (All-nil (λ (x : ListLine). IsId x.id))));
       quorums = subst (λ (ls : List ListLine). All (IsLeastQuorum f b) (quorums_in ls)) back (quorums_push (IsLeastQuorum f b) lines l is.quorums (least_if_quorum f b which set places stands));
+      short = subst (λ (steps : List ProofStep). All (IsShortStep (size g)) steps) (sym log_is) is.short;
       search = search_line f b g total left (merged 0 lines old.log) (merged 0 lines_then new.log) old new which set is.search a solves places stands out journal_is held_is last_is log_is vars_are;
     }

@@ -1,9 +1,11 @@
 -- The lines that listed sets, steps and logs stand for.
-use Rattle.std.specs.Prelude.{ℕ, ◌-◌, ◌≤◌, List, [], ◌∷◌, ◌++◌, map, take, drop}
+use Rattle.std.specs.Prelude.{ℕ, ◌+◌, ◌-◌, ◌≤◌, List, [], ◌∷◌, ◌++◌, length, map, take, drop, All}
 use Rattle.fbas_model.specs.Nodes.{Table}
-use Rattle.lrat_model.specs.Steps.{ProofStep}
+use Rattle.lrat_model.specs.Steps.{ProofStep, Addition, Deletion}
 use Rattle.lrat_text.specs.Lent.{lent_step}
 use Rattle.lrat_text.specs.Texts.{IsId, HasNumbers}
+use Rattle.cdcl_core.specs.Log.{IsDistinct}
+use Rattle.cdcl_core.specs.Trail.{IsVariable}
 use Rattle.list_journal.specs.Listed.{list_line}
 use Rattle.list_journal.specs.Journals.{JournalLine, QuorumLine, BlockingLine, StepLine}
 use Rattle.blocking_lists.specs.declared.journal.Line.{Line}
@@ -55,3 +57,14 @@ abbrev pub HasLineNumbers : JournalLine → Type 0
 HasLineNumbers (QuorumLine id u) = IsId id
 HasLineNumbers (BlockingLine id s) = IsId id
 HasLineNumbers (StepLine step) = HasNumbers step
+
+-- a lemma over so many variables: each literal's is one of them, none stands twice, and there is at most one hint more than there are variables
+abbrev pub IsShortStep : ℕ → ProofStep → Type 0
+IsShortStep vars (Addition id lits hints) = All (IsVariable vars) lits × IsDistinct lits × (length hints ≤ vars + 1)
+IsShortStep vars (Deletion id ids) = ⊥
+
+-- the steps of a journal are such lemmas
+abbrev pub HasFewWords : ℕ → JournalLine → Type 0
+HasFewWords vars (QuorumLine id u) = Unit {0}
+HasFewWords vars (BlockingLine id s) = Unit {0}
+HasFewWords vars (StepLine step) = IsShortStep vars step

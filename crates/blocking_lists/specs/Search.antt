@@ -8,7 +8,7 @@ use Rattle.cdcl_core.specs.Log.{HasNoEmptyLemma}
 use Rattle.cdcl_core.specs.Solving.{Solving}
 use Rattle.list_journal.specs.Numbering.{variable_in}
 use Rattle.lrat_text.specs.Texts.{IsId}
-use Rattle.blocking_lists.specs.Lines.{merged, AreBetween, quorums_in}
+use Rattle.blocking_lists.specs.Lines.{merged, AreBetween, quorums_in, IsShortStep}
 use Rattle.list_journal.specs.Lists.{IsLeastQuorum}
 use Rattle.list_journal.specs.Journals.{JournalLine, nothing_held, JournalRun, IsOpen, IsWholeJournal, journal_units, AreUseful}
 use Rattle.list_journal.specs.declared.kinds.ListKind.TheVariants.{Partial}
@@ -33,6 +33,7 @@ pub record IsListing (f : Fbas) (b : Nodes) (g : Table) (units left : ℕ) (line
   pub between : AreBetween 0 (length solver.log) lines
   pub ids : All (λ l. IsId l.id) lines
   pub quorums : All (IsLeastQuorum f b) (quorums_in lines)
+  pub short : All (IsShortStep (size g)) solver.log
   pub search : IsSearch f b g units left (merged 0 lines solver.log) solver
 
 -- a listing whose solver came to the empty lemma
@@ -40,6 +41,7 @@ pub record IsWholeListing (f : Fbas) (b : Nodes) (g : Table) (units left : ℕ) 
   pub between : AreBetween 0 (length log) lines
   pub ids : All (λ l. IsId l.id) lines
   pub quorums : All (IsLeastQuorum f b) (quorums_in lines)
+  pub short : All (IsShortStep (size g)) log
   pub journal_is : IsWholeJournal f b g (merged 0 lines log)
   pub taken : journal_units (merged 0 lines log) + left ≡ units
 

@@ -1,6 +1,8 @@
 //! The list of the minimal blocking sets.
 ghost use Rattle.std.specs.Prelude.{◌≡◌, ◌+◌, ◌<◌, ◌^◌, length, All, IfOk};
-ghost use Rattle.blocking_lists.specs.Lines.{HasLineNumbers};
+ghost use Rattle.fbas_model.specs.Nodes.{size};
+ghost use Rattle.greatest_quorum.specs.Greatest.{greatest_of};
+ghost use Rattle.blocking_lists.specs.Lines.{HasLineNumbers, HasFewWords};
 ghost use Rattle.blocking_lists.specs.Outcomes.{OutcomeHolds, journal_in};
 
 use crate::journal::{Journal, sets_of};
@@ -30,6 +32,7 @@ pub fn list(
     requires room { budget.old + 1 < 2 ^ 63 }
     ensures outcome { IfOk result (λ outcome. OutcomeHolds system.now.sets faulty.now budget.old budget.new outcome) }
     ensures numbers { IfOk result (λ outcome. All HasLineNumbers (journal_in outcome)) }
+    ensures few_words { IfOk result (λ outcome. All (HasFewWords (size (greatest_of system.now.sets faulty.now))) (journal_in outcome)) }
 {
     // A system has at most 4,096 nodes, so there are as few variables.
     let _nodes = system.len();

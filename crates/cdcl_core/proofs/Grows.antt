@@ -11,7 +11,7 @@ use Rattle.lrat_model.specs.Literal.{Literal, Plus, Minus, variable_of, negated,
 use Rattle.lrat_model.specs.Clauses.{Held}
 use Rattle.cdcl_core.specs.declared.watches.Watch.{Watch}
 use Rattle.cdcl_core.specs.declared.watches.Pair.{Pair}
-use Rattle.cdcl_core.specs.Watches.{index_of, list_at, lits_at, pair_at, mentions, IsKept, AreKept, IsSound, IsListed, IsWatched, IsQueued}
+use Rattle.cdcl_core.specs.Watches.{index_of, list_at, lits_at, pair_at, mentions, IsKept, AreKept, IsShort, IsSound, IsListed, IsWatched, IsQueued}
 use Rattle.cdcl_core.proofs.Visits.{index-apart, same_or_not, same_at}
 use Rattle.cdcl_core.specs.Trail.{IsTrail}
 use Rattle.cdcl_core.proofs.Walks.{has-at}
@@ -58,10 +58,10 @@ module _ (lists : List (List Watch)) (m : Literal) (now : Watch) (inside_m : ind
   pushed-new = subst (λ ws. mentions ws now.place ≡ true) (sym list_here)
       (list_any-append (λ w. w.place == now.place) (list_at lists m) (now ∷ []) ∙ or_right (mentions (list_at lists m) now.place) (mentions (now ∷ []) now.place) (or_left (now.place == now.place) false (eq-eqb now.place now.place refl)))
 
-  pub pushed-all : (P : Watch → Type 0) → P now → ((k : Literal) → All P (list_at lists k)) → (k : Literal) → All P (list_at pushed k)
+  pub pushed-all : (P : Literal → Watch → Type 0) → P m now → ((k : Literal) → All (P k) (list_at lists k)) → (k : Literal) → All (P k) (list_at pushed k)
   pushed-all P own all k = ⊎_elim
-      (λ e. subst (λ x. All P (list_at pushed x)) (sym e) (subst (λ ws. All P ws) (sym list_here) (All-push P (list_at lists m) now (all m) own)))
-      (λ e. subst (λ ws. All P ws) (sym (list_other k e)) (all k))
+      (λ e. subst (λ x. All (P x) (list_at pushed x)) (sym e) (subst (λ ws. All (P m) ws) (sym list_here) (All-push (P m) (list_at lists m) now (all m) own)))
+      (λ e. subst (λ ws. All (P k) ws) (sym (list_other k e)) (all k))
       (same_or_not m k)
 
 -- one clause more
@@ -93,8 +93,12 @@ module _ (held : Held) (pairs : List Pair) (id : ℕ) (lits : List Literal) (pai
       (λ more. let is : p ≡ length held = omega (arith, all, more) in subst (λ ls. P ls (pair_at more_pairs p)) (sym (lits_new p is)) (subst (λ (x : Pair). P lits x) (sym (pair_new p is)) own))
       (cases_lt p (length held))
 
-  sound_more : (w : Watch) → IsSound held w → IsSound more_held w
-  sound_more w s = (omega (arith, s.0, length-append held ((id, lits) ∷ [])), ap (λ ls. has ls w.blocker) (lits_old w.place s.0) ∙ s.1)
+  sound_more : (k : Literal) (w : Watch) → IsSound held k w → IsSound more_held k w
+  sound_more k w s = (
+    omega (arith, s.0, length-append held ((id, lits) ∷ [])),
+    ap (λ ls. has ls w.blocker) (lits_old w.place s.0) ∙ s.1,
+    λ other. subst (λ ls. IsShort ls k w.blocker w.third) (sym (lits_old w.place s.0)) (s.2 other),
+  )
 
   pub kept_with : (visited trues : List Literal) → AreKept held pairs visited trues → IsKept visited trues lits pair → AreKept more_held more_pairs visited trues
   kept_with visited trues all own = each_more (λ ls x. IsKept visited trues ls x) all own
@@ -106,12 +110,12 @@ module _ (held : Held) (pairs : List Pair) (id : ℕ) (lits : List Literal) (pai
     at_decisions = λ q less decided. kept_with (take q trues) (take q trues) (s.at_decisions q less decided) (at q less decided);
   }
 
-  module _ (lists : List (List Watch)) (has_first : has lits pair.first ≡ true) (has_second : has lits pair.second ≡ true) (inside_first : index_of pair.first < length lists) (inside_second : index_of pair.second < length lists) where
+  module _ (lists : List (List Watch)) (third_one third_two : Literal) (short_one : same third_one pair.first ≡ false → IsShort lits pair.first pair.second third_one) (short_two : same third_two pair.second ≡ false → IsShort lits pair.second pair.first third_two) (has_first : has lits pair.first ≡ true) (has_second : has lits pair.second ≡ true) (inside_first : index_of pair.first < length lists) (inside_second : index_of pair.second < length lists) where
     abbrev pub one : Watch
-    one = record { place = length held; blocker = pair.second }
+    one = record { place = length held; blocker = pair.second; third = third_one }
 
     abbrev pub two : Watch
-    two = record { place = length held; blocker = pair.first }
+    two = record { place = length held; blocker = pair.first; third = third_two }
 
     abbrev pub once : List (List Watch)
     once = set lists (index_of pair.first) (list_at lists pair.first ++ one ∷ [])
@@ -125,8 +129,12 @@ module _ (held : Held) (pairs : List Pair) (id : ℕ) (lits : List Literal) (pai
     mentions-more : (k : Literal) (p : ℕ) → mentions (list_at lists k) p ≡ true → mentions (list_at twice k) p ≡ true
     mentions-more k p h = pushed-more once pair.second two in_twice k p (pushed-more lists pair.first one inside_first k p h)
 
-    own_sound : (b : Literal) → has lits b ≡ true → IsSound more_held (record { place = length held; blocker = b })
-    own_sound b h = (omega (arith, length-append held ((id, lits) ∷ [])), ap (λ ls. has ls b) (lits_new (length held) refl) ∙ h)
+    own_sound : (k b t : Literal) → has lits b ≡ true → (same t k ≡ false → IsShort lits k b t) → IsSound more_held k (record { place = length held; blocker = b; third = t })
+    own_sound k b t h short = (
+      omega (arith, length-append held ((id, lits) ∷ [])),
+      ap (λ ls. has ls b) (lits_new (length held) refl) ∙ h,
+      λ other. subst (λ ls. IsShort ls k b t) (sym (lits_new (length held) refl)) (short other),
+    )
 
     pub watched_with : ((l : Literal) → IsWatched held pairs lists l []) → (l : Literal) → IsWatched more_held more_pairs twice l []
     watched_with w l = record {
@@ -145,10 +153,10 @@ module _ (held : Held) (pairs : List Pair) (id : ℕ) (lits : List Literal) (pai
           (subst (λ (x : Pair). IsListed twice l [] (length held) x.first × IsListed twice l [] (length held) x.second) (sym (pair_new (length held) refl))
           (inl (pushed-more once pair.second two in_twice pair.first (length held) (pushed-new lists pair.first one inside_first)), inl (pushed-new once pair.second two in_twice))))
           (cases_lt p (length held));
-      sound = pushed-all once pair.second two in_twice (IsSound more_held) (own_sound pair.first has_first)
-          (pushed-all lists pair.first one inside_first (IsSound more_held) (own_sound pair.second has_second)
-          (λ k. All-weaker (IsSound held) (IsSound more_held) sound_more (list_at lists k) ((w l).sound k)));
-      sound_spare = All-nil (IsSound more_held);
+      sound = pushed-all once pair.second two in_twice (IsSound more_held) (own_sound pair.second pair.first third_two has_first short_two)
+          (pushed-all lists pair.first one inside_first (IsSound more_held) (own_sound pair.first pair.second third_one has_second short_one)
+          (λ k. All-weaker (IsSound held k) (IsSound more_held k) (sound_more k) (list_at lists k) ((w l).sound k)));
+      sound_spare = All-nil (IsSound more_held l);
     }
 
 -- no variable stands twice on a trail

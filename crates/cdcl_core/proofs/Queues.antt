@@ -40,8 +40,8 @@ module _ (held : Held) (pairs : List Pair) (lists : List (List Watch)) (trues : 
           inside = w.inside;
           listed = λ p less differ. let both = w.listed p less differ in (move p (pair_at pairs p).first both.0, move p (pair_at pairs p).second both.1);
           sound = λ k. ⊎_elim
-              (λ e. subst (λ x. All (IsSound held) (list_at (set lists (index_of l) []) x)) (sym e) (subst (λ ws. All (IsSound held) ws) (sym (at_own [])) (All-nil (IsSound held))))
-              (λ e. subst (λ ws. All (IsSound held) ws) (sym (at_others [] k e)) (w.sound k))
+              (λ e. subst (λ x. All (IsSound held x) (list_at (set lists (index_of l) []) x)) (sym e) (subst (λ ws. All (IsSound held l) ws) (sym (at_own [])) (All-nil (IsSound held l))))
+              (λ e. subst (λ ws. All (IsSound held k) ws) (sym (at_others [] k e)) (w.sound k))
               (same_or_not l k);
           sound_spare = w.sound l;
         };
@@ -73,10 +73,10 @@ module _ (held : Held) (pairs : List Pair) (lists : List (List Watch)) (trues : 
         inside = w.inside;
         listed = λ p less differ. let both = w.listed p less differ in (move p (pair_at pairs p).first both.0, move p (pair_at pairs p).second both.1);
         sound = λ m. ⊎_elim
-            (λ e. subst (λ x. All (IsSound held) (list_at new x)) (sym e) (subst (λ ws. All (IsSound held) ws) (sym (at_own spare)) w.sound_spare))
-            (λ e. subst (λ ws. All (IsSound held) ws) (sym (at_others spare m e)) (w.sound m))
+            (λ e. subst (λ x. All (IsSound held x) (list_at new x)) (sym e) (subst (λ ws. All (IsSound held l) ws) (sym (at_own spare)) w.sound_spare))
+            (λ e. subst (λ ws. All (IsSound held m) ws) (sym (at_others spare m e)) (w.sound m))
             (same_or_not l m);
-        sound_spare = All-nil (IsSound held);
+        sound_spare = All-nil (IsSound held k);
       }
 
 -- all watches of the literal at the head are visited

@@ -14,7 +14,7 @@ use Rattle.cdcl_core.proofs.Jumps.{not_so}
 use Rattle.cdcl_core.proofs.Tops.{take_within}
 use Rattle.cdcl_core.specs.declared.watches.Watch.{Watch}
 use Rattle.cdcl_core.specs.declared.watches.Pair.{Pair}
-use Rattle.cdcl_core.specs.Watches.{index_of, list_at, lits_at, pair_at, mentions, IsKept, AreKept, IsSound, IsListed, IsQueued, IsVisiting}
+use Rattle.cdcl_core.specs.Watches.{index_of, list_at, lits_at, pair_at, mentions, IsKept, AreKept, IsShort, IsSound, IsListed, IsQueued, IsVisiting}
 
 -- a clause that is kept stays so where more is true
 pub kept_more : (visited trues more clause : List Literal) (pair : Pair) → IsKept visited trues clause pair → IsKept visited (trues ++ more) clause pair
@@ -108,13 +108,13 @@ module _ (held : Held) (pairs : List Pair) (lists : List (List Watch)) (trues : 
 
   module _ (watch : Watch) (v : IsVisiting held pairs lists trues reasons head l done (watch ∷ coming)) where
     -- a watch whose clause is true stays, with a true literal as its blocker
-    pub visiting_true : (b : Literal) → has (lits_at held watch.place) b ≡ true → has trues b ≡ true → IsVisiting held pairs lists trues reasons head l (done ++ record { place = watch.place; blocker = b } ∷ []) coming
-    visiting_true b here is =
-        let now : Watch = record { place = watch.place; blocker = b } in
+    pub visiting_true : (b t : Literal) → has (lits_at held watch.place) b ≡ true → has trues b ≡ true → (same t l ≡ false → IsShort (lits_at held watch.place) l b t) → IsVisiting held pairs lists trues reasons head l (done ++ record { place = watch.place; blocker = b; third = t } ∷ []) coming
+    visiting_true b t here is short =
+        let now : Watch = record { place = watch.place; blocker = b; third = t } in
         let split : (done ++ now ∷ []) ++ coming ≡ done ++ now ∷ coming = append_assoc done (now ∷ []) coming in
         let alike : (p : ℕ) → mentions (done ++ watch ∷ coming) p ≡ true → mentions ((done ++ now ∷ []) ++ coming) p ≡ true =
         λ p m. ap (λ ws. mentions ws p) split ∙ mentions-middle done coming now p ∙ sym (mentions-middle done coming watch p) ∙ m in
-        let place_in : watch.place < length held = (All-middle (IsSound held) done coming watch v.watched.sound_spare).0 in
+        let place_in : watch.place < length held = (All-middle (IsSound held l) done coming watch v.watched.sound_spare).0 in
         record {
           watched = record {
             long = v.watched.long;
@@ -125,7 +125,7 @@ module _ (held : Held) (pairs : List Pair) (lists : List (List Watch)) (trues : 
                   listed_more lists l (done ++ watch ∷ coming) ((done ++ now ∷ []) ++ coming) p (pair_at pairs p).second (alike p) both.1,
                 );
             sound = v.watched.sound;
-            sound_spare = subst (λ ws. All (IsSound held) ws) (sym split) (All-other (IsSound held) done coming watch now (place_in, here) v.watched.sound_spare);
+            sound_spare = subst (λ ws. All (IsSound held l) ws) (sym split) (All-other (IsSound held l) done coming watch now (place_in, here, short) v.watched.sound_spare);
           };
           taken_out = v.taken_out;
           queued = v.queued;
@@ -151,7 +151,7 @@ module _ (held : Held) (pairs : List Pair) (lists : List (List Watch)) (trues : 
             λ e. subst (λ k. same (pair_at pairs k).first (pair_at pairs k).second ≡ false → ((pair_at pairs k).first ≢ l) × ((pair_at pairs k).second ≢ l)) e others differ in
             (keep (pair_at pairs p).first (λ e. (own e).0) both.0, keep (pair_at pairs p).second (λ e. (own e).1) both.1);
         sound = v.watched.sound;
-        sound_spare = All-without (IsSound held) done coming watch v.watched.sound_spare;
+        sound_spare = All-without (IsSound held l) done coming watch v.watched.sound_spare;
       };
       taken_out = v.taken_out;
       queued = v.queued;
@@ -164,10 +164,10 @@ module _ (held : Held) (pairs : List Pair) (lists : List (List Watch)) (trues : 
     }
 
     -- the clause watches another literal, which is not false, in the place of l
-    module _ (o m : Literal) (d : Literal) (within : head < length trues) (is : l ≡ negated (get_or trues head d)) (false_l : has trues (negated l) ≡ true)
+    module _ (o m b t : Literal) (d : Literal) (within : head < length trues) (is : l ≡ negated (get_or trues head d)) (false_l : has trues (negated l) ≡ true)
         (differ : same (pair_at pairs watch.place).first (pair_at pairs watch.place).second ≡ false)
         (pair_is : (((pair_at pairs watch.place).first ≡ l) × ((pair_at pairs watch.place).second ≡ o)) ⊎ (((pair_at pairs watch.place).second ≡ l) × ((pair_at pairs watch.place).first ≡ o)))
-        (has_m : has (lits_at held watch.place) m ≡ true) (not_o : same m o ≡ false) (free : has trues (negated m) ≡ false) (inside_m : index_of m < length lists) where
+        (has_m : has (lits_at held watch.place) m ≡ true) (not_o : same m o ≡ false) (free : has trues (negated m) ≡ false) (has_b : has (lits_at held watch.place) b ≡ true) (short : same t m ≡ false → IsShort (lits_at held watch.place) m b t) (inside_m : index_of m < length lists) where
       abbrev pub place : ℕ
       place = watch.place
 
@@ -175,7 +175,7 @@ module _ (held : Held) (pairs : List Pair) (lists : List (List Watch)) (trues : 
       moved = record { first = o; second = m }
 
       abbrev pub now : Watch
-      now = record { place = watch.place; blocker = o }
+      now = record { place = watch.place; blocker = b; third = t }
 
       abbrev pub new_pairs : List Pair
       new_pairs = set pairs place moved
@@ -184,7 +184,7 @@ module _ (held : Held) (pairs : List Pair) (lists : List (List Watch)) (trues : 
       new_lists = set lists (index_of m) (list_at lists m ++ now ∷ [])
 
       place_in : place < length held
-      place_in = (All-middle (IsSound held) done coming watch v.watched.sound_spare).0
+      place_in = (All-middle (IsSound held l) done coming watch v.watched.sound_spare).0
 
       pair_here : pair_at new_pairs place ≡ moved
       pair_here = get_or-set_same pairs place moved (record { first = Plus 0; second = Plus 0 }) (omega (arith, place_in, v.watched.long))
@@ -278,10 +278,10 @@ module _ (held : Held) (pairs : List Pair) (lists : List (List Watch)) (trues : 
               (listed_other p e (pair_at pairs p).first both.0, listed_other p e (pair_at pairs p).second both.1))
               (cases_eq p place);
           sound = λ k. ⊎_elim
-              (λ e. subst (λ x. All (IsSound held) (list_at new_lists x)) (sym e) (subst (λ ws. All (IsSound held) ws) (sym list_here) (All-push (IsSound held) (list_at lists m) now (v.watched.sound m) (place_in, has_o))))
-              (λ e. subst (λ ws. All (IsSound held) ws) (sym (list_other k e)) (v.watched.sound k))
+              (λ e. subst (λ x. All (IsSound held x) (list_at new_lists x)) (sym e) (subst (λ ws. All (IsSound held m) ws) (sym list_here) (All-push (IsSound held m) (list_at lists m) now (v.watched.sound m) (place_in, has_b, short))))
+              (λ e. subst (λ ws. All (IsSound held k) ws) (sym (list_other k e)) (v.watched.sound k))
               (same_or_not m k);
-          sound_spare = All-without (IsSound held) done coming watch v.watched.sound_spare;
+          sound_spare = All-without (IsSound held l) done coming watch v.watched.sound_spare;
         };
         taken_out = list_other l (λ e. m_not_l (sym e)) ∙ v.taken_out;
         queued = record {
@@ -310,6 +310,10 @@ pair_found pairs i pair within is = same_at pairs i (record { first = Plus 0; se
 
 pub has_other : (clause : List Literal) (pair : Pair) (l o : Literal) → (has clause pair.first ≡ true) × (has clause pair.second ≡ true) → ((pair.first ≡ l) × (pair.second ≡ o)) ⊎ ((pair.second ≡ l) × (pair.first ≡ o)) → has clause o ≡ true
 has_other clause pair l o both is = ⊎_elim (λ h. subst (λ k. has clause k ≡ true) h.1 both.1) (λ h. subst (λ k. has clause k ≡ true) h.1 both.0) is
+
+-- each of a pair is in its clause
+pub has_own : (clause : List Literal) (pair : Pair) (l o : Literal) → (has clause pair.first ≡ true) × (has clause pair.second ≡ true) → ((pair.first ≡ l) × (pair.second ≡ o)) ⊎ ((pair.second ≡ l) × (pair.first ≡ o)) → has clause l ≡ true
+has_own clause pair l o both is = ⊎_elim (λ h. subst (λ k. has clause k ≡ true) h.0 both.0) (λ h. subst (λ k. has clause k ≡ true) h.0 both.1) is
 
 pub index_within : (m : Literal) (n room : ℕ) → variable_of m ≤ n → room ≡ 2 * (n + 1) → index_of m < room
 index_within (Plus x) n room h e = omega (arith, h, e)

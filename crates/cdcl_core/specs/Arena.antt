@@ -1,5 +1,5 @@
 -- What an arena of clauses is seen as.
-use Rattle.std.specs.Prelude.{◌≤◌, ℕ, List, ◌-◌, length, map, take, drop, All}
+use Rattle.std.specs.Prelude.{◌≡◌, ◌≤◌, ◌<◌, ◌+◌, ℕ, List, ◌-◌, length, map, take, drop, slice_index_or, All}
 use Rattle.lrat_model.specs.Literal.{Literal}
 use Rattle.lrat_model.specs.Clauses.{Held}
 use Rattle.cdcl_core.specs.declared.clauses.Place.{Place}
@@ -20,5 +20,11 @@ shown s = shown_in s.arena.items s.places.items
 abbrev pub IsWithin : ℕ → Place → Type 0
 IsWithin room place = (place.start ≤ place.end) × (place.end ≤ room)
 
-abbrev pub IsArena : Inside → Type 0
-IsArena s = All (IsWithin (length s.arena.items)) s.places.items
+-- the first ones have the ids from 1 on
+pub record IsDense (dense : ℕ) (places : List Place) : Type 0 where
+  pub bound : dense ≤ length places
+  pub ids : (p : ℕ) (d : Place) → p < dense → (slice_index_or places p d).id ≡ p + 1
+
+pub record IsArena (s : Inside) : Type 0 where
+  pub within : All (IsWithin (length s.arena.items)) s.places.items
+  pub dense : IsDense s.dense s.places.items

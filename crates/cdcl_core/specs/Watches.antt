@@ -47,9 +47,13 @@ IsKept visited trues clause pair = IsTrueIn trues clause ⊎ IsOpenPair visited 
 abbrev pub AreKept : Held → List Pair → List Literal → List Literal → Type 0
 AreKept held pairs visited trues = (p : ℕ) → p < length held → IsKept visited trues (lits_at held p) (pair_at pairs p)
 
--- the watch names a clause, and a literal of it
-abbrev pub IsSound : Held → Watch → Type 0
-IsSound held watch = (watch.place < length held) × (has (lits_at held watch.place) watch.blocker ≡ true)
+-- the clause has no literals but these three; the first and the last are in it
+abbrev pub IsShort : List Literal → Literal → Literal → Literal → Type 0
+IsShort clause l a b = (has clause l ≡ true) × (has clause b ≡ true) × ((m : Literal) → has clause m ≡ true → (m ≡ l) ⊎ (m ≡ a) ⊎ (m ≡ b))
+
+-- the watch of l names a clause, and a literal of it; where the third is not l again, the clause has no other literals than these
+abbrev pub IsSound : Held → Literal → Watch → Type 0
+IsSound held l watch = (watch.place < length held) × (has (lits_at held watch.place) watch.blocker ≡ true) × (same watch.third l ≡ false → IsShort (lits_at held watch.place) l watch.blocker watch.third)
 
 -- the clause at the place stands in the list of this literal, or in the one that was taken out, which is l's
 abbrev pub IsListed : List (List Watch) → Literal → List Watch → ℕ → Literal → Type 0
@@ -60,8 +64,8 @@ pub record IsWatched (held : Held) (pairs : List Pair) (lists : List (List Watch
   pub long : length pairs ≡ length held
   pub inside : (p : ℕ) → p < length held → (has (lits_at held p) (pair_at pairs p).first ≡ true) × (has (lits_at held p) (pair_at pairs p).second ≡ true)
   pub listed : (p : ℕ) → p < length held → same (pair_at pairs p).first (pair_at pairs p).second ≡ false → IsListed lists l spare p (pair_at pairs p).first × IsListed lists l spare p (pair_at pairs p).second
-  pub sound : (m : Literal) → All (IsSound held) (list_at lists m)
-  pub sound_spare : All (IsSound held) spare
+  pub sound : (m : Literal) → All (IsSound held m) (list_at lists m)
+  pub sound_spare : All (IsSound held l) spare
 
 -- before each decision, and at the head of the queue, each clause is true or watches two literals that are not false
 pub record IsQueued (held : Held) (pairs : List Pair) (trues : List Literal) (reasons : List ℕ) (head : ℕ) : Type 0 where

@@ -1,5 +1,5 @@
 //! Clauses with their ids, the literals in one arena.
-ghost use Rattle.std.specs.Prelude.{◌≡◌, ◌≢◌, ℕ, ◌<◌, ◌≤◌, ◌++◌, [], ◌∷◌, List, Some, All, AllPairs, OnOk, OnErr, length, slice_index_or};
+ghost use Rattle.std.specs.Prelude.{◌≡◌, ◌≢◌, ◌⊎◌, ℕ, ◌+◌, ◌<◌, ◌≤◌, ◌++◌, [], ◌∷◌, List, Some, All, AllPairs, OnOk, OnErr, length, slice_index_or};
 ghost use Rattle.std.specs.List.{AllWithin};
 ghost use Rattle.lrat_model.specs.Literal.{Literal};
 ghost use Rattle.lrat_model.specs.Clauses.{Held, clause_at};
@@ -17,11 +17,13 @@ pub struct Place {
     pub end: usize,
 }
 
-/// Clauses, seen as the list of their ids and literals.
+/// Clauses, seen as the list of their ids and literals. The first of them, so many as `dense` says, have the
+/// ids from 1 on: these ids are told without a look at the places.
 #[derive(Drop)]
 pub struct Clauses {
     arena: Vec<Lit>,
     places: Vec<Place>,
+    dense: usize,
 }
 
 impl Model for Clauses {
@@ -44,6 +46,7 @@ impl Clauses {
         Clauses {
             arena: Vec::new(alloc),
             places: Vec::new(alloc),
+            dense: 0,
         }
     }
 
@@ -59,7 +62,11 @@ impl Clauses {
         requires { place < length self.now }
         ensures { result ≡ id_at self.now place }
     {
-        self.places[place].id
+        if place < self.dense {
+            place as u64 + 1
+        } else {
+            self.places[place].id
+        }
     }
 
     /// The literals of the clause at a place.
@@ -91,6 +98,7 @@ impl Clauses {
     {
         let left = self.places.len() - 1;
         self.places.truncate(left);
+        self.dense = self.dense.min(left);
     }
 
     /// One more clause.
@@ -102,7 +110,20 @@ impl Clauses {
         self.arena.extend_from_slice(lits)?;
         let end = self.arena.len();
         self.places.push(Place { id, start, end })?;
+        self.dense = dense_with(self.dense, self.places.len(), id);
         Ok(())
+    }
+}
+
+/// How many clauses from the first on have the ids from 1 on, now that there are so many, the last under an id.
+fn dense_with(dense: usize, count: usize, id: u64) -> usize
+    requires { dense < count }
+    ensures { (result ≡ dense) ⊎ ((result ≡ count) × (dense + 1 ≡ count) × (id ≡ count)) }
+{
+    if dense + 1 == count && id == count as u64 {
+        count
+    } else {
+        dense
     }
 }
 

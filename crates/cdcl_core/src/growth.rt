@@ -9,7 +9,7 @@ ghost use Rattle.lrat_model.specs.declared.step.ClauseStatus.TheVariants.{Falsif
 ghost use Rattle.cdcl_core.specs.Guides.{IsGuide};
 ghost use Rattle.cdcl_core.specs.Search.{IsState};
 ghost use Rattle.cdcl_core.specs.Trail.{IsTrail, IsVariable};
-ghost use Rattle.cdcl_core.specs.Watches.{index_of, IsWatched, IsQueued};
+ghost use Rattle.cdcl_core.specs.Watches.{index_of, IsShort, IsWatched, IsQueued};
 
 use crate::clauses::Clauses;
 use crate::guide::Guide;
@@ -44,19 +44,20 @@ pub fn back(
 }
 
 /// Lets the clause at a place, the next that has none, watch two of its literals, one where it has no two
-/// that differ. A place takes 32 bits, since propagation waits for the load of watches: more clauses than
+/// that differ. O(its literals). A place takes 32 bits, since propagation waits for the load of watches: more clauses than
 /// these can name are want of memory.
 pub fn attach(
     pairs: &mut Vec<Pair>,
     lists: &mut WatchLists,
     place: usize,
+    lits: &[Lit],
     pair: Pair,
 ) -> Result<(), AllocError>
     requires inside_first { index_of pair.first < length lists.old }
     requires inside_second { index_of pair.second < length lists.old }
     ensures pairs { OnOk result (pairs.new.items ≡ pairs.old.items ++ pair ∷ []) }
     ensures lists { OnOk result (length lists.new ≡ length lists.old) }
-    ensures watched { OnOk result ((held : Held) (id : ℕ) (lits : List Literal) → length held ≡ place → has lits pair.first ≡ true → has lits pair.second ≡ true → ((l : Literal) → IsWatched held pairs.old.items lists.old l []) → (l : Literal) → IsWatched (held ++ (id, lits) ∷ []) pairs.new.items lists.new l []) }
+    ensures watched { OnOk result ((held : Held) (id : ℕ) → length held ≡ place → has lits.now pair.first ≡ true → has lits.now pair.second ≡ true → ((l : Literal) → IsWatched held pairs.old.items lists.old l []) → (l : Literal) → IsWatched (held ++ (id, lits.now) ∷ []) pairs.new.items lists.new l []) }
 {
     if place > u32::MAX as usize {
         return Err(AllocError);
@@ -67,14 +68,53 @@ pub fn attach(
     let watch = Watch {
         place,
         blocker: second,
+        third: third_of(lits, first, second),
     };
     lists.push(first, watch)?;
     let watch = Watch {
         place,
         blocker: first,
+        third: third_of(lits, second, first),
     };
     lists.push(second, watch)?;
     Ok(())
+}
+
+/// The last of a clause's literals beside these two, the second where it has no other; the first where it has
+/// more than three.
+fn third_of(lits: &[Lit], first: Lit, second: Lit) -> Lit
+    ensures { has lits.now first ≡ true → has lits.now second ≡ true → same result first ≡ false → IsShort lits.now first second result }
+{
+    let third = other_than(lits, first, second);
+    if are_three(lits, first, second, third) {
+        third
+    } else {
+        first
+    }
+}
+
+/// The first of a clause's literals that is none of these two, the second where it has no other.
+fn other_than(lits: &[Lit], first: Lit, second: Lit) -> Lit
+    ensures { has lits.now second ≡ true → has lits.now result ≡ true }
+{
+    for m in lits {
+        if !m.same(first) && !m.same(second) {
+            return *m;
+        }
+    }
+    second
+}
+
+/// Whether a clause has no more than these literals.
+fn are_three(lits: &[Lit], first: Lit, second: Lit, third: Lit) -> bool
+    ensures { result ≡ true → (m : Literal) → has lits.now m ≡ true → (m ≡ first) ⊎ (m ≡ second) ⊎ (m ≡ third) }
+{
+    for m in lits {
+        if !m.same(first) && !m.same(second) && !m.same(third) {
+            return false;
+        }
+    }
+    true
 }
 
 /// Holds a lemma under the id after the last, and logs it. Where memory runs out neither is done.
@@ -165,7 +205,7 @@ pub fn watch_next(
 {
     match two_free(assignment, lits) {
         Free::Two(first, second) => {
-            attach(pairs, lists, pairs.len(), Pair { first, second })?;
+            attach(pairs, lists, pairs.len(), lits, Pair { first, second })?;
             Ok(true)
         }
         Free::One(l) => {
@@ -173,7 +213,7 @@ pub fn watch_next(
                 first: l,
                 second: l,
             };
-            attach(pairs, lists, pairs.len(), pair)?;
+            attach(pairs, lists, pairs.len(), lits, pair)?;
             if !assignment.is_true(l) {
                 assignment.make_true(l);
                 reasons.push(id)?;

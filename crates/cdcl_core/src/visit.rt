@@ -7,7 +7,8 @@ ghost use Rattle.lrat_model.specs.declared.step.ClauseStatus.TheVariants.{Falsif
 ghost use Rattle.cdcl_core.specs.Fixpoint.{IsConflict};
 ghost use Rattle.cdcl_core.specs.Search.{IsState};
 ghost use Rattle.cdcl_core.specs.Trail.{InRange};
-ghost use Rattle.cdcl_core.specs.Watches.{id_at, lits_at, pair_at, IsSound, IsVisiting};
+ghost use Rattle.cdcl_core.specs.Watches.{id_at, lits_at, pair_at, IsShort, IsSound, IsVisiting};
+ghost use Rattle.cdcl_core.specs.Sights.{IsSeen};
 
 use crate::clauses::Clauses;
 use crate::watches::{Pair, Watch, WatchLists};
@@ -45,10 +46,105 @@ fn find_free(assignment: &Assignment, clause: &[Lit], other: Lit) -> Option<Lit>
     None
 }
 
-/// What becomes of a watch: it stays, with this blocker; it goes; or the clause of this id is false.
+/// What is seen of a clause that watches a literal which became false: it is true by this literal; it watches
+/// other literals; beside the first it may watch the second, with this blocker and third literal; it forces
+/// a literal; or it is false. With a literal that is or becomes true goes the third of the watch.
+#[derive(Clone, Copy)]
+pub enum Sight {
+    Holds(Lit, Lit),
+    Stale,
+    Moves(Lit, Lit, Lit, Lit),
+    Forces(Lit, Lit),
+    Fails,
+}
+
+/// Looks at a clause that watches a false literal. Clauses of up to three literals, most of those that are
+/// given, are told by the watch alone, since propagation waits for memory.
+fn look(clauses: &Clauses, pairs: &[Pair], assignment: &Assignment, l: Lit, watch: Watch) -> Sight
+    requires range { (m : Literal) → has (lits_at clauses.now watch.place) m ≡ true → variable_of m ≤ assignment.now.vars }
+    requires sound { IsSound clauses.now l watch }
+    requires long { length pairs.now ≡ length clauses.now }
+    requires false_now { has assignment.now.trues (negated l) ≡ true }
+    requires inside { (has (lits_at clauses.now watch.place) (pair_at pairs.now watch.place).first ≡ true) × (has (lits_at clauses.now watch.place) (pair_at pairs.now watch.place).second ≡ true) }
+    ensures { IsSeen assignment.now.trues (lits_at clauses.now watch.place) (pair_at pairs.now watch.place) l result }
+{
+    if assignment.is_true(watch.blocker) {
+        return Sight::Holds(watch.blocker, watch.third);
+    }
+    let place = watch.place as usize;
+    if watch.third.same(l) {
+        look_long(clauses.lits(place), pairs[place], assignment, l)
+    } else {
+        look_short(pairs, place, assignment, l, watch.blocker, watch.third)
+    }
+}
+
+/// The same of a clause of which the watch has not all literals. O(its literals).
+fn look_long(clause: &[Lit], pair: Pair, assignment: &Assignment, l: Lit) -> Sight
+    requires range { (m : Literal) → has clause.now m ≡ true → variable_of m ≤ assignment.now.vars }
+    requires inside { (has clause.now pair.first ≡ true) × (has clause.now pair.second ≡ true) }
+    ensures { IsSeen assignment.now.trues clause.now pair l result }
+{
+    let Some(other) = other_of(pair, l) else {
+        return Sight::Stale;
+    };
+    if assignment.is_true(other) {
+        return Sight::Holds(other, l);
+    }
+    if let Some(m) = find_free(assignment, clause, other) {
+        return Sight::Moves(other, m, other, m);
+    }
+    if assignment.is_true(other.negated()) {
+        return Sight::Fails;
+    }
+    Sight::Forces(other, l)
+}
+
+/// The same of a clause that has no more literals than l and these two, of which the first is not true. O(1).
+fn look_short(
+    pairs: &[Pair],
+    place: usize,
+    assignment: &Assignment,
+    l: Lit,
+    a: Lit,
+    b: Lit,
+) -> Sight
+    requires place { place < length pairs.now }
+    requires range_a { variable_of a ≤ assignment.now.vars }
+    requires range_b { variable_of b ≤ assignment.now.vars }
+    requires false_now { has assignment.now.trues (negated l) ≡ true }
+    requires not_true { has assignment.now.trues a ≡ false }
+    ensures { (clause : List Literal) → has clause a ≡ true → IsShort clause l a b → IsSeen assignment.now.trues clause (pair_at pairs.now place) l result }
+{
+    if assignment.is_true(b) {
+        return Sight::Holds(b, a);
+    }
+    if assignment.is_true(b.negated()) {
+        if assignment.is_true(a.negated()) {
+            return Sight::Fails;
+        }
+        return Sight::Forces(a, b);
+    }
+    if assignment.is_true(a.negated()) {
+        return Sight::Forces(b, a);
+    }
+    if b.same(a) {
+        return Sight::Forces(a, b);
+    }
+    let Some(other) = other_of(pairs[place], l) else {
+        return Sight::Stale;
+    };
+    if a.same(other) {
+        Sight::Moves(other, b, a, l)
+    } else {
+        Sight::Moves(other, a, b, l)
+    }
+}
+
+/// What becomes of a watch: it stays, with this blocker and third literal; it goes; or the clause of this id is false.
 #[derive(Clone, Copy)]
 pub enum Seen {
-    Stays(Lit),
+    Stays(Lit, Lit),
     Goes,
     Conflict(u64),
 }
@@ -67,7 +163,7 @@ pub fn visit(
     requires range { InRange assignment.old.vars clauses.now }
     requires ids { (p : ℕ) → p < length clauses.now → (0 < id_at clauses.now p) × (id_at clauses.now p < 2 ^ 63) × (clause_at clauses.now (id_at clauses.now p) ≡ Some (lits_at clauses.now p)) }
     requires state { IsState assignment.old.vars clauses.now assignment.old.trues reasons.old.items }
-    requires sound { IsSound clauses.now watch }
+    requires sound { IsSound clauses.now l watch }
     requires long { length pairs.old ≡ length clauses.now }
     requires lists { length lists.old ≡ 2 * (assignment.old.vars + 1) }
     requires false_now { has assignment.old.trues (negated l) ≡ true }
@@ -77,39 +173,33 @@ pub fn visit(
     ensures lists { OnOk result (length lists.new ≡ length lists.old) }
     ensures state { OnOk result (IsState assignment.old.vars clauses.now assignment.new.trues reasons.new.items) }
     ensures longer { OnOk result ((more : List Literal) × (assignment.new.trues ≡ assignment.old.trues ++ more)) }
-    ensures stays { (b : Literal) → result ≡ Ok (Seen.Stays b) → (head : ℕ) (d : Literal) (done coming : List Watch) → head < length assignment.old.trues → l ≡ negated (slice_index_or assignment.old.trues head d) → IsVisiting clauses.now pairs.old lists.old assignment.old.trues reasons.old.items head l done (watch ∷ coming) → IsVisiting clauses.now pairs.new lists.new assignment.new.trues reasons.new.items head l (done ++ record { place = watch.place; blocker = b } ∷ []) coming }
+    ensures stays { (b t : Literal) → result ≡ Ok (Seen.Stays b t) → (head : ℕ) (d : Literal) (done coming : List Watch) → head < length assignment.old.trues → l ≡ negated (slice_index_or assignment.old.trues head d) → IsVisiting clauses.now pairs.old lists.old assignment.old.trues reasons.old.items head l done (watch ∷ coming) → IsVisiting clauses.now pairs.new lists.new assignment.new.trues reasons.new.items head l (done ++ record { place = watch.place; blocker = b; third = t } ∷ []) coming }
     ensures goes { result ≡ Ok Seen.Goes → (head : ℕ) (d : Literal) (done coming : List Watch) → head < length assignment.old.trues → l ≡ negated (slice_index_or assignment.old.trues head d) → IsVisiting clauses.now pairs.old lists.old assignment.old.trues reasons.old.items head l done (watch ∷ coming) → IsVisiting clauses.now pairs.new lists.new assignment.new.trues reasons.new.items head l done coming }
     ensures conflict { (id : ℕ) → result ≡ Ok (Seen.Conflict id) → IsConflict clauses.now assignment.new.trues id × (pairs.new ≡ pairs.old) × (lists.new ≡ lists.old) × (assignment.new.trues ≡ assignment.old.trues) × (reasons.new.items ≡ reasons.old.items) }
 {
-    if assignment.is_true(watch.blocker) {
-        return Ok(Seen::Stays(watch.blocker));
+    let place = watch.place;
+    match look(clauses, pairs, assignment, l, watch) {
+        Sight::Holds(blocker, third) => Ok(Seen::Stays(blocker, third)),
+        Sight::Stale => Ok(Seen::Goes),
+        Sight::Moves(other, free, blocker, third) => {
+            let moved = Watch {
+                place,
+                blocker,
+                third,
+            };
+            lists.push(free, moved)?;
+            pairs[place as usize] = Pair {
+                first: other,
+                second: free,
+            };
+            Ok(Seen::Goes)
+        }
+        Sight::Forces(forced, third) => {
+            let id = clauses.id(place as usize);
+            assignment.make_true(forced);
+            reasons.push(id)?;
+            Ok(Seen::Stays(forced, third))
+        }
+        Sight::Fails => Ok(Seen::Conflict(clauses.id(place as usize))),
     }
-    let Some(other) = other_of(pairs[watch.place as usize], l) else {
-        return Ok(Seen::Goes);
-    };
-    if assignment.is_true(other) {
-        return Ok(Seen::Stays(other));
-    }
-    let clause = clauses.lits(watch.place as usize);
-    if let Some(m) = find_free(assignment, clause, other) {
-        lists.push(
-            m,
-            Watch {
-                place: watch.place,
-                blocker: other,
-            },
-        )?;
-        pairs[watch.place as usize] = Pair {
-            first: other,
-            second: m,
-        };
-        return Ok(Seen::Goes);
-    }
-    let id = clauses.id(watch.place as usize);
-    if assignment.is_true(other.negated()) {
-        return Ok(Seen::Conflict(id));
-    }
-    assignment.make_true(other);
-    reasons.push(id)?;
-    Ok(Seen::Stays(other))
 }

@@ -15,11 +15,14 @@ pub struct Pair {
     pub second: Lit,
 }
 
-/// A clause by its place, and one of its literals: while that is true, the clause need not be looked at.
+/// A clause by its place, and one of its literals: while that is true, the clause need not be looked at. Of a
+/// clause of up to three literals the watch has all, the last as the third, so that it is never looked at; of a
+/// longer one the third is the watched literal once more.
 #[derive(Clone, Copy)]
 pub struct Watch {
     pub place: u32,
     pub blocker: Lit,
+    pub third: Lit,
 }
 
 /// For each literal a list, seen as the list of these lists.

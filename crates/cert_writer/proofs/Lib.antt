@@ -4,11 +4,16 @@ pub mod Names
 pub mod Places
 pub mod Headers
 pub mod Raised
+pub mod RaisedOrder
 pub mod Pairs
 pub mod StepLines
 pub mod Runs
 pub mod LogLaws
+pub mod SetLines
+pub mod ListRuns
+pub mod ListLaws
 pub mod WritingLaws
 pub mod TextSteps
 pub mod Ends
 pub mod Found
+pub mod ListFound

@@ -21,7 +21,6 @@ use Rattle.lrat_text.specs.Left.{spaced}
 use Rattle.lrat_text.proofs.TextLaws.{id_back}
 use Rattle.lrat_text.proofs.BackLaws.{step_back}
 use Rattle.cdcl_core.specs.Log.{AreLemmas, units}
-use Rattle.clause_encoder.specs.Formula.{formula}
 use Rattle.certificate_file.specs.Formulas.{formula_of}
 use Rattle.cert_lines.specs.Saying.{number_in, counts_in}
 use Rattle.certificate_file.specs.Acceptance.{take_line, checked, steps_from}
@@ -49,7 +48,7 @@ fine_literals : (o p : Option StepFault) → option_or o p ≡ None → o ≡ No
 fine_literals None p e = refl
 fine_literals (Some fault) p e = absurd cc
 
-literals_of : (vars : ℕ) (old : Database) (id : ℕ) (lits : List Literal) (hints : List ℤ) → step_fault vars old (Addition id lits hints) ≡ None → literal_fault vars [] lits ≡ None
+pub literals_of : (vars : ℕ) (old : Database) (id : ℕ) (lits : List Literal) (hints : List ℤ) → step_fault vars old (Addition id lits hints) ≡ None → literal_fault vars [] lits ≡ None
 literals_of vars old id lits hints e = elim (cases_Bool (nat_le id old.last)) [
   | inl low ↦ let k = rw low at e in absurd cc
   | inr above ↦ fine_literals (literal_fault vars [] lits) _ (rw above at e)
@@ -119,7 +118,7 @@ lines-split : (xs : List ProofStep) (y : ProofStep) (zs : List Text) → map lin
 lines-split [] y zs = refl
 lines-split (x ∷ xs) y zs = ap (λ (ls : List Text). line_of x ∷ ls) (lines-split xs y zs)
 
-front_all : {A : Type 0} (P : A → Type 0) (xs : List A) (y : A) → AllByRecursion P (xs ++ y ∷ []) → AllByRecursion P xs × P y
+pub front_all : {A : Type 0} (P : A → Type 0) (xs : List A) (y : A) → AllByRecursion P (xs ++ y ∷ []) → AllByRecursion P xs × P y
 front_all P [] y all = (tt, all.0)
 front_all P (x ∷ xs) y all = let rest = front_all P xs y all.1 in ((all.0, rest.0), rest.1)
 

@@ -11,8 +11,8 @@ use Rattle.std.proofs.lemmas.Cmp.{tied_itself, nat_list_cmp_total}
 use Rattle.fbas_model.specs.Nodes.{Table}
 use Rattle.fbas_model.specs.Names.{Name, name_cmp, is_key, is_key_byte, is_among, marks}
 use Rattle.fbas_model.specs.Restriction.{kept}
-use Rattle.cert_lines.specs.Words.{Word, is_name, is_name_byte, is_rising, names_after}
-use Rattle.certificate_file.specs.Acceptance.{all_among, named}
+use Rattle.cert_lines.specs.Words.{Word, is_name, is_name_byte, is_rising, names_in, names_after}
+use Rattle.certificate_file.specs.Acceptance.{all_among, nodes_of, named}
 use Rattle.cert_writer.specs.Texts.{listed}
 use Rattle.cert_writer.proofs.Words.{IsWordByte, IsWord, AreWords, same_text, names_after-worded}
 
@@ -150,6 +150,17 @@ among-kept all (false ∷ set) (n ∷ names) are = among-kept all set names are.
 pub record AreNames (names : List Name) : Type 0 where
   pub keys : AreKeys names
   pub sorted : IsStrictlySortedBy name_cmp names
+
+pub names_in-kept : (names : List Name) (set : Table) → AreNames names → names_in (kept set names) ≡ Some (kept set names)
+names_in-kept names set are =
+    let keys = keys-kept set names are.keys in
+    rw (named-keys (kept set names) keys, rising-sorted (kept set names) (kept_sorted set names are.sorted)) refl
+
+pub nodes_of-kept : (names : List Name) (l : ℕ) (set : Table) → AreNames names → length set ≡ length names → nodes_of names l (kept set names) ≡ Ok set
+nodes_of-kept names l set are size = rw (among-kept names set names (among_themselves names), marks-kept set names size are.sorted) refl
+
+pub names-kept : (set : Table) (names : List Name) → AreNames names → AreNames (kept set names)
+names-kept set names are = record { keys = keys-kept set names are.keys; sorted = kept_sorted set names are.sorted }
 
 pub names_after-listed : (word : Word) (names : List Name) (set : Table) → IsWord word → AreNames names → names_after word (listed word names set) ≡ Some (kept set names)
 names_after-listed word names set is are =

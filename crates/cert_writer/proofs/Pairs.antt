@@ -1,5 +1,5 @@
 -- A pair that is written is accepted.
-use Rattle.std.proofs.Common.{◌≡◌, ℕ, ◌+◌, ◌≤◌, ◌<◌, List, ◌++◌, length, true, false, not, nat_lt, Option, Some, None, Ok, refl, sym, ◌∙◌, ap, subst, arith, codes, inl, inr, IfSome}
+use Rattle.std.proofs.Common.{◌≡◌, ℕ, ◌≤◌, ◌<◌, List, ◌++◌, length, true, false, not, nat_lt, Option, Some, None, Ok, refl, sym, ◌∙◌, ap, subst, arith, codes, inl, inr, IfSome}
 use Rattle.std.proofs.lemmas.Bool.{cases_lt, and_parts, and_from, ltb-true, or_cases, or_right}
 use Rattle.hex.specs.Hex.{IsBytes}
 use Rattle.fbas_model.specs.Nodes.{Nodes, Table, members, size, ◌∈◌, ◌⊆◌, ◌∪◌, IsLeast, Meets}
@@ -21,7 +21,7 @@ use Rattle.cert_writer.proofs.Raised.{spread, length-spread, kept-spread, nodes-
 use Rattle.fbas_model.proofs.Kept.{ranked}
 use Rattle.fbas_model.proofs.Renumbered.{length-restricted_sets}
 use Rattle.std.specs.List.Sorted.{IsStrictlySortedBy}
-use Rattle.certificate_file.specs.Acceptance.{within, quorum, take_line, checked}
+use Rattle.certificate_file.specs.Acceptance.{within, take_line, checked}
 use Rattle.certificate_file.specs.Meaning.{part_from}
 use Rattle.certificate_file.specs.declared.places.Header.{Header}
 use Rattle.certificate_file.specs.declared.places.Subject.{Subject}
@@ -106,7 +106,7 @@ not_below x y h = grind (arith, nat_tests)
 in_spread : (part p : Table) (v k : ℕ) → members part v ≡ true → rank part v ≡ k → members p k ≡ true → members (spread part p) v ≡ true
 in_spread part p v k here at m = ap (λ (s : Nodes). s v) (nodes-spread part p) ∙ and_from (members part v) (members p (rank part v)) here (ap (members p) at ∙ m)
 
-out_spread : (part p : Table) (v : ℕ) → members (spread part p) v ≡ true → (members part v ≡ true) × (members p (rank part v) ≡ true)
+pub out_spread : (part p : Table) (v : ℕ) → members (spread part p) v ≡ true → (members part v ≡ true) × (members p (rank part v) ≡ true)
 out_spread part p v m = and_parts (members part v) (members p (rank part v)) (sym (ap (λ (s : Nodes). s v) (nodes-spread part p)) ∙ m)
 
 -- the least node of the first set is not above that of the second

@@ -1,5 +1,5 @@
 -- Steps that are written are taken.
-use Rattle.std.proofs.Common.{◌≡◌, ℕ, ◌+◌, ◌<◌, List, [], ◌∷◌, ◌++◌, length, map, Bool, false, not, ◌==◌, None, Ok, cond, inl, inr, refl, sym, ◌∙◌, ap, subst, arith, codes, ℤ}
+use Rattle.std.proofs.Common.{◌≡◌, ℕ, ◌+◌, ◌<◌, List, [], ◌∷◌, ◌++◌, length, map, Bool, false, ◌==◌, None, Ok, cond, inl, inr, refl, sym, ◌∙◌, ap, subst, arith, codes, ℤ}
 use Rattle.std.specs.List.{AllByRecursion}
 use Rattle.std.specs.Str.{bytes_eq}
 use Rattle.std.proofs.lemmas.Bool.{cases_Bool, ne_eqb}
@@ -34,7 +34,7 @@ abbrev pub IsGoing : ProofStep → Type 0
 IsGoing step = progress_of step ≡ going
 
 -- no step's line is `end`
-not_end : (step : ProofStep) → IsRead step → bytes_eq (line_of step) (codes "end") ≡ false
+pub not_end : (step : ProofStep) → IsRead step → bytes_eq (line_of step) (codes "end") ≡ false
 not_end step read = elim (cases_Bool (bytes_eq (line_of step) (codes "end"))) [
   | inr e ↦ e
   | inl e ↦
@@ -77,7 +77,7 @@ run_split vars old new (step ∷ log) last run = let rest = run_split vars (afte
 -- ---- a partial certificate
 
 -- a lemma that is new is not covered
-new_uncovered : (held : Held) (id : ℕ) (lits : List Literal) → IsNew held lits → is_covered held id lits ≡ false
+pub new_uncovered : (held : Held) (id : ℕ) (lits : List Literal) → IsNew held lits → is_covered held id lits ≡ false
 new_uncovered held id lits new = elim (cases_Bool (is_covered held id lits)) [
   | inr e ↦ e
   | inl e ↦ let c = covered-to held id lits e in absurd (new c.0 c.1 c.3 c.4)
@@ -89,7 +89,7 @@ unfolding take_line
 lemma_taken f d h vars old n l id lits hints read on fault new =
     rw (not_end (Addition id lits hints) read, read, on, fault, new_uncovered old.held id lits new) refl
 
-going_long : (lits : List Literal) → progress_at lits ≡ going → (0 < length lits) × ((length lits == 0) ≡ false)
+pub going_long : (lits : List Literal) → progress_at lits ≡ going → (0 < length lits) × ((length lits == 0) ≡ false)
 going_long [] e = absurd cc
 going_long (l ∷ lits) e = (omega arith, ne_eqb (length (l ∷ lits)) 0 (λ k. omega arith))
 

@@ -71,24 +71,31 @@ length-spaced-append (x ∷ xs) ys = let e = length-spaced-append xs ys in omega
 zero_word : IsWord (codes "0")
 zero_word = is_word (codes "0") refl
 
+-- the words behind the id of a lemma
+abbrev pub lemma_words : List Literal → List ℤ → List Word
+lemma_words lits hints = map literal_text lits ++ codes "0" ∷ (map signed_decimal hints ++ codes "0" ∷ [])
+
+pub words_lemma : (lits : List Literal) (hints : List ℤ) → AllByRecursion IsHint hints → AllByRecursion IsLiteral lits → AreWords (lemma_words lits hints)
+words_lemma lits hints hs ls =
+    words-append (map literal_text lits) (codes "0" ∷ (map signed_decimal hints ++ codes "0" ∷ [])) (literal_words lits ls).0 (zero_word, words-append (map signed_decimal hints) (codes "0" ∷ []) (hint_words hints hs).0 (zero_word, tt))
+
+pub line_words : (id : ℕ) (lits : List Literal) (hints : List ℤ) → line_of (Addition id lits hints) ≡ decimal id ++ spaced (lemma_words lits hints)
+line_words id lits hints = joined_words (decimal id) (lemma_words lits hints)
+
 -- the line of a lemma with so few literals and hints
 pub line_addition : (id : ℕ) (lits : List Literal) (hints : List ℤ) → IsId id → AllByRecursion IsHint hints → AllByRecursion IsLiteral lits → length lits ≤ 4000001 → length hints ≤ 4000001 → IsLine (line_of (Addition id lits hints))
 line_addition id lits hints is hs ls few_lits few_hints =
     let ends : List Word = codes "0" ∷ [] in
     let tail : List Word = map signed_decimal hints ++ ends in
-    let rest : List Word = map literal_text lits ++ codes "0" ∷ tail in
-    let l = literal_words lits ls in
-    let h = hint_words hints hs in
-    let same : line_of (Addition id lits hints) ≡ decimal id ++ spaced rest = joined_words (decimal id) rest in
+    let rest : List Word = lemma_words lits hints in
     let first : IsWord (decimal id) = decimal_word id (omega (arith, is.1)) in
-    let words : AreWords rest = words-append (map literal_text lits) (codes "0" ∷ tail) l.0 (zero_word, words-append (map signed_decimal hints) ends h.0 (zero_word, tt)) in
     let head : length (decimal id) ≤ 19 = length-decimal-le 19 id (omega arith) (omega (arith, is.1)) (omega (arith, is.1)) in
-    let a = length-spaced_short (map literal_text lits) l.1 in
-    let b = length-spaced_long (map signed_decimal hints) h.1 in
+    let a = length-spaced_short (map literal_text lits) (literal_words lits ls).1 in
+    let b = length-spaced_long (map signed_decimal hints) (hint_words hints hs).1 in
     let c = length-spaced-append (map literal_text lits) (codes "0" ∷ tail) in
     let e = length-spaced-append (map signed_decimal hints) ends in
     let total : length (decimal id ++ spaced rest) ≤ MAX_LINE_BYTES = omega (arith, a, b, c, e, length-append (decimal id) (spaced rest), length-map lits literal_text, length-map hints signed_decimal) in
-    subst IsLine (sym same) (record { plain = plain-worded (decimal id) rest first words; short = total })
+    subst IsLine (sym (line_words id lits hints)) (record { plain = plain-worded (decimal id) rest first (words_lemma lits hints hs ls); short = total })
 
 -- ---- few literals: a lemma that is taken has each variable once
 

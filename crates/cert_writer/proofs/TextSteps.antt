@@ -15,7 +15,9 @@ use Rattle.std.specs.Fmt.{decimal}
 use Rattle.lrat_model.specs.Steps.{ProofStep}
 use Rattle.lrat_text.specs.Texts.{line_of}
 use Rattle.certificate_file.specs.declared.places.Aim.{Aim}
-use Rattle.cert_writer.specs.Texts.{Text, joined, name_if_any, header_lines, pair_front, kind_of, log_front}
+use Rattle.list_journal.specs.Journals.{JournalLine}
+use Rattle.list_journal.specs.declared.kinds.ListKind.{ListKind}
+use Rattle.cert_writer.specs.Texts.{Text, joined, name_if_any, header_lines, pair_front, kind_of, log_front, set_line, journal_line, list_kind_of, list_front}
 
 pub spaced-append : (xs ys : List Text) → spaced (xs ++ ys) ≡ spaced xs ++ spaced ys
 spaced-append [] ys = refl
@@ -63,3 +65,17 @@ lines_rest {A = A} line xs i =
     sym (joined-append (map line (take i xs)) (map line (drop i xs)))
     ∙ ap joined (sym (map-append line (take i xs) (drop i xs)))
     ∙ ap (λ (ys : List A). joined (map line ys)) (take-append-drop i xs)
+
+pub set_text : (letter id : ℕ) (names : List Name) (set : Table) → (((letter ∷ []) ++ 32 ∷ decimal id) ++ spaced (kept set names)) ++ 10 ∷ [] ≡ set_line (letter ∷ []) id names set ++ 10 ∷ []
+set_text letter id names set = simp (append_assoc, append-nil)
+
+-- one line more
+pub lines_push : {A : Type 0} (line : A → Text) (xs : List A) (x : A) → joined (map line xs) ++ (line x ++ 10 ∷ []) ≡ joined (map line (xs ++ x ∷ []))
+lines_push line xs x = sym (ap joined (map-append line xs (x ∷ [])) ∙ joined-append (map line xs) (line x ∷ []))
+
+-- lines that are left
+pub lines_left : {A : Type 0} (line : A → Text) (xs ys zs : List A) → xs ++ ys ≡ zs → joined (map line xs) ++ joined (map line ys) ≡ joined (map line zs)
+lines_left {A = A} line xs ys zs is = sym (joined-append (map line xs) (map line ys)) ∙ ap joined (sym (map-append line xs ys)) ∙ ap (λ (all : List A). joined (map line all)) is
+
+pub list_text : (kind : ListKind) (names : List Name) (journal : List JournalLine) → (list_kind_of kind ++ codes "\n") ++ joined (map (journal_line names) journal) ≡ joined (list_front names kind journal)
+list_text kind names journal = simp (append_assoc, append-nil)

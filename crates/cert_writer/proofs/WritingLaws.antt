@@ -1,5 +1,5 @@
 -- Texts written one after another.
-use Rattle.std.proofs.Common.{◌≡◌, ℕ, ◌+◌, ◌-◌, ◌<◌, ◌≤◌, take, drop, take-append-drop, length-drop, Bool, true, false, List, [], ◌++◌, length, IsTrue, MatchBool, inl, inr, refl, sym, ◌∙◌, ap, subst, arith, append_assoc, length-append}
+use Rattle.std.proofs.Common.{◌≡◌, ℕ, ◌+◌, ◌<◌, ◌≤◌, take, drop, take-append-drop, length-drop, Bool, true, false, List, [], ◌++◌, length, IsTrue, MatchBool, inl, inr, refl, sym, ◌∙◌, ap, subst, arith, append_assoc, length-append}
 use Rattle.std.proofs.lemmas.List.{append-nil}
 use Rattle.desk_io.specs.State.{DeskState, written, CannotPut}
 use Rattle.desk_io.specs.Faults.{Faults, Rose}

@@ -2,3 +2,4 @@ pub mod Texts
 pub mod Writing
 pub mod Promises
 pub mod Finding
+pub mod Listing

@@ -1,16 +1,22 @@
 -- What is asked of a certificate that is written, and what is out then.
-use Rattle.std.specs.Prelude.{◌≡◌, ℕ, ◌+◌, ◌<◌, ◌≤◌, List, length, take, All, IsTrue, Option, Some, None, IfSome}
+use Rattle.std.specs.Prelude.{◌≡◌, ℕ, ◌+◌, ◌<◌, ◌≤◌, List, map, length, take, All, IsTrue, Option, Some, None, IfSome}
 use Rattle.desk_io.specs.State.{DeskState, written, CannotPut}
 use Rattle.desk_io.specs.declared.desk.To.TheVariants.{Cert}
-use Rattle.fbas_model.specs.Nodes.{Table}
+use Rattle.fbas_model.specs.Nodes.{Table, members, size}
 use Rattle.fbas_model.specs.Systems.{System}
 use Rattle.fbas_model.specs.Restriction.{kept, restricted, closure_of}
+use Rattle.greatest_quorum.specs.Greatest.{greatest_of}
 use Rattle.lrat_model.specs.Steps.{ProofStep, Database}
 use Rattle.lrat_model.specs.Runs.{Run}
 use Rattle.lrat_text.specs.Texts.{IsId, HasNumbers, HasLiterals}
 use Rattle.cdcl_core.specs.Log.{AreLemmas, EndsEmpty, HasNoEmptyLemma, units}
 use Rattle.witness_pair.specs.Making.{shared}
 use Rattle.witness_pair.specs.declared.Pair.{Pair}
+use Rattle.list_journal.specs.Journals.{JournalLine, nothing_held, JournalRun, IsOpen, EndsRefuted, blocking_sets, journal_units}
+use Rattle.list_journal.specs.Order.{ordered}
+use Rattle.list_journal.specs.declared.kinds.ListKind.{ListKind}
+use Rattle.list_journal.specs.declared.kinds.ListKind.TheVariants as kind
+use Rattle.blocking_lists.specs.Lines.{HasLineNumbers, HasFewWords}
 use Rattle.certificate_file.specs.Formulas.{formula_of}
 use Rattle.certificate_file.specs.Meaning.{part_from}
 use Rattle.certificate_file.specs.declared.places.Header.{Header}
@@ -18,7 +24,7 @@ use Rattle.certificate_file.specs.declared.places.Subject.{Subject}
 use Rattle.certificate_file.specs.declared.places.Aim.{Aim}
 use Rattle.certificate_file.specs.declared.places.Aim.TheVariants as aim
 use Rattle.certificate_file.specs.declared.places.Answer.{Answer}
-use Rattle.certificate_file.specs.declared.places.Answer.TheVariants.{Refutation, Partial}
+use Rattle.certificate_file.specs.declared.places.Answer.TheVariants.{Refutation, Partial, Blocking, PartialBlocking}
 use Rattle.cert_writer.specs.Texts.{raised_table}
 use Rattle.cert_lines.specs.declared.lines.TheConstants.{MAX_LINES}
 use Rattle.clause_encoder.specs.declared.limits.TheConstants.{MOST_VARS}
@@ -68,6 +74,29 @@ pub record IsLogOf (f : System) (h : Header) (to : Aim) (vars clauses : ℕ) (lo
   pub literals : All HasLiterals log
   pub few : length log + 7 ≤ MAX_LINES
   pub ends : EndsAs to log
+
+-- sets of the part, by the numbers of the whole system
+abbrev pub raised_sets : System → Header → List Table → List Table
+raised_sets f h sets = map (raised_table (part_from f h.from)) sets
+
+-- how the journal of a list ends: with the empty lemma, or without one
+abbrev pub ListEndsAs : ListKind → List JournalLine → Type 0
+ListEndsAs kind.Whole journal = EndsRefuted journal
+ListEndsAs kind.Partial journal = IsOpen journal
+
+-- what its certificate shows: the blocking sets in name order, or the units of its lines
+abbrev pub shown_by_list : System → Header → ListKind → List JournalLine → Answer
+shown_by_list f h kind.Whole journal = Blocking (ordered (raised_sets f h (blocking_sets journal)))
+shown_by_list f h kind.Partial journal = PartialBlocking (journal_units journal)
+
+-- a journal of a list of the part, by the variables of the part's greatest quorum
+pub record IsJournalOf (f : System) (h : Header) (kind : ListKind) (journal : List JournalLine) : Type 0 where
+  pub new : Database
+  pub run : JournalRun kind (part_of f h.from).sets (members (faulty_in f h)) (greatest_of (part_of f h.from).sets (faulty_in f h)) nothing_held journal new
+  pub numbers : All HasLineNumbers journal
+  pub few_words : All (HasFewWords (size (greatest_of (part_of f h.from).sets (faulty_in f h)))) journal
+  pub few : length journal + 6 ≤ MAX_LINES
+  pub ends : ListEndsAs kind journal
 
 -- a proper prefix of the text is put; on a plain desk no file was created, or there was no room for another buffer
 pub record PutsPart (text : List ℕ) (old new : DeskState) : Type 0 where

@@ -1,10 +1,12 @@
-//! Certificates, written through a buffer: pairs, refutations, and partial ones. The check of `certificate_file` accepts each.
+//! Certificates, written through a buffer: pairs, refutations, lists of minimal blocking sets, and partial ones. The check of `certificate_file` accepts each.
 #![tactic(auto)]
 
 mod finding;
+mod listing;
 mod whole;
 mod writer;
 
 pub use finding::{what_is_shown_is_found, write_found};
-pub use whole::{a_written_certificate_is_accepted, write_log, write_pair};
+pub use listing::{what_is_listed_is_found, write_list};
+pub use whole::{a_written_certificate_is_accepted, write_journal, write_log, write_pair};
 pub use writer::CertWriter;

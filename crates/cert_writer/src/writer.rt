@@ -7,14 +7,18 @@ ghost use Rattle.lrat_text.specs.Left.{spaced};
 ghost use Rattle.fbas_model.specs.Nodes.{members};
 ghost use Rattle.lrat_text.specs.Lent.{lent_step};
 ghost use Rattle.lrat_text.specs.Texts.{line_of, HasNumbers};
-ghost use Rattle.cert_writer.specs.Texts.{joined, name_if_any, header_lines, pair_front, kind_of, log_front};
+ghost use Rattle.blocking_lists.specs.Lines.{line_of as said_line};
+ghost use Rattle.cert_writer.specs.Texts.{joined, name_if_any, header_lines, pair_front, kind_of, log_front, list_kind_of, set_line, journal_line, list_front};
+ghost use Rattle.cert_writer.specs.Listing.{CanBeLine};
 ghost use Rattle.cert_writer.specs.Writing.{Writes};
 
+use blocking_lists::{Journal, Line};
 use certificate_file::{Aim, Header, Pair};
 use desk_io::{Desk, To, WriteFailed, put_all};
 use digest_text::digits;
 use fbas_core::System;
 use itoa::Buffer;
+use list_journal::ListKind;
 use lrat_text::{Log, StepRef, write_lent};
 use name_set::{Names, NodeSet};
 use std::alloc::{AllocError, Global};
@@ -230,6 +234,59 @@ impl CertWriter {
         self.steps(desk, log);
     }
 
+    /// Writes the line of a listed set: a letter, the id of its clause, and the names of its nodes.
+    fn set_line<D: Desk>(&mut self, desk: &mut D, letter: u8, id: u64, names: &Names, set: &NodeSet)
+        requires { length set.now ≡ length names.now }
+        ensures { Writes D.tells (set_line (letter ∷ []) id names.now set.now ++ 10 ∷ []) self.old (D.state desk.old) (D.faults desk.old) self.new (D.state desk.new) (D.faults desk.new) }
+    {
+        self.byte(desk, letter);
+        self.number(desk, id);
+        self.names(desk, names, set);
+        self.text(desk, b"\n");
+    }
+
+    /// Writes a line of a journal: a quorum, a minimal blocking set, or a step.
+    fn journal_line<D: Desk>(&mut self, desk: &mut D, names: &Names, line: Line<'_>)
+        requires { CanBeLine (length names.now) (said_line line) }
+        ensures { Writes D.tells (journal_line names.now (said_line line.entry) ++ 10 ∷ []) self.old (D.state desk.old) (D.faults desk.old) self.new (D.state desk.new) (D.faults desk.new) }
+    {
+        match line {
+            Line::Quorum(id, set) => self.set_line(desk, b'q', id, names, set),
+            Line::Blocking(id, set) => self.set_line(desk, b'b', id, names, set),
+            Line::Step(step) => self.step(desk, step),
+        }
+    }
+
+    /// Writes the lines of a journal of a part, whose names these are, or those until a put failed.
+    fn journal_lines<D: Desk>(&mut self, desk: &mut D, names: &Names, journal: &Journal)
+        requires { All (CanBeLine (length names.now)) journal.now }
+        ensures { Writes D.tells (joined (map (journal_line names.now) journal.now)) self.old (D.state desk.old) (D.faults desk.old) self.new (D.state desk.new) (D.faults desk.new) }
+    {
+        let mut lines = journal.lines();
+        'each: while let Some(line) = lines.next_line() {
+            if self.has_failed {
+                return;
+            }
+            self.journal_line(desk, names, line);
+        }
+    }
+
+    /// Writes the lines of a list up to the last: its kind, and its journal.
+    fn list_lines<D: Desk>(
+        &mut self,
+        desk: &mut D,
+        kind: ListKind,
+        names: &Names,
+        journal: &Journal,
+    )
+        requires { All (CanBeLine (length names.now)) journal.now }
+        ensures { Writes D.tells (joined (list_front names.now kind journal.now)) self.old (D.state desk.old) (D.faults desk.old) self.new (D.state desk.new) (D.faults desk.new) }
+    {
+        self.text(desk, list_kind_of(kind).as_bytes());
+        self.text(desk, b"\n");
+        self.journal_lines(desk, names, journal);
+    }
+
     /// Writes the certificate of a pair, up to its last line.
     ///
     /// The header has the numbers of the whole system, whose names come first, and the pair those of the part.
@@ -277,6 +334,30 @@ impl CertWriter {
         self.outcome()
     }
 
+    /// Writes the certificate of a list up to its last line: all minimal blocking sets, or a part of them.
+    ///
+    /// The header has the numbers of the whole system, whose names come first, and the journal those of the part.
+    pub fn list<D: Desk>(
+        &mut self,
+        desk: &mut D,
+        digest: &[u8; 32],
+        header: &Header,
+        whole: &System,
+        kept: &System,
+        kind: ListKind,
+        journal: &Journal,
+    ) -> Result<(), WriteFailed>
+        requires from { IfSome header.now.from (λ v. v < length whole.now.names) }
+        requires faulty { length header.now.faulty ≡ length whole.now.names }
+        requires lines { All (CanBeLine (length kept.now.names)) journal.now }
+        ensures writes { Writes D.tells (joined (header_lines whole.now.names digest.now header.now ++ list_front kept.now.names kind journal.now)) self.old (D.state desk.old) (D.faults desk.old) self.new (D.state desk.new) (D.faults desk.new) }
+        ensures failed { IsTrue self.new.failed ↔ IsErr result }
+    {
+        self.header(desk, digest, header, whole.names());
+        self.list_lines(desk, kind, kept.names(), journal);
+        self.outcome()
+    }
+
     /// Writes the last line, and puts all that is held.
     pub fn finish<D: Desk>(&mut self, desk: &mut D) -> Result<(), WriteFailed>
         ensures writes { Writes D.tells (codes "end\n") self.old (D.state desk.old) (D.faults desk.old) self.new (D.state desk.new) (D.faults desk.new) }
@@ -307,5 +388,15 @@ fn kind_of(to: Aim) -> &'static str
     match to {
         Aim::Refutation => "kind refutation",
         Aim::Partial => "kind partial",
+    }
+}
+
+/// The line of a kind of list.
+fn list_kind_of(kind: ListKind) -> &'static str
+    ensures { result.now ≡ list_kind_of kind }
+{
+    match kind {
+        ListKind::Whole => "kind blocking",
+        ListKind::Partial => "kind partial-blocking",
     }
 }

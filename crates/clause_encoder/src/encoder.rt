@@ -10,15 +10,18 @@ ghost use Rattle.lrat_model.specs.Runs.{formula_database};
 ghost use Rattle.threshold_circuit.specs.Views.{circuit_view};
 ghost use Rattle.clause_encoder.specs.declared.limits.TheConstants.{MOST_CLAUSES, MOST_VARS};
 ghost use Rattle.clause_encoder.specs.declared.encoder.EncodeError.TheVariants.{TooLarge};
-ghost use Rattle.clause_encoder.specs.Formula.{side_a, side_b, formula_over, circuit_at, formula, formula_clauses as spec_clauses, formula_vars as spec_vars};
+ghost use Rattle.clause_encoder.specs.Formula.{side_a, side_b, formula_over, formula_clauses as spec_clauses, formula_vars as spec_vars, clauses_in, vars_in};
 ghost use Rattle.clause_encoder.specs.Meaning.{told, Tells, AreDisjointQuorums};
-ghost use Rattle.clause_encoder.specs.Written.{circuit_in, variables_of as gate_variables_of, IsWritable};
+ghost use Rattle.clause_encoder.specs.Written.{circuit_in, IsWritable};
+ghost use Rattle.clause_encoder.specs.declared.version.Version.{Version};
 
+use crate::count::count_vars;
 use crate::limits::MOST_VARS;
 use crate::marks::Marks;
 use crate::nodes::{circuits_of, members_of, variables_of};
 use crate::sides::formula_clauses;
 use crate::var_map::VarMap;
+use crate::version::Version;
 use clause_store::Store;
 use fbas_core::System;
 use name_set::NodeSet;
@@ -49,23 +52,10 @@ impl From<AllocError> for EncodeError {
     }
 }
 
-/// How many variables the formula over these members has: linear in the entries of their circuits.
-fn count_vars(nodes: &[u32], circuits: &[Circuit]) -> u64
-    requires few { length nodes.now ≤ MOST_NODES }
-    requires nodes { All (λ v. v < length circuits.now) nodes.now }
-    requires writable { All (λ c. IsWritable (length circuits.now) (circuit_view c)) circuits.now }
-    ensures { result ≡ 2 * (length nodes.now + gate_variables_of (circuit_in circuits.now) nodes.now) }
-{
-    let mut count: u64 = 0;
-    for node in nodes {
-        count += circuits[*node as usize].gate_vars();
-    }
-    2 * (nodes.len() as u64 + count)
-}
-
 /// The store of a formula whose variables are counted: O(n and the formula).
 fn encode_within(
     alloc: Global,
+    version: Version,
     greatest: &NodeSet,
     n: u32,
     vars: u32,
@@ -78,16 +68,19 @@ fn encode_within(
     requires same_n { length circuits.now ≡ n }
     requires writable { All (λ c. IsWritable n (circuit_view c)) circuits.now }
     requires small { vars ≤ MOST_VARS }
-    requires vars { vars ≡ 2 * (length nodes.now + gate_variables_of (circuit_in circuits.now) nodes.now) }
+    requires members { 2 * length nodes.now ≤ vars }
+    requires vars { vars + 1 ≡ (formula_over version (λ v. v) (λ v. v) (1 + length nodes.now + length nodes.now) (circuit_in circuits.now) nodes.now).after.next }
     ensures few { IfOk result (λ s. s.last ≤ MOST_CLAUSES) }
-    ensures clauses { IfOk result (λ s. s ≡ formula_database (formula_over (side_a greatest.now) (side_b greatest.now) (1 + size greatest.now + size greatest.now) (circuit_in circuits.now) nodes.now).clauses) }
+    ensures clauses { IfOk result (λ s. s ≡ formula_database (formula_over version (side_a greatest.now) (side_b greatest.now) (1 + size greatest.now + size greatest.now) (circuit_in circuits.now) nodes.now).clauses) }
 {
     let members = nodes.len() as u32;
     let first = variables_of(alloc, greatest, n, 1)?;
     let second = variables_of(alloc, greatest, n, 1 + members)?;
     let mut marks = Marks::new(alloc, vars + 2)?;
     let start = 1 + members + members;
-    let clauses = formula_clauses(alloc, &mut marks, &first, &second, start, nodes, circuits)?;
+    let clauses = formula_clauses(
+        alloc, version, &mut marks, &first, &second, start, nodes, circuits,
+    )?;
     Ok(clauses.into_store())
 }
 
@@ -99,10 +92,44 @@ fn encode_within(
 /// have the ids from 1 on: some node of side a, some of side b, for each member that it is not on both, then on each side
 /// for each member whose circuit is not always true its gates, and that it is only true with them. A circuit's gates are
 /// written after those of their entries: where all inputs are wanted a clause for each, where one is wanted one clause, and
-/// else a sequential counter (Sinz 2005).
+/// else a sequential counter (Sinz 2005). In version 2 a side writes each gate once: a circuit that is equal to one whose gate
+/// is written stands for that gate.
 ///
 /// `TooLarge` comes where the formula has more than `MOST_VARS` variables, which are counted before anything is written.
-/// Linear in n, in the entries of the members' quorum sets and in the formula.
+/// Linear in n, in the entries of the members' quorum sets and in the formula, on average over the hashes of circuits.
+pub fn encode_in(
+    alloc: Global,
+    version: Version,
+    system: &System,
+    faulty: &NodeSet,
+    greatest: &NodeSet,
+) -> Result<(Store, VarMap), EncodeError>
+    requires same_faulty { length faulty.now ≡ length system.now.sets }
+    requires same_n { length greatest.now ≡ length system.now.sets }
+    requires greatest { IsGreatestQuorum system.now.sets (members faulty.now) (all_nodes system.now.sets) (members greatest.now) }
+    ensures store { IfOk result (λ r. r.0 ≡ formula_database (clauses_in version system.now.sets faulty.now greatest.now)) }
+    ensures variables { IfOk result (λ r. r.1 ≡ record { greatest = greatest.now; count = vars_in version system.now.sets faulty.now greatest.now }) }
+    ensures small { IfOk result (λ r. vars_in version system.now.sets faulty.now greatest.now ≤ MOST_VARS) }
+    ensures few { IfOk result (λ r. r.0.last ≤ MOST_CLAUSES) }
+    ensures too_large { (vars : ℕ) → result ≡ Err (TooLarge vars) → (vars ≡ vars_in version system.now.sets faulty.now greatest.now) × (MOST_VARS < vars) }
+    ensures in_range { IfOk result (λ r. AreInRange r.1.count r.0.held) }
+    ensures exact { IfOk result (λ r. IsUnsatisfiable r.0.held ↔ Intersects system.now.sets (members faulty.now)) }
+    ensures tells { (v : ℕ → Bool) → IfOk result (λ r. Satisfies v r.0.held → AreDisjointQuorums system.now.sets (members faulty.now) (told (side_a greatest.now) greatest.now v) (told (side_b greatest.now) greatest.now v)) }
+    ensures told { (u w : Nodes) → AreDisjointQuorums system.now.sets (members faulty.now) u w → IfOk result (λ r. Tells r.0.held greatest.now u w) }
+{
+    let n = system.len();
+    let nodes = members_of(alloc, greatest)?;
+    let circuits = circuits_of(alloc, system, faulty, greatest)?;
+    let vars = count_vars(alloc, version, &nodes, &circuits)?;
+    if vars > MOST_VARS {
+        return Err(EncodeError::TooLarge(vars));
+    }
+    let store = encode_within(alloc, version, greatest, n, vars as u32, &nodes, &circuits)?;
+    let map = VarMap::of(greatest, n, vars);
+    Ok((store, map))
+}
+
+/// The formula of version 1: each gate is written each time that it is wanted.
 pub fn encode(
     alloc: Global,
     system: &System,
@@ -122,21 +149,13 @@ pub fn encode(
     ensures tells { (v : ℕ → Bool) → IfOk result (λ r. Satisfies v r.0.held → AreDisjointQuorums system.now.sets (members faulty.now) (told (side_a greatest.now) greatest.now v) (told (side_b greatest.now) greatest.now v)) }
     ensures told { (u w : Nodes) → AreDisjointQuorums system.now.sets (members faulty.now) u w → IfOk result (λ r. Tells r.0.held greatest.now u w) }
 {
-    let n = system.len();
-    let nodes = members_of(alloc, greatest)?;
-    let circuits = circuits_of(alloc, system, faulty, greatest)?;
-    let vars = count_vars(&nodes, &circuits);
-    if vars > MOST_VARS {
-        return Err(EncodeError::TooLarge(vars));
-    }
-    let store = encode_within(alloc, greatest, n, vars as u32, &nodes, &circuits)?;
-    let map = VarMap::of(greatest, n, vars);
-    Ok((store, map))
+    encode_in(alloc, Version::One, system, faulty, greatest)
 }
 
-/// Where the greatest quorum is that which the deletion of the faulty nodes leaves, no assignment makes the formula's clauses
+/// In both versions: where the greatest quorum is that which the deletion of the faulty nodes leaves, no assignment makes the formula's clauses
 /// true exactly where every two quorums share a node.
 pub fn the_formula_says_whether_quorums_intersect()
+    ensures both { (version : Version) (f : Fbas) (faulty greatest : Table) → IsGreatestQuorum f (members faulty) (all_nodes f) (members greatest) → IsUnsatisfiable (numbered 1 (clauses_in version f faulty greatest)) ↔ Intersects f (members faulty) }
     ensures held { (f : Fbas) (faulty greatest : Table) → IsGreatestQuorum f (members faulty) (all_nodes f) (members greatest) → IsUnsatisfiable (numbered 1 (spec_clauses f faulty greatest)) ↔ Intersects f (members faulty) }
     ensures formula { (f : Fbas) (faulty greatest : Table) → IsGreatestQuorum f (members faulty) (all_nodes f) (members greatest) → ((v : ℕ → Bool) → formula_true v (spec_clauses f faulty greatest) ≡ false) ↔ Intersects f (members faulty) }
 {}

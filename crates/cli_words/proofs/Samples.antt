@@ -7,7 +7,7 @@ use Rattle.cli_words.specs.Words.{order_of}
 use Rattle.cli_words.specs.declared.orders.Command.{Command}
 use Rattle.cli_words.specs.declared.orders.Command.TheVariants.{Query, Search, Check}
 use Rattle.cli_words.specs.declared.orders.Goal.{Goal}
-use Rattle.cli_words.specs.declared.orders.Goal.TheVariants.{Intersect, Dset, Splits}
+use Rattle.cli_words.specs.declared.orders.Goal.TheVariants.{Intersect, Dset, Splits, Blocking}
 use Rattle.cli_words.specs.declared.orders.Query.TheVariants.{Show, Closure, Greatest, Available, Blocks, Vblocks, Export}
 use Rattle.cli_words.specs.declared.orders.OrderFault.{OrderFault}
 use Rattle.cli_words.specs.declared.orders.OrderFault.TheVariants.{Words, SamePath}
@@ -120,6 +120,10 @@ dset = refl
 splits : typed (codes "splits f c --set a --orgs o --budget=10") ≡ Ok (record (search_of Splits 10) { orgs = Some (codes "o"); set = Some (codes "a") })
 unfolding words_on_literals
 splits = refl
+
+blocking : typed (codes "blocking f c --from b --budget 0") ≡ Ok (record (search_of Blocking 0) { from = Some (codes "b") })
+unfolding words_on_literals
+blocking = refl
 
 budget_too_large : typed (codes "intersect f c --budget 4000000001") ≡ Err Words
 unfolding words_on_literals

@@ -10,7 +10,7 @@ use Rattle.cli_words.specs.Order.{Ordered, has_same_path}
 use Rattle.cli_words.specs.Words.{app_for, is_taken, order_by, order_in, order_among, order_with, path_checked}
 use Rattle.cli_words.specs.declared.orders.Command.{Command}
 use Rattle.cli_words.specs.declared.orders.Command.TheVariants.{Query, Search, Check}
-use Rattle.cli_words.specs.declared.orders.Goal.TheVariants.{Intersect, Dset, Splits}
+use Rattle.cli_words.specs.declared.orders.Goal.TheVariants.{Intersect, Dset, Splits, Blocking}
 use Rattle.cli_words.specs.declared.orders.Query.TheVariants.{Show, Closure, Greatest, Available, Blocks, Vblocks, Export}
 use Rattle.cli_words.specs.declared.orders.OrderFault.TheVariants.{Words, SamePath}
 
@@ -32,6 +32,7 @@ is_stated (Query Vblocks) app e = rw e refl
 is_stated (Search Intersect) app e = rw e refl
 is_stated (Search Dset) app e = rw e refl
 is_stated (Search Splits) app e = rw e refl
+is_stated (Search Blocking) app e = rw e refl
 is_stated Check app e = rw e refl
 is_stated (Query Export) app e = rw e refl
 

@@ -8,7 +8,7 @@ use Rattle.cli_words.specs.Budget.{budget_of}
 use Rattle.cli_words.specs.Order.{Ordered, has_same_path}
 use Rattle.cli_words.specs.declared.orders.Command.{Command}
 use Rattle.cli_words.specs.declared.orders.Command.TheVariants.{Query, Search, Check}
-use Rattle.cli_words.specs.declared.orders.Goal.TheVariants.{Intersect, Dset, Splits}
+use Rattle.cli_words.specs.declared.orders.Goal.TheVariants.{Intersect, Dset, Splits, Blocking}
 use Rattle.cli_words.specs.declared.orders.Query.TheVariants.{Show, Closure, Greatest, Available, Blocks, Vblocks, Export}
 use Rattle.cli_words.specs.declared.orders.OrderFault.{OrderFault}
 use Rattle.cli_words.specs.declared.orders.OrderFault.TheVariants.{Words, SamePath}
@@ -51,6 +51,7 @@ app_for (Query Vblocks) = app_with (codes "vblocks") (positional (codes "config"
 app_for (Search Intersect) = app_with (codes "intersect") (positional (codes "config") ∷ positional (codes "cert") ∷ (common_options ++ optional (codes "budget") ∷ []))
 app_for (Search Dset) = app_with (codes "dset") (positional (codes "config") ∷ positional (codes "cert") ∷ needed (codes "set") ∷ optional (codes "from") ∷ optional (codes "budget") ∷ [])
 app_for (Search Splits) = app_with (codes "splits") (positional (codes "config") ∷ positional (codes "cert") ∷ needed (codes "set") ∷ (common_options ++ optional (codes "budget") ∷ []))
+app_for (Search Blocking) = app_with (codes "blocking") (positional (codes "config") ∷ positional (codes "cert") ∷ (common_options ++ optional (codes "budget") ∷ []))
 app_for Check = app_with (codes "check") (positional (codes "config") ∷ positional (codes "cert") ∷ [])
 app_for (Query Export) = app_with (codes "export") (positional (codes "config") ∷ common_options)
 
@@ -109,8 +110,9 @@ command_named name = if bytes_eq name (codes "show") then Some (Query Show)
     else (if bytes_eq name (codes "intersect") then Some (Search Intersect)
     else (if bytes_eq name (codes "dset") then Some (Search Dset)
     else (if bytes_eq name (codes "splits") then Some (Search Splits)
+    else (if bytes_eq name (codes "blocking") then Some (Search Blocking)
     else (if bytes_eq name (codes "check") then Some Check
-    else (if bytes_eq name (codes "export") then Some (Query Export) else None))))))))))
+    else (if bytes_eq name (codes "export") then Some (Query Export) else None)))))))))))
 
 -- the order of a command, if there is one
 abbrev pub order_if_any : Option Command → List Text → Result Ordered OrderFault

@@ -60,6 +60,7 @@ pub fn arguments_of<'a>(alloc: Global, command: Command) -> Result<clap::Command
         Command::Search(Goal::Intersect) => intersect_arguments(alloc),
         Command::Search(Goal::Dset) => dset_arguments(alloc),
         Command::Search(Goal::Splits) => splits_arguments(alloc),
+        Command::Search(Goal::Blocking) => blocking_arguments(alloc),
         Command::Check => check_arguments(alloc),
     }
 }
@@ -150,6 +151,14 @@ fn splits_arguments<'a>(alloc: Global) -> Result<clap::Command<'a>, AllocError>
     ensures { IfOk result (λ c. app_of c ≡ app_for (Command.Search Goal.Splits)) }
 {
     let command = with_paths(alloc, "splits")?.arg(needed(alloc, "set"))?;
+    with_common(alloc, command)?.arg(optional(alloc, "budget"))
+}
+
+#[tactic(auto, unfolding(crate::specs::Words::app_for))]
+fn blocking_arguments<'a>(alloc: Global) -> Result<clap::Command<'a>, AllocError>
+    ensures { IfOk result (λ c. app_of c ≡ app_for (Command.Search Goal.Blocking)) }
+{
+    let command = with_paths(alloc, "blocking")?;
     with_common(alloc, command)?.arg(optional(alloc, "budget"))
 }
 

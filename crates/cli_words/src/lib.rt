@@ -70,6 +70,9 @@ fn command_named(name: &str) -> Option<Command>
     if name == "splits" {
         return Some(Command::Search(Goal::Splits));
     }
+    if name == "blocking" {
+        return Some(Command::Search(Goal::Blocking));
+    }
     if name == "check" {
         return Some(Command::Check);
     }
@@ -203,6 +206,15 @@ mod tests {
                 Some("a"),
             ),
             ("check f c", Command::Check, "f", "c", None, None, None),
+            (
+                "blocking f c --faulty a",
+                Command::Search(Goal::Blocking),
+                "f",
+                "c",
+                None,
+                Some("a"),
+                None,
+            ),
             (
                 "export f --faulty a",
                 Command::Query(Query::Export),

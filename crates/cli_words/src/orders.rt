@@ -35,6 +35,8 @@ pub enum Goal {
     Dset,
     /// `splits CONFIG CERT --set NAMES [COMMON] [--budget UNITS]`
     Splits,
+    /// `blocking CONFIG CERT [COMMON] [--budget UNITS]`
+    Blocking,
 }
 
 /// What the program is to do, by the command's name and arguments.

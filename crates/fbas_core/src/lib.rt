@@ -1,20 +1,23 @@
 //! A system: the nodes' names and quorum sets, with its slices and quorums.
 #![tactic(auto)]
 
-ghost use Rattle.std.specs.Prelude.{◌≡◌, ℕ, ◌<◌, ◌≤◌, ◌↔◌, length, map, IsTrue, IfSome, MatchOption, Contains, slice_get, option_copied, Some, count_by, is_none};
+ghost use Rattle.std.specs.Prelude.{◌≡◌, ℕ, ◌<◌, ◌≤◌, ◌↔◌, length, map, IsTrue, IfOk, IfSome, MatchOption, Contains, slice_get, option_copied, Some, count_by, is_none};
 ghost use Rattle.fbas_model.specs.Nodes.{members, ∅, ◌∖◌};
 ghost use Rattle.std.specs.List.Sorted.{IsStrictlySortedBy};
 ghost use Rattle.fbas_model.specs.Names.{name_cmp, place_of};
 ghost use Rattle.fbas_model.specs.QuorumSets.{all_entries, IsBelow};
 ghost use Rattle.fbas_model.specs.Systems.{System as Whole, IsSystem, entries_in, unset_in};
 ghost use Rattle.fbas_model.specs.Fbas.{HasSliceWithin, Quorum, BlocksNode, all_nodes};
+ghost use Rattle.fbas_core.specs.Mentioning.{mentioning};
 
+mod mentions;
 mod restriction;
 mod trust;
 
 use fbas_model::{MOST_ENTRIES, MOST_NODES};
 use name_set::{Names, NodeSet};
 use quorum_set::QuorumSet;
+use std::alloc::{AllocError, Global};
 use std::marker::Model;
 
 /// The nodes' names, and for each node its quorum set or none.
@@ -25,10 +28,14 @@ use std::marker::Model;
 pub struct System {
     names: Names,
     sets: Vec<Option<QuorumSet>>,
+    /// For each node those whose quorum sets mention it.
+    mentioning: Vec<NodeSet>,
 }
 
 impl Model for System {
+    ghost use Rattle.std.specs.Prelude.{length};
     ghost use Rattle.fbas_model.specs.Systems.{System as Whole, coded_system, IsSystem};
+    ghost use Rattle.fbas_core.specs.Mentioning.{AreMentioning};
 
     ghost Value = { Whole };
 
@@ -36,7 +43,7 @@ impl Model for System {
 
     ghost view = { λ s. record { names = s.names; sets = s.sets.items } };
 
-    ghost invariant = { λ s. IsSystem s.names s.sets.items };
+    ghost invariant = { λ s. IsSystem s.names s.sets.items × AreMentioning s.sets.items (length s.sets.items) s.mentioning.items };
 }
 
 /// How many of the nodes have no quorum set.
@@ -47,13 +54,23 @@ fn count_unset(sets: &[Option<QuorumSet>]) -> usize
 }
 
 impl System {
-    /// The system of the names, where the quorum set of each stands at its place.
-    pub fn of(names: Names, sets: Vec<Option<QuorumSet>>) -> System
+    /// The system of the names, where the quorum set of each stands at its place. Linear in the entries, and 512 bytes a node
+    /// to keep who mentions whom.
+    pub fn of(
+        alloc: Global,
+        names: Names,
+        sets: Vec<Option<QuorumSet>>,
+    ) -> Result<System, AllocError>
         requires { IsSystem names sets.items }
-        ensures names { result.names ≡ names }
-        ensures sets { result.sets ≡ sets.items }
+        ensures names { IfOk result (λ system. system.names ≡ names) }
+        ensures sets { IfOk result (λ system. system.sets ≡ sets.items) }
     {
-        System { names, sets }
+        let mentioning = mentions::mentioning(alloc, &sets)?;
+        Ok(System {
+            names,
+            sets,
+            mentioning,
+        })
     }
 
     /// How many nodes there are.
@@ -99,6 +116,15 @@ impl System {
             Some(quorum_set) => Some(quorum_set),
             None => None,
         }
+    }
+
+    /// The nodes whose quorum sets mention the node, at any depth: O(1).
+    pub fn mentioning(&self, v: u32) -> &NodeSet
+        requires { v < length self.now.sets }
+        ensures same_n { length result.now ≡ length self.now.sets }
+        ensures nodes { members result.now ≡ mentioning self.now.sets v }
+    {
+        &self.mentioning[v as usize]
     }
 
     /// How many entries the quorum sets have, at all depths: linear in them.

@@ -102,7 +102,8 @@ impl System {
         let ranks = ranks(alloc, kept, self.len())?;
         let sets = self.kept_sets(alloc, kept, &ranks)?;
         let names = self.names.kept(alloc, kept)?;
-        Ok(System::of(names, sets))
+        let part = System::of(alloc, names, sets)?;
+        Ok(part)
     }
 
     /// The members of the set that are kept, by the numbers that they have in the system restricted to the kept nodes: O(n).

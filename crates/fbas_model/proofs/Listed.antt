@@ -1,10 +1,12 @@
 -- The members of a table as a list in order, and the order of sets.
-use Rattle.std.proofs.Common.{◌≡◌, ℕ, zero, suc, ◌+◌, ◌-◌, ◌<◌, ◌==◌, ltb, true, false, List, [], ◌∷◌, length, drop, refl, sym, ◌∙◌, ap, ap₂, arith, inl, inr, Less, Equal, Greater}
-use Rattle.std.proofs.lemmas.Bool.{false≢true, false_from_ne_true, cases_lt, lt-ltb, ltb-true, eqb-true, eq-eqb}
+use Rattle.std.proofs.Common.{◌≡◌, ℕ, zero, suc, ◌+◌, ◌-◌, ◌<◌, ◌==◌, ◌||◌, ltb, Bool, true, false, List, [], ◌∷◌, ◌++◌, length, drop, refl, sym, ◌∙◌, ap, ap₂, subst, arith, inl, inr, Less, Equal, Greater}
+use Rattle.std.proofs.lemmas.Bool.{false≢true, false_from_ne_true, cases_lt, lt-ltb, ltb-true, eqb-true, eq-eqb, or_left}
+use Rattle.std.proofs.Math.Bool.{or-false, or_assoc}
 use Rattle.std.proofs.lemmas.List.{get_or-drop, drop-drop, drop_all}
 use Rattle.std.specs.Ordering.{nat_cmp, ordering_then}
 use Rattle.std.specs.declared.cmp.Ordering.{Ordering}
 use Rattle.std.specs.Cmp.Lexicographic.{slice_cmp}
+use Rattle.fbas_model.specs.Lists.{among}
 use Rattle.fbas_model.specs.Nodes.{Table, members, HasNoneFrom, IsLeastFrom, listed_from, set_cmp}
 
 -- a table without members
@@ -41,6 +43,46 @@ listed_next at v t least =
     (λ i h. members-drop at t i ∙ false_from_ne_true (members t (at + i)) (λ is. let le = least.2 (at + i) (omega arith) is in absurd (omega (arith, least.0))))
     ∙ ap (λ (x : ℕ). x ∷ listed_from (x + 1) (drop (j + 1) (drop at t))) place
     ∙ ap (λ (r : Table). v ∷ listed_from (v + 1) r) (drop-drop (j + 1) at t ∙ ap (λ (k : ℕ). drop k t) past)
+
+-- ---- iterating over the members
+
+-- a node of the list of the members has a place
+listed_below : (s : ℕ) (t : Table) (before rest : List ℕ) (v : ℕ) → before ++ v ∷ rest ≡ listed_from s t → v < s + length t
+listed_below s [] [] rest v e = cc
+listed_below s [] (w ∷ ws) rest v e = cc
+listed_below s (true ∷ t) [] rest v e = let here : v ≡ s = cc in omega (arith, here)
+listed_below s (true ∷ t) (w ∷ ws) rest v e = let rest_is : ws ++ v ∷ rest ≡ listed_from (s + 1) t = cc in omega (arith, listed_below (s + 1) t ws rest v rest_is)
+listed_below s (false ∷ t) before rest v e = omega (arith, listed_below (s + 1) t before rest v e)
+
+pub iterated_below : (t : Table) (before rest : List ℕ) (v : ℕ) → before ++ v ∷ rest ≡ listed_from 0 t → v < length t
+iterated_below t before rest v e = omega (arith, listed_below 0 t before rest v e)
+
+-- no node before the first place is in the list
+listed_before : (s : ℕ) (t : Table) (k : ℕ) → k < s → among (listed_from s t) k ≡ false
+listed_before s [] k low = refl
+listed_before s (true ∷ t) k low =
+    let apart : (k == s) ≡ false = false_from_ne_true (k == s) (λ e. absurd (let h = eqb-true k s e in omega arith)) in
+    ap (λ (b : Bool). b || among (listed_from (s + 1) t) k) apart ∙ listed_before (s + 1) t k (omega arith)
+listed_before s (false ∷ t) k low = listed_before (s + 1) t k (omega arith)
+
+-- the list has the members and no others
+listed_among : (s : ℕ) (t : Table) (k : ℕ) → among (listed_from s t) (s + k) ≡ members t k
+listed_among s [] k = refl
+listed_among s (true ∷ t) zero = or_left (s + 0 == s) (among (listed_from (s + 1) t) (s + 0)) (eq-eqb (s + 0) s (omega arith))
+listed_among s (true ∷ t) (suc k) =
+    let e : s + 1 + k ≡ s + suc k = omega arith in
+    let apart : (s + suc k == s) ≡ false = false_from_ne_true (s + suc k == s) (λ e. absurd (let h = eqb-true (s + suc k) s e in omega arith)) in
+    ap (λ (b : Bool). b || among (listed_from (s + 1) t) (s + suc k)) apart ∙ subst (λ (n : ℕ). among (listed_from (s + 1) t) n ≡ members t k) e (listed_among (s + 1) t k)
+listed_among s (false ∷ t) zero = listed_before (s + 1) t (s + 0) (omega arith)
+listed_among s (false ∷ t) (suc k) = let e : s + 1 + k ≡ s + suc k = omega arith in subst (λ (n : ℕ). among (listed_from (s + 1) t) n ≡ members t k) e (listed_among (s + 1) t k)
+
+pub iterated_all : (t : Table) (ws : List ℕ) → ws ≡ listed_from 0 t → (k : ℕ) → among ws k ≡ members t k
+iterated_all t ws e k = let at : 0 + k ≡ k = omega arith in rw e (subst (λ (n : ℕ). among (listed_from 0 t) n ≡ members t k) at (listed_among 0 t k))
+
+-- one node more
+pub among_more : (ws : List ℕ) (v k : ℕ) → among (ws ++ v ∷ []) k ≡ (among ws k || (k == v))
+among_more [] v k = or-false (k == v)
+among_more (w ∷ ws) v k = ap (λ (b : Bool). (k == w) || b) (among_more ws v k) ∙ sym (or_assoc (k == w) (among ws k) (k == v))
 
 -- ---- the order of sets
 

@@ -18,7 +18,7 @@ rank-everyone [] (suc v) h = absurd (omega arith)
 rank-everyone (o ∷ sets) (suc v) h = omega (arith, size-cons true (take v (everyone sets)), rank-everyone sets v (omega arith))
 
 -- every item is kept
-kept-everyone : {A : Type 0} (sets : Fbas) (xs : List A) → length xs ≡ length sets → kept (everyone sets) xs ≡ xs
+pub kept-everyone : {A : Type 0} (sets : Fbas) (xs : List A) → length xs ≡ length sets → kept (everyone sets) xs ≡ xs
 kept-everyone [] [] e = refl
 kept-everyone [] (x ∷ xs) e = absurd (omega arith)
 kept-everyone (o ∷ sets) [] e = absurd (omega arith)

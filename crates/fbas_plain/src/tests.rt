@@ -501,7 +501,7 @@ fn fast_calls_agree(rt: HostRuntime) -> Result<(), Fail> {
     for code in 0..125 {
         let thresholds = [code % 5, code / 5 % 5, code / 25];
         let sets = family(alloc, thresholds)?;
-        let system = System::of(names(&rt, alloc)?, family(alloc, thresholds)?);
+        let system = System::of(alloc, names(&rt, alloc)?, family(alloc, thresholds)?)?;
         agree(&rt, &system, &sets);
     }
     Ok(())

@@ -1,8 +1,9 @@
 -- A set from which no node can be taken out is minimal, for what only grows with a set.
 use Rattle.std.proofs.Common.{◌≡◌, ℕ, ◌+◌, ◌<◌, ◌≤◌, inl, inr, false, not, ◌&&◌, ◌==◌, length, refl, sym, ◌∙◌, ap, subst, arith}
 use Rattle.std.proofs.lemmas.Bool.{and_parts, and_from, or_left, or_right, or_cases, not_from_false, not-true, both_ways, false≢true, cases_Bool, cases_lt, eqb-true, eq-eqb}
-use Rattle.fbas_model.specs.Nodes.{Nodes, Table, members, ◌∈◌, ◌⊆◌, ∅, only, ◌∪◌, ◌∖◌, IsInhabited}
-use Rattle.fbas_model.specs.Fbas.{Fbas, Quorum, MeetsQuorums, Blocks, BlocksMinimally, IsMinimalQuorum, IsGreatestQuorum}
+use Rattle.fbas_model.specs.Nodes.{Nodes, Table, members, ◌∈◌, ◌⊆◌, ∅, only, ◌∪◌, ◌∖◌}
+use Rattle.fbas_model.specs.Fbas.{Fbas, Quorum, MeetsQuorums, Blocks, BlocksMinimally, IsMinimalQuorum}
+use Rattle.greatest_quorum.specs.Looks.{IsQuorumWith}
 use Rattle.fbas_model.proofs.Sizes.{member_lt}
 
 pub meets_wider : (f : Fbas) (b s t : Nodes) → s ⊆ t → MeetsQuorums f b s → MeetsQuorums f b t
@@ -35,6 +36,9 @@ back_within s v here x at = elim (or_cases (s x && not (x == v)) (x == v) at) [
   | inl e ↦ (and_parts (s x) (not (x == v)) e).0
   | inr e ↦ subst (λ (y : ℕ). y ∈ s) (sym (eqb-true x v e)) here
 ]
+
+pub still_blocks : (f : Fbas) (b s t : Nodes) (v : ℕ) → t ≡ (s ∖ only v) → MeetsQuorums f b s → MeetsQuorums f b (t ∪ only v)
+still_blocks f b s t v e h = subst (λ (u : Nodes). MeetsQuorums f b (u ∪ only v)) (sym e) (meets_wider f b s ((s ∖ only v) ∪ only v) (put_back s v) h)
 
 -- the set blocks still, and does not without any one of its nodes below v
 pub record Thinned (f : Fbas) (b : Nodes) (start now : Table) (scratch after : Table) (v : ℕ) : Type 0 where
@@ -104,67 +108,91 @@ thinned_whole f b start now scratch after n all h t = record {
   ];
 }
 
--- the set is a quorum still, and has none inside without any one of its nodes below v
-pub record Reduced (f : Fbas) (b : Nodes) (start now : Table) (scratch after : Table) (v : ℕ) : Type 0 where
+-- the set is a quorum still, and has none inside without any one of its nodes below v, some of which are known to be needed
+pub record Reduced (f : Fbas) (b : Nodes) (start now scratch after needed : Table) (v : ℕ) : Type 0 where
   pub same_n : length now ≡ length start
   pub same_scratch : length after ≡ length scratch
+  pub same_needed : length needed ≡ length start
   pub within : members now ⊆ members start
   pub quorum : Quorum f b (members now)
-  pub needed : (k : ℕ) → k < v → k ∈ members now → (w : Nodes) → Quorum f b w → w ⊆ (members now ∖ only k) → ⊥
+  pub needs : (k : ℕ) → k < v → k ∈ members now → (w : Nodes) → Quorum f b w → w ⊆ (members now ∖ only k) → ⊥
+  pub known : (k : ℕ) → k ∈ members needed → (k < v) × k ∈ members now
 
-pub reduced_first : (f : Fbas) (b : Nodes) (start scratch : Table) → Quorum f b (members start) → Reduced f b start start scratch scratch 0
-reduced_first f b start scratch q = record { same_n = refl; same_scratch = refl; within = λ x at. at; quorum = q; needed = λ k low. absurd (omega arith) }
+pub reduced_first : (f : Fbas) (b : Nodes) (start scratch needed : Table) → length needed ≡ length start → members needed ≡ ∅ → Quorum f b (members start) → Reduced f b start start scratch scratch needed 0
+reduced_first f b start scratch needed e none q = record {
+  same_n = refl;
+  same_scratch = refl;
+  same_needed = e;
+  within = λ x at. at;
+  quorum = q;
+  needs = λ k low. absurd (omega arith);
+  known = λ k at. absurd (false≢true (subst (λ (s : Nodes). k ∈ s) none at));
+}
 
-pub reduced_pass : (f : Fbas) (b : Nodes) (start now scratch after : Table) (v : ℕ) → Reduced f b start now scratch after v → members now v ≡ false → Reduced f b start now scratch after (v + 1)
-reduced_pass f b start now scratch after v r out = record {
+pub reduced_pass : (f : Fbas) (b : Nodes) (start now scratch after needed : Table) (v : ℕ) → Reduced f b start now scratch after needed v → members now v ≡ false → Reduced f b start now scratch after needed (v + 1)
+reduced_pass f b start now scratch after needed v r out = record {
   same_n = r.same_n;
   same_scratch = r.same_scratch;
+  same_needed = r.same_needed;
   within = r.within;
   quorum = r.quorum;
-  needed = λ k low at. elim (cases_lt k v) [
-    | inl h ↦ r.needed k h at
+  needs = λ k low at. elim (cases_lt k v) [
+    | inl h ↦ r.needs k h at
     | inr h ↦ let same : k ≡ v = omega arith in absurd (both_ways (members now v) out (subst (λ (y : ℕ). y ∈ members now) same at))
   ];
+  known = λ k at. let h = r.known k at in (omega (arith, h.0), h.1);
 }
 
 -- there is no quorum inside without v
-pub reduced_keep : (f : Fbas) (b : Nodes) (start now taken scratch after more : Table) (v : ℕ) → Reduced f b start now scratch after v → members taken ≡ (members now ∖ only v) → length more ≡ length scratch → IsGreatestQuorum f b (members taken) (members more) → members more ≡ ∅ → Reduced f b start now scratch more (v + 1)
-reduced_keep f b start now taken scratch after more v r m n g none = record {
+pub reduced_keep : (f : Fbas) (b : Nodes) (start now taken scratch after more needed next : Table) (v : ℕ) → Reduced f b start now scratch after needed v → v ∈ members now → members taken ≡ (members now ∖ only v) → length more ≡ length scratch → length next ≡ length needed → members next ≡ (members needed ∪ only v) → ((w : Nodes) → Quorum f b w → w ⊆ members taken → members needed ⊆ w → ⊥) → Reduced f b start now scratch more next (v + 1)
+reduced_keep f b start now taken scratch after more needed next v r here m n e p none = record {
   same_n = r.same_n;
   same_scratch = n;
+  same_needed = e ∙ r.same_needed;
   within = r.within;
   quorum = r.quorum;
-  needed = λ k low at w q h. elim (cases_lt k v) [
-    | inl below ↦ r.needed k below at w q h
+  needs = λ k low at w q h. elim (cases_lt k v) [
+    | inl below ↦ r.needs k below at w q h
     | inr past ↦
         let same : k ≡ v = omega arith in
         let inside : w ⊆ members taken = λ x e. subst (λ (s : Nodes). x ∈ s) (sym m) (subst (λ (y : ℕ). x ∈ (members now ∖ only y)) same (h x e)) in
-        let x = q.inhabited in
-        false≢true (subst (λ (s : Nodes). x.0 ∈ s) none (g.greatest w q inside x.0 x.1))
+        none w q inside (λ x needs_x. held w q (λ y e. minus_within (members now) k y (h y e)) x needs_x)
+  ];
+  known = λ k at. elim (or_cases (members needed k) (k == v) (subst (λ (s : Nodes). k ∈ s) p at)) [
+    | inl old ↦ let h = r.known k old in (omega (arith, h.0), h.1)
+    | inr is ↦ let same = eqb-true k v is in (omega (arith, same), subst (λ (y : ℕ). y ∈ members now) (sym same) here)
   ];
 }
+  where
+    held : (w : Nodes) → Quorum f b w → w ⊆ members now → members needed ⊆ w
+    held w q sub k at = elim (cases_Bool (w k)) [
+      | inl e ↦ e
+      | inr e ↦ let h = r.known k at in absurd (r.needs k h.0 h.1 w q (without (members now) w k sub e))
+    ]
 
 -- the greatest quorum inside without v takes its place
-pub reduced_take : (f : Fbas) (b : Nodes) (start now taken scratch after more : Table) (v : ℕ) → Reduced f b start now scratch after v → members taken ≡ (members now ∖ only v) → length more ≡ length scratch → length more ≡ length start → IsGreatestQuorum f b (members taken) (members more) → IsInhabited (members more) → Reduced f b start more scratch more (v + 1)
-reduced_take f b start now taken scratch after more v r m n e g some =
-    let inside : members more ⊆ (members now ∖ only v) = λ x at. subst (λ (s : Nodes). x ∈ s) m (and_parts (members taken x) (not (b x)) (g.within x at)).0 in
+pub reduced_take : (f : Fbas) (b : Nodes) (start now taken scratch after more needed : Table) (v : ℕ) → Reduced f b start now scratch after needed v → members taken ≡ (members now ∖ only v) → length more ≡ length scratch → length more ≡ length start → IsQuorumWith f b (members taken) (members needed) (members more) → Reduced f b start more scratch more needed (v + 1)
+reduced_take f b start now taken scratch after more needed v r m n e found =
+    let inside : members more ⊆ (members now ∖ only v) = λ x at. subst (λ (s : Nodes). x ∈ s) m (found.within x at) in
     let sub : members more ⊆ members now = λ x at. minus_within (members now) v x (inside x at) in
     record {
       same_n = e;
       same_scratch = n;
+      same_needed = r.same_needed;
       within = λ x at. r.within x (sub x at);
-      quorum = elim g.quorum [ inl none ↦ absurd (false≢true (subst (λ (s : Nodes). some.0 ∈ s) none some.1)) | inr q ↦ q ];
-      needed = λ k low at w q h. elim (cases_lt k v) [
-        | inl below ↦ r.needed k below (sub k at) w q (λ x in_w. minus_wider (members more) (members now) k sub x (h x in_w))
+      quorum = found.quorum;
+      needs = λ k low at w q h. elim (cases_lt k v) [
+        | inl below ↦ r.needs k below (sub k at) w q (λ x in_w. minus_wider (members more) (members now) k sub x (h x in_w))
         | inr past ↦ minus_gone (members now) v k (inside k at) (omega arith)
       ];
+      known = λ k at. let h = r.known k at in (omega (arith, h.0), found.holds k at);
     }
 
-pub reduced_whole : (f : Fbas) (b : Nodes) (start now scratch after : Table) (n : ℕ) → length start ≤ n → Reduced f b start now scratch after n → IsMinimalQuorum f b (members now)
-reduced_whole f b start now scratch after n all r = record {
+pub reduced_whole : (f : Fbas) (b : Nodes) (start now scratch after needed : Table) (n : ℕ) → length start ≤ n → Reduced f b start now scratch after needed n → IsMinimalQuorum f b (members now)
+reduced_whole f b start now scratch after needed n all r = record {
   quorum = r.quorum;
   least = λ w sub q v at. elim (cases_Bool (w v)) [
     | inl e ↦ e
-    | inr e ↦ absurd (r.needed v (let low = member_lt now v at in omega (arith, r.same_n)) at w q (without (members now) w v sub e))
+    | inr e ↦ absurd (r.needs v (let low = member_lt now v at in omega (arith, r.same_n)) at w q (without (members now) w v sub e))
   ];
 }

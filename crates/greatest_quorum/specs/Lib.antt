@@ -1,2 +1,2 @@
-pub mod Sweeps
+pub mod Looks
 pub mod Greatest

@@ -1,5 +1,5 @@
 mod NameLists
-mod Places
+pub mod Places
 pub mod ListLaws
 mod KeptNames
 mod WordLaws

@@ -94,4 +94,16 @@ impl Names {
         }
         None
     }
+
+    /// The place of a name, as `find` gives it, looked for first at a guessed place: O(1) where the name stands there, else
+    /// O(log n) comparisons.
+    pub fn find_from(&self, guess: u32, name: &[u8]) -> Option<u32>
+        ensures { result ≡ place_of self.now name.now }
+    {
+        self.rise();
+        if guess < self.len() && self.name(guess) == name {
+            return Some(guess);
+        }
+        self.find(name)
+    }
 }

@@ -1,4 +1,5 @@
 pub mod NamesInOrder
+mod SeenNames
 pub mod NameSets
 pub mod SetReading
 pub mod NodeReading

@@ -38,7 +38,7 @@ or_none false = refl
 pub equal_names : (x y : Name) → name_cmp x y ≡ Equal → x ≡ y
 equal_names x y e = slice_cmp-IsAntisymmetric nat_cmp-IsAntisymmetric x y e
 
-is_among-insert_key : (k x : Name) (ks : List Name) → is_among k (insert_key name_cmp ks x) ≡ (bytes_eq k x || is_among k ks)
+pub is_among-insert_key : (k x : Name) (ks : List Name) → is_among k (insert_key name_cmp ks x) ≡ (bytes_eq k x || is_among k ks)
 is_among-insert_key k x [] = refl
 is_among-insert_key k x (y ∷ ys) = by_order (name_cmp x y) refl (is_among-insert_key k x ys)
   where
@@ -71,7 +71,7 @@ above : (x : Name) (ys : List Name) → AllByRecursion (λ z. name_cmp x z ≡ L
 above x [] h w less = tt
 above x (y ∷ ys) h w less = (nat_list_cmp_total.trans w x y less h.0, above x ys h.1 w less)
 
-insert_key-sorted : (x : Name) (ks : List Name) → IsStrictlySortedBy name_cmp ks → IsStrictlySortedBy name_cmp (insert_key name_cmp ks x)
+pub insert_key-sorted : (x : Name) (ks : List Name) → IsStrictlySortedBy name_cmp ks → IsStrictlySortedBy name_cmp (insert_key name_cmp ks x)
 unfolding IsStrictlySortedBy
 insert_key-sorted x [] h = (tt, tt)
 insert_key-sorted x (y ∷ ys) h =
@@ -96,7 +96,7 @@ in_order-sorted ks = fold-sorted [] ks tt
 itself : (x : Name) → bytes_eq x x ≡ true
 itself x = (bytes_eq-Decides x x).1 refl
 
-apart : (x y : Name) → name_cmp x y ≡ Less → bytes_eq x y ≡ false
+pub apart : (x y : Name) → name_cmp x y ≡ Less → bytes_eq x y ≡ false
 apart x y less = sym (is_eq-slice_cmp x y) ∙ ap is_eq less
 
 -- a name below each of the names is not among them
@@ -108,7 +108,7 @@ first_among : (x : Name) (xs : List Name) → is_among x (x ∷ xs) ≡ true
 first_among x xs = ap (λ b. b || is_among x xs) (itself x)
 
 -- a sorted list whose first name is greater has not the lesser one
-missed : (x y : Name) (ys : List Name) → name_cmp x y ≡ Less → IsStrictlySortedBy name_cmp (y ∷ ys) → is_among x (y ∷ ys) ≡ false
+pub missed : (x y : Name) (ys : List Name) → name_cmp x y ≡ Less → IsStrictlySortedBy name_cmp (y ∷ ys) → is_among x (y ∷ ys) ≡ false
 unfolding IsStrictlySortedBy
 missed x y ys less h = not_among x (y ∷ ys) (less, above y ys h.0 x less)
 

@@ -1,16 +1,26 @@
 -- Quorum sets by numbers, and how many entries they have.
-use Rattle.std.proofs.Common.{◌≡◌, ℕ, ◌+◌, ◌≤◌, List, [], ◌∷◌, length, map, take, drop, refl, sym, ap, ◌∙◌, arith}
+use Rattle.std.proofs.Common.{◌≡◌, ℕ, ◌+◌, ◌≤◌, ◌<◌, List, [], ◌∷◌, ◌++◌, slice_index_or, length, map, take, drop, refl, sym, ap, ◌∙◌, arith}
 use Rattle.std.proofs.Math.ListN.{drop_of_length-le}
-use Rattle.std.proofs.lemmas.List.{take_all}
+use Rattle.std.proofs.lemmas.List.{take_all, take_more, map-append}
 use Rattle.std.proofs.lemmas.Simd.{map-map}
+use denote.Ref.{Bor}
 use Rattle.fbas_model.specs.Names.{Name}
 use Rattle.fbas_model.specs.QuorumSets.{all_entries, all_entries_of}
 use Rattle.fbas_model.specs.Trees.{QuorumSet, quorum_set, node, inner}
 use Rattle.fbas_model.specs.Lists.{entries_of, inner_entries}
 use Rattle.node_json.specs.Configuration.{number_of, nodes_then, numbered, all_numbered}
 use Rattle.node_json.specs.Named as spec
-use Rattle.node_json.specs.View.{sets_in, set_view, sets_view}
+use Rattle.node_json.specs.View.{names_view, sets_in, set_view, sets_view}
 use Rattle.node_json.specs.declared.quorum_sets.NamedSet.{NamedSet}
+
+-- the numbers of one more name
+pub numbers_more : (names : List Name) (list : List (Bor (List ℕ))) (i : ℕ) (d : Bor (List ℕ)) → i < length list
+    → map (number_of names) (names_view (take i list)) ++ number_of names (slice_index_or list i d).now ∷ [] ≡ map (number_of names) (names_view (take (i + 1) list))
+numbers_more names list i d inside =
+    let item = slice_index_or list i d in
+    sym (ap (λ xs. map (number_of names) (names_view xs)) (take_more list i d inside)
+    ∙ ap (map (number_of names)) (map-append (λ (name : Bor (List ℕ)). name.now) (take i list) (item ∷ []))
+    ∙ map-append (number_of names) (names_view (take i list)) (item.now ∷ []))
 
 entries_of-nodes_then : (vs : List ℕ) (qs : List QuorumSet) → entries_of vs qs ≡ nodes_then vs (inner_entries qs)
 entries_of-nodes_then [] qs = refl

@@ -1,4 +1,5 @@
 pub mod NamesInOrder
+pub mod SeenNames
 pub mod Named
 pub mod Reading
 pub mod View

@@ -9,6 +9,8 @@ mod names;
 mod nodes;
 mod organisations;
 mod quorum_sets;
+mod seen_names;
+mod slots;
 mod system;
 
 pub use faults::{ConfigFault, OrgFault, SetFault};

@@ -8,6 +8,7 @@ ghost use Rattle.node_json.specs.View.{names_view, set_view, nodes_view};
 
 use crate::nodes::NamedNode;
 use crate::quorum_sets::NamedSet;
+use crate::seen_names::SeenNames;
 use name_set::Names;
 use std::alloc::{AllocError, Global};
 use std::collections::BTreeSet;
@@ -21,18 +22,18 @@ pub(crate) fn add_name<'v>(names: &mut BTreeSet<&'v str>, name: &'v str) -> Resu
 }
 
 // Adds each name of the list.
-fn add_all<'v>(names: &mut BTreeSet<&'v str>, list: &[&'v str]) -> Result<(), AllocError>
-    ensures { OnOk result (names_view names.new.keys ≡ with_names (names_view names.old.keys) (names_view list.now)) }
+fn add_all<'v>(names: &mut SeenNames<'v>, list: &[&'v str]) -> Result<(), AllocError>
+    ensures { OnOk result (names.new ≡ with_names names.old (names_view list.now)) }
 {
     for name in list {
-        add_name(names, *name)?;
+        names.add(*name)?;
     }
     Ok(())
 }
 
 // Adds the names in a quorum set, at all depths.
-fn add_names<'v>(names: &mut BTreeSet<&'v str>, set: &NamedSet<'v>) -> Result<(), AllocError>
-    ensures { OnOk result (names_view names.new.keys ≡ with_names (names_view names.old.keys) (names_in_set (set_view set.now))) }
+fn add_names<'v>(names: &mut SeenNames<'v>, set: &NamedSet<'v>) -> Result<(), AllocError>
+    ensures { OnOk result (names.new ≡ with_names names.old (names_in_set (set_view set.now))) }
 {
     add_all(names, &set.validators)?;
     for inner in &set.inner {
@@ -48,14 +49,14 @@ pub(crate) fn distinct_names<'v>(
 ) -> Result<BTreeSet<&'v str>, AllocError>
     ensures { IfOk result (λ names. names_view names.keys ≡ in_order (all_names (nodes_view nodes.now))) }
 {
-    let mut names = BTreeSet::new(alloc);
+    let mut names = SeenNames::new(alloc)?;
     for node in nodes {
-        add_name(&mut names, node.key)?;
+        names.add(node.key)?;
         if let Some(set) = &node.quorum_set {
             add_names(&mut names, set)?;
         }
     }
-    Ok(names)
+    Ok(names.in_order())
 }
 
 // The names as the nodes have them.

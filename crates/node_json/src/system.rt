@@ -16,30 +16,41 @@ use crate::faults::ConfigFault;
 use crate::names::{distinct_names, owned_names};
 use crate::nodes::{NamedNode, read_nodes, read_tree};
 use crate::quorum_sets::NamedSet;
+use crate::slots::Guesses;
 use fbas_core::System;
 use fbas_model::{MOST_ENTRIES, MOST_NODES};
 use name_set::Names;
 use quorum_set::QuorumSet;
 use std::alloc::{AllocError, Global};
 
-// The numbers of the names of the list: O(log n) comparisons for each.
-fn numbers(alloc: Global, names: &Names, list: &[&str]) -> Result<Vec<u32>, AllocError>
+// The numbers of the names of the list.
+fn numbers(
+    alloc: Global,
+    names: &Names,
+    guesses: &mut Guesses,
+    list: &[&str],
+) -> Result<Vec<u32>, AllocError>
     ensures { IfOk result (λ v. v.items ≡ map (number_of names.now) (names_view list.now)) }
 {
     let mut numbers = Vec::with_capacity(alloc, list.len())?;
     for name in list {
-        numbers.push(names.find(name.as_bytes()).unwrap_or(0))?;
+        numbers.push(guesses.number(names, *name))?;
     }
     Ok(numbers)
 }
 
-fn numbered_set(alloc: Global, names: &Names, set: &NamedSet) -> Result<QuorumSet, AllocError>
+fn numbered_set(
+    alloc: Global,
+    names: &Names,
+    guesses: &mut Guesses,
+    set: &NamedSet,
+) -> Result<QuorumSet, AllocError>
     ensures { IfOk result (λ q. q ≡ numbered names.now (set_view set.now)) }
 {
-    let validators = numbers(alloc, names, &set.validators)?;
+    let validators = numbers(alloc, names, guesses, &set.validators)?;
     let mut inner = Vec::new(alloc);
     for one in &set.inner {
-        inner.push(numbered_set(alloc, names, one)?)?;
+        inner.push(numbered_set(alloc, names, guesses, one)?)?;
     }
     Ok(QuorumSet {
         threshold: set.threshold,
@@ -51,12 +62,13 @@ fn numbered_set(alloc: Global, names: &Names, set: &NamedSet) -> Result<QuorumSe
 fn numbered_if_any(
     alloc: Global,
     names: &Names,
+    guesses: &mut Guesses,
     set: &Option<NamedSet>,
 ) -> Result<Option<QuorumSet>, AllocError>
     ensures { IfOk result (λ q. q ≡ option_map (numbered names.now) (option_map set_view set.now)) }
 {
     match set {
-        Some(set) => Ok(Some(numbered_set(alloc, names, set)?)),
+        Some(set) => Ok(Some(numbered_set(alloc, names, guesses, set)?)),
         None => Ok(None),
     }
 }
@@ -71,8 +83,9 @@ fn placed_sets(
     ensures { IfOk result (λ v. v.items ≡ map (λ name. option_map (numbered names.now) (set_named (nodes_view nodes.now) name)) names.now) }
 {
     let mut sets = no_sets(alloc, names)?;
+    let mut guesses = Guesses::new(alloc)?;
     for node in nodes {
-        let set = numbered_if_any(alloc, names, &node.quorum_set)?;
+        let set = numbered_if_any(alloc, names, &mut guesses, &node.quorum_set)?;
         if let Some(at) = names.find(node.key.as_bytes()) {
             sets[at as usize] = set;
         }
@@ -135,7 +148,8 @@ fn system(alloc: Global, nodes: &[NamedNode]) -> Result<System, ConfigFault>
     if entries > MOST_ENTRIES {
         return Err(ConfigFault::TooManyEntries(entries));
     }
-    Ok(System::of(names, sets))
+    let system = System::of(alloc, names, sets)?;
+    Ok(system)
 }
 
 /// The system of a configuration, or its first fault.

@@ -8,6 +8,7 @@ use Rattle.fbas_model.specs.Restriction.{closure_of, everyone, kept, restricted,
 use Rattle.fbas_model.proofs.Tables.{table_is, length-table_from, members-table_from}
 use Rattle.fbas_model.proofs.Closure.{length-closure_of}
 use Rattle.fbas_model.proofs.Sizes.{member_lt}
+use Rattle.fbas_model.proofs.WholeLaw.{kept-everyone}
 use Rattle.witness_pair.specs.Making.{shared}
 use Rattle.certificate_file.specs.Meaning.{part_from}
 use Rattle.certificate_file.specs.declared.places.Header.{Header}
@@ -55,14 +56,8 @@ cut_inside f (Some v) set e =
     (and_parts (members set x) (members (closure_of f.sets v) x) at).1)
 
 -- without a node the part is the whole, and its nodes have the same numbers
-kept_all : (f : Fbas) (xs : Table) → length xs ≡ length f → kept (everyone f) xs ≡ xs
-kept_all [] [] e = refl
-kept_all [] (x ∷ xs) e = absurd (omega (arith, e))
-kept_all (o ∷ f) [] e = absurd (omega (arith, e))
-kept_all (o ∷ f) (x ∷ xs) e = ap (λ (ys : Table). x ∷ ys) (kept_all f xs (omega (arith, e)))
-
 pub faulty_of_whole : (f : System) (h : Header) → h.from ≡ None → length h.faulty ≡ length f.sets → h.faulty ≡ faulty_in f h
-faulty_of_whole f h none size = sym (ap (λ (o : Option ℕ). kept (part_from f o) h.faulty) none ∙ kept_all f.sets h.faulty size)
+faulty_of_whole f h none size = sym (ap (λ (o : Option ℕ). kept (part_from f o) h.faulty) none ∙ kept-everyone f.sets h.faulty size)
 
 pub part_of_whole : (f : System) (h : Header) → h.from ≡ None → f ≡ part_of f h.from
 part_of_whole f h none = sym (ap (part_of f) none)

@@ -1,94 +1,60 @@
--- What is so where a search prints its answer.
-use Rattle.std.specs.Prelude.{◌≡◌, ◌⊎◌, ℕ, ◌++◌, true, List, Some, Result, Ok, Err, codes}
+-- The headline: what is so where the program answers, for every configuration file, every set of faulty nodes and every budget.
+use Rattle.std.specs.Prelude.{◌≡◌, ◌⊎◌, ℕ, ◌++◌, true, List, [], Result, Ok, Err, codes}
 use Rattle.std.specs.Str.{bytes_eq}
-use Rattle.desk_io.specs.State.{DeskState}
-use Rattle.fbas_model.specs.Nodes.{members}
-use Rattle.fbas_model.specs.Fbas.{Available, Intersects}
-use Rattle.witness_pair.specs.Pairs.{IsPair}
-use Rattle.witness_pair.specs.declared.Pair.{Pair}
-use Rattle.lrat_model.specs.Steps.{ProofStep}
-use Rattle.certificate_file.specs.Acceptance.{checked}
-use Rattle.certificate_file.specs.declared.places.Answer.{Answer as Shown}
-use Rattle.certificate_file.specs.declared.places.Answer.TheVariants as shown
-use Rattle.cert_writer.specs.Promises.{raised_pair}
-use Rattle.cert_writer.specs.Finding.{cert_of}
-use Rattle.quorum_questions.specs.Evidence.{IsRefutation, IsSpent}
-use Rattle.quorum_questions.specs.declared.answers.Size.{Size}
-use Rattle.quorum_questions.specs.declared.answers.Answer.TheVariants.{Yes as together, Spent as spent}
-use Rattle.cli_words.specs.declared.orders.Goal.TheVariants.{Intersect, Dset, Splits}
-use Rattle.report.specs.Lines.{Text, with_pair}
+use Rattle.desk_io.specs.State.{DeskState, Files}
+use Rattle.cli_words.specs.Words.{order_of}
+use Rattle.cli_words.specs.declared.orders.Goal.{Goal}
+use Rattle.cli_words.specs.declared.orders.Goal.TheVariants.{Intersect, Dset, Splits, Blocking}
+use Rattle.report.specs.Lines.{counted}
 use Rattle.quorum_cli.specs.declared.early.Early.{Early}
 use Rattle.quorum_cli.specs.declared.reading.Asked.{Asked}
 use Rattle.quorum_cli.specs.declared.reading.Asked.TheVariants as asked
 use Rattle.quorum_cli.specs.declared.searches.Search.{Search}
 use Rattle.quorum_cli.specs.declared.status.Status.{Status}
 use Rattle.quorum_cli.specs.declared.status.Status.TheVariants.{Yes, No, Unknown}
-use Rattle.quorum_cli.specs.Printing.{part, deleted, request}
+use Rattle.quorum_cli.specs.Answers.{asked_of}
+use Rattle.quorum_cli.specs.Meaning.{IsCheck, NamesAccepted}
+use Rattle.quorum_cli.specs.Showing.{WritesAccepted, PrintsPair, ShowsNone, PrintsUnknown, IsAvailable, IsNoDset, PrintsList, PrintsPartOfList}
 
--- two disjoint quorums of the part, and the certificate is a pair that is accepted for the asked node and the deleted nodes
-pub record ShowsPair (s : Search) (p : Pair) (new : DeskState) : Type 0 where
-  pub is : IsPair (part s).sets (members (deleted s)) p
-  pub cert : Text
-  pub held : new.files s.path ≡ Some cert
-  pub accepted : checked s.whole s.digest cert ≡ Ok (record { header = s.header; answer = shown.Pair (raised_pair s.whole s.header p) })
+-- the words ask for this search over the files
+abbrev pub Seeks : List (List ℕ) → Files → Search → Type 0
+Seeks words files s = asked_of words files ≡ Ok (asked.Search s)
 
--- and both lists are on the output, behind this line
-pub record PrintsPair (s : Search) (head : Text) (old new : DeskState) : Type 0 where
-  pub pair : Pair
-  pub shows : ShowsPair s pair new
-  pub out : new.out ≡ old.out ++ with_pair head (part s).names pair
+-- two disjoint quorums are found, or no dispensable set
+abbrev pub NoShows : Goal → Search → DeskState → DeskState → Status → Type 0
+NoShows Intersect s old new status = status ≡ No → PrintsPair s (codes "intersects no\n") [] old new
+NoShows Splits s old new status = status ≡ Yes → PrintsPair s (codes "splits yes\n") [] old new
+NoShows Dset s old new status = status ≡ No → IsNoDset s old new
+NoShows Blocking s old new status = Unit {0}
 
--- every two quorums of the part share a node, and the certificate refutes the contrary, within the budget
-pub record ShowsNone (s : Search) (new : DeskState) : Type 0 where
-  pub intersects : Intersects (part s).sets (members (deleted s))
-  pub log : List ProofStep
-  pub size : Size
-  pub refutes : IsRefutation (part s).sets (deleted s) s.budget log size
-  pub held : new.files s.path ≡ Some (cert_of (request s) (together log size))
-  pub accepted : checked s.whole s.digest (cert_of (request s) (together log size)) ≡ Ok (record { header = s.header; answer = shown.Refutation })
+-- every two quorums share a node
+abbrev pub YesShows : Goal → Search → DeskState → Status → Type 0
+YesShows Intersect s new status = status ≡ Yes → ShowsNone s new
+YesShows Splits s new status = status ≡ No → ShowsNone s new
+YesShows Dset s new status = status ≡ Yes → IsAvailable s × ShowsNone s new
+YesShows Blocking s new status = Unit {0}
 
--- the budget is spent: the certificate has as many units, each useful when it was added, over clauses that do not close while a
--- lemma is due
-pub record ShowsUnknown (s : Search) (new : DeskState) : Type 0 where
-  pub log : List ProofStep
-  pub size : Size
-  pub spends : IsSpent (part s).sets (deleted s) s.budget log size
-  pub held : new.files s.path ≡ Some (cert_of (request s) (spent log size))
-  pub accepted : checked s.whole s.digest (cert_of (request s) (spent log size)) ≡ Ok (record { header = s.header; answer = shown.Partial s.budget })
+-- the budget is spent
+abbrev pub UnknownShows : Goal → Search → DeskState → DeskState → Type 0
+UnknownShows Intersect s old new = PrintsUnknown s (counted (codes "intersects unknown") s.budget) old new
+UnknownShows Splits s old new = PrintsUnknown s (counted (codes "splits unknown") s.budget) old new
+UnknownShows Dset s old new = IsAvailable s × PrintsUnknown s (codes "available yes\n" ++ (counted (codes "intersects unknown") s.budget ++ codes "dset unknown\n")) old new
+UnknownShows Blocking s old new = PrintsPartOfList s old new
 
--- the certificate is accepted, for the asked node and the deleted nodes
-pub record WritesAccepted (s : Search) (new : DeskState) : Type 0 where
-  pub cert : Text
-  pub held : new.files s.path ≡ Some cert
-  pub answer : Shown
-  pub accepted : checked s.whole s.digest cert ≡ Ok (record { header = s.header; answer = answer })
-
--- whether the others are available despite the deleted nodes
-abbrev pub IsAvailable : Search → Type 0
-IsAvailable s = Available (part s).sets (members (deleted s))
-
--- two quorums of the part share no node
-abbrev pub HasPair : Search → DeskState → Type 0
-HasPair s new = (p : Pair) × ShowsPair s p new
-
--- what is so where the answer has this status, by what is sought
-pub record SearchMeans (s : Search) (old new : DeskState) (status : Status) : Type 0 where
-  pub accepted : (status ≡ Yes) ⊎ ((status ≡ No) ⊎ (status ≡ Unknown)) → WritesAccepted s new
-  pub intersect_yes : s.goal ≡ Intersect → status ≡ Yes → ShowsNone s new
-  pub intersect_no : s.goal ≡ Intersect → status ≡ No → PrintsPair s (codes "intersects no\n") old new
-  pub intersect_unknown : s.goal ≡ Intersect → status ≡ Unknown → ShowsUnknown s new
-  pub splits_yes : s.goal ≡ Splits → status ≡ Yes → PrintsPair s (codes "splits yes\n") old new
-  pub splits_no : s.goal ≡ Splits → status ≡ No → ShowsNone s new
-  pub splits_unknown : s.goal ≡ Splits → status ≡ Unknown → ShowsUnknown s new
-  pub dset_yes : s.goal ≡ Dset → status ≡ Yes → IsAvailable s × ShowsNone s new
-  pub dset_no : s.goal ≡ Dset → status ≡ No → (IsAvailable s → ⊥) ⊎ HasPair s new
-  pub dset_unknown : s.goal ≡ Dset → status ≡ Unknown → IsAvailable s × ShowsUnknown s new
-
--- the same of a search that is asked
-abbrev pub AskedMeans : Result Asked Early → DeskState → DeskState → Status → Type 0
-AskedMeans (Ok (asked.Search s)) old new status = SearchMeans s old new status
-AskedMeans (Ok (asked.Question f question)) old new status = Unit {0}
-AskedMeans (Err e) old new status = Unit {0}
+-- the words were answered, and the files and the output were these before and are those now
+pub record Headline (words : List (List ℕ)) (old new : DeskState) (status : Status) : Type 0 where
+  -- a no: the two lists that are printed are quorums, and they share no node
+  pub no : (s : Search) → Seeks words old.files s → NoShows s.goal s old new status
+  -- a yes: every two quorums share a node
+  pub yes : (s : Search) → Seeks words old.files s → YesShows s.goal s new status
+  -- a certificate is accepted only where what it shows is so of the system that its header names
+  pub accepts : IsCheck (order_of words) → status ≡ Yes → NamesAccepted words old.files
+  -- a completed list: the printed sets are exactly the minimal blocking sets, each once, in name order, and their number is printed
+  pub completed : (s : Search) → Seeks words old.files s → s.goal ≡ Blocking → status ≡ Yes → PrintsList s old new
+  -- each finished certificate is accepted, with the node that was asked and the deleted nodes as its header
+  pub finished : (s : Search) → Seeks words old.files s → (status ≡ Yes) ⊎ ((status ≡ No) ⊎ (status ≡ Unknown)) → WritesAccepted s new
+  -- unknown: as many units as the budget has, each useful when it was added, whose clauses do not close
+  pub unknown : (s : Search) → Seeks words old.files s → status ≡ Unknown → UnknownShows s.goal s old new
 
 -- the file that may change is that of a search's certificate
 abbrev pub IsCertOf : List ℕ → Asked → Type 0

@@ -4,10 +4,11 @@ use Rattle.desk_io.specs.State.{DeskState}
 use Rattle.fbas_model.specs.Systems.{System}
 use Rattle.fbas_model.specs.Nodes.{Table}
 use Rattle.cert_writer.specs.Promises.{part_of, faulty_in}
-use Rattle.cert_writer.specs.Finding.{Search as Request, Finds}
-use Rattle.quorum_questions.specs.declared.answers.Answer.{Answer as Found}
+use Rattle.cert_writer.specs.Finding.{Search as Request}
 use Rattle.report.specs.Lines.{Text}
 use Rattle.quorum_cli.specs.declared.searches.Search.{Search}
+use Rattle.quorum_cli.specs.declared.found.Found.{Found}
+use Rattle.quorum_cli.specs.Finding.{FindsFound}
 use Rattle.quorum_cli.specs.Replies.{Replies, RepliesTooLarge}
 use Rattle.quorum_cli.specs.Putting.{PutsBoth, CameTo, LacksPlace}
 use Rattle.quorum_cli.specs.declared.status.Status.{Status}
@@ -69,7 +70,7 @@ request s = record { whole = s.whole; digest = s.digest; header = s.header; budg
 pub record FindsReply (s : Search) : Type 0 where
   pub found : Found
   pub cert : Text
-  pub finds : Finds (request s) found cert
+  pub finds : FindsFound (request s) found cert
   pub answer : Answer
   pub is : Replies s.goal (part s) (deleted s) s.budget found answer
 

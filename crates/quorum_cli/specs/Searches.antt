@@ -10,7 +10,7 @@ use Rattle.node_json.specs.Organisations.{Org}
 use Rattle.cli_words.specs.Order.{Ordered}
 use Rattle.cli_words.specs.declared.budget.TheConstants.{MOST_BUDGET}
 use Rattle.cli_words.specs.declared.orders.Goal.{Goal}
-use Rattle.cli_words.specs.declared.orders.Goal.TheVariants.{Intersect, Dset, Splits}
+use Rattle.cli_words.specs.declared.orders.Goal.TheVariants.{Intersect, Dset, Splits, Blocking}
 use Rattle.quorum_cli.specs.declared.early.Early.{Early}
 use Rattle.quorum_cli.specs.declared.searches.Search.{Search}
 use Rattle.quorum_cli.specs.Reading.{◌>>=◌}
@@ -24,6 +24,7 @@ deleted_by Splits f orgs o = do
   faulty ← faulty_named f orgs o
   set ← set_named f.names (codes "--set") o.set
   Ok (union faulty set)
+deleted_by Blocking f orgs o = faulty_named f orgs o
 
 -- the nodes of a set that are in the part, the whole system or the trust closure of a node
 abbrev pub cut_within : System → Option ℕ → Table → Table

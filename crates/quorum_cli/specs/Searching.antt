@@ -2,8 +2,8 @@
 use Rattle.std.specs.Prelude.{◌≡◌, ℕ, [], false}
 use Rattle.fbas_model.specs.Nodes.{Table}
 use Rattle.fbas_model.specs.Systems.{System}
-use Rattle.quorum_questions.specs.Evidence.{Shows}
 use Rattle.cli_words.specs.declared.orders.Goal.{Goal}
+use Rattle.quorum_cli.specs.Finding.{FoundShows}
 use Rattle.quorum_cli.specs.Replies.{Replies, RepliesTooLarge}
 use Rattle.quorum_cli.specs.declared.searching.Held.{Held}
 use Rattle.quorum_cli.specs.declared.searching.Ready.{Ready}
@@ -11,7 +11,7 @@ use Rattle.quorum_cli.specs.declared.searching.Ready.TheVariants.{Found, TooLarg
 
 -- what was found, its reply, and a writer that has written nothing
 pub record FitsHeld (goal : Goal) (part : System) (deleted : Table) (budget : ℕ) (h : Held) : Type 0 where
-  pub shows : Shows part.sets deleted budget h.found
+  pub shows : FoundShows part.sets deleted budget h.found
   pub replies : Replies goal part deleted budget h.found h.reply
   pub fresh : h.writer ≡ record { held = []; failed = false }
 

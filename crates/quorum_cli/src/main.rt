@@ -4,6 +4,7 @@
 mod checking;
 mod early;
 mod files;
+mod found;
 mod names;
 mod parts;
 mod printing;

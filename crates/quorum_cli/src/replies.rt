@@ -1,13 +1,14 @@
 //! What a search prints of what it found.
-ghost use Rattle.std.specs.Prelude.{◌≡◌, ◌⊎◌, ◌↔◌, IsTrue, IfOk, length};
+ghost use Rattle.std.specs.Prelude.{◌≡◌, ◌⊎◌, ◌↔◌, All, IsTrue, IfOk, length};
 ghost use Rattle.fbas_model.specs.Nodes.{members};
 ghost use Rattle.fbas_model.specs.Fbas.{Available, AreUnmet};
 ghost use Rattle.cert_writer.specs.Finding.{CanBeWritten};
-ghost use Rattle.quorum_cli.specs.Replies.{intersect_answer as spec_intersect, splits_answer as spec_splits, available_lines as spec_available, dset_status as spec_dset_status, dset_line as spec_dset_line, dset_answer as spec_dset};
+ghost use Rattle.quorum_cli.specs.Replies.{intersect_answer as spec_intersect, splits_answer as spec_splits, blocking_answer as spec_blocking, HasSets, available_lines as spec_available, dset_status as spec_dset_status, dset_line as spec_dset_line, dset_answer as spec_dset};
 ghost use Rattle.quorum_cli.specs.Status.{is_answer};
 
 use crate::reply::{Reply, says};
 use crate::status::Status;
+use blocking_lists::ListOutcome;
 use fbas_core::System;
 use name_set::NodeSet;
 use quorum_questions::Answer;
@@ -54,6 +55,28 @@ pub fn splits_answer(
         }
         Answer::Spent(_, _) => {
             let text = report::counted(alloc, "splits unknown", budget)?;
+            Ok(Reply::new(Status::Unknown, text))
+        }
+    }
+}
+
+/// The minimal blocking sets, by what a search for them found.
+pub fn blocking_answer(
+    alloc: Global,
+    part: &System,
+    budget: u64,
+    found: &ListOutcome,
+) -> Result<Reply, AllocError>
+    requires { HasSets (length part.now.sets) found.now }
+    ensures { IfOk result (λ a. a ≡ spec_blocking part.now.names budget found.now) }
+{
+    match found {
+        ListOutcome::Whole(sets, _) => {
+            let text = report::with_sets(alloc, "blocking", part, sets.as_slice())?;
+            Ok(Reply::new(Status::Yes, text))
+        }
+        ListOutcome::Spent(_) => {
+            let text = report::counted(alloc, "blocking unknown", budget)?;
             Ok(Reply::new(Status::Unknown, text))
         }
     }

@@ -5,8 +5,7 @@ ghost use Rattle.desk_io.specs.Faults.{Rose, WriteFails, CountedWhere};
 ghost use Rattle.cli_words.specs.Words.{order_of};
 ghost use Rattle.quorum_cli.specs.Status.{is_answer};
 ghost use Rattle.quorum_cli.specs.Answers.{words_of, asked_of, FitsAsked};
-ghost use Rattle.quorum_cli.specs.Headline.{AskedMeans, MayChange};
-ghost use Rattle.quorum_cli.specs.Meaning.{NamesAccepted, IsCheck};
+ghost use Rattle.quorum_cli.specs.Headline.{Headline, MayChange};
 ghost use Rattle.quorum_cli.specs.Printing.{PrintsAnswer, PrintsAnswerPart, PrintsAsked, PrintsAskedPart, LacksRoomAsked, Prints, PrintsPart, LacksRoom};
 
 use crate::early::Early;
@@ -44,13 +43,10 @@ pub fn run<D: Desk>(alloc: Global, words: &[String], desk: &mut D) -> Status
     // An answer is the defined one, and its text is all that goes to the output.
     ensures answered { IsTrue D.tells → IsTrue (is_answer result) →
         Prints (asked_of (words_of words.now) (D.state desk.old).files) (D.state desk.old) (D.state desk.new) result }
-    // Where a search answers, its certificate is accepted for what was asked, and shows what is so: two disjoint quorums, which
-    // are printed, or that every two quorums share a node, or so many useful lemmas as the budget has units, with one due.
-    ensures searched { IsTrue D.tells → IsTrue (is_answer result) →
-        AskedMeans (asked_of (words_of words.now) (D.state desk.old).files) (D.state desk.old) (D.state desk.new) result }
-    // A certificate is accepted only where what it shows is so.
-    ensures accepts { IsTrue D.tells → IsCheck (order_of (words_of words.now)) → result ≡ Status.Yes
-        → NamesAccepted (words_of words.now) (D.state desk.old).files }
+    // The headline, for every configuration file, every set of faulty nodes and every budget: what is so where a no, a yes, a list
+    // or an unknown is printed, that each finished certificate is accepted, and that only what is so is accepted.
+    ensures headline { IsTrue D.tells → IsTrue (is_answer result) →
+        Headline (words_of words.now) (D.state desk.old) (D.state desk.new) result }
     // After a write fault a proper prefix of it is out, and after a read fault or for want of memory nothing.
     ensures part { IsTrue D.tells → result ≡ Status.WriteFault →
         PrintsPart (asked_of (words_of words.now) (D.state desk.old).files) (D.state desk.old) (D.state desk.new) }

@@ -4,31 +4,34 @@ ghost use Rattle.fbas_model.specs.Restriction.{closure_of, kept, restricted};
 ghost use Rattle.report.specs.Lines.{too_large as too_large_line};
 ghost use Rattle.desk_io.specs.Faults.{WriteFails};
 ghost use Rattle.cert_writer.specs.Promises.{IsHeader, part_of, faulty_in};
-ghost use Rattle.cert_writer.specs.Finding.{cert_over, CanBeWritten};
 ghost use Rattle.quorum_questions.specs.declared.asking.TheConstants.{MOST_UNITS};
+ghost use Rattle.quorum_cli.specs.Finding.{cert_over, IsWritable};
 ghost use Rattle.quorum_cli.specs.Putting.{put_whole, PutsSome, LacksPlace};
 ghost use Rattle.quorum_cli.specs.Printing.{PrintsSearch, PrintsSearchPart, LacksForSearch};
 ghost use Rattle.quorum_cli.specs.Searching.{FitsReady, FitsHeld};
 ghost use Rattle.quorum_cli.specs.Searches.{FitsSearch};
 ghost use Rattle.quorum_cli.specs.Status.{is_answer};
 
+use crate::found::{Found, what_is_shown_is_accepted, write_certificate};
 use crate::printing::print;
-use crate::replies::{dset_answer, intersect_answer, splits_answer};
+use crate::replies::{blocking_answer, dset_answer, intersect_answer, splits_answer};
 use crate::reply::Reply;
 use crate::searches::Search;
 use crate::status::Status;
-use cert_writer::{CertWriter, what_is_shown_is_found, write_found};
+use blocking_lists::list;
+use cdcl_core::Budget;
+use cert_writer::{CertWriter, what_is_shown_is_found};
 use cli_words::Goal;
 use desk_io::{Desk, To, WriteFailed, put_all};
 use fbas_core::System;
 use name_set::NodeSet;
-use quorum_questions::{Answer, AskError, dset, intersect};
+use quorum_questions::{AskError, dset, intersect};
 use std::alloc::{AllocError, Global};
 
 /// What was found, what is printed of it, and a writer for its certificate.
 #[derive(Drop)]
 pub struct Held {
-    found: Answer,
+    found: Found,
     reply: Reply,
     writer: CertWriter,
 }
@@ -42,7 +45,7 @@ pub enum Ready {
 }
 
 // What was found, with the memory that writing it wants.
-fn hold(alloc: Global, found: Answer, reply: Reply) -> Result<Ready, AllocError>
+fn hold(alloc: Global, found: Found, reply: Reply) -> Result<Ready, AllocError>
     ensures { IfOk result (λ ready. ready ≡ Ready.Found (record { found = found; reply = reply; writer = record { held = []; failed = false } })) }
 {
     let writer = CertWriter::start(alloc)?;
@@ -75,7 +78,7 @@ fn intersect_ready(
     match intersect(alloc, part, faulty, budget) {
         Ok(found) => {
             let reply = intersect_answer(alloc, part, budget, &found)?;
-            hold(alloc, found, reply)
+            hold(alloc, Found::Shared(found), reply)
         }
         Err(AskError::TooLarge(vars)) => too_large(alloc, vars),
         Err(AskError::Memory) => Err(AllocError),
@@ -98,7 +101,7 @@ fn splits_ready(
     match intersect(alloc, part, faulty, budget) {
         Ok(found) => {
             let reply = splits_answer(alloc, part, budget, &found)?;
-            hold(alloc, found, reply)
+            hold(alloc, Found::Shared(found), reply)
         }
         Err(AskError::TooLarge(vars)) => too_large(alloc, vars),
         Err(AskError::Memory) => Err(AllocError),
@@ -116,11 +119,28 @@ fn dset_ready(alloc: Global, part: &System, set: &NodeSet, budget: u64) -> Resul
         Ok((is_available, unmet, found)) => {
             let answer = intersect_answer(alloc, part, budget, &found)?;
             let reply = dset_answer(alloc, part, is_available, &unmet, &answer)?;
-            hold(alloc, found, reply)
+            hold(alloc, Found::Shared(found), reply)
         }
         Err(AskError::TooLarge(vars)) => too_large(alloc, vars),
         Err(AskError::Memory) => Err(AllocError),
     }
+}
+
+fn blocking_ready(
+    alloc: Global,
+    part: &System,
+    faulty: &NodeSet,
+    budget: u64,
+) -> Result<Ready, AllocError>
+    requires same_n { length faulty.now ≡ length part.now.sets }
+    requires few { budget ≤ MOST_UNITS }
+    ensures { IfOk result (FitsReady Goal.Blocking part.now faulty.now budget) }
+{
+    let _ = part.len();
+    let mut units = Budget::of(budget);
+    let found = list(alloc, part, faulty, &mut units)?;
+    let reply = blocking_answer(alloc, part, budget, &found)?;
+    hold(alloc, Found::Listed(found), reply)
 }
 
 // What answers the search, with all the memory that is wanted to put it.
@@ -139,6 +159,7 @@ fn make_ready(
         Goal::Intersect => intersect_ready(alloc, part, faulty, budget),
         Goal::Splits => splits_ready(alloc, part, faulty, budget),
         Goal::Dset => dset_ready(alloc, part, faulty, budget),
+        Goal::Blocking => blocking_ready(alloc, part, faulty, budget),
     }
 }
 
@@ -149,20 +170,20 @@ fn put_both<D: Desk>(
     search: &Search,
     part: &System,
     writer: &mut CertWriter,
-    found: &Answer,
+    found: &Found,
     text: &[u8],
 ) -> Result<(), WriteFailed>
     requires fresh { writer.old ≡ record { held = []; failed = false } }
     requires header { IsHeader search.now.whole search.now.header }
     requires part { part.now ≡ part_of search.now.whole search.now.header.from }
-    requires found { CanBeWritten (length part.now.names) found.now }
+    requires found { IsWritable (length part.now.names) found.now }
     ensures all { OnOk result (IsTrue D.tells → D.state desk.new ≡ put_whole path.now (cert_over search.now.whole search.now.digest search.now.header found.now) text.now (D.state desk.old)) }
     ensures part { OnErr result (IsTrue D.tells → PutsSome path.now (cert_over search.now.whole search.now.digest search.now.header found.now) text.now (D.state desk.old) (D.state desk.new)) }
     ensures plain { OnErr result (IsTrue D.tells → IsTrue (D.state desk.old).plain → LacksPlace path.now (cert_over search.now.whole search.now.digest search.now.header found.now) text.now (D.state desk.old)) }
     ensures faults { WriteFails (D.faults desk.old) (D.faults desk.new) (IsErr result) }
 {
     desk.create(path)?;
-    write_found(
+    write_certificate(
         writer,
         desk,
         &search.digest,
@@ -187,7 +208,7 @@ fn put_found<D: Desk>(desk: &mut D, search: &Search, part: &System, held: Held) 
 {
     let _ = search.whole.len();
     let _ = part.len();
-    what_is_shown_is_found();
+    what_is_shown_is_accepted();
     let Held {
         found,
         reply,

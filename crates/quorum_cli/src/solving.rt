@@ -11,7 +11,7 @@ ghost use Rattle.lrat_model.specs.Runs.{formula_database};
 use crate::question::{Origin, Question};
 use crate::reply::{Reply, says};
 use crate::status::Status;
-use clause_encoder::{EncodeError, VarMap, encode, write_dimacs};
+use clause_encoder::{EncodeError, VarMap, encode, push_dimacs};
 use clause_store::Store;
 use fbas_core::System;
 use name_set::NodeSet;
@@ -106,15 +106,9 @@ fn formula_text(
     ensures { (clauses : List (List Literal)) → store.now ≡ formula_database clauses
         → IfOk result (says (exported origin.now.digest origin.now.from system.now.names faulty.now (dimacs system.now.names map.now clauses))) }
 {
-    let dimacs = write_dimacs(alloc, store, map, system)?;
-    let text = report::exported(
-        alloc,
-        &origin.digest,
-        from_of(origin),
-        system,
-        faulty,
-        &dimacs,
-    )?;
+    let from = from_of(origin);
+    let mut text = report::export_comments(alloc, &origin.digest, from, system, faulty)?;
+    push_dimacs(&mut text, store, map, system)?;
     Ok(Reply::new(Status::Yes, text))
 }
 

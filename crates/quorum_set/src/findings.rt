@@ -100,7 +100,8 @@ impl QuorumSet {
     /// the places where they stand the second time, then what is found in its inner sets, in order.
     ///
     /// Where memory runs out, the list keeps what it held, followed by the first of the findings. O(e log e) for e entries
-    /// at all depths, and the length of its path for each finding.
+    /// at all depths, and the length of its path for each finding. There have to be fewer than 2^32 entries, since a path has
+    /// the places of inner sets as numbers of 32 bits; a system has a million at most.
     pub fn findings(&self, alloc: Global, into: &mut Vec<Finding>) -> Result<(), AllocError>
         requires { all_entries self.now < 2 ^ 32 }
         ensures ok { OnOk result (found_all into.new.items ≡ found_all into.old.items ++ findings_of self.now) }

@@ -61,7 +61,7 @@ name_at names v = unwrap_or (slice_get names v) []
 -- ---- refusals
 
 abbrev pub usage : Text
-usage = codes "usage: quorum_cli COMMAND\nshow CONFIG\nclosure CONFIG --node NAME\ngreatest CONFIG [COMMON]\nintersect CONFIG CERT [COMMON] [--budget UNITS]\navailable CONFIG --set NAMES [--from NAME]\ndset CONFIG CERT --set NAMES [--from NAME] [--budget UNITS]\nblocks CONFIG --set NAMES [COMMON]\nvblocks CONFIG --node NAME --set NAMES\nsplits CONFIG CERT --set NAMES [COMMON] [--budget UNITS]\ncheck CONFIG CERT\nexport CONFIG [COMMON]\nCOMMON: --from NAME --faulty NAMES --orgs ORGS --faulty-orgs IDS\n"
+usage = codes "usage: quorum_cli COMMAND\nshow CONFIG\nclosure CONFIG --node NAME\ngreatest CONFIG [COMMON]\nintersect CONFIG CERT [COMMON] [--budget UNITS]\navailable CONFIG --set NAMES [--from NAME]\ndset CONFIG CERT --set NAMES [--from NAME] [--budget UNITS]\nblocks CONFIG --set NAMES [COMMON]\nvblocks CONFIG --node NAME --set NAMES\nsplits CONFIG CERT --set NAMES [COMMON] [--budget UNITS]\nblocking CONFIG CERT [COMMON] [--budget UNITS]\ncheck CONFIG CERT\nexport CONFIG [COMMON]\nCOMMON: --from NAME --faulty NAMES --orgs ORGS --faulty-orgs IDS\n"
 
 abbrev pub same_path : Text
 same_path = codes "usage same-path\n"
@@ -169,6 +169,10 @@ abbrev pub set_lines : List Name → List Table → Text
 set_lines names [] = []
 set_lines names (set ∷ sets) = line (list (codes "set") names set) ++ set_lines names sets
 
+-- how many sets there are, and a line for each
+abbrev pub with_sets : Text → List Name → List Table → Text
+with_sets word names sets = counted word (length sets) ++ set_lines names sets
+
 -- the sets of an answer
 abbrev pub answer_sets : Answer → List Table
 answer_sets (pair p) = []
@@ -204,9 +208,13 @@ worded_if_any text (Some word) = worded text word
 abbrev pub export_head : List ℕ → Option Name → Text
 export_head digest from = line (worded (codes "c config") (encode_lower digest)) ++ line (worded_if_any (codes "c from") from)
 
--- an exported formula: its comment lines, the faulty nodes the last of them, and its DIMACS text
+-- the comment lines of an exported formula, the faulty nodes the last of them
+abbrev pub export_comments : List ℕ → Option Name → List Name → Table → Text
+export_comments digest from names faulty = with_list (export_head digest from) (codes "c faulty") names faulty
+
+-- an exported formula: its comment lines, and its DIMACS text
 abbrev pub exported : List ℕ → Option Name → List Name → Table → Text → Text
-exported digest from names faulty dimacs = with_list (export_head digest from) (codes "c faulty") names faulty ++ dimacs
+exported digest from names faulty dimacs = export_comments digest from names faulty ++ dimacs
 
 -- a formula with this many variables is not written
 abbrev pub too_large : ℕ → Text

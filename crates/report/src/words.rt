@@ -1,7 +1,7 @@
 //! Words, numbers and names, one behind another.
 ghost use Rattle.std.specs.Prelude.{◌≡◌, ◌<◌, ◌++◌, ◌∷◌, [], length, decimal, codes, option_map, All, OnOk, IfOk};
 ghost use Rattle.certificate_file.specs.Meaning.{HasPlaces, AnswerHasPlaces};
-ghost use Rattle.report.specs.Lines.{numbered, worded, list, listed, line, word_if_any, accepted as spec_accepted, accepted_kind, set_lines, answer_sets, with_list as spec_with_list, counts as spec_counts, export_head as spec_export_head, exported as spec_exported, with_pair as spec_with_pair, counted as spec_counted, name_at as spec_name_at};
+ghost use Rattle.report.specs.Lines.{numbered, worded, list, listed, line, word_if_any, accepted as spec_accepted, accepted_kind, set_lines, answer_sets, with_list as spec_with_list, counts as spec_counts, export_head as spec_export_head, export_comments as spec_export_comments, with_pair as spec_with_pair, with_sets as spec_with_sets, counted as spec_counted, name_at as spec_name_at};
 
 use certificate_file::{Accepted, Answer, Pair};
 use fbas_core::System;
@@ -112,7 +112,7 @@ fn push_kind(text: &mut Vec<u8>, answer: &Answer) -> Result<(), AllocError>
     }
 }
 
-/// Adds a line for each set.
+// Adds a line for each set.
 pub fn push_sets(text: &mut Vec<u8>, system: &System, sets: &[NodeSet]) -> Result<(), AllocError>
     requires { All (λ s. length s ≡ length system.now.sets) sets.now }
     ensures { OnOk result (text.new.items ≡ text.old.items ++ set_lines system.now.names sets.now) }
@@ -190,6 +190,22 @@ fn push_count(text: &mut Vec<u8>, word: &str, number: u64) -> Result<(), AllocEr
     Ok(())
 }
 
+/// A line of a word and how many sets there are, and behind it a line for each of them.
+pub fn with_sets(
+    alloc: Global,
+    word: &str,
+    system: &System,
+    sets: &[NodeSet],
+) -> Result<Vec<u8>, AllocError>
+    requires { All (λ s. length s ≡ length system.now.sets) sets.now }
+    ensures { IfOk result (λ text. text.items ≡ spec_with_sets word.now system.now.names sets.now) }
+{
+    let mut text = Vec::new(alloc);
+    push_count(&mut text, word, sets.len() as u64)?;
+    push_sets(&mut text, system, sets)?;
+    Ok(text)
+}
+
 // How many nodes a system has, how many entries of quorum sets, and how many nodes without a quorum set.
 pub fn counts(alloc: Global, system: &System) -> Result<Vec<u8>, AllocError>
     ensures { IfOk result (λ text. text.items ≡ spec_counts system.now) }
@@ -216,22 +232,20 @@ fn export_head(alloc: Global, digest: &[u8; 32], from: Option<&[u8]>) -> Result<
     Ok(text)
 }
 
-/// An exported formula: its comment lines, and its DIMACS text. The comments name the digest of the configuration, the node of
-/// whose trust closure the formula speaks, and the faulty nodes.
-pub fn exported(
+/// The comment lines of an exported formula. They name the digest of the configuration, the node of whose trust closure the
+/// formula speaks, and the faulty nodes.
+pub fn export_comments(
     alloc: Global,
     digest: &[u8; 32],
     from: Option<&[u8]>,
     system: &System,
     faulty: &NodeSet,
-    dimacs: &[u8],
 ) -> Result<Vec<u8>, AllocError>
     requires { length faulty.now ≡ length system.now.sets }
-    ensures { IfOk result (λ text. text.items ≡ spec_exported digest.now (option_map (λ name. name.now) from.entry) system.now.names faulty.now dimacs.now) }
+    ensures { IfOk result (λ text. text.items ≡ spec_export_comments digest.now (option_map (λ name. name.now) from.entry) system.now.names faulty.now) }
 {
     let mut text = export_head(alloc, digest, from)?;
     push_list(&mut text, "c faulty", system, faulty)?;
-    text.extend_from_slice(dimacs)?;
     Ok(text)
 }
 

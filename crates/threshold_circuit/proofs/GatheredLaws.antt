@@ -1,5 +1,5 @@
 -- Inputs that are joined and kept.
-use Rattle.std.proofs.Common.{◌≡◌, ℕ, ◌+◌, ◌-◌, ◌≤◌, ◌<◌, ◌==◌, nat_lt, Bool, true, false, if◌then◌else◌, List, [], ◌∷◌, ◌++◌, Vec, Global, length, refl, ap, sym, ◌∙◌, arith}
+use Rattle.std.proofs.Common.{◌≡◌, ℕ, ◌+◌, ◌-◌, ◌≤◌, ◌<◌, ◌==◌, nat_lt, Bool, true, false, if◌then◌else◌, List, [], ◌∷◌, ◌++◌, Vec, Global, length, get_or, drop, refl, ap, sym, ◌∙◌, arith}
 use Rattle.std.proofs.lemmas.Bool.Decides.{nat_tests}
 use Rattle.threshold_circuit.specs.declared.Circuit.{Circuit, Always, Never, Node, AtLeast'}
 use Rattle.threshold_circuit.specs.declared.Circuit.TheViews.{AtLeast}
@@ -8,7 +8,8 @@ use Rattle.threshold_circuit.specs.Circuits.{Inputs, always, never, leaf, at_lea
 use Rattle.threshold_circuit.specs.Simplified.{always_count, undecided, threshold_over}
 use Rattle.threshold_circuit.specs.Views.{circuit_view, inputs_view}
 use Rattle.threshold_circuit.specs.Gathering.{joined}
-use Rattle.threshold_circuit.proofs.ViewLaws.{circuit_view_at_least}
+use Rattle.std.proofs.lemmas.List.{drop_all}
+use Rattle.threshold_circuit.proofs.ViewLaws.{circuit_view_at_least, cut_circuits}
 
 pub joined_end : (es : Inputs) → joined es end_of_gate ≡ es
 joined_end end_of_gate = refl
@@ -90,3 +91,20 @@ gather_circuit t0 t t' e0 e e' all rest c d still is at_threshold at_entries =
 
 pub gathered_all : (t0 t : ℕ) (e0 e all rest : Inputs) → StillGathers t0 t e0 e all rest → rest ≡ end_of_gate → e ≡ joined e0 (undecided all)
 gathered_all t0 t e0 e all rest still none = sym (joined_end e) ∙ ap (λ (x : Inputs). joined e (undecided x)) (sym none) ∙ still.kept
+
+-- ---- entries that are copied
+
+pub copied_more : (i : ℕ) (items copies : List Circuit) (x y : Circuit) (copies' : List Circuit) → i < length items → x ≡ get_or items i x → circuit_view y ≡ circuit_view x → copies' ≡ copies ++ y ∷ [] → joined (inputs_view copies) (inputs_view (drop i items)) ≡ inputs_view items → joined (inputs_view copies') (inputs_view (drop (i + 1) items)) ≡ inputs_view items
+copied_more i items copies x y copies' low item same at was =
+    let rest = inputs_view (drop (i + 1) items) in
+    ap (λ (cs : List Circuit). joined (inputs_view cs) rest) at
+    ∙ ap (λ (es : Inputs). joined es rest) (entries_push copies y)
+    ∙ joined_joined (inputs_view copies) (input (circuit_view y) end_of_gate) rest
+    ∙ ap (λ (c : Circuits.Circuit). joined (inputs_view copies) (input c rest)) same
+    ∙ ap (λ (cs : List Circuit). joined (inputs_view copies) (inputs_view cs)) (sym (cut_circuits i items x item low))
+    ∙ was
+
+pub copied_all : (k i : ℕ) (items copies : List Circuit) (self : Circuit) → circuit_view self ≡ at_least k (inputs_view items) → length items ≤ i → joined (inputs_view copies) (inputs_view (drop i items)) ≡ inputs_view items → at_least k (inputs_view copies) ≡ circuit_view self
+copied_all k i items copies self is all was =
+    let none : drop i items ≡ [] = drop_all i items all in
+    ap (at_least k) (sym (joined_end (inputs_view copies)) ∙ ap (λ (cs : List Circuit). joined (inputs_view copies) (inputs_view cs)) (sym none) ∙ was) ∙ sym is

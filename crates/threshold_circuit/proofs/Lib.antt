@@ -5,3 +5,5 @@ pub mod GatheredLaws
 pub mod SetLaws
 pub mod Sizes
 pub mod CountLaws
+pub mod SameLaws
+pub mod EqLaws

@@ -2,5 +2,6 @@ pub mod Circuits
 pub mod Value
 pub mod Simplified
 pub mod Gates
+pub mod Same
 pub mod Views
 pub mod Gathering

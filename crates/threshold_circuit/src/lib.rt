@@ -12,6 +12,7 @@ ghost use Rattle.threshold_circuit.specs.Circuits.{NodesBelow, HasThresholds, Is
 ghost use Rattle.threshold_circuit.specs.Gathering.{joined};
 ghost use Rattle.threshold_circuit.specs.Gates.{gate_variables, own_variables};
 ghost use Rattle.threshold_circuit.specs.Simplified.{simplified, simplified_entries, validator_circuit, always_count, undecided};
+ghost use Rattle.threshold_circuit.specs.Same.{same_circuit};
 ghost use Rattle.threshold_circuit.specs.Value.{circuit_value};
 ghost use Rattle.threshold_circuit.specs.Views.{circuit_view, inputs_view};
 
@@ -23,7 +24,7 @@ use quorum_set::QuorumSet;
 use std::alloc::{AllocError, Global};
 
 /// A circuit over the nodes, without negation.
-#[derive(Debug, Drop)]
+#[derive(Debug, Drop, PartialEq, Eq, Hash)]
 pub enum Circuit {
     /// True.
     Always,
@@ -36,6 +37,31 @@ pub enum Circuit {
 }
 
 impl Circuit {
+    /// Whether the circuits are equal, as `==` says: equal thresholds, and equal entries in order.
+    pub fn same(&self, other: &Circuit) -> bool
+        ensures { result ≡ same_circuit (circuit_view self.now) (circuit_view other.now) }
+    {
+        self == other
+    }
+
+    /// The same circuit once more: O(e) for e entries at all depths.
+    pub fn copy(&self, alloc: Global) -> Result<Circuit, AllocError>
+        ensures { IfOk result (λ c. circuit_view c ≡ circuit_view self.now) }
+    {
+        match self {
+            Circuit::Always => Ok(Circuit::Always),
+            Circuit::Never => Ok(Circuit::Never),
+            Circuit::Node(node) => Ok(Circuit::Node(*node)),
+            Circuit::AtLeast(threshold, entries) => {
+                let mut copies = Vec::new(alloc);
+                for entry in entries {
+                    copies.push(entry.copy(alloc)?)?;
+                }
+                Ok(Circuit::AtLeast(*threshold, copies))
+            }
+        }
+    }
+
     /// The value where exactly the nodes of the set are present: O(e) for e entries at all depths.
     pub fn value(&self, set: &NodeSet) -> bool
         requires { NodesBelow (length set.now) (circuit_view self.now) }
@@ -80,7 +106,7 @@ impl Circuit {
 }
 
 /// How many variables a gate has for itself that wants `k` of `n` inputs.
-fn own_vars(k: u64, n: u64) -> u64
+pub fn own_vars(k: u64, n: u64) -> u64
     requires some { 1 ≤ k }
     requires within { k ≤ n }
     requires few { n ≤ MOST_ENTRIES }

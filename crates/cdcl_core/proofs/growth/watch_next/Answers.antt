@@ -23,7 +23,7 @@ returns-in_ok-attach-in-Two-clause-state c = λ _ held below s. given_state c.ar
 pub returns-in_ok-attach-in-Two-clause-watched : goal.returns-in_ok-attach-in-Two-clause-watched
 returns-in_ok-attach-in-Two-clause-watched c = λ _ held long w.
     let some = c.in-Two.ensures.two c.in-Two.first c.in-Two.second refl in
-    c.in_ok-attach-in-Two.ensures.watched held c.args.id c.args.lits.now (long ∙ sym c.args.pairs.now.ok.0 ∙ sym c.len.ensures) some.0 some.1 w
+    c.in_ok-attach-in-Two.ensures.watched held c.args.id (long ∙ sym c.args.pairs.now.ok.0 ∙ sym c.len.ensures) some.0 some.1 w
 
 pub returns-in_ok-attach-in-Two-clause-queued : goal.returns-in_ok-attach-in-Two-clause-queued
 returns-in_ok-attach-in-Two-clause-queued c = λ _ held head below s long q.
@@ -45,7 +45,7 @@ returns-in_ok-push-in-One-clause-undecided c = λ _.
 pub returns-in_ok-push-in-One-clause-watched : goal.returns-in_ok-push-in-One-clause-watched
 returns-in_ok-push-in-One-clause-watched c = λ _ held long w.
     let one = c.in-One.ensures.one c.in-One.l refl in
-    c.in_ok-attach-in-One.ensures.watched held c.args.id c.args.lits.now (long ∙ sym c.args.pairs.now.ok.0 ∙ sym c.len-in-One.ensures) one.0 one.0 w
+    c.in_ok-attach-in-One.ensures.watched held c.args.id (long ∙ sym c.args.pairs.now.ok.0 ∙ sym c.len-in-One.ensures) one.0 one.0 w
 
 pub returns-in_ok-push-in-One-clause-queued : goal.returns-in_ok-push-in-One-clause-queued
 returns-in_ok-push-in-One-clause-queued c = λ _ held head below s long q.
@@ -61,7 +61,7 @@ returns-else-not-is_true-clause-state c = λ _ held below s. given_state c.args.
 pub returns-else-not-is_true-clause-watched : goal.returns-else-not-is_true-clause-watched
 returns-else-not-is_true-clause-watched c = λ _ held long w.
     let one = c.in-One.ensures.one c.in-One.l refl in
-    c.in_ok-attach-in-One.ensures.watched held c.args.id c.args.lits.now (long ∙ sym c.args.pairs.now.ok.0 ∙ sym c.len-in-One.ensures) one.0 one.0 w
+    c.in_ok-attach-in-One.ensures.watched held c.args.id (long ∙ sym c.args.pairs.now.ok.0 ∙ sym c.len-in-One.ensures) one.0 one.0 w
 
 pub returns-else-not-is_true-clause-queued : goal.returns-else-not-is_true-clause-queued
 returns-else-not-is_true-clause-queued c = λ _ held head below s long q.

@@ -17,7 +17,7 @@ visit-requires-clause-sound c =
     let w = c.index-watch.result.now in
     let at : drop s.i s.list.items ≡ w ∷ drop (s.i + 1) s.list.items = drop_more s.list.items s.i w (omega (arith, c.loop-i-test.true, c.len.ensures, s.list.ok.0)) ∙ ap (λ (x : Watch). x ∷ drop (s.i + 1) s.list.items) (sym c.index-watch.ensures) in
     let now = subst (λ (ws : List Watch). IsVisiting c.args.clauses.now s.pairs s.lists s.assignment.trues s.reasons.items c.args.head c.args.l (take s.kept s.list.items) ws) at s.invariant.visiting in
-    All-middle (IsSound c.args.clauses.now) (take s.kept s.list.items) (drop (s.i + 1) s.list.items) w now.watched.sound_spare
+    All-middle (IsSound c.args.clauses.now c.args.l) (take s.kept s.list.items) (drop (s.i + 1) s.list.items) w now.watched.sound_spare
 
 pub visit-requires-clause-false_now : goal.visit-requires-clause-false_now
 visit-requires-clause-false_now c =
@@ -47,8 +47,8 @@ loop-i-preserved c =
     let Now = λ (done coming : List Watch). IsVisiting held c.visit.new.pairs c.visit.new.lists c.visit.new.assignment.trues c.visit.new.reasons.items c.args.head c.args.l done coming in
     let both : (br.kept ≤ s.i + 1) × (s.i + 1 ≤ length br.list.items) × Now (take br.kept br.list.items) (drop (s.i + 1) br.list.items) = elim br.branch [
       | in-Stays b ↦
-          let now : Watch = record { place = w.place; blocker = b.in-Stays.blocker } in
-          let made = did.stays b.in-Stays.blocker (cc b.in-Stays.is) c.args.head c.args.l done coming within l_is before in
+          let now : Watch = record { place = w.place; blocker = b.in-Stays.blocker; third = b.in-Stays.third } in
+          let made = did.stays b.in-Stays.blocker b.in-Stays.third (cc b.in-Stays.is) c.args.head c.args.l done coming within l_is before in
           let room : s.kept < length s.list.items = omega (arith, inv.below, c.loop-i-test.true, c.len.ensures, s.list.ok.0) in
           let front : take br.kept br.list.items ≡ done ++ now ∷ [] = ap (λ k. take k br.list.items) b.kept-is ∙ ap (λ (v : Vec Watch). take (s.kept + 1) v.items) b.list-is ∙ take_more_set s.list.items s.kept now room in
           let rest : drop (s.i + 1) br.list.items ≡ coming = ap (λ (v : Vec Watch). drop (s.i + 1) v.items) b.list-is ∙ drop-set-lt (s.i + 1) s.list.items s.kept now (omega (arith, inv.below)) in (

@@ -8,7 +8,7 @@ entries-entries-requires c =
     let in_range : c.loop-set.set-index < length sets = rw (← c.deref-set-items.ensures.value) c.loop-set-test.true in
     let within = entries_within sets c.loop-set.set-index c.set-item.result in_range (rw c.deref-set-items.ensures.value at c.set-item.is) in
     let here = ap entries_at c.in-Some.is in
-    omega (arith, c.self.invariant.entries)
+    omega (arith, c.self.invariant.0.entries)
 
 pub overflow_add-entries : goal.overflow_add-entries
 overflow_add-entries c =
@@ -17,7 +17,7 @@ overflow_add-entries c =
     let within = entries_within sets c.loop-set.set-index c.set-item.result in_range (rw c.deref-set-items.ensures.value at c.set-item.is) in
     let here = ap entries_at c.in-Some.is in
     let sum = rw c.deref-set-items.ensures.value at c.loop-set.invariant in
-    omega (arith, sum, c.self.invariant.entries)
+    omega (arith, sum, c.self.invariant.0.entries)
 
 pub returns : goal.returns
 returns c =

@@ -13,7 +13,7 @@ use Rattle.fbas_core.proofs.System.kept_sets.Goals.{then-has+in_ok-push, in-Some
 
 pub renumber-requires : goal.renumber-requires
 renumber-requires c =
-    let system = subst (λ (s : Whole). IsSystem s.names s.sets) c.self.view_is c.self.invariant in
+    let system = subst (λ (s : Whole). IsSystem s.names s.sets) c.self.view_is c.self.invariant.0 in
     subst (λ (n : ℕ). IsBelow n c.in-Some.quorum_set.now) (sym (c.requires.ranks.same_n ∙ c.requires.same_n)) (system_mentions_nodes c.args.self.now.names c.args.self.now.sets system c.loop-v.v c.in-Some.quorum_set.now c.in-Some.ensures.set)
 
 pub loop-v-preserved : goal.loop-v-preserved

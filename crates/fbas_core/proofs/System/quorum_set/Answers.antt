@@ -10,7 +10,7 @@ returns-in-Some-clause-small c =
     let low : c.args.v < length sets = rw (← c.self.view_is) at c.requires in
     let within = entries_within sets c.args.v c.index.result.now low c.index.ensures in
     let same : entries_at c.index.result.now ≡ all_entries c.in-Some.quorum_set = ap entries_at c.in-Some.is in
-    omega (arith, within, same, c.self.invariant.entries)
+    omega (arith, within, same, c.self.invariant.0.entries)
 
 pub returns-in-None-clause-set : goal.returns-in-None-clause-set
 returns-in-None-clause-set c =

@@ -45,4 +45,4 @@ returns-clause-ok c =
     let ordered : names ≡ in_order (all_names nodes) = owned_in_order nodes (names_view found) names c.in_ok-found.ensures c.in_ok-names.ensures in
     let few : length names ≤ MOST_NODES = few_names nodes found names c.len-n.result c.len-n.ensures.len c.in_ok-found.ensures ordered c.if-n-gt-MOST_NODES.false in
     let counted : c.in_ok-entries.entries ≡ entries_in sets = search rules in
-    few_nodes nodes names ordered few ∙ few_entries nodes names sets c.of.result c.of.ensures.names c.of.ensures.sets c.in_ok-sets.ensures (omega arith)
+    few_nodes nodes names ordered few ∙ few_entries nodes names sets c.in_ok-system.system c.in_ok-system.ensures.names c.in_ok-system.ensures.sets c.in_ok-sets.ensures (omega arith)

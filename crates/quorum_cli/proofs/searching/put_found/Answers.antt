@@ -1,8 +1,7 @@
 use Rattle.std.proofs.Common.{◌≡◌, ◌∙◌, sym, ap, subst, List, ℕ, inl}
 use Rattle.fbas_model.specs.Systems.{System}
-use Rattle.cert_writer.specs.Finding.{cert_of}
+use Rattle.quorum_cli.specs.Finding.{cert_of, FoundShows}
 use Rattle.cert_writer.specs.Promises.{faulty_in}
-use Rattle.quorum_questions.specs.Evidence.{Shows}
 use Rattle.quorum_cli.specs.Printing.{request, FindsReply}
 use Rattle.quorum_cli.specs.Putting.{PutsSome, LacksPlace, put_whole}
 use Rattle.quorum_cli.specs.Replies.{Replies}
@@ -12,7 +11,7 @@ use Rattle.quorum_cli.proofs.searching.put_found.Goals as goal
 
 pub put_both-requires-clause-found : goal.put_both-requires-clause-found
 put_both-requires-clause-found g c =
-    c.what_is_shown_is_found.ensures.written c.args.part.now (faulty_in c.args.search.now.whole c.args.search.now.header) c.args.search.now.budget c.args.held.found (sym c.len-2.ensures.names ∙ c.len-2.ensures.sets) c.requires.held.shows
+    c.what_is_shown_is_accepted.ensures.written c.args.part.now (faulty_in c.args.search.now.whole c.args.search.now.header) c.args.search.now.budget c.args.held.found (sym c.len-2.ensures.names ∙ c.len-2.ensures.sets) c.requires.held.shows
 
 pub returns-in-Ok-clause-answered : goal.returns-in-Ok-clause-answered
 returns-in-Ok-clause-answered g c = λ tell answer.
@@ -20,9 +19,9 @@ returns-in-Ok-clause-answered g c = λ tell answer.
     let f = c.args.held.found in
     let a = c.args.held.reply in
     let cert = cert_of (request s) f in
-    let same : System → Type 0 = λ p. Shows p.sets (faulty_in s.whole s.header) s.budget f in
+    let same : System → Type 0 = λ p. FoundShows p.sets (faulty_in s.whole s.header) s.budget f in
     let replied : System → Type 0 = λ p. Replies s.goal p (faulty_in s.whole s.header) s.budget f a in
-    let finds = c.what_is_shown_is_found.ensures.found (request s) f c.len.ensures.system c.len.ensures.sorted c.requires.search.long c.requires.search.bytes c.requires.search.header c.requires.search.few (subst same c.requires.part c.requires.held.shows) in
+    let finds = c.what_is_shown_is_accepted.ensures.found (request s) f c.len.ensures.system c.len.ensures.sorted c.requires.search.long c.requires.search.bytes c.requires.search.header c.requires.search.few (subst same c.requires.part c.requires.held.shows) in
     let reply : FindsReply s = record { found = f; cert = cert; finds = finds; answer = a; is = subst replied c.requires.part c.requires.held.replies } in
     let old = g.D.Desk.state c.args.desk.now in
     let whole : g.D.Desk.state c.put_both.new.desk ≡ put_whole s.path cert a.text old = c.in-Ok.ensures.all tell ∙ (ap (λ (p : List ℕ). put_whole p cert c.bytes.result.now old) c.as_str.ensures ∙ ap (λ (t : List ℕ). put_whole s.path cert t old) c.bytes.ensures) in
@@ -34,9 +33,9 @@ returns-clause-part g c = λ tell is.
     let f = c.args.held.found in
     let a = c.args.held.reply in
     let cert = cert_of (request s) f in
-    let same : System → Type 0 = λ p. Shows p.sets (faulty_in s.whole s.header) s.budget f in
+    let same : System → Type 0 = λ p. FoundShows p.sets (faulty_in s.whole s.header) s.budget f in
     let replied : System → Type 0 = λ p. Replies s.goal p (faulty_in s.whole s.header) s.budget f a in
-    let finds = c.what_is_shown_is_found.ensures.found (request s) f c.len.ensures.system c.len.ensures.sorted c.requires.search.long c.requires.search.bytes c.requires.search.header c.requires.search.few (subst same c.requires.part c.requires.held.shows) in
+    let finds = c.what_is_shown_is_accepted.ensures.found (request s) f c.len.ensures.system c.len.ensures.sorted c.requires.search.long c.requires.search.bytes c.requires.search.header c.requires.search.few (subst same c.requires.part c.requires.held.shows) in
     let reply : FindsReply s = record { found = f; cert = cert; finds = finds; answer = a; is = subst replied c.requires.part c.requires.held.replies } in
     let old = g.D.Desk.state c.args.desk.now in
     let new = g.D.Desk.state c.put_both.new.desk in
@@ -49,9 +48,9 @@ returns-clause-plain g c = λ tell plain is.
     let f = c.args.held.found in
     let a = c.args.held.reply in
     let cert = cert_of (request s) f in
-    let same : System → Type 0 = λ p. Shows p.sets (faulty_in s.whole s.header) s.budget f in
+    let same : System → Type 0 = λ p. FoundShows p.sets (faulty_in s.whole s.header) s.budget f in
     let replied : System → Type 0 = λ p. Replies s.goal p (faulty_in s.whole s.header) s.budget f a in
-    let finds = c.what_is_shown_is_found.ensures.found (request s) f c.len.ensures.system c.len.ensures.sorted c.requires.search.long c.requires.search.bytes c.requires.search.header c.requires.search.few (subst same c.requires.part c.requires.held.shows) in
+    let finds = c.what_is_shown_is_accepted.ensures.found (request s) f c.len.ensures.system c.len.ensures.sorted c.requires.search.long c.requires.search.bytes c.requires.search.header c.requires.search.few (subst same c.requires.part c.requires.held.shows) in
     let reply : FindsReply s = record { found = f; cert = cert; finds = finds; answer = a; is = subst replied c.requires.part c.requires.held.replies } in
     let old = g.D.Desk.state c.args.desk.now in
     let lacks = subst (λ (t : List ℕ). LacksPlace s.path cert t old) c.bytes.ensures (subst (λ (p : List ℕ). LacksPlace p cert c.bytes.result.now old) c.as_str.ensures (c.in-Err.ensures.plain tell plain)) in

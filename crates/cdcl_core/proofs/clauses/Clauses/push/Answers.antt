@@ -13,7 +13,7 @@ returns-in_err-push-clause-unchanged c =
     on_err c.from_residual-in_err-push.result _
     (ap (λ (ls : List Literal). shown_in ls c.push.new.self.items) c.in_ok-extend_from_slice.ensures.items
     ∙ ap (λ (ps : List Place). shown_in (inside.arena.items ++ c.args.lits.now) ps) c.in_err-push.ensures.items
-    ∙ shown_in-longer inside.arena.items c.args.lits.now inside.places.items c.self.invariant ∙ c.self.view_is)
+    ∙ shown_in-longer inside.arena.items c.args.lits.now inside.places.items c.self.invariant.within ∙ c.self.view_is)
 
 pub returns-clause-pushed : goal.returns-clause-pushed
 returns-clause-pushed c =
@@ -23,6 +23,6 @@ returns-clause-pushed c =
     ap (λ (ls : List Literal). shown_in ls c.push.new.self.items) c.in_ok-extend_from_slice.ensures.items
     ∙ ap (λ (ps : List Place). shown_in all ps) c.in_ok-push.ensures.items
     ∙ shown_in-push inside.places.items all place
-    ∙ ap (λ (h : Held). h ++ (c.args.id, literals_in all place) ∷ []) (shown_in-longer inside.arena.items c.args.lits.now inside.places.items c.self.invariant)
+    ∙ ap (λ (h : Held). h ++ (c.args.id, literals_in all place) ∷ []) (shown_in-longer inside.arena.items c.args.lits.now inside.places.items c.self.invariant.within)
     ∙ ap (λ (ls : List Literal). shown_in inside.arena.items inside.places.items ++ (c.args.id, ls) ∷ []) (literals_in-last inside.arena.items c.args.lits.now place (c.len-start.ensures ∙ inside.arena.ok.0) (c.len-end.ensures ∙ c.extend_from_slice.new.self.ok.0 ∙ ap (λ (ls : List Literal). length ls) c.in_ok-extend_from_slice.ensures.items ∙ length-append inside.arena.items c.args.lits.now))
     ∙ ap (λ (h : Held). h ++ (c.args.id, c.args.lits.now) ∷ []) c.self.view_is

@@ -1,4 +1,4 @@
-use Rattle.std.proofs.Common.{◌≡◌, ◌<◌, ◌≤◌, ◌++◌, ◌∷◌, [], ◌∙◌, List, Bool, true, length, map, take, drop, ap, sym, subst, arith}
+use Rattle.std.proofs.Common.{◌≡◌, ◌<◌, ◌++◌, ◌∷◌, [], ◌∙◌, List, true, length, map, take, drop, ap, sym, arith}
 use Rattle.std.proofs.lemmas.List.{take_all}
 use Rattle.lrat_model.specs.Steps.{ProofStep}
 use Rattle.lrat_text.specs.Lent.{lent_step}

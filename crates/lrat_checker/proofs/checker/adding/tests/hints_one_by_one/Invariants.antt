@@ -2,4 +2,4 @@ use Rattle.std.proofs.Common.{◌≡◌, None}
 use Rattle.lrat_checker.proofs.checker.adding.tests.hints_one_by_one.Given as goal
 
 abbrev pub invariant-loop-id : goal.invariant-loop-id
-invariant-loop-id l = l.checker.open_addition ≡ None
+invariant-loop-id g l = l.checker.open_addition ≡ None

@@ -1,0 +1,52 @@
+#!/usr/bin/env python3
+"""Times the calls of sets and of systems: bench/sets.py [FOLDER].
+
+Builds crates/sets_bench (with its proofs, some minutes the first time), and prints for each call of sets of 4,096 nodes, and
+for each call of the systems of `bench/configurations.py` that are written into FOLDER, the least processor time of three runs
+of many calls, of which what the rounds themselves cost, or the reading, is taken off.
+"""
+import os
+import resource
+import subprocess
+import sys
+
+TOP = os.path.dirname(os.path.dirname(os.path.abspath(__file__)))
+CRATE = os.path.join(TOP, "crates", "sets_bench")
+PROGRAM = os.path.join(CRATE, "out", "sets_bench")
+FILES = ["whole", "chain-up", "chain-down", "zigzag-large", "zigzag-even", "behind"]
+CALLS = ["has", "least", "count", "meets", "minus", "join", "copy", "copy_from", "members"]
+ROUNDS = 1_000_000
+SYSTEM_ROUNDS = 10
+
+
+def spent(words, path=os.devnull):
+    """The least processor time of three runs, in seconds."""
+    best = None
+    for _ in range(3):
+        with open(path, "rb") as given:
+            before = resource.getrusage(resource.RUSAGE_CHILDREN)
+            subprocess.run([PROGRAM] + words, stdin=given, stdout=subprocess.DEVNULL, check=True)
+            after = resource.getrusage(resource.RUSAGE_CHILDREN)
+        took = after.ru_utime + after.ru_stime - before.ru_utime - before.ru_stime
+        best = took if best is None else min(best, took)
+    return best
+
+
+def main():
+    folder = sys.argv[1] if len(sys.argv) > 1 else "/tmp/gemzulat-bench"
+    subprocess.run(["rt", "run"], cwd=CRATE, stdout=subprocess.DEVNULL, check=True)
+    subprocess.run([os.path.join(TOP, "bench", "configurations.py"), folder], check=True)
+    print("| call | time |\n|---|---|")
+    for call in CALLS:
+        rounds = ROUNDS // 20 if call == "members" else ROUNDS
+        took = spent([call, str(rounds)]) - spent(["nothing", str(rounds)])
+        print("| `%s` | %.1f ns |" % (call, took / rounds * 1e9))
+    print("\n| file | reading | `greatest` | `blocks` | `closure` |\n|---|---|---|---|---|")
+    for name in FILES:
+        path = os.path.join(folder, name + ".json")
+        reading = spent(["system", "nothing", "1"], path)
+        row = [(spent(["system", call, str(SYSTEM_ROUNDS)], path) - reading) / SYSTEM_ROUNDS for call in ["greatest", "blocks", "closure"]]
+        print("| %s.json | %.2f s | %s |" % (name, reading, " | ".join("%.2f ms" % (took * 1e3) for took in row)))
+
+
+main()

@@ -1,0 +1,137 @@
+-- From what a search for the minimal blocking sets shows to a certificate that is accepted.
+use Rattle.std.proofs.Common.{◌≡◌, ℕ, ◌+◌, ◌≤◌, List, [], ◌∷◌, ◌++◌, length, map, Bool, cond, IfSome, Ok, refl, sym, ◌∙◌, ap, subst, arith, length-append, ◌<◌}
+use Rattle.std.specs.List.{All, AllByRecursion}
+use Rattle.std.specs.List.Sorted.{IsStrictlySortedBy}
+use Rattle.std.proofs.lemmas.List.Elements.{All-nil, All-cons, All-head, All-tail, recursion_from_All}
+use Rattle.hex.specs.Hex.{IsBytes}
+use Rattle.fbas_model.specs.Nodes.{Table, members, size, set_cmp}
+use Rattle.fbas_model.specs.Names.{name_cmp}
+use Rattle.fbas_model.specs.Fbas.{Fbas}
+use Rattle.fbas_model.specs.Systems.{System, IsSystem}
+use Rattle.fbas_model.specs.Restriction.{restricted_sets}
+use Rattle.fbas_model.proofs.Kept.{length-kept}
+use Rattle.fbas_model.proofs.Renumbered.{length-restricted_sets}
+use Rattle.greatest_quorum.specs.Greatest.{greatest_of}
+use Rattle.lrat_model.specs.Steps.{Addition, Deletion, Database}
+use Rattle.lrat_model.specs.declared.step.Progress.TheVariants.{Going}
+use Rattle.list_journal.specs.Journals.{JournalLine, QuorumLine, BlockingLine, StepLine, JournalRun, IsOpen, EndsRefuted, IsWholeJournal, after_line, line_progress, nothing_held, blocking_sets, journal_units}
+use Rattle.list_journal.specs.Lists.{IsListOfBlocks}
+use Rattle.list_journal.specs.Order.{ordered}
+use Rattle.list_journal.specs.declared.kinds.ListKind.{ListKind}
+use Rattle.list_journal.specs.declared.kinds.ListKind.TheVariants as kind
+use Rattle.list_journal.proofs.Greatest.{counted_greatest}
+use Rattle.list_journal.proofs.OrderLaws.{HavePlaces, is_ordered}
+use Rattle.list_journal.proofs.Runs.{units_append}
+use Rattle.list_journal.proofs.Whole.{whole_has_each}
+use Rattle.blocking_lists.specs.Lines.{HasLineNumbers, HasFewWords}
+use Rattle.blocking_lists.specs.declared.outcome.ListOutcome.{ListOutcome}
+use Rattle.blocking_lists.specs.declared.outcome.ListOutcome.TheVariants.{Whole, Spent}
+use Rattle.certificate_file.specs.Known.{IsPart}
+use Rattle.certificate_file.specs.Meaning.{part_from}
+use Rattle.certificate_file.specs.declared.places.Answer.TheVariants as shown
+use Rattle.certificate_file.proofs.WholeLaws.{part_is}
+use Rattle.quorum_questions.specs.declared.asking.TheConstants.{MOST_UNITS}
+use Rattle.cert_lines.specs.declared.lines.TheConstants.{MAX_LINES}
+use Rattle.cert_writer.specs.Texts.{raised_table}
+use Rattle.cert_writer.specs.Promises.{IsHeader}
+use Rattle.cert_writer.specs.Finding.{Search, part, faulty}
+use Rattle.cert_writer.specs.Listing.{list_cert_of, ListShows, FindsList, CanBeLine, CanBeListed}
+use Rattle.cert_writer.proofs.ListLaws.{list_of_accepted}
+use Rattle.cert_writer.proofs.LogLaws.{front_all}
+use Rattle.cert_writer.proofs.Pairs.{part_is_restricted}
+use Rattle.cert_writer.proofs.Raised.{spread, is_raised}
+use Rattle.cert_writer.proofs.RaisedOrder.{same_order, ordered-map}
+use Rattle.cert_writer.proofs.Runs.{going_long}
+
+-- ---- the length of a journal
+
+open_units : (vars : ℕ) (lines : List JournalLine) → AllByRecursion (HasFewWords vars) lines → AllByRecursion (λ line. line_progress line ≡ Going) lines → journal_units lines ≡ length lines
+open_units vars [] words on = refl
+open_units vars (QuorumLine id u ∷ lines) words on = let rest = open_units vars lines words.1 on.1 in omega (arith, rest)
+open_units vars (BlockingLine id u ∷ lines) words on = let rest = open_units vars lines words.1 on.1 in omega (arith, rest)
+open_units vars (StepLine (Deletion id ids) ∷ lines) words on = absurd words.0
+open_units vars (StepLine (Addition id lits hints) ∷ lines) words on =
+    let rest = open_units vars lines words.1 on.1 in
+    ap (λ (b : Bool). cond b 0 1 + journal_units lines) (going_long lits on.0).1 ∙ (omega (arith, rest))
+
+whole_length : (vars : ℕ) (journal : List JournalLine) → All (HasFewWords vars) journal → EndsRefuted journal → length journal ≤ journal_units journal + 1
+whole_length vars journal words ends =
+    let before = ends.before in
+    let all = recursion_from_All (HasFewWords vars) journal words in
+    let units = open_units vars before (front_all (HasFewWords vars) before ends.last (subst (λ (ls : List JournalLine). AllByRecursion (HasFewWords vars) ls) ends.is all)).0 (recursion_from_All (λ line. line_progress line ≡ Going) before ends.only) in
+    omega (arith, units, ap length ends.is, ap journal_units ends.is, length-append before (ends.last ∷ []), units_append before (ends.last ∷ []))
+
+part_length : (vars : ℕ) (journal : List JournalLine) → All (HasFewWords vars) journal → IsOpen journal → journal_units journal ≡ length journal
+part_length vars journal words opens = open_units vars journal (recursion_from_All (HasFewWords vars) journal words) (recursion_from_All (λ line. line_progress line ≡ Going) journal opens)
+
+-- ---- the sets
+
+keeps : (nodes s t : Table) → length s ≡ size nodes → length t ≡ size nodes → set_cmp (raised_table nodes s) (raised_table nodes t) ≡ set_cmp s t
+keeps nodes s t e e' =
+    ap (λ (x : Table). set_cmp x (raised_table nodes t)) (sym (is_raised nodes s))
+    ∙ ap (λ (x : Table). set_cmp (spread nodes s) x) (sym (is_raised nodes t))
+    ∙ same_order nodes s t e e'
+
+-- the listed sets, raised and put in order, are the list, raised
+raised_list : (f : Fbas) (b nodes : Table) (sets : List Table) (journal : List JournalLine) → length b ≡ length f → length f ≡ size nodes → IsListOfBlocks f (members b) sets → IsWholeJournal f (members b) (greatest_of f b) journal
+    → ordered (map (raised_table nodes) (blocking_sets journal)) ≡ map (raised_table nodes) sets
+raised_list f b nodes sets journal same count list whole =
+    let each = whole_has_each f (members b) (greatest_of f b) journal (counted_greatest f b same) whole in
+    let sizes : HavePlaces (length f) (blocking_sets journal) = λ s there. ((each s).0 there).0 in
+    let is : sets ≡ ordered (blocking_sets journal) = is_ordered (length f) sets (blocking_sets journal) sizes list.rising (λ s. (λ there. (each s).1 ((list.exact s).0 there), λ there. (list.exact s).1 ((each s).0 there))) in
+    ordered-map (length f) (raised_table nodes) (λ s t e e'. keeps nodes s t (e ∙ count) (e' ∙ count)) (blocking_sets journal) sizes ∙ ap (λ (xs : List Table). map (raised_table nodes) xs) (sym is)
+
+-- ---- what is found
+
+module _ (s : Search) (is : IsSystem s.whole.names s.whole.sets) (sorted : IsStrictlySortedBy name_cmp s.whole.names) (long : length s.digest ≡ 32) (bytes : IsBytes s.digest) (head : IsHeader s.whole s.header) (small : s.budget ≤ MOST_UNITS) where
+  abbrev nodes : Table
+  nodes = part_from s.whole s.header.from
+
+  of_part : IsPart s.whole s.header.from nodes
+  of_part = part_is s.whole s.header.from is (subst (λ n. IfSome s.header.from (λ v. v < n)) (sym is.places) head.node)
+
+  sets_are : (part s).sets ≡ restricted_sets nodes s.whole.sets
+  sets_are = ap (λ (x : System). x.sets) (part_is_restricted s.whole s.header.from is)
+
+  count : length (part s).sets ≡ size nodes
+  count = ap (λ (f : Fbas). length f) sets_are ∙ length-restricted_sets nodes s.whole.sets of_part.places
+
+  same : length (faulty s) ≡ length (part s).sets
+  same = length-kept nodes s.header.faulty (of_part.places ∙ is.places ∙ sym head.faulty) ∙ sym count
+
+  pub list_found : (outcome : ListOutcome) → ListShows (part s).sets (faulty s) s.budget outcome → FindsList s outcome (list_cert_of s outcome)
+  list_found (Whole sets journal) r =
+      let holds = r.holds in
+      let whole = holds.journal_is in
+      let few : length journal + 6 ≤ MAX_LINES = omega (arith, whole_length (size (greatest_of (part s).sets (faulty s))) journal r.few_words whole.ends, holds.taken, small) in record {
+        shows = r;
+        cert_is = refl;
+        accepted =
+            list_of_accepted s.whole s.digest s.header is sorted long bytes head (part s) kind.Whole journal refl (record { new = whole.after; run = whole.run; numbers = r.numbers; few_words = r.few_words; few = few; ends = whole.ends })
+            ∙ ap (λ (xs : List Table). Ok (record { header = s.header; answer = shown.Blocking xs })) (raised_list (part s).sets (faulty s) nodes sets.items journal same count holds.list whole);
+      }
+  list_found (Spent journal) r =
+      let holds = r.holds.1 in
+      let one = holds.journal_is in
+      let few : length journal + 6 ≤ MAX_LINES = omega (arith, part_length (size (greatest_of (part s).sets (faulty s))) journal r.few_words one.opens, holds.taken, small) in record {
+        shows = r;
+        cert_is = refl;
+        accepted =
+            list_of_accepted s.whole s.digest s.header is sorted long bytes head (part s) kind.Partial journal refl (record { new = holds.after; run = one.run; numbers = r.numbers; few_words = r.few_words; few = few; ends = one.opens })
+            ∙ ap (λ (n : ℕ). Ok (record { header = s.header; answer = shown.PartialBlocking n })) holds.taken;
+      }
+
+-- ---- what can be written
+
+lines_can : (kind : ListKind) (f : Fbas) (b g : Table) (n : ℕ) (old new : Database) (lines : List JournalLine) → n ≡ length f → JournalRun kind f (members b) g old lines new → All HasLineNumbers lines → All (CanBeLine n) lines
+lines_can kind f b g n old new [] size run numbers = All-nil (CanBeLine n)
+lines_can kind f b g n old new (QuorumLine id u ∷ lines) size run numbers =
+    All-cons (CanBeLine n) (QuorumLine id u) lines (run.0.1 ∙ sym size) (lines_can kind f b g n (after_line g old (QuorumLine id u)) new lines size run.2 (All-tail HasLineNumbers (QuorumLine id u) lines numbers))
+lines_can kind f b g n old new (BlockingLine id u ∷ lines) size run numbers =
+    All-cons (CanBeLine n) (BlockingLine id u) lines (run.0.1 ∙ sym size) (lines_can kind f b g n (after_line g old (BlockingLine id u)) new lines size run.2 (All-tail HasLineNumbers (BlockingLine id u) lines numbers))
+lines_can kind f b g n old new (StepLine step ∷ lines) size run numbers =
+    All-cons (CanBeLine n) (StepLine step) lines (All-head HasLineNumbers (StepLine step) lines numbers) (lines_can kind f b g n (after_line g old (StepLine step)) new lines size run.2 (All-tail HasLineNumbers (StepLine step) lines numbers))
+
+pub can_be_listed : (f : System) (b : Table) (budget : ℕ) (outcome : ListOutcome) → length f.names ≡ length f.sets → ListShows f.sets b budget outcome → CanBeListed (length f.names) outcome
+can_be_listed f b budget (Whole sets journal) same r = lines_can kind.Whole f.sets b (greatest_of f.sets b) (length f.names) nothing_held r.holds.journal_is.after journal same r.holds.journal_is.run r.numbers
+can_be_listed f b budget (Spent journal) same r = lines_can kind.Partial f.sets b (greatest_of f.sets b) (length f.names) nothing_held r.holds.1.after journal same r.holds.1.journal_is.run r.numbers

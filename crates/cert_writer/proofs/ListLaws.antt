@@ -1,0 +1,190 @@
+-- A list that is written is accepted.
+use Rattle.std.proofs.Common.{◌≡◌, ℕ, ◌+◌, ◌≤◌, ◌<◌, List, [], ◌∷◌, ◌++◌, length, map, IfSome, Ok, refl, sym, ◌∙◌, ap, subst, arith, codes, length-append}
+use Rattle.std.specs.List.{All, AllByRecursion}
+use Rattle.std.specs.List.Sorted.{IsStrictlySortedBy}
+use Rattle.std.proofs.lemmas.List.{length-map, append-nil}
+use Rattle.std.proofs.lemmas.List.Elements.{recursion_from_All}
+use Rattle.hex.specs.Hex.{IsBytes}
+use Rattle.fbas_model.specs.Nodes.{Table, members, size}
+use Rattle.fbas_model.specs.Names.{Name, name_cmp}
+use Rattle.fbas_model.specs.Fbas.{Fbas}
+use Rattle.fbas_model.specs.Systems.{System, IsSystem}
+use Rattle.fbas_model.specs.Restriction.{kept, restricted, restricted_sets}
+use Rattle.fbas_model.proofs.Kept.{kept_le, length-kept}
+use Rattle.fbas_model.proofs.Closure.{size_le_length}
+use Rattle.fbas_model.proofs.Renumbered.{length-restricted_sets}
+use Rattle.greatest_quorum.specs.Greatest.{greatest_of}
+use Rattle.greatest_quorum.proofs.GreatestLaws.{length-greatest_of}
+use Rattle.lrat_model.specs.Steps.{Addition, Deletion, Database, after_step}
+use Rattle.lrat_model.specs.declared.step.Progress.TheVariants.{Going as going, Refuted}
+use Rattle.list_journal.specs.Journals.{JournalLine, QuorumLine, BlockingLine, StepLine, JournalRun, after_line, line_progress, nothing_held, blocking_sets, journal_units}
+use Rattle.list_journal.specs.declared.kinds.ListKind.{ListKind}
+use Rattle.list_journal.specs.declared.kinds.ListKind.TheVariants.{Whole, Partial as Part}
+use Rattle.list_journal.specs.declared.kinds.Listed.TheVariants as listed
+use Rattle.list_journal.specs.Order.{ordered}
+use Rattle.list_journal.proofs.Runs.{sets_append}
+use Rattle.blocking_lists.specs.Lines.{HasLineNumbers, HasFewWords}
+use Rattle.certificate_file.specs.Acceptance.{take_line, checked, list_part, listing_on, no_listing}
+use Rattle.certificate_file.specs.Meaning.{part_from}
+use Rattle.certificate_file.specs.Known.{IsPart}
+use Rattle.certificate_file.specs.declared.places.Header.{Header}
+use Rattle.certificate_file.specs.declared.places.Answer.{Answer}
+use Rattle.certificate_file.specs.declared.places.Answer.TheVariants.{Blocking, PartialBlocking}
+use Rattle.certificate_file.specs.declared.places.Place.TheVariants.{AtTitle, AtKind, AtList}
+use Rattle.certificate_file.specs.declared.places.State.TheVariants.{Going, Done}
+use Rattle.certificate_file.proofs.WholeLaws.{part_is}
+use Rattle.cert_lines.specs.declared.lines.TheConstants.{MAX_LINES}
+use Rattle.cert_writer.specs.Texts.{Text, header_lines, list_kind_of, journal_line, list_lines, list_text, raised_table}
+use Rattle.cert_writer.specs.Promises.{IsHeader, subject, part_of, raised_sets, ListEndsAs, shown_by_list, IsJournalOf}
+use Rattle.cert_writer.proofs.Joined.{Takes, takes-append, IsLine, AreLines, are_lines-append, accepted_text}
+use Rattle.cert_writer.proofs.Words.{is_plain}
+use Rattle.cert_writer.proofs.Names.{AreNames, are_keys, names-kept}
+use Rattle.cert_writer.proofs.Raised.{spread}
+use Rattle.cert_writer.proofs.RaisedOrder.{all_raised}
+use Rattle.cert_writer.proofs.Headers.{takes_header, lines_header}
+use Rattle.cert_writer.proofs.Pairs.{part_is_restricted}
+use Rattle.cert_writer.proofs.LogLaws.{literals_of, front_all}
+use Rattle.cert_writer.proofs.SetLines.{line_set}
+use Rattle.cert_writer.proofs.StepLines.{line_addition, few_literals}
+use Rattle.cert_writer.proofs.ListRuns.{short_literals, takes_journal, takes_refuted, takes_part_end}
+
+-- ---- each is a line
+
+line_kind : (kind : ListKind) → IsLine (list_kind_of kind)
+line_kind Whole = record { plain = is_plain (codes "kind blocking") refl; short = omega arith }
+line_kind Part = record { plain = is_plain (codes "kind partial-blocking") refl; short = omega arith }
+
+lines_journal : (kind : ListKind) (f : Fbas) (b g : Table) (names : List Name) (old new : Database) (lines : List JournalLine) → AreNames names → length names ≤ 4096 → size g ≤ 4096 → JournalRun kind f (members b) g old lines new
+    → AllByRecursion (λ line. HasLineNumbers line × HasFewWords (size g) line) lines → AreLines (map (journal_line names) lines)
+lines_journal kind f b g names old new [] are few small run fine = tt
+lines_journal kind f b g names old new (QuorumLine id u ∷ lines) are few small run fine =
+    (line_set listed.Quorum id names u are few fine.0.0, lines_journal kind f b g names (after_line g old (QuorumLine id u)) new lines are few small run.2 fine.1)
+lines_journal kind f b g names old new (BlockingLine id u ∷ lines) are few small run fine =
+    (line_set listed.Blocking id names u are few fine.0.0, lines_journal kind f b g names (after_line g old (BlockingLine id u)) new lines are few small run.2 fine.1)
+lines_journal kind f b g names old new (StepLine (Deletion id ids) ∷ lines) are few small run fine = absurd fine.0.1
+lines_journal kind f b g names old new (StepLine (Addition id lits hints) ∷ lines) are few small run fine =
+    let numbers = fine.0.0 in
+    let words = fine.0.1 in
+    let literals = few_literals (size g) lits (literals_of (size g) old id lits hints run.0) words.1 in (
+      line_addition id lits hints numbers.0 numbers.1 (short_literals (size g) lits (omega (arith, small)) words.0) (omega (arith, literals, small)) (omega (arith, words.2, small)),
+      lines_journal kind f b g names (after_step old (Addition id lits hints)) new lines are few small run.2 fine.1,
+    )
+
+-- ---- the last line
+
+run_split : (kind : ListKind) (f : Fbas) (b g : Table) (old new : Database) (lines : List JournalLine) (last : JournalLine) → JournalRun kind f (members b) g old (lines ++ last ∷ []) new
+    → (middle : Database) × JournalRun kind f (members b) g old lines middle × JournalRun kind f (members b) g middle (last ∷ []) new
+run_split kind f b g old new [] last run = (old, refl, run)
+run_split kind f b g old new (line ∷ lines) last run = let rest = run_split kind f b g (after_line g old line) new lines last run.2 in (rest.0, (run.0, run.1, rest.1), rest.2)
+
+split_lines : (names : List Name) (xs : List JournalLine) (y : JournalLine) (zs : List Text) → map (journal_line names) (xs ++ y ∷ []) ++ zs ≡ map (journal_line names) xs ++ journal_line names y ∷ zs
+split_lines names [] y zs = refl
+split_lines names (x ∷ xs) y zs = ap (λ (ls : List Text). journal_line names x ∷ ls) (split_lines names xs y zs)
+
+no_set : (last : JournalLine) → line_progress last ≡ Refuted → blocking_sets (last ∷ []) ≡ []
+no_set (QuorumLine id u) ends = absurd cc
+no_set (BlockingLine id u) ends = absurd cc
+no_set (StepLine step) ends = refl
+
+both_all : {A : Type 0} (P Q : A → Type 0) (xs : List A) → AllByRecursion P xs → AllByRecursion Q xs → AllByRecursion (λ x. P x × Q x) xs
+both_all P Q [] p q = tt
+both_all P Q (x ∷ xs) p q = ((p.0, q.0), both_all P Q xs p.1 q.1)
+
+-- ---- a list that is written is accepted
+
+module _ (f : System) (d : List ℕ) (h : Header) (is : IsSystem f.names f.sets) (sorted : IsStrictlySortedBy name_cmp f.names) (size_is : length d ≡ 32) (bytes : IsBytes d) (head : IsHeader f h) where
+  -- the nodes of the part, its system, its faulty nodes and its greatest quorum
+  abbrev nodes : Table
+  nodes = part_from f h.from
+
+  abbrev fbas : Fbas
+  fbas = restricted_sets nodes f.sets
+
+  abbrev gone : Table
+  gone = kept nodes h.faulty
+
+  abbrev greatest : Table
+  greatest = greatest_of fbas gone
+
+  part : IsPart f h.from nodes
+  part = part_is f h.from is (subst (λ n. IfSome h.from (λ v. v < n)) (sym is.places) head.node)
+
+  are : AreNames f.names
+  are = record { keys = are_keys f.names is.keys; sorted = sorted }
+
+  part_names : AreNames (kept nodes f.names)
+  part_names = names-kept nodes f.names are
+
+  count : length fbas ≡ size nodes
+  count = length-restricted_sets nodes f.sets part.places
+
+  same : length gone ≡ length fbas
+  same = length-kept nodes h.faulty (part.places ∙ is.places ∙ sym head.faulty) ∙ sym count
+
+  small : size greatest ≤ 4096
+  small = omega (arith, size_le_length greatest, length-greatest_of fbas gone, count, size_le_length nodes, part.places, is.places, is.few)
+
+  abbrev IsFine : JournalLine → Type 0
+  IsFine line = HasLineNumbers line × HasFewWords (size greatest) line
+
+  takes_body : (kind : ListKind) (new : Database) (journal : List JournalLine) → JournalRun kind fbas (members gone) greatest nothing_held journal new → AllByRecursion IsFine journal → ListEndsAs kind journal
+      → Takes f d 6 (Going (AtList (subject f h) (no_listing f kind (subject f h)))) (map (journal_line (kept nodes f.names)) journal ++ codes "end" ∷ []) (Done (record { header = h; answer = shown_by_list f h kind journal }))
+  takes_body Part new journal run fine ends =
+      let s = subject f h in
+      let on = recursion_from_All (λ line. line_progress line ≡ going) journal ends in
+      let sets = map (spread nodes) (blocking_sets journal) in
+      let taken = takes_journal f d s Part are part_names (part.places ∙ is.places) same count (omega (arith, small)) 6 nothing_held new [] sets 0 (journal_units journal) journal fine on run refl (omega arith) in
+      let lines = map (journal_line (kept nodes f.names)) journal in
+      takes-append f d 6 (6 + length lines) (Going (AtList s (no_listing f Part s))) (Going (AtList s (listing_on Part (list_part f s) (size greatest) new sets (journal_units journal)))) (Done (record { header = h; answer = PartialBlocking (journal_units journal) })) lines (codes "end" ∷ []) refl taken
+      (takes_part_end f d s (6 + length lines) (size greatest) new sets (journal_units journal))
+  takes_body Whole new journal run fine ends =
+      let s = subject f h in
+      let before = ends.before in
+      let last = ends.last in
+      let each = front_all IsFine before last (subst (λ (ls : List JournalLine). AllByRecursion IsFine ls) ends.is fine) in
+      let split = run_split Whole fbas gone greatest nothing_held new before last (subst (λ (ls : List JournalLine). JournalRun Whole fbas (members gone) greatest nothing_held ls new) ends.is run) in
+      let on = recursion_from_All (λ line. line_progress line ≡ going) before ends.only in
+      let sets = map (spread nodes) (blocking_sets before) in
+      let taken = takes_journal f d s Whole are part_names (part.places ∙ is.places) same count (omega (arith, small)) 6 nothing_held split.0 [] sets 0 (journal_units before) before each.0 on split.1 refl (omega arith) in
+      let lines = map (journal_line (kept nodes f.names)) before in
+      let end = takes_refuted f d s are part_names (part.places ∙ is.places) same count (omega (arith, small)) (6 + length lines) split.0 new sets (journal_units before) last each.1 ends.ends split.2 in
+      let whole = takes-append f d 6 (6 + length lines) (Going (AtList s (no_listing f Whole s))) (Going (AtList s (listing_on Whole (list_part f s) (size greatest) split.0 sets (journal_units before)))) (Done (record { header = h; answer = Blocking (ordered sets) })) lines (journal_line (kept nodes f.names) last ∷ codes "end" ∷ []) refl taken end in
+      let texts : lines ++ journal_line (kept nodes f.names) last ∷ codes "end" ∷ [] ≡ map (journal_line (kept nodes f.names)) journal ++ codes "end" ∷ [] =
+      sym (split_lines (kept nodes f.names) before last (codes "end" ∷ [])) ∙ ap (λ (ls : List JournalLine). map (journal_line (kept nodes f.names)) ls ++ codes "end" ∷ []) (sym ends.is) in
+      let blocks : blocking_sets before ≡ blocking_sets journal = sym (append-nil (blocking_sets before)) ∙ ap (λ (xs : List Table). blocking_sets before ++ xs) (sym (no_set last ends.ends)) ∙ sym (sets_append before (last ∷ [])) ∙ ap blocking_sets (sym ends.is) in
+      let raised : sets ≡ raised_sets f h (blocking_sets journal) = all_raised nodes (blocking_sets before) ∙ ap (λ (xs : List Table). map (raised_table nodes) xs) blocks in
+      subst (λ (xs : List Table). Takes f d 6 (Going (AtList s (no_listing f Whole s))) (map (journal_line (kept nodes f.names)) journal ++ codes "end" ∷ []) (Done (record { header = h; answer = Blocking (ordered xs) }))) raised
+      (subst (λ (ls : List Text). Takes f d 6 (Going (AtList s (no_listing f Whole s))) ls (Done (record { header = h; answer = Blocking (ordered sets) }))) texts whole)
+
+  kind_taken : (kind : ListKind) → take_line f d (AtKind (subject f h)) 5 (list_kind_of kind) ≡ Ok (Going (AtList (subject f h) (no_listing f kind (subject f h))))
+  unfolding take_line
+  kind_taken Whole = refl
+  kind_taken Part = refl
+
+  list_accepted : (kind : ListKind) (new : Database) (journal : List JournalLine) → JournalRun kind fbas (members gone) greatest nothing_held journal new → All HasLineNumbers journal → All (HasFewWords (size greatest)) journal → length journal + 6 ≤ MAX_LINES → ListEndsAs kind journal
+      → checked f d (list_text f.names (kept nodes f.names) d h kind journal) ≡ Ok (record { header = h; answer = shown_by_list f h kind journal })
+  list_accepted kind new journal run numbers words few ends =
+      let s = subject f h in
+      let fine = both_all HasLineNumbers (HasFewWords (size greatest)) journal (recursion_from_All HasLineNumbers journal numbers) (recursion_from_All (HasFewWords (size greatest)) journal words) in
+      let head_lines = header_lines f.names d h in
+      let texts = map (journal_line (kept nodes f.names)) journal in
+      let body = list_lines (kept nodes f.names) kind journal in
+      let answer : Answer = shown_by_list f h kind journal in
+      let taken : Takes f d 5 (Going (AtKind s)) body (Done (record { header = h; answer = answer })) = (Going (AtList s (no_listing f kind s)), kind_taken kind, takes_body kind new journal run fine ends) in
+      let whole = takes-append f d 1 5 (Going AtTitle) (Going (AtKind s)) (Done (record { header = h; answer = answer })) head_lines body refl (takes_header f d h are size_is bytes head) taken in
+      let last_line : IsLine (codes "end") = record { plain = is_plain (codes "end") refl; short = omega arith } in
+      let of_journal = lines_journal kind fbas gone greatest (kept nodes f.names) nothing_held new journal part_names (omega (arith, kept_le nodes f.names, is.few)) small run fine in
+      let lines : AreLines (head_lines ++ body) = are_lines-append head_lines body (lines_header f d h are is.few size_is head) (line_kind kind, are_lines-append texts (codes "end" ∷ []) of_journal (last_line, tt)) in
+      let total : length (head_lines ++ body) ≤ MAX_LINES = omega (arith, length-append texts (codes "end" ∷ []), length-map journal (journal_line (kept nodes f.names)), few) in
+      accepted_text f d (head_lines ++ body) (record { header = h; answer = answer }) lines total whole
+
+  -- the same over the system of the part
+  pub list_of_accepted : (p : System) (kind : ListKind) (journal : List JournalLine) → p ≡ part_of f h.from → IsJournalOf f h kind journal → checked f d (list_text f.names p.names d h kind journal) ≡ Ok (record { header = h; answer = shown_by_list f h kind journal })
+  list_of_accepted p kind journal p_is j =
+      let e : part_of f h.from ≡ restricted nodes f = part_is_restricted f h.from is in
+      ap (λ (x : System). checked f d (list_text f.names x.names d h kind journal)) (p_is ∙ e)
+      ∙ list_accepted kind j.new journal
+      (subst (λ (x : System). JournalRun kind x.sets (members gone) (greatest_of x.sets gone) nothing_held journal j.new) e j.run)
+      j.numbers
+      (subst (λ (x : System). All (HasFewWords (size (greatest_of x.sets gone))) journal) e j.few_words)
+      j.few j.ends

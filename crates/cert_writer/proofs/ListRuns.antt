@@ -1,0 +1,174 @@
+-- The lines of a journal, taken.
+use Rattle.std.proofs.Common.{◌≡◌, ℕ, ◌+◌, ◌<◌, List, [], ◌∷◌, ◌++◌, length, map, Bool, false, not, ◌&&◌, ◌==◌, if◌then◌else◌, cond, Option, None, Result, Ok, refl, sym, ◌∙◌, ap, arith, codes, append_assoc, ℤ}
+use Rattle.std.specs.List.{All, AllByRecursion}
+use Rattle.std.specs.Fmt.{decimal}
+use Rattle.std.specs.Str.{bytes_eq}
+use Rattle.std.specs.Str.Parse.{AllDigits}
+use Rattle.std.proofs.lemmas.Bool.{ne_eqb}
+use Rattle.std.proofs.lemmas.List.{append-nil}
+use Rattle.std.proofs.lemmas.List.Elements.{recursion_from_All}
+use Rattle.std.proofs.lemmas.Str.Parse.{digit_from_value}
+use Rattle.std.proofs.lemmas.Fmt.{decimal_is_IsNumeral}
+use Rattle.fbas_model.specs.Nodes.{Table, members, size}
+use Rattle.fbas_model.specs.Systems.{System}
+use Rattle.fbas_model.specs.Restriction.{kept}
+use Rattle.lrat_model.specs.Literal.{Literal}
+use Rattle.lrat_model.specs.Steps.{ProofStep, Addition, Deletion, Database, step_fault, after_step, progress_of, progress_at}
+use Rattle.lrat_model.specs.declared.step.StepFault.{StepFault}
+use Rattle.lrat_model.specs.declared.step.Progress.{Progress}
+use Rattle.lrat_model.specs.declared.step.Progress.TheVariants.{Going as going, Refuted}
+use Rattle.lrat_text.specs.Texts.{line_of, IsLiteral, HasNumbers}
+use Rattle.lrat_text.specs.declared.faults.LineFault.{LineFault}
+use Rattle.lrat_text.proofs.BackLaws.{step_back}
+use Rattle.cdcl_core.specs.Trail.{IsVariable}
+use Rattle.list_journal.specs.Journals.{JournalLine, QuorumLine, BlockingLine, StepLine, JournalRun, IsNewStep, after_line, line_progress, blocking_sets, journal_units}
+use Rattle.list_journal.specs.declared.kinds.ListKind.{ListKind}
+use Rattle.list_journal.specs.declared.kinds.ListKind.TheVariants.{Whole, Partial as Part}
+use Rattle.list_journal.specs.declared.kinds.Listed.{Listed}
+use Rattle.list_journal.specs.declared.kinds.Listed.TheVariants as listed
+use Rattle.blocking_lists.specs.Lines.{HasLineNumbers, HasFewWords}
+use Rattle.cert_lines.specs.Limits.{unless}
+use Rattle.cert_lines.specs.Saying.{or_bad_line}
+use Rattle.cert_lines.specs.Words.{Word, words_of}
+use Rattle.cert_lines.specs.declared.faults.CertError.{CertError}
+use Rattle.cert_lines.specs.declared.faults.CertError.TheVariants.{NotNew}
+use Rattle.certificate_file.specs.Acceptance.{and_then, listed_by, literal_in, is_old_step, with_step, after_list_step, list_step, list_step_unless, list_end, list_text, list_part, listing_on, take_line, asks_new, is_covered}
+use Rattle.certificate_file.specs.declared.places.Subject.{Subject}
+use Rattle.certificate_file.specs.declared.places.Listing.{Listing}
+use Rattle.certificate_file.specs.declared.places.Place.TheVariants.{AtList, AtEnd}
+use Rattle.certificate_file.specs.declared.places.Answer.TheVariants.{Blocking, PartialBlocking}
+use Rattle.certificate_file.specs.declared.places.State.TheVariants.{Going, Done}
+use Rattle.list_journal.specs.Order.{ordered}
+use Rattle.cert_writer.specs.Texts.{Text, journal_line}
+use Rattle.cert_writer.proofs.Joined.{Takes}
+use Rattle.cert_writer.proofs.Words.{words_of-worded}
+use Rattle.cert_writer.proofs.Names.{AreNames}
+use Rattle.cert_writer.proofs.Raised.{spread}
+use Rattle.cert_writer.proofs.Runs.{IsRead, not_end, new_uncovered, going_long}
+use Rattle.cert_writer.proofs.SetLines.{set_line_taken}
+use Rattle.cert_writer.proofs.StepLines.{decimal_word, lemma_words, words_lemma, line_words}
+
+-- ---- what a lemma says in text
+
+literals_by : (vars : ℕ) (lits : List Literal) → vars < 2147483648 → AllByRecursion (IsVariable vars) lits → AllByRecursion IsLiteral lits
+literals_by vars [] small all = tt
+literals_by vars (l ∷ lits) small all = ((all.0.0, omega (arith, all.0.1)), literals_by vars lits small all.1)
+
+pub short_literals : (vars : ℕ) (lits : List Literal) → vars < 2147483648 → All (IsVariable vars) lits → AllByRecursion IsLiteral lits
+short_literals vars lits small all = literals_by vars lits small (recursion_from_All (IsVariable vars) lits all)
+
+no_letter : (word : Word) (c : ℕ) → AllDigits 10 word → 57 < c → bytes_eq word (c ∷ []) ≡ false
+no_letter [] c all above = refl
+no_letter (x ∷ word) c all above = let digit = digit_from_value x all.0 in rw (ne_eqb x c (λ e. omega (arith, digit, e))) refl
+
+-- the first word of a step is its id, which lists no set
+lists_nothing : (id : ℕ) (lits : List Literal) (hints : List ℤ) → HasNumbers (Addition id lits hints) → AllByRecursion IsLiteral lits → listed_by (words_of (line_of (Addition id lits hints))) ≡ None
+lists_nothing id lits hints has ls =
+    let low : id < 9223372036854775808 = has.0.1 in
+    let words : words_of (line_of (Addition id lits hints)) ≡ decimal id ∷ lemma_words lits hints = ap words_of (line_words id lits hints) ∙ words_of-worded (decimal id) (lemma_words lits hints) (decimal_word id (omega (arith, low))) (words_lemma lits hints has.1 ls) in
+    let digits : AllDigits 10 (decimal id) = (decimal_is_IsNumeral id (omega (arith, low))).0.1 in
+    ap listed_by words ∙ rw (no_letter (decimal id) 113 digits (omega arith), no_letter (decimal id) 98 digits (omega arith)) refl
+
+-- ---- a step
+
+literal_there : (kind : ListKind) (l : ℕ) (step : ProofStep) → progress_of step ≡ going → literal_in kind l step ≡ Ok step
+literal_there Whole l step on = refl
+literal_there Part l step on = rw on refl
+
+step_is_new : (kind : ListKind) (k : Listing) (id : ℕ) (lits : List Literal) (hints : List ℤ) → k.kind ≡ kind → IsNewStep kind k.checker.database.held (Addition id lits hints) → is_old_step k (Addition id lits hints) ≡ false
+step_is_new Whole k id lits hints same new = ap (λ (x : ListKind). asks_new x listed.Quorum && is_covered k.checker.database.held id lits) same
+step_is_new Part k id lits hints same new = ap (λ (x : ListKind). asks_new x listed.Quorum && is_covered k.checker.database.held id lits) same ∙ new_uncovered k.checker.database.held id lits new
+
+-- a step, however it goes on
+step_taken : (f : System) (d : List ℕ) (s : Subject) (k : Listing) (l : ℕ) (step : ProofStep) → IsRead step → listed_by (words_of (line_of step)) ≡ None → literal_in k.kind l step ≡ Ok step → step_fault k.checker.vars k.checker.database step ≡ None → is_old_step k step ≡ false
+    → take_line f d (AtList s k) l (line_of step) ≡ Ok (after_list_step s (with_step k step) (progress_of step))
+unfolding take_line
+step_taken f d s k l step read none literal fault fresh =
+    let text : Text = line_of step in
+    ap (λ (b : Bool). if b then list_end k.kind s k l else list_text f s k l text (listed_by (words_of text))) (not_end step read)
+    ∙ ap (λ (o : Option Listed). list_text f s k l text o) none
+    ∙ ap (λ (r : Result ProofStep LineFault). and_then (list_step s k l) (and_then (literal_in k.kind l) (or_bad_line l r))) read
+    ∙ ap (λ (r : Result ProofStep CertError). and_then (list_step s k l) r) literal
+    ∙ ap (λ (o : Option StepFault). list_step_unless l s k step o) fault
+    ∙ ap (λ (b : Bool). unless (NotNew l) (not b) (Ok (after_list_step s (with_step k step) (progress_of step)))) fresh
+
+-- ---- a journal
+
+module _ (f : System) (d : List ℕ) (s : Subject) (kind : ListKind) (are : AreNames f.names) (part : AreNames (kept s.nodes f.names)) (places : length s.nodes ≡ length f.names)
+    (same : length (list_part f s).faulty ≡ length (list_part f s).system.sets) (count : length (list_part f s).system.sets ≡ size s.nodes) (small : size (list_part f s).greatest < 2147483648) where
+  -- the journal's rule over the part
+  abbrev pub Runs : Database → List JournalLine → Database → Type 0
+  Runs old lines new = JournalRun kind (list_part f s).system.sets (members (list_part f s).faulty) (list_part f s).greatest old lines new
+
+  -- the list where so much is held, with these sets and units
+  abbrev pub at : Database → List Table → ℕ → Listing
+  at database sets units = listing_on kind (list_part f s) (size (list_part f s).greatest) database sets units
+
+  -- a line that is written and reads back
+  abbrev pub IsFine : JournalLine → Type 0
+  IsFine line = HasLineNumbers line × HasFewWords (size (list_part f s).greatest) line
+
+  reads_back : (id : ℕ) (lits : List Literal) (hints : List ℤ) → IsFine (StepLine (Addition id lits hints)) → IsRead (Addition id lits hints)
+  reads_back id lits hints fine = step_back (Addition id lits hints) fine.0 (short_literals (size (list_part f s).greatest) lits small fine.1.0)
+
+  lemma_taken : (l id : ℕ) (lits : List Literal) (hints : List ℤ) (old : Database) (sets : List Table) (units : ℕ) → IsFine (StepLine (Addition id lits hints)) → literal_in kind l (Addition id lits hints) ≡ Ok (Addition id lits hints)
+      → step_fault (size (list_part f s).greatest) old (Addition id lits hints) ≡ None → IsNewStep kind old.held (Addition id lits hints)
+      → take_line f d (AtList s (at old sets units)) l (line_of (Addition id lits hints)) ≡ Ok (after_list_step s (at (after_step old (Addition id lits hints)) sets (units + 1)) (progress_at lits))
+  lemma_taken l id lits hints old sets units fine literal fault new =
+      step_taken f d s (at old sets units) l (Addition id lits hints) (reads_back id lits hints fine)
+      (lists_nothing id lits hints fine.0 (short_literals (size (list_part f s).greatest) lits small fine.1.0)) literal fault (step_is_new kind (at old sets units) id lits hints refl new)
+
+  -- the lines before the empty lemma
+  pub takes_journal : (l : ℕ) (old new : Database) (sets all : List Table) (units total : ℕ) (lines : List JournalLine) → AllByRecursion IsFine lines → AllByRecursion (λ line. line_progress line ≡ going) lines → Runs old lines new
+      → all ≡ sets ++ map (spread s.nodes) (blocking_sets lines) → total ≡ units + journal_units lines
+      → Takes f d l (Going (AtList s (at old sets units))) (map (journal_line (kept s.nodes f.names)) lines) (Going (AtList s (at new all total)))
+  takes_journal l old new sets all units total [] fine on run all_is total_is =
+      let one : units ≡ total = omega (arith, total_is) in
+      let two : sets ≡ all = sym (all_is ∙ append-nil sets) in
+      ap (λ (n : ℕ). Going (AtList s (at old sets n))) one ∙ ap (λ (xs : List Table). Going (AtList s (at old xs total))) two ∙ ap (λ (x : Database). Going (AtList s (at x all total))) (sym run)
+  takes_journal l old new sets all units total (QuorumLine id u ∷ lines) fine on run all_is total_is =
+      let next : Database = after_line (list_part f s).greatest old (QuorumLine id u) in (
+        Going (AtList s (at next sets (units + 1))),
+        set_line_taken f s (at old sets units) l listed.Quorum id u places same count run.0 run.1 d are part fine.0.0,
+        takes_journal (l + 1) next new sets all (units + 1) total lines fine.1 on.1 run.2 all_is (omega (arith, total_is)),
+      )
+  takes_journal l old new sets all units total (BlockingLine id u ∷ lines) fine on run all_is total_is =
+      let next : Database = after_line (list_part f s).greatest old (BlockingLine id u) in
+      let now : List Table = sets ++ spread s.nodes u ∷ [] in (
+        Going (AtList s (at next now (units + 1))),
+        set_line_taken f s (at old sets units) l listed.Blocking id u places same count run.0 run.1 d are part fine.0.0,
+        takes_journal (l + 1) next new now all (units + 1) total lines fine.1 on.1 run.2 (all_is ∙ sym (append_assoc sets (spread s.nodes u ∷ []) (map (spread s.nodes) (blocking_sets lines)))) (omega (arith, total_is)),
+      )
+  takes_journal l old new sets all units total (StepLine (Deletion id ids) ∷ lines) fine on run all_is total_is = absurd fine.0.1
+  takes_journal l old new sets all units total (StepLine (Addition id lits hints) ∷ lines) fine on run all_is total_is =
+      let next : Database = after_step old (Addition id lits hints) in
+      let long : (length lits == 0) ≡ false = (going_long lits on.0).1 in
+      let one : total ≡ units + (1 + journal_units lines) = total_is ∙ ap (λ (b : Bool). units + (cond b 0 1 + journal_units lines)) long in (
+        Going (AtList s (at next sets (units + 1))),
+        lemma_taken l id lits hints old sets units fine.0 (literal_there kind l (Addition id lits hints) on.0) run.0 run.1 ∙ ap (λ (p : Progress). Ok (after_list_step s (at next sets (units + 1)) p)) on.0,
+        takes_journal (l + 1) next new sets all (units + 1) total lines fine.1 on.1 run.2 all_is (omega (arith, one)),
+      )
+
+-- ---- the ends
+
+-- the last lines of a whole list: the empty lemma, and `end`
+pub takes_refuted : (f : System) (d : List ℕ) (s : Subject) (are : AreNames f.names) (part : AreNames (kept s.nodes f.names)) (places : length s.nodes ≡ length f.names)
+    (same : length (list_part f s).faulty ≡ length (list_part f s).system.sets) (count : length (list_part f s).system.sets ≡ size s.nodes) (small : size (list_part f s).greatest < 2147483648)
+    (l : ℕ) (old new : Database) (sets : List Table) (units : ℕ) (last : JournalLine) → HasLineNumbers last × HasFewWords (size (list_part f s).greatest) last → line_progress last ≡ Refuted
+    → JournalRun Whole (list_part f s).system.sets (members (list_part f s).faulty) (list_part f s).greatest old (last ∷ []) new
+    → Takes f d l (Going (AtList s (listing_on Whole (list_part f s) (size (list_part f s).greatest) old sets units))) (journal_line (kept s.nodes f.names) last ∷ codes "end" ∷ []) (Done (record { header = s.header; answer = Blocking (ordered sets) }))
+unfolding take_line
+takes_refuted f d s are part places same count small l old new sets units (QuorumLine id u) fine ends run = absurd cc
+takes_refuted f d s are part places same count small l old new sets units (BlockingLine id u) fine ends run = absurd cc
+takes_refuted f d s are part places same count small l old new sets units (StepLine (Deletion id ids)) fine ends run = absurd fine.1
+takes_refuted f d s are part places same count small l old new sets units (StepLine (Addition id lits hints)) fine ends run = (
+  Going (AtEnd (record { header = s.header; answer = Blocking (ordered sets) })),
+  lemma_taken f d s Whole are part places same count small l id lits hints old sets units fine refl run.0 run.1
+      ∙ ap (λ (p : Progress). Ok (after_list_step s (listing_on Whole (list_part f s) (size (list_part f s).greatest) (after_step old (Addition id lits hints)) sets (units + 1)) p)) ends,
+  (Done (record { header = s.header; answer = Blocking (ordered sets) }), refl, refl),
+)
+
+-- the last line of a part of a list
+pub takes_part_end : (f : System) (d : List ℕ) (s : Subject) (l vars : ℕ) (database : Database) (sets : List Table) (units : ℕ) → Takes f d l (Going (AtList s (listing_on Part (list_part f s) vars database sets units))) (codes "end" ∷ []) (Done (record { header = s.header; answer = PartialBlocking units }))
+unfolding take_line
+takes_part_end f d s l vars database sets units = (Done (record { header = s.header; answer = PartialBlocking units }), refl, refl)

@@ -1,0 +1,155 @@
+-- The line of a listed set, taken.
+use Rattle.std.proofs.Common.{◌≡◌, ℕ, ◌≤◌, ◌<◌, List, ◌∷◌, length, Bool, false, not, ◌&&◌, if◌then◌else◌, Option, Some, ok_or, Result, Ok, refl, sym, ◌∙◌, ap, arith, codes, length-append}
+use Rattle.std.specs.Fmt.{decimal}
+use Rattle.std.specs.Str.{bytes_eq}
+use Rattle.std.proofs.lemmas.Bool.{lt-ltb}
+use Rattle.std.proofs.lemmas.Fmt.{length-decimal-le}
+use Rattle.fbas_model.specs.Nodes.{Table, members, size}
+use Rattle.fbas_model.specs.Names.{Name}
+use Rattle.fbas_model.specs.Systems.{System}
+use Rattle.fbas_model.specs.Restriction.{kept}
+use Rattle.fbas_model.proofs.Kept.{kept_le}
+use Rattle.fbas_model.proofs.QuorumLaw.{quorum-from}
+use Rattle.lrat_model.specs.Clauses.{Held}
+use Rattle.lrat_model.specs.declared.step.StepFault.TheVariants.{IdOrder}
+use Rattle.lrat_text.specs.Left.{spaced}
+use Rattle.lrat_text.specs.Texts.{IsId}
+use Rattle.lrat_text.proofs.TextLaws.{id_back}
+use Rattle.list_journal.specs.Journals.{IsTaken, IsNewLine}
+use Rattle.list_journal.specs.Listed.{list_line as listed_line, clause_for}
+use Rattle.list_journal.specs.Tests.{is_least}
+use Rattle.list_journal.specs.declared.kinds.ListKind.{ListKind}
+use Rattle.list_journal.specs.declared.kinds.ListKind.TheVariants.{Whole, Partial as Part}
+use Rattle.list_journal.specs.declared.kinds.Listed.{Listed}
+use Rattle.list_journal.specs.declared.kinds.Listed.TheVariants as listed
+use Rattle.list_journal.proofs.TestLaws.{blocks_from, least_from}
+use Rattle.cert_lines.specs.Limits.{unless}
+use Rattle.cert_lines.specs.Words.{Word, words_of, names_in}
+use Rattle.cert_lines.specs.declared.faults.CertError.{CertError}
+use Rattle.cert_lines.specs.declared.faults.CertError.TheVariants.{BadLine, Step, NotQuorum, NotBlocking, NotMinimal, NotNew}
+use Rattle.certificate_file.specs.Acceptance.{and_then, nodes_of, within, is_covered, listed_by, Numbered, numbered_if_any, numbered_in, right_set, asks_new, new_set, with_listed, list_set, set_line as take_set_line, list_end, list_text, take_line}
+use Rattle.certificate_file.specs.declared.places.Subject.{Subject}
+use Rattle.certificate_file.specs.declared.places.Listing.{Listing}
+use Rattle.certificate_file.specs.declared.places.Place.TheVariants.{AtList}
+use Rattle.certificate_file.specs.declared.places.State.{State}
+use Rattle.certificate_file.specs.declared.places.State.TheVariants.{Going}
+use Rattle.certificate_file.proofs.PartLaws.{apart_from_others}
+use Rattle.cert_writer.specs.Texts.{Text, set_line}
+use Rattle.cert_writer.proofs.Joined.{IsLine}
+use Rattle.cert_writer.proofs.Words.{IsWord, is_word, words_of-worded, plain-worded, length-spaced_keys}
+use Rattle.cert_writer.proofs.Names.{AreNames, keys-kept, words-keys, short-keys, names_in-kept, nodes_of-kept}
+use Rattle.cert_writer.proofs.Raised.{spread, length-spread, kept-spread, not_others}
+use Rattle.cert_writer.proofs.RaisedOrder.{kept_of_spread}
+use Rattle.cert_writer.proofs.Pairs.{out_spread}
+use Rattle.cert_writer.proofs.Runs.{new_uncovered}
+use Rattle.cert_writer.proofs.StepLines.{decimal_word}
+
+-- ---- the words
+
+-- the letter of what a set is listed for
+abbrev pub letter : Listed → Text
+letter listed.Quorum = codes "q"
+letter listed.Blocking = codes "b"
+
+letter_word : (which : Listed) → IsWord (letter which)
+letter_word listed.Quorum = is_word (codes "q") refl
+letter_word listed.Blocking = is_word (codes "b") refl
+
+letter_short : (which : Listed) → length (letter which) ≤ 1
+letter_short listed.Quorum = omega arith
+letter_short listed.Blocking = omega arith
+
+listed_letter : (which : Listed) (words : List Word) → listed_by (letter which ∷ words) ≡ Some which
+listed_letter listed.Quorum words = refl
+listed_letter listed.Blocking words = refl
+
+not_end : (which : Listed) (id : ℕ) (names : List Name) (set : Table) → bytes_eq (set_line (letter which) id names set) (codes "end") ≡ false
+not_end listed.Quorum id names set = refl
+not_end listed.Blocking id names set = refl
+
+set_words : (which : Listed) (id : ℕ) (names : List Name) (set : Table) → AreNames names → IsId id → words_of (set_line (letter which) id names set) ≡ letter which ∷ decimal id ∷ kept set names
+set_words which id names set are is = words_of-worded (letter which) (decimal id ∷ kept set names) (letter_word which) (decimal_word id (omega (arith, is.1)), words-keys (kept set names) (keys-kept set names are.keys))
+
+numbered : (which : Listed) (id : ℕ) (names : List Name) (set : Table) → AreNames names → IsId id → numbered_in (letter which ∷ decimal id ∷ kept set names) ≡ Some (record { id = id; names = kept set names })
+numbered which id names set are is =
+    ap (λ (o : Option ℕ). numbered_if_any o (names_in (kept set names))) (id_back id is).0
+    ∙ ap (λ (o : Option (List Name)). numbered_if_any (Some id) o) (names_in-kept names set are)
+
+-- ---- it is a line
+
+pub line_set : (which : Listed) (id : ℕ) (names : List Name) (set : Table) → AreNames names → length names ≤ 4096 → IsId id → IsLine (set_line (letter which) id names set)
+line_set which id names set are few is = record {
+  plain = plain-worded (letter which) (decimal id ∷ kept set names) (letter_word which) (decimal_word id (omega (arith, is.1)), words-keys (kept set names) (keys-kept set names are.keys));
+  short =
+      let head : length (decimal id) ≤ 19 = length-decimal-le 19 id (omega arith) (omega (arith, is.1)) (omega (arith, is.1)) in
+      let rest = length-spaced_keys (kept set names) (short-keys (kept set names) (keys-kept set names are.keys)) in
+      omega (arith, letter_short which, head, rest, kept_le set names, length-append (letter which) (spaced (decimal id ∷ kept set names)), length-append (decimal id) (spaced (kept set names)));
+}
+
+-- ---- the set
+
+within_part : (s : Subject) (l : ℕ) (set : Table) → within s l (spread s.nodes set) ≡ Ok (spread s.nodes set)
+within_part s l set = apart_from_others s l (spread s.nodes set) (λ m. not_others s.nodes m.0 m.2 (out_spread s.nodes set m.0 m.1).0)
+
+-- the set is what it is listed for
+right : (k : Listing) (l : ℕ) (which : Listed) (id : ℕ) (set : Table) → length k.part.faulty ≡ length k.part.system.sets → IsTaken k.part.system.sets (members k.part.faulty) k.part.greatest k.checker.database (listed_line which id set) → right_set k l which set ≡ Ok set
+right k l listed.Quorum id set same taken =
+    ap (λ (b : Bool). unless (NotQuorum l) b (Ok set)) (quorum-from k.part.system.sets k.part.faulty set (same ∙ sym taken.1) (sym taken.1) taken.2)
+right k l listed.Blocking id set same taken =
+    ap (λ (b : Bool). unless (NotBlocking l) b (unless (NotMinimal l) (is_least k.part.system.sets k.part.faulty set) (Ok set))) (blocks_from k.part.system.sets k.part.faulty set taken.2.blocks)
+    ∙ ap (λ (b : Bool). unless (NotMinimal l) b (Ok set)) (least_from k.part.system.sets k.part.faulty set same taken.2.least)
+
+-- its clause is as new as the kind asks
+uncovered : (kind : ListKind) (which : Listed) (g : Table) (held : Held) (id : ℕ) (set : Table) → IsNewLine kind g held (listed_line which id set) → (asks_new kind which && is_covered held id (clause_for which g set)) ≡ false
+uncovered Whole listed.Quorum g held id set new = refl
+uncovered Whole listed.Blocking g held id set new = new_uncovered held id (clause_for listed.Blocking g set) new
+uncovered Part listed.Quorum g held id set new = new_uncovered held id (clause_for listed.Quorum g set) new
+uncovered Part listed.Blocking g held id set new = new_uncovered held id (clause_for listed.Blocking g set) new
+
+new : (k : Listing) (l : ℕ) (which : Listed) (id : ℕ) (set : Table) → IsNewLine k.kind k.part.greatest k.checker.database.held (listed_line which id set) → new_set k l which id set ≡ Ok set
+new k l which id set is = ap (λ (b : Bool). unless (NotNew l) (not b) (Ok set)) (uncovered k.kind which k.part.greatest k.checker.database.held id set is)
+
+taken_id : (which : Listed) (k : Listing) (id : ℕ) (set : Table) → IsTaken k.part.system.sets (members k.part.faulty) k.part.greatest k.checker.database (listed_line which id set) → k.checker.database.last < id
+taken_id listed.Quorum k id set taken = taken.0
+taken_id listed.Blocking k id set taken = taken.0
+
+taken_places : (which : Listed) (k : Listing) (id : ℕ) (set : Table) → IsTaken k.part.system.sets (members k.part.faulty) k.part.greatest k.checker.database (listed_line which id set) → length set ≡ length k.part.system.sets
+taken_places listed.Quorum k id set taken = taken.1
+taken_places listed.Blocking k id set taken = taken.1
+
+-- ---- the line
+
+module _ (f : System) (s : Subject) (k : Listing) (l : ℕ) (which : Listed) (id : ℕ) (set : Table) (places : length s.nodes ≡ length f.names) (same : length k.part.faulty ≡ length k.part.system.sets) (count : length k.part.system.sets ≡ size s.nodes)
+    (taken : IsTaken k.part.system.sets (members k.part.faulty) k.part.greatest k.checker.database (listed_line which id set)) (is_new : IsNewLine k.kind k.part.greatest k.checker.database.held (listed_line which id set)) where
+  -- what is awaited behind the line
+  abbrev next : Table → State
+  next w = Going (AtList s (with_listed k which id (spread s.nodes set) w))
+
+  set_listed : list_set s k l which id (spread s.nodes set) ≡ Ok (next set)
+  set_listed =
+      ap (λ (t : Table). and_then (λ w. Ok (next w)) (and_then (new_set k l which id) (right_set k l which t))) (kept_of_spread s.nodes set (taken_places which k id set taken ∙ count))
+      ∙ ap (λ (r : Result Table CertError). and_then (λ w. Ok (next w)) (and_then (new_set k l which id) r)) (right k l which id set same taken)
+      ∙ ap (λ (r : Result Table CertError). and_then (λ w. Ok (next w)) r) (new k l which id set is_new)
+
+  set_taken : AreNames f.names → take_set_line f s k l which (record { id = id; names = kept set (kept s.nodes f.names) }) ≡ Ok (next set)
+  set_taken are =
+      let u : Table = spread s.nodes set in
+      let names : List Name = kept set (kept s.nodes f.names) in
+      ap (λ (b : Bool). unless (Step l (IdOrder k.checker.database.last id)) b (and_then (list_set s k l which id) (and_then (within s l) (nodes_of f.names l names)))) (lt-ltb k.checker.database.last id (taken_id which k id set taken))
+      ∙ ap (λ (ns : List Name). and_then (list_set s k l which id) (and_then (within s l) (nodes_of f.names l ns))) (kept-spread s.nodes set f.names)
+      ∙ ap (λ (r : Result Table CertError). and_then (list_set s k l which id) (and_then (within s l) r)) (nodes_of-kept f.names l u are (length-spread s.nodes set ∙ places))
+      ∙ ap (λ (r : Result Table CertError). and_then (list_set s k l which id) r) (within_part s l set)
+      ∙ set_listed
+
+  pub set_line_taken : (d : List ℕ) → AreNames f.names → AreNames (kept s.nodes f.names) → IsId id → take_line f d (AtList s k) l (set_line (letter which) id (kept s.nodes f.names) set) ≡ Ok (Going (AtList s (with_listed k which id (spread s.nodes set) set)))
+  unfolding take_line
+  set_line_taken d are part is =
+      let names : List Name = kept s.nodes f.names in
+      let text : Text = set_line (letter which) id names set in
+      let words : words_of text ≡ letter which ∷ decimal id ∷ kept set names = set_words which id names set part is in
+      ap (λ (b : Bool). if b then list_end k.kind s k l else list_text f s k l text (listed_by (words_of text))) (not_end which id names set)
+      ∙ ap (λ (ws : List Word). list_text f s k l text (listed_by ws)) words
+      ∙ ap (λ (o : Option Listed). list_text f s k l text o) (listed_letter which (decimal id ∷ kept set names))
+      ∙ ap (λ (ws : List Word). and_then (take_set_line f s k l which) (ok_or (numbered_in ws) (BadLine l))) words
+      ∙ ap (λ (o : Option Numbered). and_then (take_set_line f s k l which) (ok_or o (BadLine l))) (numbered which id names set part is)
+      ∙ set_taken are

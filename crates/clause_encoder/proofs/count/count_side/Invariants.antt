@@ -1,0 +1,12 @@
+use Rattle.std.proofs.Common.{◌≡◌}
+use Rattle.clause_encoder.specs.Formula.{side_from}
+use Rattle.clause_encoder.specs.SharedGates.{place_of}
+use Rattle.clause_encoder.specs.Written.{circuit_in}
+use Rattle.clause_encoder.proofs.CountLaws.{CountingSide}
+use Rattle.clause_encoder.proofs.count.count_side.Given as goal
+
+abbrev pub invariant-loop-node : goal.invariant-loop-node
+invariant-loop-node l = record {
+  counting : CountingSide l.fn.version (circuit_in l.circuits) (side_from l.fn.next) (place_of l.free l.shared) l.node-index l.nodes;
+  version : l.shared.version ≡ l.fn.version;
+}

@@ -1,0 +1,10 @@
+//! The versions of the formula.
+
+/// How often a gate is written.
+#[derive(Clone, Copy, Debug, PartialEq, Eq)]
+pub enum Version {
+    /// Each time that it is wanted.
+    One,
+    /// Once on each side: what has an equal circuit uses it again.
+    Two,
+}

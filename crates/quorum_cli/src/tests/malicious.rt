@@ -1,0 +1,307 @@
+//! Files that were made to break the program: each has its one exact answer. The great ones (1,000,001 entries, a line of
+//! 134,217,729 spaces) are in `tests/malicious.py`, which has these too.
+use crate::status::Status;
+use crate::tests::certificates::{DIGEST_OF_THREE, DIGEST_OF_TWO, certificate, of_kind};
+use crate::tests::desks::{Files, run_over};
+use crate::tests::systems::{TWO_OF_THREE, TWO_OF_TWO};
+use std::alloc::{AllocError, Global};
+use std::test::Fail;
+
+/// A file that is handed in.
+#[derive(Clone, Copy)]
+enum Made {
+    /// The configuration of `show`.
+    Config(&'static str),
+    /// So many arrays in one another as the configuration of `show`.
+    Arrays(usize),
+    /// What stands between the formula and the last lemma of a refutation of two of two.
+    Lemma(&'static str),
+    /// That refutation with this much of its end: behind the last lemma.
+    End(&'static str),
+    /// The lines behind the digest of a certificate for two of three.
+    Lines(&'static str),
+    /// A whole certificate for two of three.
+    Cert(&'static str),
+}
+
+const REFUSED: Status = Status::CertRefused;
+
+const REFUTED: &str = "accepted refutation\nfrom\nfaulty\n";
+
+const ROWS: [(Made, Status, &str); 46] = [
+    (
+        Made::Arrays(127),
+        Status::ConfigRefused,
+        "config not-node 0\n",
+    ),
+    (
+        Made::Arrays(128),
+        Status::ConfigRefused,
+        "config not-json\n",
+    ),
+    (
+        Made::Config("{}"),
+        Status::ConfigRefused,
+        "config not-nodes\n",
+    ),
+    (
+        Made::Config("[1]"),
+        Status::ConfigRefused,
+        "config not-node 0\n",
+    ),
+    (
+        Made::Config(
+            r#"[{"publicKey":"a","quorumSet":{"threshold":18446744073709551615,"validators":["a"]}}]"#,
+        ),
+        Status::Yes,
+        "nodes 1\nentries 1\nunset 0\nthreshold a . 18446744073709551615 1\n",
+    ),
+    (
+        Made::Config(
+            r#"[{"publicKey":"a","quorumSet":{"threshold":18446744073709551616,"validators":["a"]}}]"#,
+        ),
+        Status::ConfigRefused,
+        "config bad-quorum-set 0 threshold\n",
+    ),
+    (Made::Lemma("17 -1 0 7 6 3 4 2 0\n"), Status::Yes, REFUTED),
+    // ids
+    (
+        Made::Lemma("9223372036854775807 -1 0 7 6 3 4 2 0\n"),
+        REFUSED,
+        "refused step 8 id-order 9223372036854775807 18\n",
+    ),
+    (
+        Made::Lemma("9223372036854775808 -1 0 7 6 3 4 2 0\n"),
+        REFUSED,
+        "refused bad-line 7\n",
+    ),
+    (
+        Made::Lemma("017 -1 0 7 6 3 4 2 0\n"),
+        REFUSED,
+        "refused bad-line 7\n",
+    ),
+    (
+        Made::Lemma("0 -1 0 7 6 3 4 2 0\n"),
+        REFUSED,
+        "refused bad-line 7\n",
+    ),
+    (
+        Made::Lemma("-17 -1 0 7 6 3 4 2 0\n"),
+        REFUSED,
+        "refused bad-line 7\n",
+    ),
+    (
+        Made::Lemma("+17 -1 0 7 6 3 4 2 0\n"),
+        REFUSED,
+        "refused bad-line 7\n",
+    ),
+    // literals
+    (
+        Made::Lemma("17 -2147483648 0 7 6 3 4 2 0\n"),
+        REFUSED,
+        "refused bad-line 7\n",
+    ),
+    (
+        Made::Lemma("17 2147483647 0 1 0\n"),
+        REFUSED,
+        "refused step 7 bad-literal 2147483647\n",
+    ),
+    (
+        Made::Lemma("17 -2147483647 0 1 0\n"),
+        REFUSED,
+        "refused step 7 bad-literal -2147483647\n",
+    ),
+    // hints
+    (
+        Made::Lemma("17 -1 0 -0 6 3 4 2 0\n"),
+        REFUSED,
+        "refused bad-line 7\n",
+    ),
+    (
+        Made::Lemma("17 -1 0 9223372036854775807 0\n"),
+        REFUSED,
+        "refused step 7 no-such-clause 9223372036854775807\n",
+    ),
+    (
+        Made::Lemma("17 -1 0 9223372036854775808 0\n"),
+        REFUSED,
+        "refused bad-line 7\n",
+    ),
+    (
+        Made::Lemma("17 -1 0 -9223372036854775807 0\n"),
+        REFUSED,
+        "refused step 7 rat-step 1\n",
+    ),
+    (
+        Made::Lemma("17 -1 0 6 7 3 4 2 x\n"),
+        REFUSED,
+        "refused bad-line 7\n",
+    ),
+    // closing zeros, and the ends of lines
+    (
+        Made::Lemma("17 -1 0 7 6 3 4 2\n"),
+        REFUSED,
+        "refused bad-line 7\n",
+    ),
+    (
+        Made::Lemma("17 -1 0 7 6 3 4 2 0 0\n"),
+        REFUSED,
+        "refused bad-line 7\n",
+    ),
+    (
+        Made::Lemma("17 -1 0 7 6 3 4 2 0\r\n"),
+        REFUSED,
+        "refused bad-line 7\n",
+    ),
+    (Made::Lemma("\n"), REFUSED, "refused bad-line 7\n"),
+    // deletions
+    (
+        Made::Lemma("17 d 1 1 0\n"),
+        REFUSED,
+        "refused step 7 no-such-clause 1\n",
+    ),
+    (
+        Made::Lemma("17 d 17 0\n"),
+        REFUSED,
+        "refused step 7 no-such-clause 17\n",
+    ),
+    (
+        Made::Lemma("17 d 2 0\n17 -1 0 7 6 3 4 2 0\n"),
+        REFUSED,
+        "refused step 8 no-such-clause 2\n",
+    ),
+    (
+        Made::Lemma("17 d 0\n17 -1 0 7 6 3 4 2 0\n"),
+        Status::Yes,
+        REFUTED,
+    ),
+    // the end
+    (Made::End("end"), REFUSED, "refused truncated 9\n"),
+    (Made::End("end\r\n"), REFUSED, "refused bad-line 9\n"),
+    (Made::End("end\n\n"), REFUSED, "refused trailing\n"),
+    // the header
+    (Made::Cert(""), REFUSED, "refused truncated 1\n"),
+    (
+        Made::Cert("fbas-cert 1\r\n"),
+        REFUSED,
+        "refused bad-line 1\n",
+    ),
+    (
+        Made::Cert(
+            "fbas-cert 1\nconfig F823E204944ABCFF32C8DADFFBA2A0178A590A613358F9A6F271B651CD4E6FBB\n",
+        ),
+        REFUSED,
+        "refused bad-line 2\n",
+    ),
+    (
+        Made::Lines("from z\nfaulty\nkind pair\nfirst a b\nsecond b c\nend\n"),
+        REFUSED,
+        "refused unknown-node 3\n",
+    ),
+    (
+        Made::Lines("from\nfaulty b a\nkind pair\nfirst a b\nsecond b c\nend\n"),
+        REFUSED,
+        "refused bad-line 4\n",
+    ),
+    (
+        Made::Lines("from\nfaulty a a\nkind pair\nfirst a b\nsecond b c\nend\n"),
+        REFUSED,
+        "refused bad-line 4\n",
+    ),
+    (
+        Made::Lines("from\nfaulty z\nkind pair\nfirst a b\nsecond b c\nend\n"),
+        REFUSED,
+        "refused unknown-node 4\n",
+    ),
+    (
+        Made::Lines("from\nfaulty z y\nkind pair\nfirst a b\nsecond b c\nend\n"),
+        REFUSED,
+        "refused bad-line 4\n",
+    ),
+    (
+        Made::Lines("from\nfaulty a\nkind other\nfirst b\nsecond c\nend\n"),
+        REFUSED,
+        "refused bad-line 5\n",
+    ),
+    (
+        Made::Lines("from\nfaulty a\nkind pair\r\nfirst b\nsecond c\nend\n"),
+        REFUSED,
+        "refused bad-line 5\n",
+    ),
+    (
+        Made::Lines("from\nfaulty a\nkind pair\nfirst z\nsecond c\nend\n"),
+        REFUSED,
+        "refused unknown-node 6\n",
+    ),
+    (
+        Made::Lines("from\nfaulty a\nkind pair\nfirst c b\nsecond c\nend\n"),
+        REFUSED,
+        "refused bad-line 6\n",
+    ),
+    (
+        Made::Lines("from\nfaulty a\nkind pair\nsecond c\nfirst b\nend\n"),
+        REFUSED,
+        "refused bad-line 6\n",
+    ),
+    (
+        Made::Lines("from\nfaulty a\nkind pair\nfirst b\nsecond c\nthird\n"),
+        REFUSED,
+        "refused bad-line 8\n",
+    ),
+];
+
+// How the program ends over the files, in great pieces, and what is out then.
+fn ends_on(alloc: Global, line: &str, held: &Files) -> Result<(Status, Vec<u8>), AllocError> {
+    let left = run_over(alloc, line, held, 65_536, Vec::new(alloc))?;
+    Ok((left.status, left.out))
+}
+
+// How `show` ends over a configuration.
+fn shown(alloc: Global, config: &str) -> Result<(Status, Vec<u8>), AllocError> {
+    ends_on(alloc, "show config", &Files::of(config.as_bytes()))
+}
+
+fn shown_arrays(alloc: Global, count: usize) -> Result<(Status, Vec<u8>), AllocError> {
+    let mut config = "[".repeat(alloc, count)?;
+    config.push_str(&"]".repeat(alloc, count)?)?;
+    shown(alloc, &config)
+}
+
+// How `check` ends over a certificate for two of three.
+fn checked(alloc: Global, cert: &str) -> Result<(Status, Vec<u8>), AllocError> {
+    let held = Files::with_cert(TWO_OF_THREE.as_bytes(), cert.as_bytes());
+    ends_on(alloc, "check config cert", &held)
+}
+
+// How `check` ends over a refutation of two of two: this behind the formula, the last lemma, and this.
+fn refuted(alloc: Global, lemma: &str, end: &str) -> Result<(Status, Vec<u8>), AllocError> {
+    let mut body = String::from_str(alloc, "formula 8 16\n")?;
+    body.push_str(lemma)?;
+    body.push_str("18 0 17 1 10 8 0\n")?;
+    body.push_str(end)?;
+    let cert = of_kind(alloc, DIGEST_OF_TWO, "refutation", &body)?;
+    let held = Files::with_cert(TWO_OF_TWO.as_bytes(), cert.as_bytes());
+    ends_on(alloc, "check config cert", &held)
+}
+
+// How the program ends over a file.
+fn ends_over(alloc: Global, made: &Made) -> Result<(Status, Vec<u8>), AllocError> {
+    match made {
+        Made::Config(config) => shown(alloc, config),
+        Made::Arrays(count) => shown_arrays(alloc, *count),
+        Made::Lemma(lemma) => refuted(alloc, lemma, "end\n"),
+        Made::End(end) => refuted(alloc, "17 -1 0 7 6 3 4 2 0\n", end),
+        Made::Lines(lines) => checked(alloc, &certificate(alloc, DIGEST_OF_THREE, lines)?),
+        Made::Cert(cert) => checked(alloc, cert),
+    }
+}
+
+#[test]
+fn a_malicious_file_has_its_one_answer(rt: HostRuntime) -> Result<(), Fail> {
+    for (number, (made, status, text)) in ROWS.iter().enumerate() {
+        let (found, out) = ends_over(rt.alloc(), made)?;
+        assert_eq!(rt; found, *status, "at row {number}");
+        assert_eq!(rt; out.as_slice(), text.as_bytes(), "at row {number}");
+    }
+    Ok(())
+}

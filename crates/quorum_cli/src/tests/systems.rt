@@ -1,0 +1,97 @@
+//! Configurations and organisations of worked cases.
+use std::alloc::{AllocError, Global};
+
+/// Two nodes, each of which needs both.
+pub const TWO_OF_TWO: &str =
+    r#"[{"publicKey":"p","quorumSet":{"threshold":2,"validators":["p","q"]}},{"publicKey":"q","quorumSet":{"threshold":2,"validators":["p","q"]}}]"#;
+
+/// Three nodes, of which each needs two of the three.
+pub const TWO_OF_THREE: &str =
+    r#"[{"publicKey":"a","quorumSet":{"threshold":2,"validators":["a","b","c"]}},{"publicKey":"b","quorumSet":{"threshold":2,"validators":["a","b","c"]}},{"publicKey":"c","quorumSet":{"threshold":2,"validators":["a","b","c"]}}]"#;
+
+/// Four nodes, of which each needs three of the four.
+pub const THREE_OF_FOUR: &str =
+    r#"[{"publicKey":"a","quorumSet":{"threshold":3,"validators":["a","b","c","d"]}},{"publicKey":"b","quorumSet":{"threshold":3,"validators":["a","b","c","d"]}},{"publicKey":"c","quorumSet":{"threshold":3,"validators":["a","b","c","d"]}},{"publicKey":"d","quorumSet":{"threshold":3,"validators":["a","b","c","d"]}}]"#;
+
+/// Two pairs of nodes, each of which needs both of its pair.
+pub const TWO_PAIRS: &str =
+    r#"[{"publicKey":"a","quorumSet":{"threshold":2,"validators":["a","b"]}},{"publicKey":"b","quorumSet":{"threshold":2,"validators":["a","b"]}},{"publicKey":"c","quorumSet":{"threshold":2,"validators":["c","d"]}},{"publicKey":"d","quorumSet":{"threshold":2,"validators":["c","d"]}}]"#;
+
+/// Node a needs two of b, which stands twice, and node b needs itself.
+pub const REPEATED: &str =
+    r#"[{"publicKey":"a","quorumSet":{"threshold":2,"validators":["b","b"]}},{"publicKey":"b","quorumSet":{"threshold":1,"validators":["b"]}}]"#;
+
+/// Node x needs node y, which is not declared.
+pub const UNDECLARED: &str =
+    r#"[{"publicKey":"x","quorumSet":{"threshold":1,"validators":["y"]}}]"#;
+
+/// A node that needs one inner quorum set, whose threshold is 0.
+pub const ZERO_INSIDE: &str =
+    r#"[{"publicKey":"a","quorumSet":{"threshold":1,"validators":[],"innerQuorumSets":[{"threshold":0,"validators":["a"]}]}}]"#;
+
+/// A node whose threshold is 2^53 - 1 of no entries, beside a member that is skipped.
+pub const LARGE_THRESHOLD: &str =
+    r#"[{"publicKey":"a","latitude":1.25,"quorumSet":{"threshold":9007199254740991,"validators":[]}}]"#;
+
+/// One organisation with node a and a node that is not there.
+pub const ORG: &str = r#"[{"id":"A","validators":["a","zz"]}]"#;
+
+/// Two of three organisations of three nodes, of each two.
+const TWO_OF_THREE_PAIRS: &str =
+    r#"{"threshold":2,"validators":[],"innerQuorumSets":[{"threshold":2,"validators":["p1","p2","p3"]},{"threshold":2,"validators":["q1","q2","q3"]},{"threshold":2,"validators":["r1","r2","r3"]}]}"#;
+
+/// A configuration of these nodes, which all have one quorum set.
+pub fn alike(alloc: Global, names: &[&str], quorum_set: &str) -> Result<String, AllocError> {
+    let mut config = String::from_str(alloc, "[")?;
+    for name in names {
+        if config.len() > 1 {
+            config.push_str(",")?;
+        }
+        config.push_str(r#"{"publicKey":""#)?;
+        config.push_str(name)?;
+        config.push_str(r#"","quorumSet":"#)?;
+        config.push_str(quorum_set)?;
+        config.push_str("}")?;
+    }
+    config.push_str("]")?;
+    Ok(config)
+}
+
+/// Three organisations of three nodes: each node needs two of the organisations, by two of their nodes.
+pub fn organisations(alloc: Global) -> Result<String, AllocError> {
+    let names = ["p1", "p2", "p3", "q1", "q2", "q3", "r1", "r2", "r3"];
+    alike(alloc, &names, TWO_OF_THREE_PAIRS)
+}
+
+// A name of two letters, another for each number below 200.
+fn push_name(text: &mut Vec<u8>, number: u8) -> Result<(), AllocError> {
+    text.push(b'"')?;
+    text.push(b'a' + number / 20)?;
+    text.push(b'a' + number % 20)?;
+    text.push(b'"')?;
+    Ok(())
+}
+
+/// A configuration of 200 nodes, of which each needs 100 of all.
+pub fn half_of_two_hundred(alloc: Global) -> Result<Vec<u8>, AllocError> {
+    let mut all = Vec::new(alloc);
+    for number in 0..200 {
+        if number != 0 {
+            all.push(b',')?;
+        }
+        push_name(&mut all, number)?;
+    }
+    let mut config = Vec::from_slice(alloc, b"[")?;
+    for number in 0..200 {
+        if number != 0 {
+            config.push(b',')?;
+        }
+        config.extend_from_slice(br#"{"publicKey":"#)?;
+        push_name(&mut config, number)?;
+        config.extend_from_slice(br#","quorumSet":{"threshold":100,"validators":["#)?;
+        config.extend_from_slice(&all)?;
+        config.extend_from_slice(b"]}}")?;
+    }
+    config.push(b']')?;
+    Ok(config)
+}

@@ -1,0 +1,10 @@
+//! The trial configuration of some organisations: a network that shows what the whole analyser does, without a file.
+#![tactic(auto)]
+
+mod configuration;
+mod tree;
+
+pub use configuration::{MOST_ORGANISATIONS, Trial};
+
+#[cfg(test)]
+mod tests;

@@ -1,0 +1,148 @@
+#!/usr/bin/env python3
+"""Refuses each growth of memory in turn, on the built program: it answers as with ample memory, or 8 with nothing done.
+
+A small library that is loaded before the system's (LD_PRELOAD, made with cc) refuses the N-th call of malloc or realloc, or that
+and all later ones, for N from 1 until a run makes fewer. Then the status is 8, nothing is put out and the certificate's file
+is as it was; or the answer, the certificate among it, is to the byte what it is with ample memory.
+Beside the gate, by hand: tests/fail_alloc.py [PROGRAM]; its last line is 'fail_alloc: N passed, M failed'.
+"""
+
+import os
+import subprocess
+import sys
+import tempfile
+
+sys.path.insert(0, os.path.dirname(os.path.abspath(__file__)))
+import malicious
+
+# Counts the calls that want memory, and refuses those from GROWTH_FIRST to GROWTH_LAST; a refusal makes the file GROWTH_TOLD.
+REFUSER = r"""
+#include <errno.h>
+#include <fcntl.h>
+#include <stddef.h>
+#include <stdlib.h>
+#include <unistd.h>
+
+extern void *__libc_malloc(size_t);
+extern void *__libc_realloc(void *, size_t);
+
+static unsigned long first, last, count;
+static const char *told;
+
+__attribute__((constructor)) static void begin(void) {
+    first = strtoul(getenv("GROWTH_FIRST"), NULL, 10);
+    last = strtoul(getenv("GROWTH_LAST"), NULL, 10);
+    told = getenv("GROWTH_TOLD");
+}
+
+static int is_refused(void) {
+    if (!told || ++count < first || count > last) return 0;
+    close(open(told, O_CREAT | O_WRONLY, 0666));
+    errno = ENOMEM;
+    return 1;
+}
+
+void *malloc(size_t size) { return is_refused() ? NULL : __libc_malloc(size); }
+void *realloc(void *old, size_t size) { return is_refused() ? NULL : __libc_realloc(old, size); }
+"""
+
+FOUR = malicious.system("abcd", 3)
+ORGS = b'[{"id":"A","validators":["a","zz"]}]'
+
+# What is run over which configuration. 'cert' holds 'old' before, or what is checked.
+RUNS = [
+    ("intersect config cert", malicious.THREE, b"old\n"),
+    ("intersect config cert --faulty a", malicious.THREE, b"old\n"),
+    ("intersect config cert --budget 3", malicious.THREE, b"old\n"),
+    ("intersect config cert --orgs orgs --faulty-orgs A", malicious.THREE, b"old\n"),
+    ("blocking config cert", malicious.THREE, b"old\n"),
+    ("blocking config cert --budget 3", malicious.THREE, b"old\n"),
+    ("dset config cert --set a", FOUR, b"old\n"),
+    ("splits config cert --set a", malicious.APART, b"old\n"),
+    ("check config cert", malicious.THREE, malicious.PAIR),
+    ("check config cert", malicious.TWO, malicious.REFUTATION),
+    ("check config cert", malicious.TWO, malicious.PARTIAL),
+    ("check config cert", malicious.THREE, malicious.BLOCKING),
+    ("check config cert", malicious.THREE, malicious.PAIR[:-1]),
+    ("show config", malicious.THREE, b"old\n"),
+    ("closure config --node a", malicious.APART, b"old\n"),
+    ("greatest config --from a --faulty b", malicious.APART, b"old\n"),
+    ("available config --set a", FOUR, b"old\n"),
+    ("blocks config --set a --orgs orgs --faulty-orgs A", FOUR, b"old\n"),
+    ("vblocks config --node a --set b,c", malicious.THREE, b"old\n"),
+    ("export config", malicious.THREE, b"old\n"),
+    ("show config", b"[1]", b"old\n"),
+    ("greatest config --faulty z", malicious.THREE, b"old\n"),
+    ("check config", malicious.THREE, b"old\n"),
+]
+
+ALL = 2**63
+
+
+class Trial:
+    def __init__(self, folder, program):
+        self.folder, self.program = folder, os.path.abspath(program)
+        self.passed = self.failed = 0
+        self.told = os.path.join(folder, "told")
+        self.library = os.path.join(folder, "refuser.so")
+        source = os.path.join(folder, "refuser.c")
+        self.put("refuser.c", REFUSER.encode())
+        subprocess.run(["cc", "-shared", "-fPIC", "-O1", "-o", self.library, source], check=True)
+
+    def put(self, name, data):
+        with open(os.path.join(self.folder, name), "wb") as it:
+            it.write(data)
+
+    def held(self):
+        with open(os.path.join(self.folder, "cert"), "rb") as it:
+            return it.read()
+
+    def run(self, line, cert, first, last):
+        """How a run ends whose calls from the first to the last get no memory: status, texts, certificate; and whether one was made."""
+        self.put("cert", cert)
+        if os.path.exists(self.told):
+            os.remove(self.told)
+        limits = {"GROWTH_FIRST": str(first), "GROWTH_LAST": str(last), "GROWTH_TOLD": self.told}
+        ended = subprocess.run([self.program] + line.split(), cwd=self.folder, env=dict(os.environ, LD_PRELOAD=self.library, **limits), stdin=subprocess.DEVNULL, stdout=subprocess.PIPE, stderr=subprocess.PIPE, timeout=300)
+        return (ended.returncode, ended.stdout, ended.stderr, self.held()), os.path.exists(self.told)
+
+    def walk(self, line, config, cert):
+        """Refuses each growth of a run in turn."""
+        self.put("config", config)
+        ample, _ = self.run(line, cert, ALL, 0)
+        counts = []
+        for last in (0, ALL):
+            number, wanting = 1, 0
+            while True:
+                found, refused = self.run(line, cert, number, last or number)
+                if not refused:
+                    break
+                wants = found == (8, b"", b"", cert)
+                wanting += wants
+                self.judge(line, number, wants or found == ample, found)
+                number += 1
+            self.judge(line, number, found == ample, found)
+            counts.append("%d of %d" % (wanting, number - 1))
+        print("%-52s status %d; 8 at %s growths, with all later ones refused too at %s" % (line, ample[0], *counts))
+        sys.stdout.flush()
+
+    def judge(self, line, number, right, found):
+        if right:
+            self.passed += 1
+        else:
+            self.failed += 1
+            print("fail_alloc: growth %d of %s: %r" % (number, line, found))
+
+
+def main(program=malicious.BUILT):
+    with tempfile.TemporaryDirectory() as folder:
+        trial = Trial(folder, program)
+        trial.put("orgs", ORGS)
+        for line, config, cert in RUNS:
+            trial.walk(line, config, cert)
+    print("fail_alloc: %d passed, %d failed" % (trial.passed, trial.failed))
+    return 1 if trial.failed else 0
+
+
+if __name__ == "__main__":
+    sys.exit(main(*sys.argv[1:2]))
