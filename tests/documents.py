@@ -94,6 +94,12 @@ class Trial:
             there = os.path.exists(os.path.join(TOP, target))
             self.judge(there and (not place or place in anchors(text_of(target))), "%s links to %s, which is not there" % (name, link))
 
+    def folders(self, crates):
+        """The map says which crates lack a folder."""
+        for folder, lacking in re.findall(r"^\| `(src|specs|proofs|must-fail)/` \|[^|]*\|([^|]*)\|", text_of("docs/MAP.md"), re.M):
+            without = {it for it in crates if not os.path.isdir(os.path.join(TOP, "crates", it, folder))}
+            self.judge(without == set(re.findall(r"`(\w+)`", lacking)), "docs/MAP.md names other crates without %s/ than %s" % (folder, " ".join(sorted(without))))
+
     def crates(self):
         """The picture is the one of crates.txt, and the map has each crate once, in the order of the layers."""
         drawn = subprocess.run([sys.executable, os.path.join(TOP, "tools", "crates-picture"), "--print"], stdout=subprocess.PIPE).stdout.decode()
@@ -112,6 +118,7 @@ class Trial:
                 needed.add(crate)
                 waiting += uses[crate]
         self.judge("the program, %d crates" % len(needed) in text_of("README.md"), "README.md says another number of crates than %d" % len(needed))
+        self.folders(listed)
         for at, crate in enumerate(listed):
             late = [other for other in uses.get(crate, []) if other in uses and other in listed[at:]]
             self.judge(not late, "docs/MAP.md has %s before %s, on which it stands" % (crate, " ".join(late)))
