@@ -1,6 +1,6 @@
--- The place of a name among strictly sorted names.
-use Rattle.std.proofs.Common.{◌≡◌, ℕ, ◌<◌, ◌≤◌, inl, inr, Bool, true, false, not, List, length, refl, ◌∙◌, ap, subst, arith, Some, None, slice_get, slice_index_or, Contains, ltb, Less, []}
-use Rattle.std.specs.List.{prefix_len}
+-- Strictly sorted names: the place of a name among them, and those at some of the places.
+use Rattle.std.proofs.Common.{◌≡◌, ℕ, ◌<◌, ◌≤◌, inl, inr, Bool, true, false, not, List, [], ◌∷◌, length, refl, ◌∙◌, ap, subst, arith, Some, None, slice_get, slice_index_or, Contains, ltb, Less}
+use Rattle.std.specs.List.{prefix_len, AllByRecursion}
 use Rattle.std.specs.List.Sorted.{IsStrictlySortedBy}
 use Rattle.std.specs.Str.{bytes_eq}
 use Rattle.std.proofs.lemmas.Bool.{cases_lt, lt-ltb, both_ways, false_from_ne_true, not-true, ltb-true}
@@ -10,7 +10,9 @@ use Rattle.std.proofs.lemmas.List.Sums.{prefix_len_passes, prefix_len_stops}
 use Rattle.std.proofs.lemmas.Map.Keys.{Less-from_sorted}
 use Rattle.std.proofs.lemmas.Slice.Eq.{bytes_eq-Decides}
 use Rattle.std.proofs.lemmas.Cmp.{tied_itself, nat_list_cmp_total}
+use Rattle.fbas_model.specs.Nodes.{Table}
 use Rattle.fbas_model.specs.Names.{Name, name_cmp, place_of}
+use Rattle.fbas_model.specs.Restriction.{kept}
 
 true_of_not : (b : Bool) → not b ≡ false → b ≡ true
 true_of_not true h = refl
@@ -67,3 +69,19 @@ place-only names name m k sorted at_m at_k =
         | inr h ↦ omega arith
       ]
     ]
+
+-- ---- the names at some of the places
+
+kept_above : (t : Table) (x : Name) (ys : List Name) → AllByRecursion (λ (y : Name). name_cmp x y ≡ Less) ys → AllByRecursion (λ (y : Name). name_cmp x y ≡ Less) (kept t ys)
+kept_above [] x ys h = tt
+kept_above (m ∷ ms) x [] h = tt
+kept_above (true ∷ ms) x (y ∷ ys) h = (h.0, kept_above ms x ys h.1)
+kept_above (false ∷ ms) x (y ∷ ys) h = kept_above ms x ys h.1
+
+-- they are sorted too
+pub kept_sorted : (t : Table) (names : List Name) → IsStrictlySortedBy name_cmp names → IsStrictlySortedBy name_cmp (kept t names)
+unfolding IsStrictlySortedBy
+kept_sorted [] names h = tt
+kept_sorted (m ∷ ms) [] h = tt
+kept_sorted (true ∷ ms) (x ∷ xs) h = (kept_above ms x xs h.0, kept_sorted ms xs h.1)
+kept_sorted (false ∷ ms) (x ∷ xs) h = kept_sorted ms xs h.1
