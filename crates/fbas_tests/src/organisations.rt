@@ -2,10 +2,10 @@
 
 ghost use Rattle.std.specs.Prelude.{◌≡◌, All, length};
 
-use crate::OrgFault::{BadOrg, DuplicateOrg, NotJson, NotOrgs, TooManyOrgs};
-use crate::{OrgFault, Orgs, read_config, read_ids, read_orgs};
 use fbas_core::System;
 use name_set::NameFault;
+use node_json::OrgFault::{BadOrg, DuplicateOrg, NotJson, NotOrgs, TooManyOrgs};
+use node_json::{OrgFault, Orgs, read_config, read_ids, read_orgs};
 use std::alloc::{AllocError, Global};
 use std::test::Fail;
 

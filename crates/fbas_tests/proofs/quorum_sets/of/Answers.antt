@@ -1,5 +1,5 @@
 use Rattle.fbas_model.proofs.Lists.{below_lists}
-use Rattle.quorum_set.proofs.tests.of.Goals as goal
+use Rattle.fbas_tests.proofs.quorum_sets.of.Goals as goal
 
 pub returns : goal.returns
 returns c =

@@ -1,6 +1,6 @@
 use Rattle.std.proofs.Common.{arith, length, ap}
 use Rattle.quorum_set.proofs.Entries.{entries-lists}
-use Rattle.quorum_set.proofs.findings.tests.of.Goals as goal
+use Rattle.fbas_tests.proofs.findings.of.Goals as goal
 
 pub returns : goal.returns
 returns c =

@@ -1,7 +1,7 @@
 //! What no clause says: that calls succeed where memory is ample, and what the machine's files do.
 ghost use Rattle.std.specs.Prelude.{◌<◌};
 
-use crate::{Call, Desk, MemDesk, ReadError, RealDesk, To, Which, put_all, read_all};
+use desk_io::{Call, Desk, MemDesk, ReadError, RealDesk, To, Which, put_all, read_all};
 use std::alloc::{AllocError, Global};
 use std::fs;
 use std::test::Fail;

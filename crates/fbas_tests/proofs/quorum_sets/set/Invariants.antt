@@ -1,5 +1,5 @@
 use Rattle.std.proofs.Common.{◌≡◌, length}
-use Rattle.name_set.proofs.tests.thirds.Given as goal
+use Rattle.fbas_tests.proofs.quorum_sets.set.Given as goal
 
 abbrev pub invariant-loop-v : goal.invariant-loop-v
-invariant-loop-v g l = length l.set ≡ l.n
+invariant-loop-v l = length l.set ≡ 4

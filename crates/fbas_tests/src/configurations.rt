@@ -1,12 +1,12 @@
 //! What no clause says: that calls succeed, and rows whose answers come from the rules by hand.
 
-use crate::ConfigFault::{
+use name_set::NodeSet;
+use node_json::ConfigFault::{
     BadKey, BadQuorumSet, Duplicate, NotJson, NotNode, NotNodes, TooDeep, TooManyEntries,
     TooManyNodes,
 };
-use crate::SetFault::{Inner, Shape, Threshold, Validators};
-use crate::{ConfigFault, read_config};
-use name_set::NodeSet;
+use node_json::SetFault::{Inner, Shape, Threshold, Validators};
+use node_json::{ConfigFault, read_config};
 use std::alloc::{AllocError, Global};
 use std::test::Fail;
 

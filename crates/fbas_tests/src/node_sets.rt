@@ -2,7 +2,7 @@
 
 ghost use Rattle.std.specs.Prelude.{◌≡◌, ◌*◌, ◌≤◌, length};
 
-use crate::*;
+use name_set::{MOST_WORDS, Names, NodeSet, NodeWords, cmp_sets};
 use std::process::Abort;
 use std::test::Fail;
 

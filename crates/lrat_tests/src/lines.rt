@@ -2,10 +2,8 @@
 ghost use Rattle.lrat_model.specs.Steps.{step_of};
 ghost use Rattle.lrat_text.specs.Texts.{HasNumbers};
 
-use crate::log::Log;
-use crate::reading::read_step;
-use crate::writing::write_step;
 use lrat_model::{Lit, Step};
+use lrat_text::{Log, read_step, write_step};
 use std::alloc::{AllocError, Global};
 use std::test::Fail;
 
