@@ -1,11 +1,9 @@
-use Rattle.std.proofs.Common.{◌≡◌, ◌≤◌, ◌<◌, ◌+◌, ◌*◌, [], ◌∙◌, true, List, refl, sym, ap, subst, arith, length, take}
-use Rattle.std.specs.Prelude.{All}
-use Rattle.std.proofs.lemmas.List.{length-take}
+use Rattle.std.proofs.Common.{◌≡◌, ◌≤◌, ◌+◌, [], ◌∙◌, true, List, refl, sym, ap, subst, arith, length, take}
 use Rattle.lrat_model.specs.Literal.{Literal, Plus, has, variable_of}
 use Rattle.lrat_model.specs.Clauses.{Held, with_clause}
 use Rattle.cdcl_core.specs.declared.watches.Pair.{Pair}
 use Rattle.cdcl_core.specs.Search.{IsState}
-use Rattle.cdcl_core.specs.Watches.{IsQueued, IsWatched, id_at, index_of, lits_at}
+use Rattle.cdcl_core.specs.Watches.{IsQueued, IsWatched, id_at, lits_at}
 use Rattle.cdcl_core.proofs.FreePairs.{free_queued, free_state}
 use Rattle.cdcl_core.proofs.Fronts.{take_next}
 use Rattle.cdcl_core.proofs.Runs.{each_id}
