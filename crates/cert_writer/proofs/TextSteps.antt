@@ -36,7 +36,7 @@ names_more set names v low = elim (cases_Bool (members set v)) [
   | inr not_in ↦ rw (not_in, kept_more_no set names v not_in) (append-nil (spaced (kept (take v set) names)))
 ]
 
-pub header_text : (names : List Name) (digest : List ℕ) (h : Header) → (((((codes "fbas-cert 1\nconfig" ++ 32 ∷ encode_lower digest) ++ codes "\nfrom") ++ spaced (name_if_any names h.from)) ++ codes "\nfaulty") ++ spaced (kept h.faulty names)) ++ codes "\n" ≡ joined (header_lines names digest h)
+pub header_text : (names : List Name) (digest : List ℕ) (h : Header) → (((((codes "fbas-cert 2\nconfig" ++ 32 ∷ encode_lower digest) ++ codes "\nfrom") ++ spaced (name_if_any names h.from)) ++ codes "\nfaulty") ++ spaced (kept h.faulty names)) ++ codes "\n" ≡ joined (header_lines names digest h)
 header_text names digest h = simp (append_assoc, append-nil)
 
 pub pair_text : (names : List Name) (p : Pair) → (((codes "kind pair\nfirst" ++ spaced (kept p.first names)) ++ codes "\nsecond") ++ spaced (kept p.second names)) ++ codes "\n" ≡ joined (pair_front names p)
