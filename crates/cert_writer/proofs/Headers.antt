@@ -23,7 +23,7 @@ use Rattle.cert_writer.specs.Texts.{Text, worded, listed, name_if_any, header_li
 use Rattle.cert_writer.specs.Promises.{IsHeader, subject}
 use Rattle.cert_writer.proofs.Joined.{Takes, IsLine, AreLines}
 use Rattle.cert_writer.proofs.Words.{IsWordByte, IsWord, is_word, is_plain, same_text, words_of-worded, names_after-worded, plain-worded, length-spaced_keys}
-use Rattle.cert_writer.proofs.Places.{place-found}
+use Rattle.fbas_model.proofs.SortedNames.{place-found}
 use Rattle.cert_writer.proofs.Names.{AreNames, named-listed, keys-kept, words-keys, short-keys, key}
 
 -- ---- the digest
