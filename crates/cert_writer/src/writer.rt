@@ -163,7 +163,7 @@ impl CertWriter {
         requires faulty { length header.now.faulty ≡ length names.now }
         ensures { Writes D.tells (joined (header_lines names.now digest.now header.now)) self.old (D.state desk.old) (D.faults desk.old) self.new (D.state desk.new) (D.faults desk.new) }
     {
-        self.text(desk, b"fbas-cert 1\nconfig");
+        self.text(desk, b"fbas-cert 2\nconfig");
         self.word(desk, &digits(digest));
         self.text(desk, b"\nfrom");
         self.from(desk, names, header.from);
