@@ -125,7 +125,7 @@ pub fn encode(
         return Err(EncodeError::TooLarge(vars));
     }
     let store = encode_within(alloc, version, greatest, n, vars as u32, &nodes, &circuits)?;
-    let map = VarMap::of(greatest, n, vars);
+    let map = VarMap::of(greatest, vars);
     Ok((store, map))
 }
 
