@@ -28,6 +28,7 @@ splits CONFIG CERT --set NAMES [COMMON] [--budget UNITS]
 blocking CONFIG CERT [COMMON] [--budget UNITS]
 check CONFIG CERT
 export CONFIG [COMMON]
+trial N CERT [--budget UNITS]
 COMMON: --from NAME --faulty NAMES --orgs ORGS --faulty-orgs IDS
 """
 
@@ -38,6 +39,16 @@ def system(nodes, threshold):
     sets = ['{"publicKey":"%s","quorumSet":{"threshold":%d,"validators":[%s]}}' % (node, threshold, names) for node in nodes]
     return "[" + ",".join(sets) + "]"
 
+
+# The configuration of a trial of one organisation, as it is written.
+ORGANISATION = '{"innerQuorumSets":[],"threshold":2,"validators":["t000","t001","t002"]}'
+ONE = "[" + ",".join('{"publicKey":"t00%d","quorumSet":{"innerQuorumSets":[%s],"threshold":1,"validators":[]}}' % (node, ORGANISATION) for node in range(3)) + "]"
+
+# How large trials are, by the number of their organisations.
+TRIALS = {
+    1: "trial 1\nnodes 3\nvariables 42\nclauses 59\n",
+    4: "trial 4\nnodes 12\nvariables 720\nclauses 1046\n",
+}
 
 # Each needs two of the three; the digest is that of sha256sum.
 THREE = system("abc", 2)
@@ -53,6 +64,7 @@ FILES = {
     "three": THREE,
     "pair": PAIR,
     "wide": WIDE,
+    "one": ONE,
     "none": "[]",
     "bad": "{",
     "listed": LISTED,
@@ -92,6 +104,14 @@ ROWS = [
     ("blocking three unlisted --budget 0", 2, "blocking unknown 0\n", {"unlisted": UNLISTED}),
     ("check three unlisted", 2, "accepted partial-blocking 0\nfrom\nfaulty\n", {}),
     ("blocking three three", 3, "usage same-path\n", {"three": THREE}),
+    ("trial 1 tried", 0, TRIALS[1] + "intersects yes\n", {}),
+    ("check one tried", 0, "accepted refutation\nfrom\nfaulty\n", {}),
+    ("trial 4 tried --budget 10000", 0, TRIALS[4] + "intersects yes\n", {}),
+    ("trial 1 untried --budget 0", 2, TRIALS[1] + "intersects unknown 0\n", {}),
+    ("check one untried", 2, "accepted partial 0\nfrom\nfaulty\n", {}),
+    ("trial 0 kept", 3, USAGE, {"kept": None}),
+    ("trial 101 kept", 3, USAGE, {"kept": None}),
+    ("trial 1 nowhere/made", 7, "", {}),
     ("intersect three longer --faulty a", 1, "intersects no\nfirst b\nsecond c\n", {"longer": PAIR}),
     ("intersect three three", 3, "usage same-path\n", {"three": THREE}),
     ("intersect three kept --faulty z", 3, "usage unknown-name --faulty 1\n", {"kept": None}),
