@@ -1,5 +1,5 @@
 #!/usr/bin/env python3
-"""Runs the built program as a process: every status that it can end with, its exact output, and nothing on standard error.
+"""Runs the built program, or the one that is handed in, as a process: every status that it can end with, its exact output, and nothing on standard error.
 
 What no contract can say is shown here: that the machine's files are opened, read, emptied and written, and that a failing
 device, a closed output or a file that may not be read ends as it should. Its last line is 'process: N passed, M failed'.
@@ -128,9 +128,9 @@ ROWS = [
 class Trial:
     """A folder with the files, in which the program runs. Root gives up its rights, since it may read and write every file."""
 
-    def __init__(self, folder):
+    def __init__(self, folder, built):
         self.folder = folder
-        self.program = shutil.copy(BUILT, os.path.join(folder, "program"))
+        self.program = shutil.copy(built, os.path.join(folder, "program"))
         self.passed = 0
         self.failed = 0
         os.chmod(folder, 0o777)
@@ -216,10 +216,11 @@ class Trial:
 
 
 def main():
-    if not os.path.exists(BUILT):
+    built = os.path.abspath(sys.argv[1]) if len(sys.argv) > 1 else BUILT
+    if not os.path.exists(built):
         subprocess.run([os.path.join(TOP, "quorum_cli")], stdout=subprocess.DEVNULL)
     with tempfile.TemporaryDirectory() as folder:
-        trial = Trial(folder)
+        trial = Trial(folder, built)
         for row in ROWS:
             trial.row(*row)
         trial.from_a_pipe()

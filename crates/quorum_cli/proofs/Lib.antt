@@ -6,3 +6,4 @@ pub mod Headlines
 pub mod Cuts
 pub mod After
 pub mod Told
+pub mod Trials

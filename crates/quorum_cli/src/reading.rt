@@ -289,8 +289,7 @@ fn carry_out<D: Desk>(alloc: Global, order: &Order, desk: &mut D) -> Result<Aske
     if order.command.has_configuration() {
         return over_file(alloc, order, desk);
     }
-    let asked = over_trial(alloc, order)?;
-    Ok(asked)
+    Ok(over_trial(alloc, order)?)
 }
 
 /// What the words ask, which begin with the program's name, or the early answer.

@@ -16,9 +16,7 @@ ghost use Rattle.quorum_cli.specs.Status.{is_answer};
 
 use crate::found::{Found, what_is_shown_is_accepted, write_certificate};
 use crate::printing::print;
-use crate::replies::{
-    blocking_answer, dset_answer, intersect_answer, splits_answer, trial_answer,
-};
+use crate::replies::{blocking_answer, dset_answer, intersect_answer, splits_answer, trial_answer};
 use crate::reply::Reply;
 use crate::searches::Search;
 use crate::status::Status;
