@@ -13,3 +13,4 @@ pub mod RestrictionLaw
 pub mod Closure
 pub mod Listed
 pub mod WholeLaw
+pub mod SortedNames
