@@ -14,3 +14,4 @@ pub mod Closure
 pub mod Listed
 pub mod WholeLaw
 pub mod SortedNames
+pub mod Chosen

@@ -3,7 +3,7 @@ use Rattle.lrat_model.specs.Clauses.{Held}
 use Rattle.cdcl_core.specs.declared.watches.Pair.{Pair}
 use Rattle.cdcl_core.specs.Searching.{IsSearching}
 use Rattle.std.specs.Global.{Vec}
-use Rattle.cdcl_core.proofs.search.Search.catch_up.Goals as goal
+use Rattle.cdcl_core.proofs.search.Search.watch_left.Goals as goal
 
 pub watch_rest-requires-clause-searching : goal.watch_rest-requires-clause-searching
 watch_rest-requires-clause-searching c =
