@@ -1,4 +1,6 @@
 //! What `check` says of certificates, and of configurations.
+ghost use Rattle.std.specs.Prelude.{◌<◌};
+
 use crate::status::Status;
 use crate::tests::certificates::{
     DIGEST_OF_HALF, DIGEST_OF_NONE, DIGEST_OF_THREE, DIGEST_OF_TWO, PAIR, certificate, of_kind,
@@ -6,6 +8,8 @@ use crate::tests::certificates::{
 };
 use crate::tests::desks::{Files, run_over, wants_checked};
 use crate::tests::systems::{TWO_OF_THREE, TWO_OF_TWO, half_of_two_hundred};
+use std::alloc::Global;
+use std::process::Abort;
 use std::test::Fail;
 
 // The lines of a certificate for two of three behind the digest, and what is said of it.
@@ -184,31 +188,55 @@ const UNSHARED: &str = "formula 8 16\n17 -1 0 7 6 3 4 2 0\n18 0 17 1 10 8 0\nend
 
 #[test]
 fn check_uses_the_formula_of_the_certificates_version(rt: HostRuntime) -> Result<(), Fail> {
-    let alloc = rt.alloc();
-    let kind = "refutation";
+    let config = TWO_OF_TWO.as_bytes();
     let refused = "refused formula 6\n";
-    let rows = [
-        (
-            shared_of_kind(alloc, DIGEST_OF_TWO, kind, SHARED)?,
-            Status::Yes,
-            "accepted refutation\nfrom\nfaulty\n",
-        ),
-        (
-            of_kind(alloc, DIGEST_OF_TWO, kind, SHARED)?,
-            Status::CertRefused,
-            refused,
-        ),
-        (
-            shared_of_kind(alloc, DIGEST_OF_TWO, kind, UNSHARED)?,
-            Status::CertRefused,
-            refused,
-        ),
-    ];
-    for (cert, status, text) in &rows {
-        let cert = cert.as_bytes();
-        wants_checked(&rt, rt.alloc(), TWO_OF_TWO.as_bytes(), cert, *status, text)?;
+    let cert = shared_of_kind(rt.alloc(), DIGEST_OF_TWO, "refutation", SHARED)?;
+    let text = "accepted refutation\nfrom\nfaulty\n";
+    wants_checked(&rt, rt.alloc(), config, cert.as_bytes(), Status::Yes, text)?;
+    let cert = of_kind(rt.alloc(), DIGEST_OF_TWO, "refutation", SHARED)?;
+    wants_checked(
+        &rt,
+        rt.alloc(),
+        config,
+        cert.as_bytes(),
+        Status::CertRefused,
+        refused,
+    )?;
+    let cert = shared_of_kind(rt.alloc(), DIGEST_OF_TWO, "refutation", UNSHARED)?;
+    wants_checked(
+        &rt,
+        rt.alloc(),
+        config,
+        cert.as_bytes(),
+        Status::CertRefused,
+        refused,
+    )
+}
+
+// Fails unless the worked refutation is accepted in such pieces, and a bad last word is named behind the fault of a hint.
+fn wants_in_pieces(rt: &impl Abort, alloc: Global, piece: usize) -> Result<(), Fail>
+    requires { 0 < piece }
+{
+    let bad = "formula 8 16\n17 -1 0 6 7 3 4 2 x\n18 0 17 1 10 8 0\nend\n";
+    for (body, status, text) in [
+        REFUTATIONS_OF_TWO[0],
+        (bad, Status::CertRefused, "refused bad-line 7\n"),
+    ] {
+        let cert = of_kind(alloc, DIGEST_OF_TWO, "refutation", body)?;
+        let held = Files::with_cert(TWO_OF_TWO.as_bytes(), cert.as_bytes());
+        let left = run_over(alloc, "check config cert", &held, piece, Vec::new(alloc))?;
+        assert_eq!(rt; left.status, status, "{piece}");
+        assert_eq!(rt; left.out.as_slice(), text.as_bytes(), "{piece}");
     }
     Ok(())
+}
+
+#[test]
+fn check_reads_a_refutation_in_pieces_of_any_size(rt: HostRuntime) -> Result<(), Fail> {
+    let alloc = rt.alloc();
+    wants_in_pieces(&rt, alloc, 1)?;
+    wants_in_pieces(&rt, alloc, 7)?;
+    wants_in_pieces(&rt, alloc, 65_536)
 }
 
 #[test]
