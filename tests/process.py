@@ -32,22 +32,26 @@ COMMON: --from NAME --faulty NAMES --orgs ORGS --faulty-orgs IDS
 """
 
 
-def system(nodes, threshold):
-    """A configuration in which each node needs so many of all of them."""
-    names = ",".join('"%s"' % node for node in nodes)
-    sets = ['{"publicKey":"%s","quorumSet":{"threshold":%d,"validators":[%s]}}' % (node, threshold, names) for node in nodes]
+def system(nodes, threshold, is_rotated=False):
+    """A configuration in which each node needs so many of all of them, which it names in order, or from itself on."""
+    sets = []
+    for place, node in enumerate(nodes):
+        start = place if is_rotated else 0
+        names = ",".join('"%s"' % name for name in [*nodes[start:], *nodes[:start]])
+        sets.append('{"publicKey":"%s","quorumSet":{"threshold":%d,"validators":[%s]}}' % (node, threshold, names))
     return "[" + ",".join(sets) + "]"
 
 
 # Each needs two of the three; the digest is that of sha256sum.
 THREE = system("abc", 2)
-HEAD = "fbas-cert 1\nconfig f823e204944abcff32c8dadffba2a0178a590a613358f9a6f271b651cd4e6fbb\nfrom\n"
+HEAD = "fbas-cert 2\nconfig f823e204944abcff32c8dadffba2a0178a590a613358f9a6f271b651cd4e6fbb\nfrom\n"
 PAIR = HEAD + "faulty a\nkind pair\nfirst b\nsecond c\nend\n"
-SPENT = HEAD + "faulty\nkind partial\nformula 36 53\nend\n"
+SPENT = HEAD + "faulty\nkind partial\nformula 16 25\nend\n"
 LISTED = HEAD + "faulty\nkind blocking\nq 1 a b\nq 2 a c\nq 3 b c\nb 4 a b\nb 5 a c\nb 6 b c\n7 -1 0 4 5 3 0\n8 0 7 1 2 6 0\nend\n"
 UNLISTED = HEAD + "faulty\nkind partial-blocking\nend\n"
 SETS = "set a b\nset a c\nset b c\n"
-WIDE = system(["w%03d" % i for i in range(200)], 100)
+# No two of its quorum sets are equal.
+WIDE = system(["w%03d" % i for i in range(200)], 100, is_rotated=True)
 
 FILES = {
     "three": THREE,

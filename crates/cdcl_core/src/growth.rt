@@ -154,7 +154,7 @@ pub enum Free {
 }
 
 /// The first two different literals of a clause that are not false.
-fn two_free(assignment: &Assignment, clause: &[Lit]) -> Free
+pub fn two_free(assignment: &Assignment, clause: &[Lit]) -> Free
     requires { (l : Literal) → has clause.now l ≡ true → variable_of l ≤ assignment.now.vars }
     ensures two { (a b : Literal) → result ≡ Free.Two a b → (has clause.now a ≡ true) × (has clause.now b ≡ true) × (same a b ≡ false) × (has assignment.now.trues (negated a) ≡ false) × (has assignment.now.trues (negated b) ≡ false) }
     ensures one { (a : Literal) → result ≡ Free.One a → (has clause.now a ≡ true) × (has assignment.now.trues (negated a) ≡ false) × ((m : Literal) → has clause.now m ≡ true → (m ≡ a) ⊎ (has assignment.now.trues (negated m) ≡ true)) }

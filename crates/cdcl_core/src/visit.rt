@@ -12,6 +12,7 @@ ghost use Rattle.cdcl_core.specs.Sights.{IsSeen};
 
 use crate::clauses::Clauses;
 use crate::watches::{Pair, Watch, WatchLists};
+use clause_store::{ClauseView, LongRef};
 use lrat_model::Lit;
 use partial_assignment::Assignment;
 use std::alloc::AllocError;
@@ -33,14 +34,15 @@ fn other_of(pair: Pair, l: Lit) -> Option<Lit>
 }
 
 /// The first literal that is not false, and is another one. O(literals).
-fn find_free(assignment: &Assignment, clause: &[Lit], other: Lit) -> Option<Lit>
-    requires { (l : Literal) → has clause.now l ≡ true → variable_of l ≤ assignment.now.vars }
-    ensures some { IfSome result (λ m. (has clause.now m ≡ true) × (same m other ≡ false) × (has assignment.now.trues (negated m) ≡ false)) }
-    ensures none { result ≡ None → (m : Literal) → has clause.now m ≡ true → (m ≡ other) ⊎ (has assignment.now.trues (negated m) ≡ true) }
+fn find_free<V: ClauseView>(assignment: &Assignment, clause: &V, other: Lit) -> Option<Lit>
+    requires { (l : Literal) → has (V.literals clause.now) l ≡ true → variable_of l ≤ assignment.now.vars }
+    ensures some { IfSome result (λ m. (has (V.literals clause.now) m ≡ true) × (same m other ≡ false) × (has assignment.now.trues (negated m) ≡ false)) }
+    ensures none { result ≡ None → (m : Literal) → has (V.literals clause.now) m ≡ true → (m ≡ other) ⊎ (has assignment.now.trues (negated m) ≡ true) }
 {
-    for m in clause {
+    for i in 0..clause.len() {
+        let m = clause.at(i);
         if !m.same(other) && !assignment.is_true(m.negated()) {
-            return Some(*m);
+            return Some(m);
         }
     }
     None
@@ -73,17 +75,18 @@ fn look(clauses: &Clauses, pairs: &[Pair], assignment: &Assignment, l: Lit, watc
     }
     let place = watch.place as usize;
     if watch.third.same(l) {
-        look_long(clauses.lits(place), pairs[place], assignment, l)
+        let clause = LongRef::of(clauses.lits(place));
+        look_long(&clause, pairs[place], assignment, l)
     } else {
         look_short(pairs, place, assignment, l, watch.blocker, watch.third)
     }
 }
 
-/// The same of a clause of which the watch has not all literals. O(its literals).
-fn look_long(clause: &[Lit], pair: Pair, assignment: &Assignment, l: Lit) -> Sight
-    requires range { (m : Literal) → has clause.now m ≡ true → variable_of m ≤ assignment.now.vars }
-    requires inside { (has clause.now pair.first ≡ true) × (has clause.now pair.second ≡ true) }
-    ensures { IsSeen assignment.now.trues clause.now pair l result }
+/// The same of a clause of which the watch has not all literals, whatever view lends it. O(its literals).
+fn look_long<V: ClauseView>(clause: &V, pair: Pair, assignment: &Assignment, l: Lit) -> Sight
+    requires range { (m : Literal) → has (V.literals clause.now) m ≡ true → variable_of m ≤ assignment.now.vars }
+    requires inside { (has (V.literals clause.now) pair.first ≡ true) × (has (V.literals clause.now) pair.second ≡ true) }
+    ensures { IsSeen assignment.now.trues (V.literals clause.now) pair l result }
 {
     let Some(other) = other_of(pair, l) else {
         return Sight::Stale;

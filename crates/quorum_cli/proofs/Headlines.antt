@@ -31,6 +31,7 @@ use Rattle.quorum_cli.specs.Finding.{FindsFound, accepted_as}
 use Rattle.quorum_cli.specs.Putting.{PutsBoth}
 use Rattle.quorum_cli.specs.Replies.{intersect_answer, splits_answer, available_lines, dset_answer, Replies}
 use Rattle.quorum_cli.specs.Printing.{part, deleted, request, PrintsFound, PrintsTooLarge, PrintsSearch, Prints}
+use Rattle.quorum_cli.proofs.Titles.{title_there}
 use Rattle.quorum_cli.specs.Showing.{IsAccepted, WritesAccepted, ShowsPair, PrintsPair, ShowsNone, ShowsUnknown, PrintsUnknown, IsAvailable, IsNoDset, PrintsList, PrintsPartOfList}
 use Rattle.quorum_cli.specs.Answers.{asked_of}
 use Rattle.quorum_cli.specs.Meaning.{IsCheck, NamesAccepted}
@@ -253,6 +254,7 @@ found_means s old new status p =
       finished = λ at. record {
         cert = r.cert;
         held = held_there s.path r.cert old.files new.files p.put.files;
+        title = title_there s r.found r.cert r.finds;
         answer = accepted_as (request s) r.found;
         accepted = accepted_there s r.found r.cert r.finds;
       };

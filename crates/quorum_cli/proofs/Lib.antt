@@ -2,6 +2,7 @@ pub mod Unions
 pub mod Puts
 pub mod Replied
 pub mod Shown
+pub mod Titles
 pub mod Headlines
 pub mod Cuts
 pub mod After

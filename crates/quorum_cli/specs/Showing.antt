@@ -28,10 +28,15 @@ use Rattle.quorum_cli.specs.Printing.{part, deleted, request}
 abbrev pub IsAccepted : Search → Text → Shown → Type 0
 IsAccepted s cert answer = checked s.whole s.digest cert ≡ Ok (record { header = s.header; answer = answer })
 
+-- the first line is the title of version 2
+abbrev pub IsOfVersionTwo : Text → Type 0
+IsOfVersionTwo cert = (rest : Text) × (cert ≡ codes "fbas-cert 2\n" ++ rest)
+
 -- the certificate is accepted, for the asked node and the deleted nodes
 pub record WritesAccepted (s : Search) (new : DeskState) : Type 0 where
   pub cert : Text
   pub held : new.files s.path ≡ Some cert
+  pub title : IsOfVersionTwo cert
   pub answer : Shown
   pub accepted : IsAccepted s cert answer
 

@@ -16,7 +16,7 @@ use Rattle.node_json.specs.declared.faults.OrgFault.{OrgFault}
 use Rattle.node_json.specs.declared.faults.OrgFault.TheVariants.{NotJson as NoTree, NotOrgs, BadOrg, DuplicateOrg, TooManyOrgs, Memory as NoOrgs}
 use Rattle.lrat_model.specs.Literal.{Literal, Plus, Minus}
 use Rattle.lrat_model.specs.declared.step.StepFault.{StepFault}
-use Rattle.lrat_model.specs.declared.step.StepFault.TheVariants.{IdOrder, BadLiteral, Tautology, NoSuchClause, NotUnit, NoConflict, RatStep, Memory as NoStep}
+use Rattle.lrat_model.specs.declared.step.StepFault.TheVariants.{IdOrder, BadLiteral, Tautology, NoSuchClause, NotUnit, NoConflict, RatStep, RatMissing, Memory as NoStep}
 use Rattle.cert_lines.specs.declared.faults.CertError.{CertError}
 use Rattle.cert_lines.specs.declared.faults.CertError.TheVariants.{BadLine, LineTooLong, TooManyLines, Digest, UnknownNode, NotQuorum, NotBlocking, NotMinimal, Overlap, Formula, Step, NotNew, NotRefuted, TooLarge, Truncated, Trailing, Read, Memory as NoMemory}
 use Rattle.certificate_file.specs.declared.places.Accepted.{Accepted}
@@ -129,6 +129,7 @@ step_fault (NoSuchClause id) = numbered (codes "no-such-clause") id
 step_fault (NotUnit place) = numbered (codes "not-unit") place
 step_fault NoConflict = codes "no-conflict"
 step_fault (RatStep place) = numbered (codes "rat-step") place
+step_fault (RatMissing id) = numbered (codes "rat-missing") id
 step_fault NoStep = []
 
 -- a failed read and a want of memory are no refusals of the bytes, and are not printed

@@ -56,10 +56,9 @@ pub fn push_names(text: &mut Vec<u8>, system: &System, set: &NodeSet) -> Result<
     requires { length set.now ≡ length system.now.sets }
     ensures { OnOk result (text.new.items ≡ text.old.items ++ listed system.now.names set.now) }
 {
-    for v in 0..system.len() {
-        if set.has(v) {
-            push_behind(text, system.names().name(v))?;
-        }
+    let names = system.names();
+    for v in set.iter() {
+        push_behind(text, names.name(v))?;
     }
     Ok(())
 }

@@ -4,6 +4,7 @@ ghost use Rattle.std.specs.Prelude.{◌<◌};
 use crate::status::Status;
 use crate::tests::certificates::{
     DIGEST_OF_HALF, DIGEST_OF_NONE, DIGEST_OF_THREE, DIGEST_OF_TWO, PAIR, certificate, of_kind,
+    shared_of_kind,
 };
 use crate::tests::desks::{Files, run_over, wants_checked};
 use crate::tests::systems::{TWO_OF_THREE, TWO_OF_TWO, half_of_two_hundred};
@@ -175,6 +176,41 @@ fn check_accepts_a_refutation_and_names_the_first_fault(rt: HostRuntime) -> Resu
     for (body, status, text) in REFUTATIONS_OF_TWO {
         let cert = of_kind(rt.alloc(), DIGEST_OF_TWO, "refutation", body)?;
         wants_checked(&rt, rt.alloc(), config, cert.as_bytes(), status, text)?;
+    }
+    Ok(())
+}
+
+// The steps of a refutation of two of two over the formula of version 2.
+const SHARED: &str = "formula 6 12\n13 -1 0 7 6 3 4 2 0\n14 0 13 1 8 5 0\nend\n";
+
+// Those over that of version 1.
+const UNSHARED: &str = "formula 8 16\n17 -1 0 7 6 3 4 2 0\n18 0 17 1 10 8 0\nend\n";
+
+#[test]
+fn check_uses_the_formula_of_the_certificates_version(rt: HostRuntime) -> Result<(), Fail> {
+    let alloc = rt.alloc();
+    let kind = "refutation";
+    let refused = "refused formula 6\n";
+    let rows = [
+        (
+            shared_of_kind(alloc, DIGEST_OF_TWO, kind, SHARED)?,
+            Status::Yes,
+            "accepted refutation\nfrom\nfaulty\n",
+        ),
+        (
+            of_kind(alloc, DIGEST_OF_TWO, kind, SHARED)?,
+            Status::CertRefused,
+            refused,
+        ),
+        (
+            shared_of_kind(alloc, DIGEST_OF_TWO, kind, UNSHARED)?,
+            Status::CertRefused,
+            refused,
+        ),
+    ];
+    for (cert, status, text) in &rows {
+        let cert = cert.as_bytes();
+        wants_checked(&rt, rt.alloc(), TWO_OF_TWO.as_bytes(), cert, *status, text)?;
     }
     Ok(())
 }

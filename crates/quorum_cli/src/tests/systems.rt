@@ -72,15 +72,28 @@ fn push_name(text: &mut Vec<u8>, number: u8) -> Result<(), AllocError> {
     Ok(())
 }
 
+// The names of all 200 nodes, from this number on and round again.
+fn push_names(text: &mut Vec<u8>, first: u8) -> Result<(), AllocError> {
+    for place in 0..200 {
+        if place != 0 {
+            text.push(b',')?;
+        }
+        push_name(text, ((u32::from(first) + place) % 200) as u8)?;
+    }
+    Ok(())
+}
+
 /// A configuration of 200 nodes, of which each needs 100 of all.
 pub fn half_of_two_hundred(alloc: Global) -> Result<Vec<u8>, AllocError> {
-    let mut all = Vec::new(alloc);
-    for number in 0..200 {
-        if number != 0 {
-            all.push(b',')?;
-        }
-        push_name(&mut all, number)?;
-    }
+    half(alloc, false)
+}
+
+/// The same, where each node names all from itself on: no two quorum sets have their entries in the same order.
+pub fn rotated_half_of_two_hundred(alloc: Global) -> Result<Vec<u8>, AllocError> {
+    half(alloc, true)
+}
+
+fn half(alloc: Global, is_rotated: bool) -> Result<Vec<u8>, AllocError> {
     let mut config = Vec::from_slice(alloc, b"[")?;
     for number in 0..200 {
         if number != 0 {
@@ -89,7 +102,7 @@ pub fn half_of_two_hundred(alloc: Global) -> Result<Vec<u8>, AllocError> {
         config.extend_from_slice(br#"{"publicKey":"#)?;
         push_name(&mut config, number)?;
         config.extend_from_slice(br#","quorumSet":{"threshold":100,"validators":["#)?;
-        config.extend_from_slice(&all)?;
+        push_names(&mut config, if is_rotated { number } else { 0 })?;
         config.extend_from_slice(b"]}}")?;
     }
     config.push(b']')?;
