@@ -7,3 +7,4 @@ pub mod Headlines
 pub mod Cuts
 pub mod After
 pub mod Told
+pub mod Trials

@@ -23,6 +23,7 @@ use Rattle.quorum_questions.specs.declared.answers.Answer.TheVariants.{Yes as to
 use Rattle.report.specs.Lines.{Text, with_pair, with_sets, counted}
 use Rattle.quorum_cli.specs.declared.searches.Search.{Search}
 use Rattle.quorum_cli.specs.Printing.{part, deleted, request}
+use Rattle.quorum_cli.specs.Replies.{size_lines}
 
 -- the certificate says this, for the asked node and the deleted nodes, and is accepted
 abbrev pub IsAccepted : Search → Text → Shown → Type 0
@@ -77,6 +78,11 @@ pub record ShowsUnknown (s : Search) (new : DeskState) : Type 0 where
 pub record PrintsUnknown (s : Search) (text : Text) (old new : DeskState) : Type 0 where
   pub shows : ShowsUnknown s new
   pub out : new.out ≡ old.out ++ text
+
+-- and so is how large the trial is, and a text behind it
+pub record PrintsUnknownTrial (s : Search) (text : Text) (old new : DeskState) : Type 0 where
+  pub shows : ShowsUnknown s new
+  pub out : new.out ≡ old.out ++ (size_lines (part s) shows.size ++ text)
 
 -- whether the others are available despite the deleted nodes
 abbrev pub IsAvailable : Search → Type 0

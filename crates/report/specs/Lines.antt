@@ -61,7 +61,7 @@ name_at names v = unwrap_or (slice_get names v) []
 -- ---- refusals
 
 abbrev pub usage : Text
-usage = codes "usage: quorum_cli COMMAND\nshow CONFIG\nclosure CONFIG --node NAME\ngreatest CONFIG [COMMON]\nintersect CONFIG CERT [COMMON] [--budget UNITS]\navailable CONFIG --set NAMES [--from NAME]\ndset CONFIG CERT --set NAMES [--from NAME] [--budget UNITS]\nblocks CONFIG --set NAMES [COMMON]\nvblocks CONFIG --node NAME --set NAMES\nsplits CONFIG CERT --set NAMES [COMMON] [--budget UNITS]\nblocking CONFIG CERT [COMMON] [--budget UNITS]\ncheck CONFIG CERT\nexport CONFIG [COMMON]\nCOMMON: --from NAME --faulty NAMES --orgs ORGS --faulty-orgs IDS\n"
+usage = codes "usage: quorum_cli COMMAND\nshow CONFIG\nclosure CONFIG --node NAME\ngreatest CONFIG [COMMON]\nintersect CONFIG CERT [COMMON] [--budget UNITS]\navailable CONFIG --set NAMES [--from NAME]\ndset CONFIG CERT --set NAMES [--from NAME] [--budget UNITS]\nblocks CONFIG --set NAMES [COMMON]\nvblocks CONFIG --node NAME --set NAMES\nsplits CONFIG CERT --set NAMES [COMMON] [--budget UNITS]\nblocking CONFIG CERT [COMMON] [--budget UNITS]\ncheck CONFIG CERT\nexport CONFIG [COMMON]\ntrial N CERT [--budget UNITS]\nCOMMON: --from NAME --faulty NAMES --orgs ORGS --faulty-orgs IDS\n"
 
 abbrev pub same_path : Text
 same_path = codes "usage same-path\n"
@@ -216,6 +216,10 @@ export_comments digest from names faulty = with_list (export_head digest from) (
 -- an exported formula: its comment lines, and its DIMACS text
 abbrev pub exported : List ℕ → Option Name → List Name → Table → Text → Text
 exported digest from names faulty dimacs = export_comments digest from names faulty ++ dimacs
+
+-- how large a trial is: its organisations and their nodes, and the variables and clauses of its intersection formula
+abbrev pub trial_size : ℕ → ℕ → ℕ → ℕ → Text
+trial_size organisations nodes vars clauses = counted (codes "trial") organisations ++ (counted (codes "nodes") nodes ++ (counted (codes "variables") vars ++ counted (codes "clauses") clauses))
 
 -- a formula with this many variables is not written
 abbrev pub too_large : ℕ → Text
