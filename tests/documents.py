@@ -1,8 +1,9 @@
 #!/usr/bin/env python3
 """Checks what the documents name: files and words of the sources, links, the crates and their picture.
 
-A definition is named as `crate/specs/File.antt`: `word`, `word`; the file lies in crates/, and each word stands in it. The last
-line is 'documents: N passed, M failed'.
+A definition is named as `crate/specs/File.antt`: `word`, `word`; the file lies in crates/, and each word stands in it. Any other
+name in backquotes that is written as names of the code are (`is_rising`, `TheConstants`, `File.antt`) stands somewhere in the repository.
+The last line is 'documents: N passed, M failed'.
 """
 
 import os
@@ -13,6 +14,10 @@ import sys
 TOP = os.path.dirname(os.path.dirname(os.path.abspath(__file__)))
 DOCUMENTS = ["README.md", "CONTRIBUTING.md", *("docs/" + name for name in sorted(os.listdir(os.path.join(TOP, "docs"))) if name.endswith(".md"))]
 NAMED = re.compile(r"`([a-z_0-9]+/(?:src|specs|proofs|must-fail)/[\w./]+)`((?:: `[^`]+`(?:(?:,| and) `[^`]+`)*)?)")
+# Names as the code has them: words joined by `_` or `::`, or with a capital inside, or a file's name.
+CODED = re.compile(r"`((?:[A-Za-z]\w*::)*[A-Za-z]\w*(?:\.antt|\.rt|\.py|\.edit)?)`")
+# Names of the toolchain that the documents cite.
+FOREIGN = {"TheConstants"}
 PATH = re.compile(r"`((?:crates|docs|tools|tests|bench|examples|\.ci)/[\w./-]+)`")
 
 
@@ -30,10 +35,29 @@ def anchors(text):
     return {anchor(head.strip()) for head in re.findall(r"^#+ (.*)$", text, re.M)}
 
 
+def held_words():
+    """Every word of the repository's code, tools and names of files."""
+    words = set()
+    for part in ("crates", "tools", "tests", "bench"):
+        for folder, inner, files in os.walk(os.path.join(TOP, part)):
+            inner[:] = [it for it in inner if it not in ("out", "__pycache__")]
+            for name in files:
+                words |= {name, *name.split(".")}
+                if re.search(r"\.(rt|antt|py)$", name) or part == "tools":
+                    words |= set(re.findall(r"\w+", text_of(os.path.join(folder, name))))
+    return words | set(text_of("crates.txt").replace(":", " ").split())
+
+
+def is_coded(name):
+    """Whether a name is written as one of the code, and not as a plain word or a word of a format."""
+    return bool(re.search(r"_|::|\.|[a-z][A-Z]", name)) and not name.isupper()
+
+
 class Trial:
     def __init__(self):
         self.passed = 0
         self.failed = 0
+        self.words = held_words()
 
     def judge(self, right, what):
         if right:
@@ -54,6 +78,13 @@ class Trial:
         for path in PATH.findall(text):
             self.judge(os.path.exists(os.path.join(TOP, path)), "%s names %s, which is not there" % (name, path))
 
+    def names(self, name, text):
+        """Each name of the code, wherever it is cited, is there."""
+        for cited in sorted(set(CODED.findall(text))):
+            if is_coded(cited) and cited not in FOREIGN:
+                parts = [cited] if "." in cited else cited.split("::")
+                self.judge(all(part in self.words for part in parts), "%s names %s, which stands nowhere" % (name, cited))
+
     def links(self, name, text):
         for link in re.findall(r"\]\(([^)\s]+)\)", text):
             if re.match(r"[a-z]+:", link):
@@ -62,6 +93,12 @@ class Trial:
             target = os.path.normpath(os.path.join(os.path.dirname(name), path)) if path else name
             there = os.path.exists(os.path.join(TOP, target))
             self.judge(there and (not place or place in anchors(text_of(target))), "%s links to %s, which is not there" % (name, link))
+
+    def folders(self, crates):
+        """The map says which crates lack a folder."""
+        for folder, lacking in re.findall(r"^\| `(src|specs|proofs|must-fail)/` \|[^|]*\|([^|]*)\|", text_of("docs/MAP.md"), re.M):
+            without = {it for it in crates if not os.path.isdir(os.path.join(TOP, "crates", it, folder))}
+            self.judge(without == set(re.findall(r"`(\w+)`", lacking)), "docs/MAP.md names other crates without %s/ than %s" % (folder, " ".join(sorted(without))))
 
     def crates(self):
         """The picture is the one of crates.txt, and the map has each crate once, in the order of the layers."""
@@ -74,6 +111,14 @@ class Trial:
             if colon and not line.startswith("#"):
                 uses[crate] = named.split()
         self.judge(sorted(listed) == sorted(uses), "docs/MAP.md lists other crates than crates.txt: %s" % sorted(set(listed) ^ set(uses)))
+        needed, waiting = set(), ["quorum_cli"]
+        while waiting:
+            crate = waiting.pop()
+            if crate in uses and crate not in needed:
+                needed.add(crate)
+                waiting += uses[crate]
+        self.judge("the program, %d crates" % len(needed) in text_of("README.md"), "README.md says another number of crates than %d" % len(needed))
+        self.folders(listed)
         for at, crate in enumerate(listed):
             late = [other for other in uses.get(crate, []) if other in uses and other in listed[at:]]
             self.judge(not late, "docs/MAP.md has %s before %s, on which it stands" % (crate, " ".join(late)))
@@ -84,6 +129,7 @@ def main():
     for name in DOCUMENTS:
         text = text_of(name)
         trial.definitions(name, text)
+        trial.names(name, text)
         trial.links(name, text)
     trial.crates()
     print("documents: %d passed, %d failed" % (trial.passed, trial.failed))

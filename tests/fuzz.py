@@ -91,7 +91,7 @@ def trial_config(count):
 
 def sizes_of_trial(subject):
     """What 'trial' prints before the answer."""
-    formula = plain.Formula(subject.system, set())
+    formula = plain.Formula(subject.system, set(), 2)
     nodes = len(subject.system)
     return "trial %d\nnodes %d\nvariables %d\nclauses %d\nintersects " % (nodes // 3, nodes, formula.variables, len(formula.clauses))
 
@@ -149,6 +149,7 @@ class Subject:
     def __init__(self, rng, data):
         self.data = data
         self.digest = hashlib.sha256(data).hexdigest()
+        self.version = rng.choice([1, 2])
         try:
             self.whole = plain.system_of(data)
         except plain.Fault:
@@ -163,7 +164,7 @@ class Subject:
 
     def header(self, kind):
         start = " " + self.start if self.start else ""
-        return ["fbas-cert 1", "config " + self.digest, "from" + start, "faulty" + plain.spelled(self.given), "kind " + kind]
+        return ["fbas-cert %d" % self.version, "config " + self.digest, "from" + start, "faulty" + plain.spelled(self.given), "kind " + kind]
 
     def shrunk(self, nodes):
         return plain.greatest_in(self.system, self.faulty, nodes)
@@ -250,7 +251,7 @@ def fault_of_units(subject, cert):
     order = sorted(subject.shrunk(set(subject.system)))
     held = {}
     if lines and lines[0].startswith("formula"):
-        held = {i: frozenset(it) for i, it in enumerate(plain.Formula(subject.system, subject.faulty).clauses, 1)}
+        held = {i: frozenset(it) for i, it in enumerate(plain.Formula(subject.system, subject.faulty, 2).clauses, 1)}
         lines = lines[1:]
     for line in lines:
         words = line.split(" ")
@@ -301,7 +302,7 @@ def random_body(rng, subject, kind):
         second = subject.shrunk(set(subject.system) - first) or random_quorum(rng, subject)
         return ["first" + plain.spelled(first), "second" + plain.spelled(second)]
     if kind in ("refutation", "partial"):
-        formula = plain.Formula(subject.system, subject.faulty)
+        formula = plain.Formula(subject.system, subject.faulty, subject.version)
         held = {i: frozenset(it) for i, it in enumerate(formula.clauses, 1)}
         lines, last = random_steps(rng, held, formula.variables, len(held))
         lines = ["formula %d %d" % (formula.variables, len(formula.clauses))] + lines
@@ -573,7 +574,7 @@ def wanted_of_question(case):
 
 def exported(subject):
     """What 'export' prints, small formulas only."""
-    formula = plain.Formula(subject.system, subject.faulty)
+    formula = plain.Formula(subject.system, subject.faulty, 2)
     order = sorted(subject.shrunk(set(subject.system)))
     lines = ["c " + line for line in subject.header("")[1:3]] + ["c faulty" + plain.spelled(subject.faulty)]
     lines += ["c %d %s %s" % (i, side, it) for i, (side, it) in enumerate(((side, it) for side in "ab" for it in order), 1)]

@@ -51,6 +51,7 @@ EMPTY = b"[]"
 LEMMA = b"17 -1 0 7 6 3 4 2 0"
 REFUTATION = head(TWO, "refutation") + b"formula 8 16\n" + LEMMA + b"\n18 0 17 1 10 8 0\nend\n"
 REFUTED = "accepted refutation\nfrom\nfaulty\n"
+SHARED = head(TWO, "refutation").replace(b"fbas-cert 1", b"fbas-cert 2") + b"formula 6 12\n13 -1 0 7 6 3 4 2 0\n14 0 13 1 8 5 0\nend\n"
 PAIR = head(THREE, "pair", faulty=" a") + b"first b\nsecond c\nend\n"
 PARTIAL = head(TWO, "partial") + b"formula 8 16\n" + LEMMA + b"\nend\n"
 
@@ -175,6 +176,10 @@ CERTIFICATES = [
     ("an empty lemma at once", TWO, seventh(b"17 0 0"), 5, "refused step 7 no-conflict\n"),
     ("an empty lemma by itself", TWO, seventh(b"17 0 17 0"), 5, "refused step 7 no-such-clause 17\n"),
     ("a step behind the empty lemma", TWO, REFUTATION.replace(b"end", b"19 d 17 0\nend"), 5, "refused bad-line 9\n"),
+    ("each gate once", TWO, SHARED, 0, REFUTED),
+    ("each gate once, in version 1", TWO, SHARED.replace(b"fbas-cert 2", b"fbas-cert 1"), 5, "refused formula 6\n"),
+    ("each gate anew, in version 2", TWO, REFUTATION.replace(b"fbas-cert 1", b"fbas-cert 2"), 5, "refused formula 6\n"),
+    ("version 3", TWO, SHARED.replace(b"fbas-cert 2", b"fbas-cert 3"), 5, "refused bad-line 1\n"),
     ("no lemma", TWO, head(TWO, "refutation") + b"formula 8 16\nend\n", 5, "refused not-refuted 7\n"),
     ("the last line feed missing", TWO, REFUTATION[:-1], 5, "refused truncated 9\n"),
     ("end missing", TWO, REFUTATION[:-4], 5, "refused truncated 9\n"),

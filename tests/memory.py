@@ -3,7 +3,8 @@
 
 Configurations of 16 MB and certificates of 1 GB are made, run without a limit (the largest memory is measured) and under
 limits of address space (ulimit -v); then the least stack is sought (ulimit -s) under which deep files are answered.
-Beside the gate, by hand: tests/memory.py [PROGRAM]; it takes some minutes, and its last line is 'memory: N passed, M failed'.
+Beside the gate, by hand: tests/memory.py [PROGRAM [PART..]]; a part is stack, searches, configurations or certificates, and
+without one all are run, which takes some minutes. The last line is 'memory: N passed, M failed'.
 """
 
 import os
@@ -213,20 +214,25 @@ class Trial:
                 self.judge("stack of 8 MB", not bad, ended)
 
 
-def main(program=malicious.BUILT):
+    def configurations(self):
+        for name, data, text in configurations():
+            self.put("config", data)
+            self.limits("show, " + name, ["show", "config"], 0, text)
+
+    def certificates(self):
+        self.put("config", malicious.TWO)
+        for name, pieces, answer in certificates():
+            self.limits("check, " + name, ["check", "config", "/dev/stdin"], *answer, pieces=pieces, every=[16, 64, 256, 1024])
+
+
+def main(program=malicious.BUILT, *parts):
     with tempfile.TemporaryDirectory() as folder:
         trial = Trial(folder, program)
-        trial.stack()
-        trial.searches()
-        for name, data, text in configurations():
-            trial.put("config", data)
-            trial.limits("show, " + name, ["show", "config"], 0, text)
-        trial.put("config", malicious.TWO)
-        for name, pieces, answer in certificates():
-            trial.limits("check, " + name, ["check", "config", "/dev/stdin"], *answer, pieces=pieces, every=[16, 64, 256, 1024])
+        for part in parts or ("stack", "searches", "configurations", "certificates"):
+            getattr(trial, part)()
     print("memory: %d passed, %d failed" % (trial.passed, trial.failed))
     return 1 if trial.failed else 0
 
 
 if __name__ == "__main__":
-    sys.exit(main(*sys.argv[1:2]))
+    sys.exit(main(*sys.argv[1:]))

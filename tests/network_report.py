@@ -97,6 +97,24 @@ class Trial:
         has_list = "minimal blocking sets are left out" not in page
         self.judge("the list stands there exactly where the program has it", has_list == ("\nblocking " in usage))
 
+    def spent(self):
+        """Where the budget is spent the page says so, and lists what was found until then."""
+        status, error, page = self.run(NETWORK, "--orgs", ORGS, "--budget", "60")
+        self.judge("a page with little budget", status == 0 and page is not None, error)
+        if page is None:
+            return
+        self.loads_nothing(page)
+        sets = re.findall(r"<li>(.*?)</li>", page.partition("not all found within 60 units")[2])
+        self.judge("some blocking sets of those found", 1 <= len(sets) <= 10 and "a minimal blocking set</text>" in page, sets)
+        for number, names in enumerate(sets):
+            keys = [it.upper() for it in re.sub(r"<[^>]*>", "", names).split(", ")]
+            stops = [self.blocks(keys)] + [self.blocks([it for it in keys if it != key]) for key in keys]
+            self.judge("listed set %d" % number, stops == [True] + [False] * len(keys), keys)
+
+    @staticmethod
+    def blocks(keys):
+        return subprocess.run([PROGRAM, "blocks", NETWORK, "--set", ",".join(keys)], stdout=subprocess.DEVNULL).returncode == 0
+
     def odd_names(self):
         config = self.written("odd.json", json.dumps(ODD))
         status, error, page = self.run(config, "--orgs", self.written("odd-orgs.json", json.dumps(ODD_ORGS)), "--node=-x<i>")
@@ -129,6 +147,7 @@ def main():
     with tempfile.TemporaryDirectory() as folder:
         trial = Trial(folder)
         trial.a_network()
+        trial.spent()
         trial.odd_names()
         trial.nothing_unchecked()
         trial.refusals()

@@ -236,63 +236,69 @@ def circuit_of(quorum_set, greatest, faulty):
             inputs.append(it)
     if threshold <= 0:
         return ALWAYS
-    return (threshold, inputs) if threshold <= len(inputs) else NEVER
-
-
-def gate_variables(circuit):
-    if len(circuit) == 1:
-        return 0
-    k, inputs = circuit
-    n = len(inputs)
-    own = 1 if k == n or k == 1 else k * (k + 1) // 2 + (n - k) * k
-    return own + sum(map(gate_variables, inputs))
+    return (threshold, tuple(inputs)) if threshold <= len(inputs) else NEVER
 
 
 class Formula:
-    """The intersection formula: the number of its variables, and its clauses in order."""
+    """The intersection formula in a version: the number of its variables, and its clauses in order."""
 
-    def __init__(self, system, faulty):
+    def __init__(self, system, faulty, version):
         order = sorted(greatest_in(system, faulty, set(system)))
         circuits = [circuit_of(system[name], set(order), faulty) for name in order]
-        circuits = [(i, circuit) for i, circuit in enumerate(circuits, 1) if circuit != ALWAYS]
         g = len(order)
-        self.variables = 2 * g + 2 * sum(gate_variables(circuit) for _, circuit in circuits)
-        self.clauses = []
-        if self.variables > MOST_VARS:
-            return
-        self.used = 2 * g
-        self.clauses += [list(range(1, g + 1)), list(range(g + 1, 2 * g + 1))]
+        self.version = version
+        self.clauses = [list(range(1, g + 1)), list(range(g + 1, 2 * g + 1))]
         self.clauses += [[-i, -(g + i)] for i in range(1, g + 1)]
+        self.variables = 2 * g
         for side in (0, g):
             self.numbers = {name: side + i for i, name in enumerate(order, 1)}
-            for i, circuit in circuits:
-                self.clauses.append([-(side + i), self.gate(circuit)])
+            self.shared = {}
+            for i, circuit in enumerate(circuits, 1):
+                if circuit != ALWAYS:
+                    self.add([-(side + i), self.gate(circuit)])
 
-    def fresh(self):
-        self.used += 1
-        return self.used
+    def add(self, clause):
+        """Keeps a clause while the formula is not too large: of one that is, the number of variables alone is wanted."""
+        if self.variables <= MOST_VARS:
+            self.clauses.append(clause)
+
+    def fresh(self, count=1):
+        """New variables; the first of them."""
+        self.variables += count
+        return self.variables - count + 1
 
     def gate(self, circuit):
         """The variable of a circuit, once its clauses are written."""
         if len(circuit) == 1:
             return self.numbers[circuit[0]]
-        k, inputs = circuit
+        # Version 2 writes a circuit once on a side: equal thresholds over equal inputs in order are one gate.
+        known = self.shared.get(circuit) if self.version == 2 else None
+        if known is None:
+            known = self.shared[circuit] = self.new_gate(*circuit)
+        return known
+
+    def new_gate(self, k, inputs):
         x = [self.gate(each) for each in inputs]
         n = len(x)
         if k == n:
             z = self.fresh()
-            self.clauses += [[-z, each] for each in x]
+            for each in x:
+                self.add([-z, each])
             return z
         if k == 1:
             z = self.fresh()
-            self.clauses.append([-z] + list(dict.fromkeys(x)))
+            self.add([-z] + list(dict.fromkeys(x)))
             return z
-        s = {(i, j): self.fresh() for i in range(1, n + 1) for j in range(1, min(i, k) + 1)}
+        first = self.fresh(k * (k + 1) // 2 + (n - k) * k)
+        if self.variables > MOST_VARS:
+            return self.variables
+        places = ((i, j) for i in range(1, n + 1) for j in range(1, min(i, k) + 1))
+        s = {place: first + number for number, place in enumerate(places)}
         for (i, j), it in s.items():
             before = [s[i - 1, j]] if j <= i - 1 else []
-            self.clauses.append([-it] + before + [x[i - 1]])
+            self.add([-it] + before + [x[i - 1]])
             if j >= 2:
-                self.clauses.append([-it] + before + [s[i - 1, j - 1]])
+                self.add([-it] + before + [s[i - 1, j - 1]])
         return s[n, k]
 
 
@@ -458,7 +464,8 @@ class Check:
 
     def accepted(self):
         """The status and the text of what is accepted."""
-        self.exactly(b"fbas-cert 1")
+        (digit,) = self.matching(rb"fbas-cert ([12])")
+        self.version = int(digit)
         (digits,) = self.matching(rb"config ([0-9a-f]{64})")
         if digits.decode() != self.digest:
             raise Refused("refused digest %s %s" % (digits.decode(), self.digest))
@@ -512,7 +519,7 @@ class Check:
         said = self.matching(rb"formula (0|[1-9][0-9]*) ([1-9][0-9]*)")
         if any(len(it) > 19 or int(it) > MOST_ID for it in said):
             self.refuse("bad-line")
-        formula = Formula(self.system, self.faulty)
+        formula = Formula(self.system, self.faulty, self.version)
         if formula.variables > MOST_VARS:
             raise Refused("too-large %d" % formula.variables, 9)
         if [int(it) for it in said] != [formula.variables, len(formula.clauses)]:

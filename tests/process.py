@@ -1,5 +1,5 @@
 #!/usr/bin/env python3
-"""Runs the built program as a process: every status that it can end with, its exact output, and nothing on standard error.
+"""Runs the built program, or the one that is handed in, as a process: every status that it can end with, its exact output, and nothing on standard error.
 
 What no contract can say is shown here: that the machine's files are opened, read, emptied and written, and that a failing
 device, a closed output or a file that may not be read ends as it should. Its last line is 'process: N passed, M failed'.
@@ -28,31 +28,47 @@ splits CONFIG CERT --set NAMES [COMMON] [--budget UNITS]
 blocking CONFIG CERT [COMMON] [--budget UNITS]
 check CONFIG CERT
 export CONFIG [COMMON]
+trial N CERT [--budget UNITS]
 COMMON: --from NAME --faulty NAMES --orgs ORGS --faulty-orgs IDS
 """
 
 
-def system(nodes, threshold):
-    """A configuration in which each node needs so many of all of them."""
-    names = ",".join('"%s"' % node for node in nodes)
-    sets = ['{"publicKey":"%s","quorumSet":{"threshold":%d,"validators":[%s]}}' % (node, threshold, names) for node in nodes]
+def system(nodes, threshold, is_rotated=False):
+    """A configuration in which each node needs so many of all of them, which it names in order, or from itself on."""
+    sets = []
+    for place, node in enumerate(nodes):
+        start = place if is_rotated else 0
+        names = ",".join('"%s"' % name for name in [*nodes[start:], *nodes[:start]])
+        sets.append('{"publicKey":"%s","quorumSet":{"threshold":%d,"validators":[%s]}}' % (node, threshold, names))
     return "[" + ",".join(sets) + "]"
 
 
+# The configuration of a trial of one organisation, as it is written.
+ORGANISATION = '{"innerQuorumSets":[],"threshold":2,"validators":["t000","t001","t002"]}'
+ONE = "[" + ",".join('{"publicKey":"t00%d","quorumSet":{"innerQuorumSets":[%s],"threshold":1,"validators":[]}}' % (node, ORGANISATION) for node in range(3)) + "]"
+
+# How large trials are, by the number of their organisations.
+TRIALS = {
+    1: "trial 1\nnodes 3\nvariables 18\nclauses 27\n",
+    4: "trial 4\nnodes 12\nvariables 82\nclauses 122\n",
+}
+
 # Each needs two of the three; the digest is that of sha256sum.
 THREE = system("abc", 2)
-HEAD = "fbas-cert 1\nconfig f823e204944abcff32c8dadffba2a0178a590a613358f9a6f271b651cd4e6fbb\nfrom\n"
+HEAD = "fbas-cert 2\nconfig f823e204944abcff32c8dadffba2a0178a590a613358f9a6f271b651cd4e6fbb\nfrom\n"
 PAIR = HEAD + "faulty a\nkind pair\nfirst b\nsecond c\nend\n"
-SPENT = HEAD + "faulty\nkind partial\nformula 36 53\nend\n"
+SPENT = HEAD + "faulty\nkind partial\nformula 16 25\nend\n"
 LISTED = HEAD + "faulty\nkind blocking\nq 1 a b\nq 2 a c\nq 3 b c\nb 4 a b\nb 5 a c\nb 6 b c\n7 -1 0 4 5 3 0\n8 0 7 1 2 6 0\nend\n"
 UNLISTED = HEAD + "faulty\nkind partial-blocking\nend\n"
 SETS = "set a b\nset a c\nset b c\n"
-WIDE = system(["w%03d" % i for i in range(200)], 100)
+# No two of its quorum sets are equal.
+WIDE = system(["w%03d" % i for i in range(200)], 100, is_rotated=True)
 
 FILES = {
     "three": THREE,
     "pair": PAIR,
     "wide": WIDE,
+    "one": ONE,
     "none": "[]",
     "bad": "{",
     "listed": LISTED,
@@ -92,6 +108,14 @@ ROWS = [
     ("blocking three unlisted --budget 0", 2, "blocking unknown 0\n", {"unlisted": UNLISTED}),
     ("check three unlisted", 2, "accepted partial-blocking 0\nfrom\nfaulty\n", {}),
     ("blocking three three", 3, "usage same-path\n", {"three": THREE}),
+    ("trial 1 tried", 0, TRIALS[1] + "intersects yes\n", {}),
+    ("check one tried", 0, "accepted refutation\nfrom\nfaulty\n", {}),
+    ("trial 4 tried --budget 10000", 0, TRIALS[4] + "intersects yes\n", {}),
+    ("trial 1 untried --budget 0", 2, TRIALS[1] + "intersects unknown 0\n", {}),
+    ("check one untried", 2, "accepted partial 0\nfrom\nfaulty\n", {}),
+    ("trial 0 kept", 3, USAGE, {"kept": None}),
+    ("trial 101 kept", 3, USAGE, {"kept": None}),
+    ("trial 1 nowhere/made", 7, "", {}),
     ("intersect three longer --faulty a", 1, "intersects no\nfirst b\nsecond c\n", {"longer": PAIR}),
     ("intersect three three", 3, "usage same-path\n", {"three": THREE}),
     ("intersect three kept --faulty z", 3, "usage unknown-name --faulty 1\n", {"kept": None}),
@@ -108,9 +132,9 @@ ROWS = [
 class Trial:
     """A folder with the files, in which the program runs. Root gives up its rights, since it may read and write every file."""
 
-    def __init__(self, folder):
+    def __init__(self, folder, built):
         self.folder = folder
-        self.program = shutil.copy(BUILT, os.path.join(folder, "program"))
+        self.program = shutil.copy(built, os.path.join(folder, "program"))
         self.passed = 0
         self.failed = 0
         os.chmod(folder, 0o777)
@@ -196,10 +220,11 @@ class Trial:
 
 
 def main():
-    if not os.path.exists(BUILT):
+    built = os.path.abspath(sys.argv[1]) if len(sys.argv) > 1 else BUILT
+    if not os.path.exists(built):
         subprocess.run([os.path.join(TOP, "quorum_cli")], stdout=subprocess.DEVNULL)
     with tempfile.TemporaryDirectory() as folder:
-        trial = Trial(folder)
+        trial = Trial(folder, built)
         for row in ROWS:
             trial.row(*row)
         trial.from_a_pipe()

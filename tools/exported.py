@@ -24,7 +24,7 @@ class Exported:
             self.sides[int(variable)] = (side, name)
 
     def certificate(self, kind, body):
-        return "".join(line + "\n" for line in ["fbas-cert 1", *self.header, "kind " + kind, *body, "end"])
+        return "".join(line + "\n" for line in ["fbas-cert 2", *self.header, "kind " + kind, *body, "end"])
 
 
 def run(make):

@@ -39,6 +39,19 @@ class Verdict:
         self.certificate = certificate
 
 
+class Blocking:
+    """The minimal blocking sets with their certificate: all of them, or where so many units were spent some of those found."""
+
+    def __init__(self, sets, found, units, certificate):
+        self.sets = sets
+        self.found = found
+        self.units = units
+        self.certificate = certificate
+
+    def is_whole(self):
+        return self.units is None
+
+
 class Program:
     """The program on one configuration."""
 
@@ -111,16 +124,28 @@ class Program:
         number = lines[0].split(" ")[2] if word == "unknown" else None
         return Verdict(word, number, *sets, certificate=self.checked(path, KIND[word], faulty))
 
-    def blocking(self, name):
-        """The minimal blocking sets with their certificate, or none and the units that were spent."""
+    def blocking(self, name, most):
+        """The minimal blocking sets with their certificate; where the units were spent, the smallest ones of those found."""
         path = self.new_file(name)
         extra = ["--budget=" + self.budget] if self.budget is not None else []
         status, lines = self.answer("blocking", self.config, path, *extra)
         kind = "blocking" if status == 0 else "partial-blocking"
         certificate = self.checked(path, kind, ())
-        if status != 0:
-            return None, lines[0].split(" ")[2], certificate
-        return [line.split(" ")[1:] for line in lines[1:]], None, certificate
+        if status == 0:
+            sets = [line.split(" ")[1:] for line in lines[1:]]
+            return Blocking(sets, len(sets), None, certificate)
+        found = self.found_in(path)
+        return Blocking([keys for keys in found[:most] if self.is_minimal(keys)], len(found), lines[0].split(" ")[2], certificate)
+
+    @staticmethod
+    def found_in(path):
+        """The sets that a part of a list has, the smallest first."""
+        with open(path, encoding="ascii") as it:
+            return sorted((line[:-1].split(" ")[2:] for line in it if line.startswith("b ")), key=len)
+
+    def is_minimal(self, keys):
+        """Whether the keys stop every agreement, and without any one of them they do not."""
+        return self.blocks(keys)[0] and not any(self.blocks([it for it in keys if it != key])[0] for key in keys)
 
     def new_file(self, name):
         os.makedirs(self.folder, exist_ok=True)

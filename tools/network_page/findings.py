@@ -4,6 +4,8 @@ import itertools
 
 # Above so many organisations pairs of them are not asked about.
 MOST_PAIRED = 40
+# Of a list that is not whole so many sets are asked about, the smallest ones.
+MOST_OF_PART = 10
 
 
 class OrgTurn:
@@ -41,9 +43,9 @@ class Found:
         self.own = None
 
     def marked(self):
-        """A set that stops the network, for the picture: a smallest minimal one, else the keys of one or two organisations."""
-        if self.blocking and self.blocking[0]:
-            return min(self.blocking[0], key=len), "a smallest minimal blocking set"
+        """A set that stops the network, for the picture: a smallest minimal one, or one of those found, else the keys of organisations."""
+        if self.blocking and self.blocking.sets:
+            return min(self.blocking.sets, key=len), "a smallest minimal blocking set" if self.blocking.is_whole() else "a minimal blocking set"
         inside = set(self.greatest)
         for turn in self.turns:
             if turn.stops and inside:
@@ -69,7 +71,7 @@ def find(program, network, node):
         found.stopping_pairs = pairs_of(orgs, [turn.org for turn in found.turns if turn.stops], lambda keys: program.blocks(keys)[0])
     if program.knows("blocking"):
         program.say("the minimal blocking sets")
-        found.blocking = program.blocking("blocking")
+        found.blocking = program.blocking("blocking", MOST_OF_PART)
     if node is not None:
         found.own = own_node(program, found, orgs, node)
     return found

@@ -158,15 +158,16 @@ class Page:
     def blocking(self):
         if self.found.blocking is None:
             return "<p>The minimal blocking sets are left out: this program has no command <code>blocking</code>.</p>"
-        sets, units, certificate = self.found.blocking
-        shown = '<p class="small">%s</p>' % self.certificate(certificate)
-        if sets is None:
-            return "<p>The minimal blocking sets were not all found within %s units.</p>%s" % (escaped(units), shown)
-        ordered = sorted(sets, key=len)
-        head = "<p>%s: each stops every agreement, and none of its nodes can be left out." % counted(len(sets), "minimal blocking set")
-        if len(sets) > MOST_LISTED:
-            head += " The %d smallest are listed." % MOST_LISTED
-        return "%s</p>%s<ol>%s</ol>" % (head, shown, "".join("<li>%s</li>" % self.blocking_set(keys) for keys in ordered[:MOST_LISTED]))
+        sets, certificate = self.found.blocking.sets, '<p class="small">%s</p>' % self.certificate(self.found.blocking.certificate)
+        listed = "<ol>%s</ol>" % "".join("<li>%s</li>" % self.blocking_set(keys) for keys in sorted(sets, key=len)[:MOST_LISTED]) if sets else ""
+        if not self.found.blocking.is_whole():
+            head = "<p>The minimal blocking sets were not all found within %s units." % escaped(self.found.blocking.units)
+            if sets:
+                head += " %s of the %d found, the smallest, are listed; <code>blocks</code> says yes of each, and no once any one node is left out." % (len(sets), self.found.blocking.found)
+        else:
+            head = "<p>%s: each stops every agreement, and none of its nodes can be left out." % counted(len(sets), "minimal blocking set")
+            head += " The %d smallest are listed." % MOST_LISTED if len(sets) > MOST_LISTED else ""
+        return "%s</p>%s%s" % (head, certificate, listed)
 
     def blocking_set(self, keys):
         """A set by its nodes, and by organisations where all their keys make it up."""

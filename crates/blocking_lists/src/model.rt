@@ -8,7 +8,8 @@ use cdcl_core::Solver;
 use fbas_model::MOST_NODES;
 use name_set::NodeSet;
 
-/// The set of the nodes whose variables are true in the solver's assignment. O(n).
+/// The set of the nodes whose variables are true in the solver's assignment: O(n / 64) and as
+/// many steps as the greatest quorum has nodes.
 pub fn model_set(solver: &Solver, n: u32, greatest: &NodeSet) -> NodeSet
     requires places { length greatest.now ≡ n }
     requires few { n ≤ MOST_NODES }
@@ -18,12 +19,10 @@ pub fn model_set(solver: &Solver, n: u32, greatest: &NodeSet) -> NodeSet
 {
     let mut set = NodeSet::new(n);
     let mut variable = 0;
-    for v in 0..n {
-        if greatest.has(v) {
-            variable += 1;
-            if solver.model(variable) {
-                set.put(v);
-            }
+    for v in greatest.iter() {
+        variable += 1;
+        if solver.model(variable) {
+            set.put(v);
         }
     }
     set

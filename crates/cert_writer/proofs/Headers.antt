@@ -12,6 +12,7 @@ use Rattle.fbas_model.specs.Names.{Name, is_key, place_of}
 use Rattle.fbas_model.specs.Systems.{System}
 use Rattle.fbas_model.specs.Restriction.{kept}
 use Rattle.cert_lines.specs.Words.{is_name, digest_in}
+use Rattle.clause_encoder.specs.declared.version.Version.TheVariants.{Two}
 use Rattle.certificate_file.specs.Acceptance.{take_line}
 use Rattle.certificate_file.specs.Meaning.{part_from}
 use Rattle.certificate_file.specs.declared.places.Header.{Header}
@@ -19,10 +20,10 @@ use Rattle.certificate_file.specs.declared.places.Place.TheVariants.{AtTitle, At
 use Rattle.certificate_file.specs.declared.places.State.{State}
 use Rattle.certificate_file.specs.declared.places.State.TheVariants.{Going}
 use Rattle.cert_writer.specs.Texts.{Text, worded, listed, name_if_any, header_lines}
-use Rattle.cert_writer.specs.Promises.{IsHeader}
+use Rattle.cert_writer.specs.Promises.{IsHeader, subject}
 use Rattle.cert_writer.proofs.Joined.{Takes, IsLine, AreLines}
 use Rattle.cert_writer.proofs.Words.{IsWordByte, IsWord, is_word, is_plain, same_text, words_of-worded, names_after-worded, plain-worded, length-spaced_keys}
-use Rattle.cert_writer.proofs.Places.{place-found}
+use Rattle.fbas_model.proofs.SortedNames.{place-found}
 use Rattle.cert_writer.proofs.Names.{AreNames, named-listed, keys-kept, words-keys, short-keys, key}
 
 -- ---- the digest
@@ -57,9 +58,9 @@ digest_read digest size bytes =
 
 -- the place after the line `from`
 abbrev at_part : System → Option ℕ → State
-at_part f from = Going (AtFaulty from (part_from f from))
+at_part f from = Going (AtFaulty Two from (part_from f from))
 
-from_taken : (f : System) (d : List ℕ) (from : Option ℕ) → AreNames f.names → IfSome from (λ v. v < length f.names) → take_line f d AtFrom 3 (worded (codes "from") (name_if_any f.names from)) ≡ Ok (at_part f from)
+from_taken : (f : System) (d : List ℕ) (from : Option ℕ) → AreNames f.names → IfSome from (λ v. v < length f.names) → take_line f d (AtFrom Two) 3 (worded (codes "from") (name_if_any f.names from)) ≡ Ok (at_part f from)
 unfolding take_line
 from_taken f d None are low = refl
 from_taken f d (Some v) are low =
@@ -69,13 +70,13 @@ from_taken f d (Some v) are low =
     let place : place_of f.names name ≡ Some v = place-found f.names name v are.sorted low refl in
     rw (names_after-worded (codes "from") (name ∷ []) (is_word (codes "from") refl) (word, tt) (and_from (is_name name) true (key name k).1 refl) refl, place) refl
 
-pub takes_header : (f : System) (d : List ℕ) (h : Header) → AreNames f.names → length d ≡ 32 → IsBytes d → IsHeader f h → Takes f d 1 (Going AtTitle) (header_lines f.names d h) (Going (AtKind (record { header = h; nodes = part_from f h.from })))
+pub takes_header : (f : System) (d : List ℕ) (h : Header) → AreNames f.names → length d ≡ 32 → IsBytes d → IsHeader f h → Takes f d 1 (Going AtTitle) (header_lines f.names d h) (Going (AtKind (subject f h)))
 unfolding take_line
 takes_header f d h are size bytes is =
-    let digest : take_line f d AtDigest 2 (worded (codes "config") (encode_lower d ∷ [])) ≡ Ok (Going AtFrom) = rw (digest_read d size bytes, same_text d) refl in
-    let faulty : take_line f d (AtFaulty h.from (part_from f h.from)) 4 (listed (codes "faulty") f.names h.faulty) ≡ Ok (Going (AtKind (record { header = h; nodes = part_from f h.from }))) =
+    let digest : take_line f d (AtDigest Two) 2 (worded (codes "config") (encode_lower d ∷ [])) ≡ Ok (Going (AtFrom Two)) = rw (digest_read d size bytes, same_text d) refl in
+    let faulty : take_line f d (AtFaulty Two h.from (part_from f h.from)) 4 (listed (codes "faulty") f.names h.faulty) ≡ Ok (Going (AtKind (subject f h))) =
     rw (named-listed f.names 4 (codes "faulty") h.faulty (is_word (codes "faulty") refl) are is.faulty, is.cut) refl in
-    (Going AtDigest, refl, (Going AtFrom, digest, (at_part f h.from, from_taken f d h.from are is.node, (Going (AtKind (record { header = h; nodes = part_from f h.from })), faulty, refl))))
+    (Going (AtDigest Two), refl, (Going (AtFrom Two), digest, (at_part f h.from, from_taken f d h.from are is.node, (Going (AtKind (subject f h)), faulty, refl))))
 
 -- ---- each is a line
 
@@ -109,7 +110,7 @@ line_from names (Some v) are low =
 
 pub lines_header : (f : System) (d : List ℕ) (h : Header) → AreNames f.names → length f.names ≤ 4096 → length d ≡ 32 → IsHeader f h → AreLines (header_lines f.names d h)
 lines_header f d h are few size is = (
-  record { plain = is_plain (codes "fbas-cert 1") refl; short = omega arith },
+  record { plain = is_plain (codes "fbas-cert 2") refl; short = omega arith },
   (
     line_digest d size,
     (

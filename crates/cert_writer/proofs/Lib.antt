@@ -1,7 +1,6 @@
 pub mod Joined
 pub mod Words
 pub mod Names
-pub mod Places
 pub mod Headers
 pub mod Raised
 pub mod RaisedOrder

@@ -9,6 +9,7 @@ use Rattle.std.proofs.lemmas.List.Elements.{recursion_from_All}
 use Rattle.std.proofs.lemmas.Slice.Eq.{bytes_eq-Decides}
 use Rattle.std.proofs.lemmas.Cmp.{tied_itself, nat_list_cmp_total}
 use Rattle.fbas_model.specs.Nodes.{Table}
+use Rattle.fbas_model.proofs.SortedNames.{kept_sorted}
 use Rattle.fbas_model.specs.Names.{Name, name_cmp, is_key, is_key_byte, is_among, marks}
 use Rattle.fbas_model.specs.Restriction.{kept}
 use Rattle.cert_lines.specs.Words.{Word, is_name, is_name_byte, is_rising, names_in, names_after}
@@ -75,19 +76,6 @@ short-keys (n ∷ names) all = (key_short n all.0, short-keys names all.1)
 abbrev Above : Name → List Name → Type 0
 Above n names = AllByRecursion (λ (m : Name). name_cmp n m ≡ Less) names
 
-above-kept : (n : Name) (set : Table) (names : List Name) → Above n names → Above n (kept set names)
-above-kept n [] names all = tt
-above-kept n (m ∷ set) [] all = tt
-above-kept n (true ∷ set) (x ∷ names) all = (all.0, above-kept n set names all.1)
-above-kept n (false ∷ set) (x ∷ names) all = above-kept n set names all.1
-
-kept_sorted : (set : Table) (names : List Name) → IsStrictlySortedBy name_cmp names → IsStrictlySortedBy name_cmp (kept set names)
-unfolding IsStrictlySortedBy
-kept_sorted [] names h = tt
-kept_sorted (m ∷ set) [] h = tt
-kept_sorted (true ∷ set) (x ∷ names) h = (above-kept x set names h.0, kept_sorted set names h.1)
-kept_sorted (false ∷ set) (x ∷ names) h = kept_sorted set names h.1
-
 pub rising-sorted : (names : List Name) → IsStrictlySortedBy name_cmp names → is_rising names ≡ true
 unfolding IsStrictlySortedBy
 rising-sorted [] h = refl
@@ -124,7 +112,7 @@ marks-kept [] [] e h = refl
 marks-kept [] (n ∷ names) e h = absurd cc
 marks-kept (m ∷ set) [] e h = absurd cc
 marks-kept (true ∷ set) (n ∷ names) e h = rw (same_text n, marks-below n (kept set names) names h.0, marks-kept set names (omega (arith, e)) h.1) refl
-marks-kept (false ∷ set) (n ∷ names) e h = rw (none_among n (kept set names) (above-kept n set names h.0), marks-kept set names (omega (arith, e)) h.1) refl
+marks-kept (false ∷ set) (n ∷ names) e h = rw (none_among n (kept set names) (kept_sorted (true ∷ set) (n ∷ names) h).0, marks-kept set names (omega (arith, e)) h.1) refl
 
 -- ---- all names are among themselves
 

@@ -33,7 +33,7 @@ use Rattle.cert_writer.specs.Texts.{Text, listed, header_lines, pair_lines, pair
 use Rattle.cert_writer.proofs.Joined.{Takes, takes-append, AreLines, are_lines-append, accepted_text}
 use Rattle.cert_writer.proofs.Words.{is_word, is_plain}
 use Rattle.cert_writer.proofs.Names.{AreNames, are_keys, named-listed}
-use Rattle.cert_writer.specs.Promises.{IsHeader, part_of, faulty_in, raised_pair}
+use Rattle.cert_writer.specs.Promises.{IsHeader, subject, part_of, faulty_in, raised_pair}
 use Rattle.fbas_model.proofs.WholeLaw.{restricted_to_everyone}
 use Rattle.cert_writer.proofs.Headers.{takes_header, line_listed, lines_header}
 
@@ -42,9 +42,6 @@ pub record IsListed (f : System) (s : Subject) (u : Table) : Type 0 where
   pub size : length u ≡ length f.names
   pub inside : (l : ℕ) → within s l u ≡ Ok u
   pub is : is_quorum f.sets s.header.faulty u ≡ true
-
-abbrev subject : System → Header → Subject
-subject f h = record { header = h; nodes = part_from f h.from }
 
 pub takes_pair : (f : System) (d : List ℕ) (h : Header) (u w : Table) → AreNames f.names → IsListed f (subject f h) u → IsListed f (subject f h) w → least (shared u w) ≡ None → pair_of u w ≡ record { first = u; second = w }
     → Takes f d 5 (Going (AtKind (subject f h))) (pair_lines f.names (record { first = u; second = w })) (Done (record { header = h; answer = pair (record { first = u; second = w }) }))

@@ -1,12 +1,11 @@
 -- How the texts grow.
-use Rattle.std.proofs.Common.{inl, inr, ◌≡◌, ℕ, ◌+◌, ◌<◌, List, [], ◌∷◌, ◌++◌, length, map, take, drop, take-append-drop, cond, Option, Some, refl, sym, ◌∙◌, ap, codes, append_assoc, slice_get, slice_index_or}
+use Rattle.std.proofs.Common.{◌≡◌, ℕ, ◌+◌, ◌<◌, List, [], ◌∷◌, ◌++◌, length, map, take, drop, take-append-drop, Option, Some, refl, sym, ◌∙◌, ap, codes, append_assoc, slice_get, slice_index_or}
 use Rattle.std.proofs.lemmas.List.{append-nil, take_more, map-append}
-use Rattle.std.proofs.lemmas.Bool.{cases_Bool}
-use Rattle.std.proofs.lemmas.Option.{slice_get-get_or, get_or_from_slice_get}
-use Rattle.fbas_model.specs.Nodes.{Table, members}
+use Rattle.std.proofs.lemmas.Option.{get_or_from_slice_get}
+use Rattle.fbas_model.specs.Nodes.{Table, listed_from}
 use Rattle.fbas_model.specs.Names.{Name}
 use Rattle.fbas_model.specs.Restriction.{kept}
-use Rattle.fbas_model.proofs.Kept.{kept_more_yes, kept_more_no}
+use Rattle.fbas_model.proofs.Listed.{kept_listed}
 use Rattle.lrat_text.specs.Left.{spaced}
 use Rattle.hex.specs.Hex.{encode_lower}
 use Rattle.witness_pair.specs.declared.Pair.{Pair}
@@ -27,16 +26,24 @@ pub joined-append : (xs ys : List Text) → joined (xs ++ ys) ≡ joined xs ++ j
 joined-append [] ys = refl
 joined-append (x ∷ xs) ys = ap (λ (z : Text). x ++ 10 ∷ z) (joined-append xs ys) ∙ sym (append_assoc x (10 ∷ joined xs) (joined ys))
 
--- the names up to the next node
-pub names_more : (set : Table) (names : List Name) (v : ℕ) → v < length names → spaced (kept (take v set) names) ++ cond (members set v) (32 ∷ slice_index_or names v []) [] ≡ spaced (kept (take (v + 1) set) names)
-names_more set names v low = elim (cases_Bool (members set v)) [
-  | inl is ↦
-      let more = kept_more_yes set names v (slice_index_or names v []) is (slice_get-get_or names v [] low) in
-      rw (is, more, spaced-append (kept (take v set) names) (slice_index_or names v [] ∷ [])) (ap (λ (z : Text). spaced (kept (take v set) names) ++ 32 ∷ z) (sym (append-nil (slice_index_or names v []))))
-  | inr not_in ↦ rw (not_in, kept_more_no set names v not_in) (append-nil (spaced (kept (take v set) names)))
-]
+-- the names of some nodes
+abbrev pub names_at : List Name → List ℕ → List Name
+names_at names vs = map (λ v. slice_index_or names v []) vs
 
-pub header_text : (names : List Name) (digest : List ℕ) (h : Header) → (((((codes "fbas-cert 1\nconfig" ++ 32 ∷ encode_lower digest) ++ codes "\nfrom") ++ spaced (name_if_any names h.from)) ++ codes "\nfaulty") ++ spaced (kept h.faulty names)) ++ codes "\n" ≡ joined (header_lines names digest h)
+-- of one node more
+pub names_push : (names : List Name) (vs : List ℕ) (v : ℕ) (name : Name) → slice_get names v ≡ Some name → spaced (names_at names vs) ++ 32 ∷ name ≡ spaced (names_at names (vs ++ v ∷ []))
+names_push names vs v name at =
+    let named = λ (v : ℕ). slice_index_or names v [] in
+    sym (
+    ap spaced (map-append named vs (v ∷ []))
+    ∙ (spaced-append (names_at names vs) (named v ∷ [])
+    ∙ ap (λ (z : Text). spaced (names_at names vs) ++ 32 ∷ z) (append-nil (named v) ∙ get_or_from_slice_get names v name [] at)))
+
+-- of all nodes of a set
+pub names_all : (names : List Name) (set : Table) (vs : List ℕ) → vs ≡ listed_from 0 set → length set ≡ length names → spaced (names_at names vs) ≡ spaced (kept set names)
+names_all names set vs all e = ap (λ (vs : List ℕ). spaced (names_at names vs)) all ∙ ap spaced (sym (kept_listed set names [] e))
+
+pub header_text : (names : List Name) (digest : List ℕ) (h : Header) → (((((codes "fbas-cert 2\nconfig" ++ 32 ∷ encode_lower digest) ++ codes "\nfrom") ++ spaced (name_if_any names h.from)) ++ codes "\nfaulty") ++ spaced (kept h.faulty names)) ++ codes "\n" ≡ joined (header_lines names digest h)
 header_text names digest h = simp (append_assoc, append-nil)
 
 pub pair_text : (names : List Name) (p : Pair) → (((codes "kind pair\nfirst" ++ spaced (kept p.first names)) ++ codes "\nsecond") ++ spaced (kept p.second names)) ++ codes "\n" ≡ joined (pair_front names p)

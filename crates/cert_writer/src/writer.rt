@@ -137,24 +137,13 @@ impl CertWriter {
         self.word(desk, buffer.format(number).as_bytes());
     }
 
-    /// Writes a space and the name of a node, where it is in the set.
-    fn name_if<D: Desk>(&mut self, desk: &mut D, names: &Names, set: &NodeSet, v: u32)
-        requires same_n { length set.now ≡ length names.now }
-        requires node { v < length names.now }
-        ensures { Writes D.tells (if members set.now v then 32 ∷ slice_index_or names.now v [] else []) self.old (D.state desk.old) (D.faults desk.old) self.new (D.state desk.new) (D.faults desk.new) }
-    {
-        if set.has(v) {
-            self.word(desk, names.name(v));
-        }
-    }
-
     /// Writes a space and a name for each node of a set.
     fn names<D: Desk>(&mut self, desk: &mut D, names: &Names, set: &NodeSet)
         requires { length set.now ≡ length names.now }
         ensures { Writes D.tells (spaced (kept set.now names.now)) self.old (D.state desk.old) (D.faults desk.old) self.new (D.state desk.new) (D.faults desk.new) }
     {
-        for v in 0..names.len() {
-            self.name_if(desk, names, set, v);
+        for v in set.iter() {
+            self.word(desk, names.name(v));
         }
     }
 
@@ -174,7 +163,7 @@ impl CertWriter {
         requires faulty { length header.now.faulty ≡ length names.now }
         ensures { Writes D.tells (joined (header_lines names.now digest.now header.now)) self.old (D.state desk.old) (D.faults desk.old) self.new (D.state desk.new) (D.faults desk.new) }
     {
-        self.text(desk, b"fbas-cert 1\nconfig");
+        self.text(desk, b"fbas-cert 2\nconfig");
         self.word(desk, &digits(digest));
         self.text(desk, b"\nfrom");
         self.from(desk, names, header.from);

@@ -1,16 +1,17 @@
 -- Steps that are read as a stream come to what their lines do.
-use Rattle.std.proofs.Common.{◌≡◌, ℕ, List, [], ◌∷◌, Bool, true, false, ◌||◌, ◌==◌, refl, ap, ◌∙◌, sym, subst, cond, Option, None, Some, Result, Ok, Err, codes}
+use Rattle.std.proofs.Common.{◌≡◌, ℕ, ◌+◌, List, [], ◌∷◌, length, Bool, not, true, false, ◌||◌, ◌==◌, refl, ap, ◌∙◌, sym, cond, None, Some, Result, Ok, Err, codes}
 use Rattle.std.specs.Str.{bytes_eq}
 use Rattle.std.proofs.lemmas.Bool.{false≢true}
 use Rattle.fbas_model.specs.Nodes.{Table}
 use Rattle.fbas_model.specs.Systems.{System}
-use Rattle.lrat_model.specs.Steps.{ProofStep, Addition, Deletion, Database, addition_fault, deletion_fault, step_fault, after_step, progress_of}
-use Rattle.lrat_model.specs.declared.step.StepFault.{StepFault}
-use Rattle.lrat_checker.specs.Checking.{Checking}
+use Rattle.lrat_model.specs.Clauses.{with_clause}
+use Rattle.lrat_model.specs.Steps.{ProofStep, Addition, Deletion, Database, addition_fault, deletion_fault, progress_at}
+use Rattle.lrat_model.specs.declared.step.Progress.{Progress}
+use Rattle.lrat_model.specs.declared.step.Progress.TheVariants.{Going as going, Refuted}
+use Rattle.lrat_checker.specs.Checking.{Checking, Stepping}
 use Rattle.lrat_text.specs.Lines.{step_in}
 use Rattle.lrat_text.specs.declared.faults.LineFault.{LineFault}
-use Rattle.lrat_checker.specs.Adding.{Adding}
-use Rattle.step_stream.specs.Outline.{StepOutline, Adds, outline_in}
+use Rattle.step_stream.specs.Outline.{Adds, outline_in}
 use Rattle.step_stream.specs.Ahead.{ahead}
 use Rattle.step_stream.specs.declared.words.StepWords.{StepWords}
 use Rattle.list_journal.specs.declared.kinds.ListKind.{ListKind}
@@ -19,15 +20,21 @@ use Rattle.cert_lines.specs.Steps.{is_other}
 use Rattle.cert_lines.specs.Words.{Word, words_of, onto_first}
 use Rattle.cert_lines.specs.Saying.{or_bad_line}
 use Rattle.cert_lines.specs.declared.faults.CertError.{CertError}
-use Rattle.certificate_file.specs.Acceptance.{and_then, step_unless, take_step, step_line, lemma_unless, take_lemma, with_literal, lemma_line, listing_on, listed_by, literal_in, list_step_unless, list_step, list_line, list_text, after_progress, after_list_step, take_line}
-use Rattle.certificate_file.specs.Streamed.{finished, after_deletion, step_read, lemma_read, list_step_read}
+use Rattle.cert_lines.specs.Limits.{unless}
+use Rattle.cert_lines.specs.declared.faults.CertError.TheVariants.{NotNew}
+use Rattle.certificate_file.specs.Acceptance.{and_then, step_unless, take_step, step_line, is_covered, lemma_unless, take_lemma, with_literal, lemma_line, listed_by, literal_in, list_step_unless, list_step, list_line, list_text, after_progress, after_list_step, take_line}
+use Rattle.certificate_file.specs.Known.{IsKnown, IsKnownState}
+use Rattle.certificate_file.proofs.Meaning.{known_step, known_lemma}
+use Rattle.certificate_file.proofs.ListKnown.{known_list}
+use Rattle.certificate_file.specs.Streamed.{Finished, after_deletion, read, is_part_kind, is_part, place_of, after_step_of, checking_of, HasSizedSets}
+use Rattle.certificate_file.specs.declared.places.Proof.{Proof}
+use Rattle.certificate_file.specs.declared.places.Proof.TheVariants as proof
 use Rattle.certificate_file.specs.declared.places.Header.{Header}
 use Rattle.certificate_file.specs.declared.places.Subject.{Subject}
 use Rattle.certificate_file.specs.declared.places.ListPart.{ListPart}
 use Rattle.certificate_file.specs.declared.places.Listing.{Listing}
 use Rattle.certificate_file.specs.declared.places.Place.TheVariants.{AtSteps, AtLemmas, AtList}
 use Rattle.certificate_file.specs.declared.places.State.{State}
-use Rattle.certificate_file.specs.declared.places.State.TheVariants.{Going}
 
 neither : (a b : Bool) → (a || b) ≡ false → (a ≡ false) × (b ≡ false)
 neither true b is = absurd (false≢true (sym is))
@@ -50,76 +57,6 @@ not_listed (b ∷ bytes) is =
       | false ↦ first_word b (words_of bytes) later.0 later.1
     ]
 
-module _ (l : ℕ) (h : Header) (c : Checking) where
-  step_taken : (r : Result ProofStep LineFault) → and_then (take_step l h c) (or_bad_line l r) ≡ step_read l h c.vars c.database (outline_in c.vars c.database r)
-  step_taken (Err e) = refl
-  step_taken (Ok (Addition id lits hints)) = elim (addition_fault c.vars c.database id lits hints) as (λ o. step_unless l h c (Addition id lits hints) o ≡ step_read l h c.vars c.database (Some (Adds id lits o))) [
-    | Some fault ↦ refl
-    | None ↦ refl
-  ]
-  step_taken (Ok (Deletion id ids)) = elim (deletion_fault c.database.held [] ids) as (λ o. step_unless l h c (Deletion id ids) o ≡ and_then (λ t. Ok (after_progress h t.0 t.1)) (after_deletion l c.vars c.database ids o)) [
-    | Some fault ↦ refl
-    | None ↦ refl
-  ]
-
-  -- a step line of a refutation
-  pub step_streamed : (text : List ℕ) → is_other text ≡ false → step_line h c l text ≡ step_read l h c.vars c.database (outline_in c.vars c.database (step_in text))
-  step_streamed text is = rw (not_end text is) (step_taken (step_in text))
-
-  lemma_taken : (n : ℕ) (r : Result ProofStep LineFault) → and_then (take_lemma l h c n) (and_then (with_literal l) (or_bad_line l r)) ≡ lemma_read l h n c.vars c.database (outline_in c.vars c.database r)
-  lemma_taken n (Err e) = refl
-  lemma_taken n (Ok (Addition id [] hints)) = refl
-  lemma_taken n (Ok (Addition id (x ∷ xs) hints)) = elim (addition_fault c.vars c.database id (x ∷ xs) hints) as (λ o. lemma_unless l h c n (Addition id (x ∷ xs) hints) o ≡ lemma_read l h n c.vars c.database (Some (Adds id (x ∷ xs) o))) [
-    | Some fault ↦ refl
-    | None ↦ refl
-  ]
-  lemma_taken n (Ok (Deletion id ids)) = elim (deletion_fault c.database.held [] ids) as (λ o. lemma_unless l h c n (Deletion id ids) o ≡ and_then (λ t. Ok (Going (AtLemmas h t.0 n))) (after_deletion l c.vars c.database ids o)) [
-    | Some fault ↦ refl
-    | None ↦ refl
-  ]
-
-  -- one of a partial certificate
-  pub lemma_streamed : (n : ℕ) (text : List ℕ) → is_other text ≡ false → lemma_line h c n l text ≡ lemma_read l h n c.vars c.database (outline_in c.vars c.database (step_in text))
-  lemma_streamed n text is = rw (not_end text is) (lemma_taken n (step_in text))
-
-module _ (l : ℕ) (s : Subject) (part : ListPart) (vars : ℕ) (database : Database) (sets : List Table) (units : ℕ) where
-  list_taken : (kind : ListKind) (r : Result ProofStep LineFault) → and_then (list_step s (listing_on kind part vars database sets units) l) (and_then (literal_in kind l) (or_bad_line l r)) ≡ list_step_read l s (listing_on kind part vars database sets units) (outline_in vars database r)
-  list_taken Whole (Err e) = refl
-  list_taken Part (Err e) = refl
-  list_taken Whole (Ok (Addition id lits hints)) = elim (addition_fault vars database id lits hints) as (λ o. list_step_unless l s (listing_on Whole part vars database sets units) (Addition id lits hints) o ≡ list_step_read l s (listing_on Whole part vars database sets units) (Some (Adds id lits o))) [
-    | Some fault ↦ refl
-    | None ↦ refl
-  ]
-  list_taken Part (Ok (Addition id [] hints)) = refl
-  list_taken Part (Ok (Addition id (x ∷ xs) hints)) = elim (addition_fault vars database id (x ∷ xs) hints) as (λ o. list_step_unless l s (listing_on Part part vars database sets units) (Addition id (x ∷ xs) hints) o ≡ list_step_read l s (listing_on Part part vars database sets units) (Some (Adds id (x ∷ xs) o))) [
-    | Some fault ↦ refl
-    | None ↦ refl
-  ]
-  list_taken Whole (Ok (Deletion id ids)) = elim (deletion_fault database.held [] ids) as (λ o. list_step_unless l s (listing_on Whole part vars database sets units) (Deletion id ids) o ≡ and_then (λ t. Ok (after_list_step s (listing_on Whole part t.0.vars t.0.database sets units) t.1)) (after_deletion l vars database ids o)) [
-    | Some fault ↦ refl
-    | None ↦ refl
-  ]
-  list_taken Part (Ok (Deletion id ids)) = elim (deletion_fault database.held [] ids) as (λ o. list_step_unless l s (listing_on Part part vars database sets units) (Deletion id ids) o ≡ and_then (λ t. Ok (after_list_step s (listing_on Part part t.0.vars t.0.database sets units) t.1)) (after_deletion l vars database ids o)) [
-    | Some fault ↦ refl
-    | None ↦ refl
-  ]
-
--- one of a list
-pub list_streamed : (f : System) (s : Subject) (k : Listing) (l : ℕ) (text : List ℕ) → is_other text ≡ false → list_line f s k l text ≡ list_step_read l s k (outline_in k.checker.vars k.checker.database (step_in text))
-list_streamed f s k l text is =
-    rw (not_end text is)
-    (ap (list_text f s k l text) (not_listed text is) ∙ list_taken l s k.part k.checker.vars k.checker.database k.sets k.units k.kind (step_in text))
-
--- what a reader and a checker hold at the end of a line, for what the line's outline comes to
-pub streamed : (reads : ℕ → Database → Option StepOutline → Result State CertError) (v w x : ℕ) (d e b : Database) (words : StepWords) (now : Option Adding) (text : List ℕ)
-    → w ≡ v → e ≡ d → x ≡ w → b ≡ e → outline_in w e (step_in text) ≡ ahead w e words now [] → reads v d (outline_in v d (step_in text)) ≡ reads x b (ahead x b words now [])
-streamed reads v w x d e b words now text vars database later_vars later_database told =
-    sym (ap (λ (n : ℕ). reads n d (outline_in n d (step_in text))) vars)
-    ∙ sym (ap (λ (k : Database). reads w k (outline_in w k (step_in text))) database)
-    ∙ ap (reads w e) told
-    ∙ sym (ap (λ (n : ℕ). reads n e (ahead n e words now [])) later_vars)
-    ∙ sym (ap (λ (k : Database). reads x k (ahead x k words now [])) later_database)
-
 -- checkers with the same variables and clauses
 pub same_checking : (a b : Checking) → a.vars ≡ b.vars → a.database ≡ b.database → a ≡ b
 same_checking a b vars database = ap (λ (n : ℕ). record { vars = n; database = a.database }) vars ∙ ap (λ (d : Database). record { vars = b.vars; database = d }) database
@@ -136,3 +73,107 @@ at_lemmas f d h c n l text = refl
 pub at_list : (f : System) (d : List ℕ) (s : Subject) (k : Listing) (l : ℕ) (text : List ℕ) → take_line f d (AtList s k) l text ≡ list_line f s k l text
 unfolding take_line
 at_list f d s k l text = refl
+
+-- ---- steps that were read
+
+-- the state behind a step that was read
+abbrev next_of : Proof → Finished × ℕ → Result State CertError
+next_of p r = Ok (after_step_of p r.0.0 r.1 r.0.1)
+
+unless_then : {A B : Type 0} (g : A → Result B CertError) (e : CertError) (t : Bool) (r : Result A CertError) → unless e t (and_then g r) ≡ and_then g (unless e t r)
+unless_then g e true r = refl
+unless_then g e false r = refl
+
+progress_so : (h : Header) (c : Checking) (n : ℕ) (p : Progress) → after_progress h c p ≡ after_step_of (proof.Refutation h) c n p
+progress_so h c n going = refl
+progress_so h c n Refuted = refl
+
+list_progress_so : (s : Subject) (kind : ListKind) (part : ListPart) (sets : List Table) (c : Checking) (n : ℕ) (p : Progress) → after_list_step s (record { kind = kind; part = part; checker = c; sets = sets; units = n }) p ≡ after_step_of (proof.List s kind part sets) c n p
+list_progress_so s kind part sets c n going = refl
+list_progress_so s kind part sets c n Refuted = refl
+
+module _ (l : ℕ) (h : Header) (c : Checking) (n : ℕ) where
+  step_taken : (r : Result ProofStep LineFault) → and_then (take_step l h c) (or_bad_line l r) ≡ and_then (next_of (proof.Refutation h)) (read l false c.vars c.database n (outline_in c.vars c.database r))
+  step_taken (Err e) = refl
+  step_taken (Ok (Addition id lits hints)) = elim (addition_fault c.vars c.database id lits hints) as (λ o. step_unless l h c (Addition id lits hints) o ≡ and_then (next_of (proof.Refutation h)) (read l false c.vars c.database n (Some (Adds id lits o)))) [
+    | Some fault ↦ refl
+    | None ↦ ap (λ (s : State). Ok s) (progress_so h (record { vars = c.vars; database = record { held = with_clause c.database.held id lits; last = id } }) (n + 1) (progress_at lits))
+  ]
+  step_taken (Ok (Deletion id ids)) = elim (deletion_fault c.database.held [] ids) as (λ o. step_unless l h c (Deletion id ids) o ≡ and_then (next_of (proof.Refutation h)) (and_then (λ t. Ok (t, n)) (after_deletion l c.vars c.database ids o))) [
+    | Some fault ↦ refl
+    | None ↦ refl
+  ]
+
+  lemma_taken : (r : Result ProofStep LineFault) → and_then (take_lemma l h c n) (and_then (with_literal l) (or_bad_line l r)) ≡ and_then (next_of (proof.Partial h)) (read l true c.vars c.database n (outline_in c.vars c.database r))
+  lemma_taken (Err e) = refl
+  lemma_taken (Ok (Addition id [] hints)) = refl
+  lemma_taken (Ok (Addition id (x ∷ xs) hints)) = elim (addition_fault c.vars c.database id (x ∷ xs) hints) as (λ o. lemma_unless l h c n (Addition id (x ∷ xs) hints) o ≡ and_then (next_of (proof.Partial h)) (read l true c.vars c.database n (Some (Adds id (x ∷ xs) o)))) [
+    | Some fault ↦ refl
+    | None ↦ unless_then (next_of (proof.Partial h)) (NotNew l) (not (is_covered c.database.held id (x ∷ xs))) (Ok ((record { vars = c.vars; database = record { held = with_clause c.database.held id (x ∷ xs); last = id } }, going), n + 1))
+  ]
+  lemma_taken (Ok (Deletion id ids)) = elim (deletion_fault c.database.held [] ids) as (λ o. lemma_unless l h c n (Deletion id ids) o ≡ and_then (next_of (proof.Partial h)) (and_then (λ t. Ok (t, n)) (after_deletion l c.vars c.database ids o))) [
+    | Some fault ↦ refl
+    | None ↦ refl
+  ]
+
+module _ (l : ℕ) (s : Subject) (part : ListPart) (c : Checking) (sets : List Table) (n : ℕ) where
+  list_taken : (kind : ListKind) (r : Result ProofStep LineFault) → and_then (list_step s (record { kind = kind; part = part; checker = c; sets = sets; units = n }) l) (and_then (literal_in kind l) (or_bad_line l r)) ≡ and_then (next_of (proof.List s kind part sets)) (read l (is_part_kind kind) c.vars c.database n (outline_in c.vars c.database r))
+  list_taken Whole (Err e) = refl
+  list_taken Part (Err e) = refl
+  list_taken Whole (Ok (Addition id lits hints)) = elim (addition_fault c.vars c.database id lits hints) as (λ o. list_step_unless l s (record { kind = Whole; part = part; checker = c; sets = sets; units = n }) (Addition id lits hints) o ≡ and_then (next_of (proof.List s Whole part sets)) (read l false c.vars c.database n (Some (Adds id lits o)))) [
+    | Some fault ↦ refl
+    | None ↦ ap (λ (s : State). Ok s) (list_progress_so s Whole part sets (record { vars = c.vars; database = record { held = with_clause c.database.held id lits; last = id } }) (n + 1) (progress_at lits))
+  ]
+  list_taken Part (Ok (Addition id [] hints)) = refl
+  list_taken Part (Ok (Addition id (x ∷ xs) hints)) = elim (addition_fault c.vars c.database id (x ∷ xs) hints) as (λ o. list_step_unless l s (record { kind = Part; part = part; checker = c; sets = sets; units = n }) (Addition id (x ∷ xs) hints) o ≡ and_then (next_of (proof.List s Part part sets)) (read l true c.vars c.database n (Some (Adds id (x ∷ xs) o)))) [
+    | Some fault ↦ refl
+    | None ↦ unless_then (next_of (proof.List s Part part sets)) (NotNew l) (not (is_covered c.database.held id (x ∷ xs))) (Ok ((record { vars = c.vars; database = record { held = with_clause c.database.held id (x ∷ xs); last = id } }, going), n + 1))
+  ]
+  list_taken Whole (Ok (Deletion id ids)) = elim (deletion_fault c.database.held [] ids) as (λ o. list_step_unless l s (record { kind = Whole; part = part; checker = c; sets = sets; units = n }) (Deletion id ids) o ≡ and_then (next_of (proof.List s Whole part sets)) (and_then (λ t. Ok (t, n)) (after_deletion l c.vars c.database ids o))) [
+    | Some fault ↦ refl
+    | None ↦ refl
+  ]
+  list_taken Part (Ok (Deletion id ids)) = elim (deletion_fault c.database.held [] ids) as (λ o. list_step_unless l s (record { kind = Part; part = part; checker = c; sets = sets; units = n }) (Deletion id ids) o ≡ and_then (next_of (proof.List s Part part sets)) (and_then (λ t. Ok (t, n)) (after_deletion l c.vars c.database ids o))) [
+    | Some fault ↦ refl
+    | None ↦ refl
+  ]
+
+-- a step line is taken as its outline is
+read_so : (f : System) (d : List ℕ) (p : Proof) (c : Checking) (n l : ℕ) (text : List ℕ) → is_other text ≡ false → take_line f d (place_of p c n) l text ≡ and_then (next_of p) (read l (is_part p) c.vars c.database n (outline_in c.vars c.database (step_in text)))
+read_so f d (proof.Refutation h) c n l text is = at_steps f d h c l text ∙ rw (not_end text is) (step_taken l h c n (step_in text))
+read_so f d (proof.Partial h) c n l text is = at_lemmas f d h c n l text ∙ rw (not_end text is) (lemma_taken l h c n (step_in text))
+read_so f d (proof.List s kind part sets) c n l text is =
+    at_list f d s (record { kind = kind; part = part; checker = c; sets = sets; units = n }) l text
+    ∙ rw (not_end text is)
+    (ap (list_text f s (record { kind = kind; part = part; checker = c; sets = sets; units = n }) l text) (not_listed text is) ∙ list_taken l s part c sets n kind (step_in text))
+
+-- a step line that was read as a stream, before and after which the checkers were these, is taken so
+pub read_line : (f : System) (d : List ℕ) (p : Proof) (part : Bool) (now later : Stepping) (n l line : ℕ) (words : StepWords) (text : List ℕ) (r : Result (Finished × ℕ) CertError)
+    → later.vars ≡ now.vars → later.database ≡ now.database → line ≡ l → part ≡ is_part p → is_other text ≡ false
+    → outline_in now.vars now.database (step_in text) ≡ ahead now.vars now.database words later.open_addition []
+    → read line part later.vars later.database n (ahead later.vars later.database words later.open_addition []) ≡ r
+    → take_line f d (place_of p (checking_of now) n) l text ≡ and_then (next_of p) r
+read_line f d p part now later n l line words text r vars database number is other told came =
+    read_so f d p (checking_of now) n l text other
+    ∙ ap (and_then (next_of p)) (
+    ap (read l (is_part p) now.vars now.database n) told
+    ∙ sym (ap (λ (v : ℕ). read l (is_part p) v now.database n (ahead v now.database words later.open_addition [])) vars)
+    ∙ sym (ap (λ (b : Database). read l (is_part p) later.vars b n (ahead later.vars b words later.open_addition [])) database)
+    ∙ sym (ap (λ (x : ℕ). read x (is_part p) later.vars later.database n (ahead later.vars later.database words later.open_addition [])) number)
+    ∙ sym (ap (λ (x : Bool). read line x later.vars later.database n (ahead later.vars later.database words later.open_addition [])) is)
+    ∙ came
+    )
+
+-- the sets of a proof's list have places for the system's nodes
+pub sized_sets : (f : System) (p : Proof) (c : Checking) (n : ℕ) → IsKnown f (place_of p c n) → HasSizedSets p
+sized_sets f (proof.Refutation h) c n is = tt
+sized_sets f (proof.Partial h) c n is = tt
+sized_sets f (proof.List s kind part sets) c n is = (length f.sets, λ k t low. (is.sets k t low).places)
+
+-- what is known behind a line of a proof by steps
+pub known_after : (f : System) (d : List ℕ) (p : Proof) (c : Checking) (n l : ℕ) (text : List ℕ) (state : State) → IsKnown f (place_of p c n) → take_line f d (place_of p c n) l text ≡ Ok state → IsKnownState f state
+known_after f d (proof.Refutation h) c n l text state is e = known_step f h c l text is state (sym (at_steps f d h c l text) ∙ e)
+known_after f d (proof.Partial h) c n l text state is e = known_lemma f h c n l text is state (sym (at_lemmas f d h c n l text) ∙ e)
+known_after f d (proof.List s kind part sets) c n l text state is e =
+    let k : Listing = record { kind = kind; part = part; checker = c; sets = sets; units = n } in
+    known_list f s k l text is state (sym (at_list f d s k l text) ∙ e)

@@ -1,23 +1,24 @@
 -- What a step line comes to that is read as a stream, by the outline of its step.
-use Rattle.std.specs.Prelude.{ℕ, ◌+◌, List, [], ◌∷◌, Bool, true, false, not, ◌&&◌, Option, None, Some, Result, Ok, Err, if◌then◌else◌}
+use Rattle.std.specs.Prelude.{◌≡◌, ℕ, ◌+◌, List, [], ◌∷◌, length, All, Bool, true, false, not, ◌&&◌, Option, None, Some, Result, Ok, Err, if◌then◌else◌}
 use Rattle.lrat_model.specs.Clauses.{Held, with_clause, without}
 use Rattle.lrat_model.specs.Steps.{Database, deletion_fault, progress_at}
 use Rattle.lrat_model.specs.declared.step.StepFault.{StepFault}
 use Rattle.lrat_model.specs.declared.step.Progress.{Progress}
-use Rattle.lrat_model.specs.declared.step.Progress.TheVariants.{Going as going}
-use Rattle.lrat_checker.specs.Checking.{Checking}
+use Rattle.lrat_model.specs.declared.step.Progress.TheVariants.{Going as going, Refuted}
+use Rattle.lrat_checker.specs.Checking.{Checking, Stepping}
 use Rattle.step_stream.specs.Outline.{StepOutline, Adds, Deletes}
 use Rattle.list_journal.specs.declared.kinds.ListKind.{ListKind}
 use Rattle.list_journal.specs.declared.kinds.ListKind.TheVariants.{Whole, Partial as Part}
-use Rattle.list_journal.specs.declared.kinds.Listed.TheVariants as listed
 use Rattle.cert_lines.specs.Limits.{unless}
-use Rattle.certificate_file.specs.Acceptance.{and_then, after_progress, is_covered, asks_new, listing_on, after_list_step}
-use Rattle.certificate_file.specs.declared.places.Header.{Header}
-use Rattle.certificate_file.specs.declared.places.Subject.{Subject}
-use Rattle.certificate_file.specs.declared.places.Listing.{Listing}
-use Rattle.certificate_file.specs.declared.places.Place.TheVariants.{AtLemmas}
+use Rattle.list_journal.specs.Order.{ordered}
+use Rattle.certificate_file.specs.Acceptance.{and_then, is_covered}
+use Rattle.certificate_file.specs.declared.places.Answer.TheVariants.{Refutation, Blocking}
+use Rattle.certificate_file.specs.declared.places.Place.{Place}
+use Rattle.certificate_file.specs.declared.places.Place.TheVariants.{AtSteps, AtLemmas, AtList, AtEnd}
 use Rattle.certificate_file.specs.declared.places.State.{State}
 use Rattle.certificate_file.specs.declared.places.State.TheVariants.{Going}
+use Rattle.certificate_file.specs.declared.places.Proof.{Proof}
+use Rattle.certificate_file.specs.declared.places.Proof.TheVariants as proof
 use Rattle.cert_lines.specs.declared.faults.CertError.{CertError}
 use Rattle.cert_lines.specs.declared.faults.CertError.TheVariants.{BadLine, NotNew, Step}
 
@@ -35,10 +36,6 @@ finished l vars database None = Err (BadLine l)
 finished l vars database (Some (Adds id lits (Some fault))) = Err (Step l fault)
 finished l vars database (Some (Adds id lits None)) = Ok (record { vars = vars; database = record { held = with_clause database.held id lits; last = id } }, progress_at lits)
 finished l vars database (Some (Deletes id ids)) = after_deletion l vars database ids (deletion_fault database.held [] ids)
-
--- a step of a refutation
-abbrev pub step_read : ℕ → Header → ℕ → Database → Option StepOutline → Result State CertError
-step_read l h vars database o = and_then (λ t. Ok (after_progress h t.0 t.1)) (finished l vars database o)
 
 -- it adds the empty lemma
 abbrev pub is_empty_lemma : Option StepOutline → Bool
@@ -59,20 +56,49 @@ counted_read n None = n
 counted_read n (Some (Adds id lits fault)) = n + 1
 counted_read n (Some (Deletes id ids)) = n
 
--- a lemma of a partial certificate, or a deletion
-abbrev pub lemma_read : ℕ → Header → ℕ → ℕ → Database → Option StepOutline → Result State CertError
-lemma_read l h n vars database o =
-    if is_empty_lemma o then Err (BadLine l)
-    else and_then (λ t. unless (NotNew l) (not (covers_read database.held o)) (Ok (Going (AtLemmas h t.0 (counted_read n o))))) (finished l vars database o)
+-- the step of line l taken, and the units after it. In a part of a proof the empty lemma may not stand, and each lemma has to
+-- be new
+abbrev pub read : ℕ → Bool → ℕ → Database → ℕ → Option StepOutline → Result (Finished × ℕ) CertError
+read l part vars database n o =
+    if part && is_empty_lemma o then Err (BadLine l)
+    else and_then (λ t. unless (NotNew l) (not (part && covers_read database.held o)) (Ok (t, counted_read n o))) (finished l vars database o)
 
--- whether the empty lemma may not stand in such a list
-abbrev pub bars_empty : ListKind → Bool
-bars_empty Whole = false
-bars_empty Part = true
+-- what a checker holds between two steps
+abbrev pub checking_of : Stepping → Checking
+checking_of c = record { vars = c.vars; database = c.database }
 
--- a step of a list
-abbrev pub list_step_read : ℕ → Subject → Listing → Option StepOutline → Result State CertError
-list_step_read l s k o =
-    if bars_empty k.kind && is_empty_lemma o then Err (BadLine l)
-    else and_then (λ t. unless (NotNew l) (not (asks_new k.kind listed.Quorum && covers_read k.checker.database.held o))
-    (Ok (after_list_step s (listing_on k.kind k.part t.0.vars t.0.database k.sets (counted_read k.units o)) t.1))) (finished l k.checker.vars k.checker.database o)
+-- ---- proofs by steps
+
+-- whether it is a part of such a list
+abbrev pub is_part_kind : ListKind → Bool
+is_part_kind Whole = false
+is_part_kind Part = true
+
+-- whether it is a part of a proof
+abbrev pub is_part : Proof → Bool
+is_part (proof.Refutation h) = false
+is_part (proof.Partial h) = true
+is_part (proof.List s kind part sets) = is_part_kind kind
+
+-- the place of its next line, where this is held and there are so many units
+abbrev pub place_of : Proof → Checking → ℕ → Place
+place_of (proof.Refutation h) c n = AtSteps h c
+place_of (proof.Partial h) c n = AtLemmas h c n
+place_of (proof.List s kind part sets) c n = AtList s (record { kind = kind; part = part; checker = c; sets = sets; units = n })
+
+-- the place behind the empty lemma
+abbrev pub end_of : Proof → Place
+end_of (proof.Refutation h) = AtEnd (record { header = h; answer = Refutation })
+end_of (proof.Partial h) = AtEnd (record { header = h; answer = Refutation })
+end_of (proof.List s kind part sets) = AtEnd (record { header = s.header; answer = Blocking (ordered sets) })
+
+-- what is so after a step, by where it led
+abbrev pub after_step_of : Proof → Checking → ℕ → Progress → State
+after_step_of p c n going = Going (place_of p c n)
+after_step_of p c n Refuted = Going (end_of p)
+
+-- the sets of a list have places for one number of nodes
+abbrev pub HasSizedSets : Proof → Type 0
+HasSizedSets (proof.Refutation h) = Unit {0}
+HasSizedSets (proof.Partial h) = Unit {0}
+HasSizedSets (proof.List s kind part sets) = (n : ℕ) × All (λ t. length t ≡ n) sets

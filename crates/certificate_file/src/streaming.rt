@@ -1,30 +1,22 @@
-//! Steps that were read as a stream.
-ghost use Rattle.std.specs.Prelude.{◌≡◌, ◌⊎◌, [], ℕ, length, All, Option, None, IfOk, IfErr, IfSome, IsErrOf, Ok, Err};
+//! One step that was read as a stream.
+ghost use Rattle.std.specs.Prelude.{◌≡◌, ◌⊎◌, [], ℕ, Option, None, IfOk, IfErr, IfSome, IsErrOf, OnOk, Ok, Err};
 ghost use Rattle.lrat_model.specs.Steps.{Database};
 ghost use Rattle.lrat_checker.specs.Adding.{Adding};
 ghost use Rattle.step_stream.specs.Ahead.{ahead, IsOpen, Fits};
-ghost use Rattle.certificate_file.specs.Acceptance.{asks_new, listing_on};
-ghost use Rattle.certificate_file.specs.Streamed.{finished, step_read, is_empty_lemma, covers_read, counted_read, lemma_read, bars_empty, list_step_read};
-ghost use Rattle.list_journal.specs.declared.kinds.Listed.TheVariants.{Quorum};
+ghost use Rattle.certificate_file.specs.Streamed.{finished, is_empty_lemma, covers_read, counted_read, read, checking_of};
 
-use crate::list_steps::after_list_step;
-use crate::places::{Accepted, Answer, Header, ListPart, Listing, Place, State, Subject};
 use cert_lines::CertError;
-use list_journal::{ListKind, SetList};
-use lrat_checker::{Checker, IdleChecker};
+use lrat_checker::Checker;
 use lrat_model::{Progress, StepFault};
 use step_stream::{Stage, StepWords};
 
-/// The checker after the step, and where it led, or the fault: of the line's words first.
-fn finish(
-    checker: Checker,
-    words: &mut StepWords,
-    line: u64,
-) -> Result<(IdleChecker, Progress), CertError>
-    requires { Fits words.old checker.open_addition }
+/// Ends the step, and gives where it led, or the fault: of the line's words first.
+fn finish(checker: &mut Checker, words: &mut StepWords, line: u64) -> Result<Progress, CertError>
+    requires { Fits words.old checker.old.open_addition }
+    ensures closed { OnOk result (checker.new.open_addition ≡ None) }
     ensures unread { IsErrOf result CertError.Read → ⊥ }
-    ensures ok { IfOk result (λ r. finished line checker.vars checker.database (ahead checker.vars checker.database words.old checker.open_addition []) ≡ Ok r) }
-    ensures err { IfErr result (λ e. (e ≡ CertError.Memory) ⊎ (finished line checker.vars checker.database (ahead checker.vars checker.database words.old checker.open_addition []) ≡ Err e)) }
+    ensures ok { IfOk result (λ p. finished line checker.old.vars checker.old.database (ahead checker.old.vars checker.old.database words.old checker.old.open_addition []) ≡ Ok (checking_of checker.new, p)) }
+    ensures err { IfErr result (λ e. (e ≡ CertError.Memory) ⊎ (finished line checker.old.vars checker.old.database (ahead checker.old.vars checker.old.database words.old checker.old.open_addition []) ≡ Err e)) }
 {
     match words.stage {
         Stage::Added(_) => finish_addition(checker, words, line),
@@ -40,20 +32,21 @@ fn finish(
 
 /// Ends an addition, where no fault was kept.
 fn finish_addition(
-    mut checker: Checker,
+    checker: &mut Checker,
     words: &mut StepWords,
     line: u64,
-) -> Result<(IdleChecker, Progress), CertError>
-    requires { (id : ℕ) × (words.old.stage ≡ Stage.Added id) × IsOpen id words.old.lits.items words.old.fault checker.open_addition }
+) -> Result<Progress, CertError>
+    requires { (id : ℕ) × (words.old.stage ≡ Stage.Added id) × IsOpen id words.old.lits.items words.old.fault checker.old.open_addition }
+    ensures closed { OnOk result (checker.new.open_addition ≡ None) }
     ensures unread { IsErrOf result CertError.Read → ⊥ }
-    ensures ok { IfOk result (λ r. finished line checker.vars checker.database (ahead checker.vars checker.database words.old checker.open_addition []) ≡ Ok r) }
-    ensures err { IfErr result (λ e. (e ≡ CertError.Memory) ⊎ (finished line checker.vars checker.database (ahead checker.vars checker.database words.old checker.open_addition []) ≡ Err e)) }
+    ensures ok { IfOk result (λ p. finished line checker.old.vars checker.old.database (ahead checker.old.vars checker.old.database words.old checker.old.open_addition []) ≡ Ok (checking_of checker.new, p)) }
+    ensures err { IfErr result (λ e. (e ≡ CertError.Memory) ⊎ (finished line checker.old.vars checker.old.database (ahead checker.old.vars checker.old.database words.old checker.old.open_addition []) ≡ Err e)) }
 {
     if let Some(fault) = words.fault.take() {
         return Err(CertError::Step(line, fault));
     }
     match checker.finish_add() {
-        Ok(progress) => Ok((IdleChecker::closing(checker), progress)),
+        Ok(progress) => Ok(progress),
         Err(StepFault::Memory) => Err(CertError::Memory),
         Err(fault) => Err(CertError::Step(line, fault)),
     }
@@ -61,41 +54,20 @@ fn finish_addition(
 
 /// Takes the clauses of a deletion out.
 fn finish_deletion(
-    mut checker: Checker,
+    checker: &mut Checker,
     words: &mut StepWords,
     line: u64,
-) -> Result<(IdleChecker, Progress), CertError>
-    requires { (id : ℕ) × (words.old.stage ≡ Stage.Deleted id) × (checker.open_addition ≡ None) }
+) -> Result<Progress, CertError>
+    requires { (id : ℕ) × (words.old.stage ≡ Stage.Deleted id) × (checker.old.open_addition ≡ None) }
+    ensures closed { OnOk result (checker.new.open_addition ≡ None) }
     ensures unread { IsErrOf result CertError.Read → ⊥ }
-    ensures ok { IfOk result (λ r. finished line checker.vars checker.database (ahead checker.vars checker.database words.old checker.open_addition []) ≡ Ok r) }
-    ensures err { IfErr result (λ e. (e ≡ CertError.Memory) ⊎ (finished line checker.vars checker.database (ahead checker.vars checker.database words.old checker.open_addition []) ≡ Err e)) }
+    ensures ok { IfOk result (λ p. finished line checker.old.vars checker.old.database (ahead checker.old.vars checker.old.database words.old checker.old.open_addition []) ≡ Ok (checking_of checker.new, p)) }
+    ensures err { IfErr result (λ e. (e ≡ CertError.Memory) ⊎ (finished line checker.old.vars checker.old.database (ahead checker.old.vars checker.old.database words.old checker.old.open_addition []) ≡ Err e)) }
 {
     match checker.delete(&words.ids) {
-        Ok(progress) => Ok((IdleChecker::closing(checker), progress)),
+        Ok(progress) => Ok(progress),
         Err(fault) => Err(CertError::Step(line, fault)),
     }
-}
-
-/// A step of a refutation: the empty lemma ends it.
-pub fn step_read(
-    header: Header,
-    checker: Checker,
-    words: &mut StepWords,
-    line: u64,
-) -> Result<State, CertError>
-    requires { Fits words.old checker.open_addition }
-    ensures unread { IsErrOf result CertError.Read → ⊥ }
-    ensures ok { IfOk result (λ s. step_read line header checker.vars checker.database (ahead checker.vars checker.database words.old checker.open_addition []) ≡ Ok s) }
-    ensures err { IfErr result (λ e. (e ≡ CertError.Memory) ⊎ (step_read line header checker.vars checker.database (ahead checker.vars checker.database words.old checker.open_addition []) ≡ Err e)) }
-{
-    let (checker, progress) = finish(checker, words, line)?;
-    Ok(State::Going(match progress {
-        Progress::Going => Place::AtSteps(header, checker),
-        Progress::Refuted => Place::AtEnd(Accepted {
-            header,
-            answer: Answer::Refutation,
-        }),
-    }))
 }
 
 /// Whether it adds the empty lemma.
@@ -146,87 +118,33 @@ fn counted_read(units: u64, words: &StepWords) -> Option<u64>
     }
 }
 
-/// A lemma of a partial certificate, which has to be new, or a deletion.
-pub fn lemma_read(
-    header: Header,
-    checker: Checker,
-    units: u64,
+/// Takes the step that was read: where it led, with the units counted on. In a part of a proof the empty lemma may not stand,
+/// and each lemma has to be new.
+pub fn take_read(
+    checker: &mut Checker,
+    units: &mut u64,
+    is_part: bool,
     words: &mut StepWords,
     line: u64,
-) -> Result<State, CertError>
-    requires { Fits words.old checker.open_addition }
+) -> Result<Progress, CertError>
+    requires { Fits words.old checker.old.open_addition }
+    ensures closed { OnOk result (checker.new.open_addition ≡ None) }
     ensures unread { IsErrOf result CertError.Read → ⊥ }
-    ensures ok { IfOk result (λ s. lemma_read line header units checker.vars checker.database (ahead checker.vars checker.database words.old checker.open_addition []) ≡ Ok s) }
-    ensures err { IfErr result (λ e. (e ≡ CertError.Memory) ⊎ (lemma_read line header units checker.vars checker.database (ahead checker.vars checker.database words.old checker.open_addition []) ≡ Err e)) }
+    ensures ok { IfOk result (λ p. read line is_part checker.old.vars checker.old.database units.old (ahead checker.old.vars checker.old.database words.old checker.old.open_addition []) ≡ Ok ((checking_of checker.new, p), units.new)) }
+    ensures err { IfErr result (λ e. (e ≡ CertError.Memory) ⊎ (read line is_part checker.old.vars checker.old.database units.old (ahead checker.old.vars checker.old.database words.old checker.old.open_addition []) ≡ Err e)) }
 {
-    if is_empty_lemma(words) {
-        return Err(CertError::BadLine(line));
-    }
-    let is_covered = covers_read(&checker, words);
-    let counted = counted_read(units, words);
-    let (checker, _) = finish(checker, words, line)?;
-    if is_covered {
-        return Err(CertError::NotNew(line));
-    }
-    match counted {
-        Some(units) => Ok(State::Going(Place::AtLemmas(header, checker, units))),
-        None => Err(CertError::Memory),
-    }
-}
-
-/// A list without its checker, which is at a step.
-#[derive(Drop)]
-pub struct Paused {
-    pub kind: ListKind,
-    pub part: ListPart,
-    pub sets: SetList,
-    pub units: u64,
-}
-
-/// A step of a list: the empty lemma ends a whole one, and may not stand in a part, where each lemma has to be new.
-pub fn list_step_read(
-    subject: Subject,
-    list: Paused,
-    checker: Checker,
-    words: &mut StepWords,
-    line: u64,
-) -> Result<State, CertError>
-    requires fits { Fits words.old checker.open_addition }
-    requires sets { (n : ℕ) × All (λ s. length s ≡ n) list.sets }
-    ensures unread { IsErrOf result CertError.Read → ⊥ }
-    ensures ok { IfOk result (λ s. list_step_read line subject (listing_on list.kind list.part checker.vars checker.database list.sets list.units) (ahead checker.vars checker.database words.old checker.open_addition []) ≡ Ok s) }
-    ensures err { IfErr result (λ e. (e ≡ CertError.Memory) ⊎ (list_step_read line subject (listing_on list.kind list.part checker.vars checker.database list.sets list.units) (ahead checker.vars checker.database words.old checker.open_addition []) ≡ Err e)) }
-{
-    let is_part = is_part(list.kind);
     if is_part && is_empty_lemma(words) {
         return Err(CertError::BadLine(line));
     }
-    let is_old = is_part && covers_read(&checker, words);
-    let counted = counted_read(list.units, words);
-    let (checker, progress) = finish(checker, words, line)?;
+    let is_old = is_part && covers_read(checker, words);
+    let counted = counted_read(*units, words);
+    let progress = finish(checker, words, line)?;
     if is_old {
         return Err(CertError::NotNew(line));
     }
-    let Some(units) = counted else {
+    let Some(counted) = counted else {
         return Err(CertError::Memory);
     };
-    let listing = Listing {
-        kind: list.kind,
-        part: list.part,
-        checker,
-        sets: list.sets,
-        units,
-    };
-    Ok(State::Going(after_list_step(subject, listing, progress)))
-}
-
-/// Whether the list is a part of one, so that the empty lemma may not stand in it and each lemma has to be new.
-fn is_part(kind: ListKind) -> bool
-    ensures bars { result ≡ bars_empty kind }
-    ensures asks { result ≡ asks_new kind Quorum }
-{
-    match kind {
-        ListKind::Whole => false,
-        ListKind::Partial => true,
-    }
+    *units = counted;
+    Ok(progress)
 }

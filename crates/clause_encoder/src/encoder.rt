@@ -7,18 +7,18 @@ ghost use Rattle.lrat_model.specs.Literal.{formula_true};
 ghost use Rattle.lrat_model.specs.Clauses.{numbered, Satisfies, IsUnsatisfiable};
 ghost use Rattle.lrat_model.specs.Ranges.{AreInRange};
 ghost use Rattle.lrat_model.specs.Runs.{formula_database};
-ghost use Rattle.threshold_circuit.specs.Views.{circuit_view};
 ghost use Rattle.clause_encoder.specs.declared.limits.TheConstants.{MOST_CLAUSES, MOST_VARS};
 ghost use Rattle.clause_encoder.specs.declared.encoder.EncodeError.TheVariants.{TooLarge};
-ghost use Rattle.clause_encoder.specs.Formula.{side_a, side_b, formula_over, formula_clauses as spec_clauses, formula_vars as spec_vars, clauses_in, vars_in};
+ghost use Rattle.clause_encoder.specs.Formula.{side_a, side_b, formula_over, formula_clauses as clauses_in, formula_vars};
 ghost use Rattle.clause_encoder.specs.Meaning.{told, Tells, AreDisjointQuorums};
-ghost use Rattle.clause_encoder.specs.Written.{circuit_in, IsWritable};
+ghost use Rattle.clause_encoder.specs.Written.{circuit_in, AreWritable};
 ghost use Rattle.clause_encoder.specs.declared.version.Version.{Version};
 
+use crate::circuits::Circuits;
 use crate::count::count_vars;
 use crate::limits::MOST_VARS;
 use crate::marks::Marks;
-use crate::nodes::{circuits_of, members_of, variables_of};
+use crate::nodes::{members_of, variables_of};
 use crate::sides::formula_clauses;
 use crate::var_map::VarMap;
 use crate::version::Version;
@@ -27,7 +27,6 @@ use fbas_core::System;
 use name_set::NodeSet;
 use std::alloc::{AllocError, Global};
 use thiserror::Error;
-use threshold_circuit::Circuit;
 
 /// Why there is no formula.
 #[derive(Clone, Copy, Debug, PartialEq, Eq, Error)]
@@ -60,13 +59,13 @@ fn encode_within(
     n: u32,
     vars: u32,
     nodes: &[u32],
-    circuits: &[Circuit],
+    circuits: &Circuits,
 ) -> Result<Store, AllocError>
     requires n { n ≡ length greatest.now }
     requires few { n ≤ MOST_NODES }
     requires nodes { nodes.now ≡ listed_from 0 greatest.now }
-    requires same_n { length circuits.now ≡ n }
-    requires writable { All (λ c. IsWritable n (circuit_view c)) circuits.now }
+    requires same_n { length circuits.now.kinds ≡ n }
+    requires writable { AreWritable n circuits.now.different }
     requires small { vars ≤ MOST_VARS }
     requires members { 2 * length nodes.now ≤ vars }
     requires vars { vars + 1 ≡ (formula_over version (λ v. v) (λ v. v) (1 + length nodes.now + length nodes.now) (circuit_in circuits.now) nodes.now).after.next }
@@ -96,8 +95,9 @@ fn encode_within(
 /// is written stands for that gate.
 ///
 /// `TooLarge` comes where the formula has more than `MOST_VARS` variables, which are counted before anything is written.
-/// Linear in n, in the entries of the members' quorum sets and in the formula, on average over the hashes of circuits.
-pub fn encode_in(
+/// Linear in n, in the entries of the members' quorum sets and in the formula, on average over the hashes of circuits. A quorum
+/// set is read once: of nodes with equal circuits one circuit is kept, and its gate is found again without a look at it.
+pub fn encode(
     alloc: Global,
     version: Version,
     system: &System,
@@ -108,10 +108,10 @@ pub fn encode_in(
     requires same_n { length greatest.now ≡ length system.now.sets }
     requires greatest { IsGreatestQuorum system.now.sets (members faulty.now) (all_nodes system.now.sets) (members greatest.now) }
     ensures store { IfOk result (λ r. r.0 ≡ formula_database (clauses_in version system.now.sets faulty.now greatest.now)) }
-    ensures variables { IfOk result (λ r. r.1 ≡ record { greatest = greatest.now; count = vars_in version system.now.sets faulty.now greatest.now }) }
-    ensures small { IfOk result (λ r. vars_in version system.now.sets faulty.now greatest.now ≤ MOST_VARS) }
+    ensures variables { IfOk result (λ r. r.1 ≡ record { greatest = greatest.now; count = formula_vars version system.now.sets faulty.now greatest.now }) }
+    ensures small { IfOk result (λ r. formula_vars version system.now.sets faulty.now greatest.now ≤ MOST_VARS) }
     ensures few { IfOk result (λ r. r.0.last ≤ MOST_CLAUSES) }
-    ensures too_large { (vars : ℕ) → result ≡ Err (TooLarge vars) → (vars ≡ vars_in version system.now.sets faulty.now greatest.now) × (MOST_VARS < vars) }
+    ensures too_large { (vars : ℕ) → result ≡ Err (TooLarge vars) → (vars ≡ formula_vars version system.now.sets faulty.now greatest.now) × (MOST_VARS < vars) }
     ensures in_range { IfOk result (λ r. AreInRange r.1.count r.0.held) }
     ensures exact { IfOk result (λ r. IsUnsatisfiable r.0.held ↔ Intersects system.now.sets (members faulty.now)) }
     ensures tells { (v : ℕ → Bool) → IfOk result (λ r. Satisfies v r.0.held → AreDisjointQuorums system.now.sets (members faulty.now) (told (side_a greatest.now) greatest.now v) (told (side_b greatest.now) greatest.now v)) }
@@ -119,43 +119,19 @@ pub fn encode_in(
 {
     let n = system.len();
     let nodes = members_of(alloc, greatest)?;
-    let circuits = circuits_of(alloc, system, faulty, greatest)?;
+    let circuits = Circuits::of(alloc, system, faulty, greatest)?;
     let vars = count_vars(alloc, version, &nodes, &circuits)?;
     if vars > MOST_VARS {
         return Err(EncodeError::TooLarge(vars));
     }
     let store = encode_within(alloc, version, greatest, n, vars as u32, &nodes, &circuits)?;
-    let map = VarMap::of(greatest, n, vars);
+    let map = VarMap::of(greatest, vars);
     Ok((store, map))
 }
 
-/// The formula of version 1: each gate is written each time that it is wanted.
-pub fn encode(
-    alloc: Global,
-    system: &System,
-    faulty: &NodeSet,
-    greatest: &NodeSet,
-) -> Result<(Store, VarMap), EncodeError>
-    requires same_faulty { length faulty.now ≡ length system.now.sets }
-    requires same_n { length greatest.now ≡ length system.now.sets }
-    requires greatest { IsGreatestQuorum system.now.sets (members faulty.now) (all_nodes system.now.sets) (members greatest.now) }
-    ensures store { IfOk result (λ r. r.0 ≡ formula_database (spec_clauses system.now.sets faulty.now greatest.now)) }
-    ensures variables { IfOk result (λ r. r.1 ≡ record { greatest = greatest.now; count = spec_vars system.now.sets faulty.now greatest.now }) }
-    ensures small { IfOk result (λ r. spec_vars system.now.sets faulty.now greatest.now ≤ MOST_VARS) }
-    ensures few { IfOk result (λ r. r.0.last ≤ MOST_CLAUSES) }
-    ensures too_large { (vars : ℕ) → result ≡ Err (TooLarge vars) → (vars ≡ spec_vars system.now.sets faulty.now greatest.now) × (MOST_VARS < vars) }
-    ensures in_range { IfOk result (λ r. AreInRange r.1.count r.0.held) }
-    ensures exact { IfOk result (λ r. IsUnsatisfiable r.0.held ↔ Intersects system.now.sets (members faulty.now)) }
-    ensures tells { (v : ℕ → Bool) → IfOk result (λ r. Satisfies v r.0.held → AreDisjointQuorums system.now.sets (members faulty.now) (told (side_a greatest.now) greatest.now v) (told (side_b greatest.now) greatest.now v)) }
-    ensures told { (u w : Nodes) → AreDisjointQuorums system.now.sets (members faulty.now) u w → IfOk result (λ r. Tells r.0.held greatest.now u w) }
-{
-    encode_in(alloc, Version::One, system, faulty, greatest)
-}
-
-/// In both versions: where the greatest quorum is that which the deletion of the faulty nodes leaves, no assignment makes the formula's clauses
-/// true exactly where every two quorums share a node.
+/// In both versions: where the greatest quorum is that which the deletion of the faulty nodes leaves, no assignment makes
+/// the formula's clauses true exactly where every two quorums share a node.
 pub fn the_formula_says_whether_quorums_intersect()
-    ensures both { (version : Version) (f : Fbas) (faulty greatest : Table) → IsGreatestQuorum f (members faulty) (all_nodes f) (members greatest) → IsUnsatisfiable (numbered 1 (clauses_in version f faulty greatest)) ↔ Intersects f (members faulty) }
-    ensures held { (f : Fbas) (faulty greatest : Table) → IsGreatestQuorum f (members faulty) (all_nodes f) (members greatest) → IsUnsatisfiable (numbered 1 (spec_clauses f faulty greatest)) ↔ Intersects f (members faulty) }
-    ensures formula { (f : Fbas) (faulty greatest : Table) → IsGreatestQuorum f (members faulty) (all_nodes f) (members greatest) → ((v : ℕ → Bool) → formula_true v (spec_clauses f faulty greatest) ≡ false) ↔ Intersects f (members faulty) }
+    ensures held { (version : Version) (f : Fbas) (faulty greatest : Table) → IsGreatestQuorum f (members faulty) (all_nodes f) (members greatest) → IsUnsatisfiable (numbered 1 (clauses_in version f faulty greatest)) ↔ Intersects f (members faulty) }
+    ensures formula { (version : Version) (f : Fbas) (faulty greatest : Table) → IsGreatestQuorum f (members faulty) (all_nodes f) (members greatest) → ((v : ℕ → Bool) → formula_true v (clauses_in version f faulty greatest) ≡ false) ↔ Intersects f (members faulty) }
 {}

@@ -1,7 +1,8 @@
 //! The gates of a side that are used again.
-ghost use Rattle.std.specs.Prelude.{◌≡◌, None, OnOk, []};
+ghost use Rattle.std.specs.Prelude.{◌≡◌, None, IfSome, OnOk, []};
 ghost use Rattle.threshold_circuit.specs.Views.{circuit_view};
 ghost use Rattle.clause_encoder.specs.CircuitClauses.{variable_among, one_gate_more};
+ghost use Rattle.clause_encoder.specs.Known.{HasGate};
 ghost use Rattle.clause_encoder.specs.SharedGates.{gates_in};
 
 use crate::version::Version;
@@ -33,6 +34,16 @@ impl SharedGates {
         ensures { result ≡ variable_among (gates_in self.now) (circuit_view circuit.now) }
     {
         self.gates.get(circuit).copied()
+    }
+
+    /// The same of a circuit that is a gate.
+    pub fn gate(&self, circuit: &Circuit) -> Option<u64>
+        ensures { IfSome result (HasGate (gates_in self.now) (circuit_view circuit.now)) }
+    {
+        match circuit {
+            Circuit::AtLeast(_, _) => self.find(circuit),
+            Circuit::Always | Circuit::Never | Circuit::Node(_) => None,
+        }
     }
 
     /// Keeps a gate, where the version uses it again: O(e), on average.

@@ -1,5 +1,5 @@
 -- How some command lines are read, computed from the definition.
-use Rattle.std.proofs.Common.{◌≡◌, ◌==◌, ℕ, List, [], ◌∷◌, Option, Some, None, Result, Ok, Err, codes, refl, if◌then◌else◌}
+use Rattle.std.proofs.Common.{◌≡◌, ◌==◌, ℕ, List, [], ◌∷◌, Some, None, Result, Ok, Err, codes, refl, if◌then◌else◌}
 use Rattle.clap.specs.Words.{Text}
 use Rattle.cli_words.proofs.OnLiterals.{words_on_literals}
 use Rattle.cli_words.specs.Order.{Ordered}
@@ -7,7 +7,7 @@ use Rattle.cli_words.specs.Words.{order_of}
 use Rattle.cli_words.specs.declared.orders.Command.{Command}
 use Rattle.cli_words.specs.declared.orders.Command.TheVariants.{Query, Search, Check}
 use Rattle.cli_words.specs.declared.orders.Goal.{Goal}
-use Rattle.cli_words.specs.declared.orders.Goal.TheVariants.{Intersect, Dset, Splits, Blocking}
+use Rattle.cli_words.specs.declared.orders.Goal.TheVariants.{Intersect, Dset, Splits, Blocking, Trial}
 use Rattle.cli_words.specs.declared.orders.Query.TheVariants.{Show, Closure, Greatest, Available, Blocks, Vblocks, Export}
 use Rattle.cli_words.specs.declared.orders.OrderFault.{OrderFault}
 use Rattle.cli_words.specs.declared.orders.OrderFault.TheVariants.{Words, SamePath}
@@ -25,6 +25,7 @@ nothing_for command = record {
   faulty_orgs = None;
   set = None;
   budget = 0;
+  trial = 0;
 }
 
 abbrev search_of : Goal → ℕ → Ordered
@@ -124,6 +125,46 @@ splits = refl
 blocking : typed (codes "blocking f c --from b --budget 0") ≡ Ok (record (search_of Blocking 0) { from = Some (codes "b") })
 unfolding words_on_literals
 blocking = refl
+
+trial : typed (codes "trial 100 c") ≡ Ok (record (nothing_for (Search Trial)) { cert = codes "c"; budget = 1000000; trial = 100 })
+unfolding words_on_literals
+trial = refl
+
+trial_budget : typed (codes "trial --budget=0 1 c") ≡ Ok (record (nothing_for (Search Trial)) { cert = codes "c"; budget = 0; trial = 1 })
+unfolding words_on_literals
+trial_budget = refl
+
+trial_without_a_configuration : typed (codes "trial 4 ") ≡ Ok (record (nothing_for (Search Trial)) { budget = 1000000; trial = 4 })
+unfolding words_on_literals
+trial_without_a_configuration = refl
+
+trial_of_none : typed (codes "trial 0 c") ≡ Err Words
+unfolding words_on_literals
+trial_of_none = refl
+
+trial_too_large : typed (codes "trial 101 c") ≡ Err Words
+unfolding words_on_literals
+trial_too_large = refl
+
+trial_with_leading_zero : typed (codes "trial 01 c") ≡ Err Words
+unfolding words_on_literals
+trial_with_leading_zero = refl
+
+trial_of_no_number : typed (codes "trial f c") ≡ Err Words
+unfolding words_on_literals
+trial_of_no_number = refl
+
+trial_alone : typed (codes "trial 4") ≡ Err Words
+unfolding words_on_literals
+trial_alone = refl
+
+trial_from_a_node : typed (codes "trial 4 c --from a") ≡ Err Words
+unfolding words_on_literals
+trial_from_a_node = refl
+
+trial_with_a_bad_budget : typed (codes "trial 4 c --budget x") ≡ Err Words
+unfolding words_on_literals
+trial_with_a_bad_budget = refl
 
 budget_too_large : typed (codes "intersect f c --budget 4000000001") ≡ Err Words
 unfolding words_on_literals

@@ -7,10 +7,11 @@ use Rattle.clap.specs.declared.error.Error.{Error}
 use Rattle.clap.specs.declared.error.kind.ErrorKind.TheVariants.{OutOfMemory}
 use Rattle.cli_words.specs.Budget.{budget_of}
 use Rattle.cli_words.specs.Order.{Ordered, has_same_path}
-use Rattle.cli_words.specs.Words.{app_for, is_taken, order_by, order_in, order_among, order_with, path_checked}
+use Rattle.cli_words.specs.Organisations.{organisations_of}
+use Rattle.cli_words.specs.Words.{app_for, is_taken, order_by, order_in, order_among, path_checked}
 use Rattle.cli_words.specs.declared.orders.Command.{Command}
 use Rattle.cli_words.specs.declared.orders.Command.TheVariants.{Query, Search, Check}
-use Rattle.cli_words.specs.declared.orders.Goal.TheVariants.{Intersect, Dset, Splits, Blocking}
+use Rattle.cli_words.specs.declared.orders.Goal.TheVariants.{Intersect, Dset, Splits, Blocking, Trial}
 use Rattle.cli_words.specs.declared.orders.Query.TheVariants.{Show, Closure, Greatest, Available, Blocks, Vblocks, Export}
 use Rattle.cli_words.specs.declared.orders.OrderFault.TheVariants.{Words, SamePath}
 
@@ -33,6 +34,7 @@ is_stated (Search Intersect) app e = rw e refl
 is_stated (Search Dset) app e = rw e refl
 is_stated (Search Splits) app e = rw e refl
 is_stated (Search Blocking) app e = rw e refl
+is_stated (Search Trial) app e = rw e refl
 is_stated Check app e = rw e refl
 is_stated (Query Export) app e = rw e refl
 
@@ -50,18 +52,27 @@ order_by-taken k words app rows t =
     rw taken (ap (λ (x : List Row). order_among k x) (sym whole))
 
 pub order_by-unbudgeted : (k : Command) (words : List Text) (app : App) (rows : List Row) → Taken k words app rows → budget_of k (first_of (codes "budget") rows) ≡ None → order_by k words ≡ Err Words
-order_by-unbudgeted k words app rows t none = order_by-taken k words app rows t ∙ ap (order_with k rows) none
+order_by-unbudgeted k words app rows t none = order_by-taken k words app rows t ∙ rw none refl
 
-order_by-budgeted : (k : Command) (words : List Text) (app : App) (rows : List Row) (budget : ℕ) (o : Ordered) → Taken k words app rows → budget_of k (first_of (codes "budget") rows) ≡ Some budget → o ≡ order_in k budget rows → order_by k words ≡ path_checked o
-order_by-budgeted k words app rows budget o t some e = order_by-taken k words app rows t ∙ ap (order_with k rows) some ∙ ap path_checked (sym e)
+-- and this is its budget
+pub record Budgeted (k : Command) (words : List Text) (app : App) (rows : List Row) (budget : ℕ) : Type 0 where
+  pub texts : Taken k words app rows
+  pub budget_is : budget_of k (first_of (codes "budget") rows) ≡ Some budget
 
-pub order_by-same : (k : Command) (words : List Text) (app : App) (rows : List Row) (budget : ℕ) (o : Ordered) → Taken k words app rows → budget_of k (first_of (codes "budget") rows) ≡ Some budget → o ≡ order_in k budget rows
-    → has_same_path o ≡ true → order_by k words ≡ Err SamePath
-order_by-same k words app rows budget o t some e same = rw (order_by-budgeted k words app rows budget o t some e, same) refl
+pub order_by-uncounted : (k : Command) (words : List Text) (app : App) (rows : List Row) (budget : ℕ) → Budgeted k words app rows budget → organisations_of k (first_of (codes "organisations") rows) ≡ None → order_by k words ≡ Err Words
+order_by-uncounted k words app rows budget t none = order_by-taken k words app rows t.texts ∙ rw (t.budget_is, none) refl
 
-pub order_by-other : (k : Command) (words : List Text) (app : App) (rows : List Row) (budget : ℕ) (o : Ordered) → Taken k words app rows → budget_of k (first_of (codes "budget") rows) ≡ Some budget → o ≡ order_in k budget rows
-    → has_same_path o ≡ false → order_by k words ≡ Ok o
-order_by-other k words app rows budget o t some e other = rw (order_by-budgeted k words app rows budget o t some e, other) refl
+order_by-counted : (k : Command) (words : List Text) (app : App) (rows : List Row) (budget trial : ℕ) (o : Ordered) → Budgeted k words app rows budget → organisations_of k (first_of (codes "organisations") rows) ≡ Some trial
+    → o ≡ order_in k budget trial rows → order_by k words ≡ path_checked o
+order_by-counted k words app rows budget trial o t some e = order_by-taken k words app rows t.texts ∙ rw (t.budget_is, some) (ap path_checked (sym e))
+
+pub order_by-same : (k : Command) (words : List Text) (app : App) (rows : List Row) (budget trial : ℕ) (o : Ordered) → Budgeted k words app rows budget → organisations_of k (first_of (codes "organisations") rows) ≡ Some trial
+    → o ≡ order_in k budget trial rows → has_same_path o ≡ true → order_by k words ≡ Err SamePath
+order_by-same k words app rows budget trial o t some e same = rw (order_by-counted k words app rows budget trial o t some e, same) refl
+
+pub order_by-other : (k : Command) (words : List Text) (app : App) (rows : List Row) (budget trial : ℕ) (o : Ordered) → Budgeted k words app rows budget → organisations_of k (first_of (codes "organisations") rows) ≡ Some trial
+    → o ≡ order_in k budget trial rows → has_same_path o ≡ false → order_by k words ≡ Ok o
+order_by-other k words app rows budget trial o t some e other = rw (order_by-counted k words app rows budget trial o t some e, other) refl
 
 pub order_by-refused : (k : Command) (words : List Text) (app : App) → app ≡ app_for k → is_taken app words ≡ false → order_by k words ≡ Err Words
 unfolding order_by

@@ -1,3 +1,5 @@
 pub mod Budget
+pub mod Numbers
 pub mod Order
+pub mod Organisations
 pub mod Words

@@ -3,9 +3,10 @@ use Rattle.std.specs.Prelude.{ℕ, List, Bool, true, false, ◌&&◌, ◌||◌, 
 use Rattle.std.specs.Str.{bytes_eq}
 use Rattle.cli_words.specs.declared.orders.Command.{Command}
 use Rattle.cli_words.specs.declared.orders.Command.TheVariants.{Search, Check}
+use Rattle.cli_words.specs.declared.orders.Goal.TheVariants.{Trial}
 use Rattle.cli_words.specs.declared.orders.Order.{Order}
 
--- a command with its texts: a path that the command does not have is empty, an option that it does not have or that was not given is `None`, and a command that does not search has a budget of 0
+-- a command with its texts: a path that the command does not have is empty, an option that it does not have or that was not given is `None`, a command that does not search has a budget of 0, and one that is no trial has no organisations
 pub record Ordered : Type 0 where
   pub command : Command
   pub config : List ℕ
@@ -17,6 +18,7 @@ pub record Ordered : Type 0 where
   pub faulty_orgs : Option (List ℕ)
   pub set : Option (List ℕ)
   pub budget : ℕ
+  pub trial : ℕ
 
 -- the order that a Rust value is
 abbrev pub order_view : Order → Ordered
@@ -31,13 +33,19 @@ order_view o = record {
   faulty_orgs = option_map string_bytes o.faulty_orgs;
   set = option_map string_bytes o.set;
   budget = o.budget;
+  trial = o.trial;
 }
 
--- the commands with a certificate, which all have a configuration too
+-- the commands with a certificate
 abbrev pub has_certificate : Command → Bool
 has_certificate (Search goal) = true
 has_certificate Check = true
 has_certificate command = false
+
+-- the commands with a configuration: a trial makes its own
+abbrev pub has_configuration : Command → Bool
+has_configuration (Search Trial) = false
+has_configuration command = true
 
 -- whether the path, where there is one, is this one
 abbrev pub is_path : Option (List ℕ) → List ℕ → Bool
@@ -46,4 +54,4 @@ is_path (Some given) path = bytes_eq given path
 
 -- one path stands for both the certificate and the configuration, or the organisations
 abbrev pub has_same_path : Ordered → Bool
-has_same_path o = has_certificate o.command && (bytes_eq o.config o.cert || is_path o.orgs o.cert)
+has_same_path o = has_certificate o.command && has_configuration o.command && (bytes_eq o.config o.cert || is_path o.orgs o.cert)

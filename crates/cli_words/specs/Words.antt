@@ -6,9 +6,10 @@ use Rattle.clap.specs.Walk.{is_empty}
 use Rattle.clap.specs.Simple.{new_shape}
 use Rattle.cli_words.specs.Budget.{budget_of}
 use Rattle.cli_words.specs.Order.{Ordered, has_same_path}
+use Rattle.cli_words.specs.Organisations.{organisations_of}
 use Rattle.cli_words.specs.declared.orders.Command.{Command}
 use Rattle.cli_words.specs.declared.orders.Command.TheVariants.{Query, Search, Check}
-use Rattle.cli_words.specs.declared.orders.Goal.TheVariants.{Intersect, Dset, Splits, Blocking}
+use Rattle.cli_words.specs.declared.orders.Goal.TheVariants.{Intersect, Dset, Splits, Blocking, Trial}
 use Rattle.cli_words.specs.declared.orders.Query.TheVariants.{Show, Closure, Greatest, Available, Blocks, Vblocks, Export}
 use Rattle.cli_words.specs.declared.orders.OrderFault.{OrderFault}
 use Rattle.cli_words.specs.declared.orders.OrderFault.TheVariants.{Words, SamePath}
@@ -52,6 +53,7 @@ app_for (Search Intersect) = app_with (codes "intersect") (positional (codes "co
 app_for (Search Dset) = app_with (codes "dset") (positional (codes "config") ∷ positional (codes "cert") ∷ needed (codes "set") ∷ optional (codes "from") ∷ optional (codes "budget") ∷ [])
 app_for (Search Splits) = app_with (codes "splits") (positional (codes "config") ∷ positional (codes "cert") ∷ needed (codes "set") ∷ (common_options ++ optional (codes "budget") ∷ []))
 app_for (Search Blocking) = app_with (codes "blocking") (positional (codes "config") ∷ positional (codes "cert") ∷ (common_options ++ optional (codes "budget") ∷ []))
+app_for (Search Trial) = app_with (codes "trial") (positional (codes "organisations") ∷ positional (codes "cert") ∷ optional (codes "budget") ∷ [])
 app_for Check = app_with (codes "check") (positional (codes "config") ∷ positional (codes "cert") ∷ [])
 app_for (Query Export) = app_with (codes "export") (positional (codes "config") ∷ common_options)
 
@@ -66,8 +68,8 @@ abbrev pub text_of : Text → List Row → Text
 text_of id rows = unwrap_or (first_of id rows) []
 
 -- the texts of a command: what it does not have, or what was not given, is among no rows
-abbrev pub order_in : Command → ℕ → List Row → Ordered
-order_in command budget rows = record {
+abbrev pub order_in : Command → ℕ → ℕ → List Row → Ordered
+order_in command budget trial rows = record {
   command = command;
   config = text_of (codes "config") rows;
   cert = text_of (codes "cert") rows;
@@ -78,20 +80,22 @@ order_in command budget rows = record {
   faulty_orgs = first_of (codes "faulty-orgs") rows;
   set = first_of (codes "set") rows;
   budget = budget;
+  trial = trial;
 }
 
 -- one path for both files is refused
 abbrev pub path_checked : Ordered → Result Ordered OrderFault
 path_checked o = if has_same_path o then Err SamePath else Ok o
 
--- the order of a command's texts with this budget, if it is one
-abbrev pub order_with : Command → List Row → Option ℕ → Result Ordered OrderFault
-order_with command rows None = Err Words
-order_with command rows (Some budget) = path_checked (order_in command budget rows)
+-- the order of a command's texts with this budget and so many organisations, if both are numbers
+abbrev pub order_with : Command → List Row → Option ℕ → Option ℕ → Result Ordered OrderFault
+order_with command rows None trial = Err Words
+order_with command rows (Some budget) None = Err Words
+order_with command rows (Some budget) (Some trial) = path_checked (order_in command budget trial rows)
 
 -- the order of a command's texts
 abbrev pub order_among : Command → List Row → Result Ordered OrderFault
-order_among command rows = order_with command rows (budget_of command (first_of (codes "budget") rows))
+order_among command rows = order_with command rows (budget_of command (first_of (codes "budget") rows)) (organisations_of command (first_of (codes "organisations") rows))
 
 -- the order that a command's own words give, which begin with its name
 unfoldable pub order_by : Command → List Text → Result Ordered OrderFault
@@ -111,8 +115,9 @@ command_named name = if bytes_eq name (codes "show") then Some (Query Show)
     else (if bytes_eq name (codes "dset") then Some (Search Dset)
     else (if bytes_eq name (codes "splits") then Some (Search Splits)
     else (if bytes_eq name (codes "blocking") then Some (Search Blocking)
+    else (if bytes_eq name (codes "trial") then Some (Search Trial)
     else (if bytes_eq name (codes "check") then Some Check
-    else (if bytes_eq name (codes "export") then Some (Query Export) else None)))))))))))
+    else (if bytes_eq name (codes "export") then Some (Query Export) else None))))))))))))
 
 -- the order of a command, if there is one
 abbrev pub order_if_any : Option Command → List Text → Result Ordered OrderFault

@@ -61,6 +61,7 @@ pub fn arguments_of<'a>(alloc: Global, command: Command) -> Result<clap::Command
         Command::Search(Goal::Dset) => dset_arguments(alloc),
         Command::Search(Goal::Splits) => splits_arguments(alloc),
         Command::Search(Goal::Blocking) => blocking_arguments(alloc),
+        Command::Search(Goal::Trial) => trial_arguments(alloc),
         Command::Check => check_arguments(alloc),
     }
 }
@@ -163,6 +164,16 @@ fn blocking_arguments<'a>(alloc: Global) -> Result<clap::Command<'a>, AllocError
 }
 
 #[tactic(auto, unfolding(crate::specs::Words::app_for))]
+fn trial_arguments<'a>(alloc: Global) -> Result<clap::Command<'a>, AllocError>
+    ensures { IfOk result (λ c. app_of c ≡ app_for (Command.Search Goal.Trial)) }
+{
+    clap::Command::new(alloc, "trial")
+        .arg(positional(alloc, "organisations"))?
+        .arg(positional(alloc, "cert"))?
+        .arg(optional(alloc, "budget"))
+}
+
+#[tactic(auto, unfolding(crate::specs::Words::app_for))]
 fn check_arguments<'a>(alloc: Global) -> Result<clap::Command<'a>, AllocError>
     ensures { IfOk result (λ c. app_of c ≡ app_for Command.Check) }
 {
@@ -243,10 +254,13 @@ pub fn order_from(
     alloc: Global,
     command: Command,
     budget: u64,
+    trial: u32,
     matches: &ArgMatches<'_>,
 ) -> Result<Order, AllocError>
-    ensures texts { IfOk result (λ o. order_view o ≡ order_in command budget (rows_of (found_of matches.now))) }
+    ensures texts { IfOk result (λ o. order_view o ≡ order_in command budget trial (rows_of (found_of matches.now))) }
+    ensures command { IfOk result (λ o. o.command ≡ command) }
     ensures budget { IfOk result (λ o. o.budget ≡ budget) }
+    ensures trial { IfOk result (λ o. o.trial ≡ trial) }
 {
     Ok(Order {
         command,
@@ -259,5 +273,6 @@ pub fn order_from(
         faulty_orgs: text_if_any(alloc, matches, "faulty-orgs")?,
         set: text_if_any(alloc, matches, "set")?,
         budget,
+        trial,
     })
 }

@@ -5,15 +5,20 @@ ghost use Rattle.std.specs.Prelude.{◌≡◌, ◌⊎◌, ◌≤◌, map, Ok, Er
 ghost use Rattle.cli_words.specs.Words.{order_by, order_of, command_named as spec_command_named};
 ghost use Rattle.cli_words.specs.Order.{order_view, has_same_path as spec_has_same_path, has_certificate as spec_has_certificate, is_path as spec_is_path};
 ghost use Rattle.cli_words.specs.declared.budget.TheConstants.{MOST_BUDGET};
+ghost use Rattle.cli_words.specs.declared.organisations.TheConstants.{MOST_ORGANISATIONS};
 
 mod budget;
 mod commands;
+mod numbers;
 mod orders;
+mod organisations;
 
 use budget::budget_of;
 pub use budget::{MOST_BUDGET, USUAL_BUDGET};
 use commands::{arguments_of, matched, order_from, text_at};
 pub use orders::{Command, Goal, Order, OrderFault, Query};
+pub use organisations::MOST_ORGANISATIONS;
+use organisations::organisations_of;
 use std::alloc::Global;
 
 /// The order that the words give, or why they give none. The words begin with the program's name, and a
@@ -26,6 +31,7 @@ pub fn order(alloc: Global, words: &[String]) -> Result<Order, OrderFault>
     ensures err { IfErr result (λ e. (e ≡ OrderFault.Memory)
         ⊎ (order_of (map string_bytes words.now) ≡ Err e)) }
     ensures few { IfOk result (λ o. o.budget ≤ MOST_BUDGET) }
+    ensures organisations { IfOk result (λ o. o.command ≡ Command.Search Goal.Trial → (1 ≤ o.trial) × (o.trial ≤ MOST_ORGANISATIONS)) }
 {
     let [_, rest @ ..] = words else {
         return Err(OrderFault::Words);
@@ -73,6 +79,9 @@ fn command_named(name: &str) -> Option<Command>
     if name == "blocking" {
         return Some(Command::Search(Goal::Blocking));
     }
+    if name == "trial" {
+        return Some(Command::Search(Goal::Trial));
+    }
     if name == "check" {
         return Some(Command::Check);
     }
@@ -89,13 +98,17 @@ fn command_order(alloc: Global, command: Command, words: &[String]) -> Result<Or
     ensures err { IfErr result (λ e. (e ≡ OrderFault.Memory)
         ⊎ (order_by command (map string_bytes words.now) ≡ Err e)) }
     ensures few { IfOk result (λ o. o.budget ≤ MOST_BUDGET) }
+    ensures organisations { IfOk result (λ o. o.command ≡ Command.Search Goal.Trial → (1 ≤ o.trial) × (o.trial ≤ MOST_ORGANISATIONS)) }
 {
     let arguments = arguments_of(alloc, command)?;
     let matches = matched(arguments, words)?;
     let Some(budget) = budget_of(command, text_at(&matches, "budget")) else {
         return Err(OrderFault::Words);
     };
-    let order = order_from(alloc, command, budget, &matches)?;
+    let Some(trial) = organisations_of(command, text_at(&matches, "organisations")) else {
+        return Err(OrderFault::Words);
+    };
+    let order = order_from(alloc, command, budget, trial, &matches)?;
     if has_same_path(&order) {
         return Err(OrderFault::SamePath);
     }
@@ -106,6 +119,7 @@ fn has_same_path(order: &Order) -> bool
     ensures { result ≡ spec_has_same_path (order_view order.now) }
 {
     has_certificate(order.command)
+        && order.command.has_configuration()
         && (order.config == order.cert || is_path(&order.orgs, &order.cert))
 }
 
@@ -216,6 +230,15 @@ mod tests {
                 None,
             ),
             (
+                "trial --budget 0 100 c",
+                Command::Search(Goal::Trial),
+                "",
+                "c",
+                None,
+                None,
+                None,
+            ),
+            (
                 "export f --faulty a",
                 Command::Query(Query::Export),
                 "f",
@@ -275,6 +298,8 @@ mod tests {
             ("closure f", OrderFault::Words),
             ("check f c --from a", OrderFault::Words),
             ("interse f c", OrderFault::Words),
+            ("trial 0 c", OrderFault::Words),
+            ("trial 101 c", OrderFault::Words),
         ] {
             let words = words_of(rt.alloc(), line).expect(&rt, "words");
             assert_eq!(rt;

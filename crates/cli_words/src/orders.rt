@@ -1,5 +1,6 @@
 //! Orders, and why words give none.
 ghost use Rattle.std.specs.Prelude.{◌≡◌};
+ghost use Rattle.cli_words.specs.Order.{has_configuration};
 ghost use Rattle.cli_words.specs.declared.orders.OrderFault.TheVariants.{Memory};
 
 use std::alloc::AllocError;
@@ -37,6 +38,8 @@ pub enum Goal {
     Splits,
     /// `blocking CONFIG CERT [COMMON] [--budget UNITS]`
     Blocking,
+    /// `trial N CERT [--budget UNITS]`
+    Trial,
 }
 
 /// What the program is to do, by the command's name and arguments.
@@ -48,6 +51,15 @@ pub enum Command {
     Search(Goal),
     /// `check CONFIG CERT`
     Check,
+}
+
+impl Command {
+    /// Whether it names a configuration: a trial makes its own.
+    pub fn has_configuration(self) -> bool
+        ensures { result ≡ has_configuration self }
+    {
+        !matches!(self, Command::Search(Goal::Trial))
+    }
 }
 
 /// Why the words give no order.
@@ -69,7 +81,7 @@ pub enum OrderFault {
 #[derive(Drop)]
 pub struct Order {
     pub command: Command,
-    /// The path of the configuration.
+    /// The path of the configuration, empty where the command has none.
     pub config: String,
     /// The path of the certificate, empty where the command has none.
     pub cert: String,
@@ -87,6 +99,8 @@ pub struct Order {
     pub set: Option<String>,
     /// How many units a search may take, 0 where the command does not search.
     pub budget: u64,
+    /// How many organisations the trial has, 0 where the command is none.
+    pub trial: u32,
 }
 
 impl From<AllocError> for OrderFault {

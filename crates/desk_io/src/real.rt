@@ -57,9 +57,9 @@ fn writing() -> OpenOptions
     options
 }
 
-/// `None` where it fails. Where the bytes of the file are known, they are given, and none only at the end; after a failure they
-/// are all still there.
-fn read_some<F: Read>(file: &mut F, buf: &mut [u8]) -> Option<usize>
+/// Reads, and tries at most 1,000 times where it's interrupted: `None` where it fails. Where the bytes of the file are known, they
+/// are given, and none only at the end; after a failure they are all still there.
+pub fn read_some<F: Read>(file: &mut F, buf: &mut [u8]) -> Option<usize>
     ensures bound { IfSome result (λ count. count ≤ length buf.new) }
     ensures given { IfSome result (λ count. Consumes (F.remaining file.old) (F.remaining file.new) (take count buf.new)) }
     ensures ended { IfSome result (λ count. count ≡ 0 → 0 < length buf.new → IsAtEnd (F.remaining file.new)) }
@@ -86,9 +86,9 @@ fn read_begun<F: Read>(begun: &mut Option<F>, buf: &mut [u8]) -> Option<usize>
     }
 }
 
-/// `None` where it fails, or where none of some bytes is taken. Where the bytes that the file holds are known, those that are
-/// taken are behind them, and after a failure none.
-fn write_some<F: Write>(file: &mut F, bytes: &[u8]) -> Option<usize>
+/// Writes, and tries at most 1,000 times where it's interrupted: `None` where it fails, or where none of some bytes is taken. Where
+/// the bytes that the file holds are known, those that are taken are behind them, and after a failure none.
+pub fn write_some<F: Write>(file: &mut F, bytes: &[u8]) -> Option<usize>
     ensures bound { IfSome result (λ count. count ≤ length bytes.now) }
     ensures some { IfSome result (λ count. 0 < length bytes.now → 0 < count) }
     ensures taken { IfSome result (λ count. Appends (F.contents file.old) (F.contents file.new) (take count bytes.now)) }
@@ -234,58 +234,6 @@ impl<R: Files + Print> Desk for RealDesk<'_, R> {
         match written {
             Some(count) => Ok(count),
             None => Err(self.faults.write_failed()),
-        }
-    }
-}
-
-#[cfg(test)]
-mod tests {
-    use super::*;
-    use std::io;
-
-    /// Fails with this kind of error as often as this, and then moves a byte.
-    #[derive(Drop)]
-    struct Failing(ErrorKind, u32);
-
-    impl Failing {
-        fn turn(&mut self) -> io::Result<usize>
-            ensures { IfOk result (λ count. count ≡ 1) }
-        {
-            if self.1 == 0 {
-                return Ok(1);
-            }
-            self.1 -= 1;
-            Err(io::Error::from(self.0))
-        }
-    }
-
-    impl Read for Failing {
-        fn read(&mut self, buf: &mut [u8]) -> io::Result<usize> {
-            Ok(self.turn()?.min(buf.len()))
-        }
-    }
-
-    impl Write for Failing {
-        fn write(&mut self, bytes: &[u8]) -> io::Result<usize> {
-            Ok(self.turn()?.min(bytes.len()))
-        }
-
-        fn flush(&mut self) -> io::Result<()> {
-            Ok(())
-        }
-    }
-
-    #[test]
-    fn the_thousandth_interruption_fails_and_any_other_error_at_once(rt: HostRuntime) {
-        for (kind, times, moved) in [
-            (ErrorKind::Interrupted, 0, Some(1)),
-            (ErrorKind::Interrupted, 999, Some(1)),
-            (ErrorKind::Interrupted, 1_000, None),
-            (ErrorKind::StorageFull, 1, None),
-            (ErrorKind::UnexpectedEof, 1, None),
-        ] {
-            assert_eq!(rt; read_some(&mut Failing(kind, times), &mut [0; 4]), moved);
-            assert_eq!(rt; write_some(&mut Failing(kind, times), b"text"), moved);
         }
     }
 }

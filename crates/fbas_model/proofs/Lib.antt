@@ -13,3 +13,5 @@ pub mod RestrictionLaw
 pub mod Closure
 pub mod Listed
 pub mod WholeLaw
+pub mod SortedNames
+pub mod Chosen

@@ -1,13 +1,16 @@
 -- The members of a table as a list in order, and the order of sets.
-use Rattle.std.proofs.Common.{◌≡◌, ℕ, zero, suc, ◌+◌, ◌-◌, ◌<◌, ◌==◌, ◌||◌, ltb, Bool, true, false, List, [], ◌∷◌, ◌++◌, length, drop, refl, sym, ◌∙◌, ap, ap₂, subst, arith, inl, inr, Less, Equal, Greater}
+use Rattle.std.proofs.Common.{◌≡◌, ℕ, zero, suc, ◌+◌, ◌-◌, ◌<◌, ◌==◌, ◌||◌, ltb, Bool, true, false, List, [], ◌∷◌, ◌++◌, length, drop, map, refl, sym, ◌∙◌, ap, ap₂, subst, arith, inl, inr, Less, Equal, Greater}
 use Rattle.std.proofs.lemmas.Bool.{false≢true, false_from_ne_true, cases_lt, lt-ltb, ltb-true, eqb-true, eq-eqb, or_left}
 use Rattle.std.proofs.Math.Bool.{or-false, or_assoc}
-use Rattle.std.proofs.lemmas.List.{get_or-drop, drop-drop, drop_all}
+use Rattle.std.proofs.lemmas.List.{get_or-drop, drop-drop, drop_all, drop_more}
+use Rattle.std.specs.Prelude.{slice_index_or}
 use Rattle.std.specs.Ordering.{nat_cmp, ordering_then}
 use Rattle.std.specs.declared.cmp.Ordering.{Ordering}
 use Rattle.std.specs.Cmp.Lexicographic.{slice_cmp}
 use Rattle.fbas_model.specs.Lists.{among}
-use Rattle.fbas_model.specs.Nodes.{Table, members, HasNoneFrom, IsLeastFrom, listed_from, set_cmp}
+use Rattle.fbas_model.specs.Nodes.{Table, members, HasNoneFrom, IsLeastFrom, size, listed_from, set_cmp}
+use Rattle.fbas_model.specs.Restriction.{kept, rank}
+use Rattle.fbas_model.proofs.Kept.{rank-cons, rank_lt}
 
 -- a table without members
 listed-none : (v : ℕ) (t : Table) → ((j : ℕ) → members t j ≡ false) → listed_from v t ≡ []
@@ -56,6 +59,49 @@ listed_below s (false ∷ t) before rest v e = omega (arith, listed_below (s + 1
 
 pub iterated_below : (t : Table) (before rest : List ℕ) (v : ℕ) → before ++ v ∷ rest ≡ listed_from 0 t → v < length t
 iterated_below t before rest v e = omega (arith, listed_below 0 t before rest v e)
+
+-- it is a member, and its rank is how many of them stand before it
+record Stands (s : ℕ) (t : Table) (before : List ℕ) (v j : ℕ) : Type 0 where
+  place : v ≡ s + j
+  here : members t j ≡ true
+  rank_is : rank t j ≡ length before
+
+listed_at : (s : ℕ) (t : Table) (before rest : List ℕ) (v : ℕ) → before ++ v ∷ rest ≡ listed_from s t → (j : ℕ) × Stands s t before v j
+listed_at s [] [] rest v e = absurd cc
+listed_at s [] (w ∷ ws) rest v e = absurd cc
+listed_at s (true ∷ t) [] rest v e = let is : v ≡ s = cc in (0, record { place = omega (arith, is); here = refl; rank_is = refl })
+listed_at s (true ∷ t) (w ∷ ws) rest v e =
+    let rest_is : ws ++ v ∷ rest ≡ listed_from (s + 1) t = cc in
+    let h = listed_at (s + 1) t ws rest v rest_is in
+    (suc h.0, record { place = omega (arith, h.1.place); here = h.1.here; rank_is = omega (arith, rank-cons true t h.0, h.1.rank_is) })
+listed_at s (false ∷ t) before rest v e =
+    let h = listed_at (s + 1) t before rest v e in
+    (suc h.0, record { place = omega (arith, h.1.place); here = h.1.here; rank_is = omega (arith, rank-cons false t h.0, h.1.rank_is) })
+
+pub iterated_member : (t : Table) (before rest : List ℕ) (v : ℕ) → before ++ v ∷ rest ≡ listed_from 0 t → members t v ≡ true
+iterated_member t before rest v e =
+    let h = listed_at 0 t before rest v e in
+    let is : h.0 ≡ v = omega (arith, h.1.place) in
+    subst (λ (j : ℕ). members t j ≡ true) is h.1.here
+
+pub iterated_rank : (t : Table) (before rest : List ℕ) (v : ℕ) → before ++ v ∷ rest ≡ listed_from 0 t → rank t v ≡ length before
+iterated_rank t before rest v e =
+    let h = listed_at 0 t before rest v e in
+    let is : h.0 ≡ v = omega (arith, h.1.place) in
+    subst (λ (j : ℕ). rank t j ≡ length before) is h.1.rank_is
+
+-- so fewer stand before it than there are
+pub iterated_few : (t : Table) (before rest : List ℕ) (v : ℕ) → before ++ v ∷ rest ≡ listed_from 0 t → length before < size t
+iterated_few t before rest v e = omega (arith, iterated_rank t before rest v e, rank_lt t v (iterated_member t before rest v e))
+
+-- what is kept of a list is what stands at the members' places
+kept_from : {A : Type 0} (s : ℕ) (t : Table) (xs : List A) (d : A) → s + length t ≡ length xs → kept t (drop s xs) ≡ map (λ v. slice_index_or xs v d) (listed_from s t)
+kept_from s [] xs d e = refl
+kept_from s (true ∷ t) xs d e = ap (kept (true ∷ t)) (drop_more xs s d (omega arith)) ∙ ap (λ ys. slice_index_or xs s d ∷ ys) (kept_from (s + 1) t xs d (omega arith))
+kept_from s (false ∷ t) xs d e = ap (kept (false ∷ t)) (drop_more xs s d (omega arith)) ∙ kept_from (s + 1) t xs d (omega arith)
+
+pub kept_listed : {A : Type 0} (t : Table) (xs : List A) (d : A) → length t ≡ length xs → kept t xs ≡ map (λ v. slice_index_or xs v d) (listed_from 0 t)
+kept_listed t xs d e = kept_from 0 t xs d (omega arith)
 
 -- no node before the first place is in the list
 listed_before : (s : ℕ) (t : Table) (k : ℕ) → k < s → among (listed_from s t) k ≡ false

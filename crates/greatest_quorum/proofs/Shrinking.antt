@@ -1,12 +1,10 @@
 -- Taking out a node that has no slice inside what is left takes out no quorum, and leaves a slice to each node that does not mention it.
-use Rattle.std.proofs.Common.{◌≡◌, ℕ, suc, ◌+◌, ◌*◌, ◌<◌, ◌&&◌, ◌||◌, ◌==◌, List, [], ◌∷◌, ◌++◌, Bool, true, false, not, length, refl, sym, ◌∙◌, subst, ap, arith, inl, inr, ◌⊎◌, ◌↔◌, nat_lt, Some, None, slice_index_or}
+use Rattle.std.proofs.Common.{◌≡◌, ℕ, suc, ◌+◌, ◌*◌, ◌<◌, ◌&&◌, ◌||◌, ◌==◌, Bool, true, false, not, length, refl, sym, ◌∙◌, subst, ap, arith, inl, inr, ◌⊎◌, ◌↔◌, nat_lt, Some, None, slice_index_or}
 use Rattle.std.proofs.lemmas.Bool.{false≢true, cases_Bool, or_cases, or_left, or_right, and_cases, and_from, and_parts, eqb-true, eq-eqb, not_from_false, not-true, both_ways, lt-ltb, false_from_ne_true, MatchBool-at_false}
 use Rattle.std.proofs.lemmas.Nat.{row_fits}
 use Rattle.std.proofs.lemmas.Option.{get_or_from_slice_get}
 use Rattle.std.specs.Bool.{MatchBool}
-use Rattle.fbas_model.specs.Nodes.{Nodes, Table, members, ◌∈◌, ◌⊆◌, ◌∪◌, ◌∖◌, ∅, only, size, IsInhabited, listed_from}
-use Rattle.fbas_model.specs.Lists.{among}
-use Rattle.fbas_model.proofs.Listed.{iterated_all}
+use Rattle.fbas_model.specs.Nodes.{Nodes, Table, members, ◌∈◌, ◌⊆◌, ◌∪◌, ◌∖◌, ∅, only, size, IsInhabited}
 use Rattle.fbas_model.specs.Trees.{QuorumSet}
 use Rattle.fbas_model.specs.QuorumSets.{mentioned}
 use Rattle.fbas_model.specs.Fbas.{Fbas, HasSliceWithin, Quorum, all_nodes, IsGreatestQuorum, MeetsQuorums}
@@ -45,14 +43,6 @@ settled_quorum f b u t e h slices = elim (empty_or_not t) [
 ]
 
 -- ---- looks
-
--- a node of the list of the members is one
-pub iterated_member : (t : Table) (before rest : List ℕ) (v : ℕ) → before ++ v ∷ rest ≡ listed_from 0 t → v ∈ members t
-iterated_member t before rest v e = sym (iterated_all t (before ++ v ∷ rest) e v) ∙ here before
-  where
-    here : (ws : List ℕ) → among (ws ++ v ∷ rest) v ≡ true
-    here [] = or_left (v == v) (among rest v) (eq-eqb v v refl)
-    here (w ∷ ws) = or_right (v == w) (among (ws ++ v ∷ rest) v) (here ws)
 
 -- what is left of a set once its nodes were looked at, all but those that have to be looked at again
 pub record Shrinking (f : Fbas) (b : Nodes) (start now again : Table) : Type 0 where

@@ -1,8 +1,10 @@
--- The clause of a set, and the set of an assignment, node by node.
-use Rattle.std.proofs.Common.{◌≡◌, ℕ, zero, suc, ◌+◌, ◌≤◌, true, false, List, [], ◌∷◌, ◌++◌, map, take, refl, sym, ap, ◌∙◌, subst, arith, add-one}
+-- The clause of a set, node by node.
+use Rattle.std.proofs.Common.{◌≡◌, ℕ, zero, suc, ◌+◌, ◌≤◌, Bool, true, false, cond, List, [], ◌∷◌, ◌++◌, length, map, refl, sym, ap, ◌∙◌, subst, arith}
 use Rattle.std.specs.Prelude.{All}
+use Rattle.std.specs.List.{filter}
+use Rattle.std.proofs.lemmas.List.{map-append, append-nil}
 use Rattle.std.proofs.lemmas.Bool.{false≢true}
-use Rattle.std.proofs.lemmas.List.Elements.{All-nil, All-cons}
+use Rattle.std.proofs.lemmas.List.Elements.{All-nil, All-cons, filter-append}
 use Rattle.fbas_model.specs.Nodes.{Table, members, ◌⊆◌, size, listed_from}
 use Rattle.fbas_model.specs.Restriction.{rank}
 use Rattle.fbas_model.proofs.Kept.{rank_lt}
@@ -14,38 +16,44 @@ use Rattle.list_journal.specs.declared.kinds.Listed.{Listed}
 use Rattle.list_journal.specs.declared.kinds.Listed.TheVariants as listed
 use Rattle.list_journal.proofs.Places.{next_place, same_place, from_zero}
 
--- ---- the nodes of a set, listed up to a node
+-- ---- the nodes of the greatest quorum that are in the set
 
-listed_yes : (k : ℕ) (t : Table) (v : ℕ) → members t v ≡ true → listed_from k (take (suc v) t) ≡ listed_from k (take v t) ++ (k + v) ∷ []
-listed_yes k [] v h = absurd (false≢true h)
-listed_yes k (true ∷ t) zero h = ap (λ (x : ℕ). x ∷ []) (sym (same_place k))
-listed_yes k (false ∷ t) zero h = absurd (false≢true h)
-listed_yes k (true ∷ t) (suc v) h = ap (λ (ls : List ℕ). k ∷ ls) (listed_yes (k + 1) t v h ∙ ap (λ (x : ℕ). listed_from (k + 1) (take v t) ++ x ∷ []) (sym (next_place k v)))
-listed_yes k (false ∷ t) (suc v) h = listed_yes (k + 1) t v h ∙ ap (λ (x : ℕ). listed_from (k + 1) (take v t) ++ x ∷ []) (sym (next_place k v))
+-- the literal of a node
+abbrev pub literal_for : Listed → Table → ℕ → Literal
+literal_for which g v = signed which (variable_in g v)
 
-listed_no : (k : ℕ) (t : Table) (v : ℕ) → members t v ≡ false → listed_from k (take (suc v) t) ≡ listed_from k (take v t)
-listed_no k [] zero h = refl
-listed_no k [] (suc v) h = refl
-listed_no k (true ∷ t) zero h = absurd (false≢true (sym h))
-listed_no k (false ∷ t) zero h = refl
-listed_no k (true ∷ t) (suc v) h = ap (λ (ls : List ℕ). k ∷ ls) (listed_no (k + 1) t v h)
-listed_no k (false ∷ t) (suc v) h = listed_no (k + 1) t v h
+-- one node more, which is in the set
+pub clause_yes : (which : Listed) (g t : Table) (ws : List ℕ) (v : ℕ) (ls : List Literal) → members t v ≡ true → ls ≡ map (literal_for which g) (filter (members t) ws) → ls ++ literal_for which g v ∷ [] ≡ map (literal_for which g) (filter (members t) (ws ++ v ∷ []))
+clause_yes which g t ws v ls here is =
+    let all = filter-append (members t) ws (v ∷ []) ∙ ap (λ (b : Bool). filter (members t) ws ++ cond b (v ∷ []) []) here in
+    ap (λ (ls : List Literal). ls ++ literal_for which g v ∷ []) is ∙ (sym (map-append (literal_for which g) (filter (members t) ws) (v ∷ [])) ∙ ap (λ (vs : List ℕ). map (literal_for which g) vs) (sym all))
 
-map_push : (p : ℕ → Literal) (xs : List ℕ) (x : ℕ) → map p (xs ++ x ∷ []) ≡ map p xs ++ p x ∷ []
-map_push p [] x = refl
-map_push p (y ∷ xs) x = ap (λ (ls : List Literal). p y ∷ ls) (map_push p xs x)
+-- or is not
+pub clause_no : (which : Listed) (g t : Table) (ws : List ℕ) (v : ℕ) (ls : List Literal) → members t v ≡ false → ls ≡ map (literal_for which g) (filter (members t) ws) → ls ≡ map (literal_for which g) (filter (members t) (ws ++ v ∷ []))
+clause_no which g t ws v ls out is =
+    let all = filter-append (members t) ws (v ∷ []) ∙ (ap (λ (b : Bool). filter (members t) ws ++ cond b (v ∷ []) []) out ∙ append-nil (filter (members t) ws)) in
+    is ∙ ap (λ (vs : List ℕ). map (literal_for which g) vs) (sym all)
 
-more_yes : (p : ℕ → Literal) (t : Table) (v : ℕ) → members t v ≡ true → map p (listed_from 0 (take (suc v) t)) ≡ map p (listed_from 0 (take v t)) ++ p v ∷ []
-more_yes p t v h = ap (λ (xs : List ℕ). map p xs) (listed_yes 0 t v h ∙ ap (λ (x : ℕ). listed_from 0 (take v t) ++ x ∷ []) (from_zero v)) ∙ map_push p (listed_from 0 (take v t)) v
+-- of the nodes of g those of the set are the set's
+filter_from : (s : ℕ) (p : ℕ → Bool) (g t : Table) → length g ≡ length t → members t ⊆ members g → ((j : ℕ) → p (s + j) ≡ members t j) → filter p (listed_from s g) ≡ listed_from s t
+filter_from s p [] [] e within is = refl
+filter_from s p [] (m ∷ t) e within is = absurd (omega arith)
+filter_from s p (m ∷ g) [] e within is = absurd (omega arith)
+filter_from s p (true ∷ g) (true ∷ t) e within is =
+    ap (λ (b : Bool). cond b (s ∷ filter p (listed_from (s + 1) g)) (filter p (listed_from (s + 1) g))) (ap p (sym (same_place s)) ∙ is 0)
+    ∙ ap (λ (vs : List ℕ). s ∷ vs) (filter_from (s + 1) p g t (omega arith) (λ j. within (suc j)) (λ j. ap p (sym (next_place s j)) ∙ is (suc j)))
+filter_from s p (true ∷ g) (false ∷ t) e within is =
+    ap (λ (b : Bool). cond b (s ∷ filter p (listed_from (s + 1) g)) (filter p (listed_from (s + 1) g))) (ap p (sym (same_place s)) ∙ is 0)
+    ∙ filter_from (s + 1) p g t (omega arith) (λ j. within (suc j)) (λ j. ap p (sym (next_place s j)) ∙ is (suc j))
+filter_from s p (false ∷ g) (true ∷ t) e within is = absurd (false≢true (within 0 refl))
+filter_from s p (false ∷ g) (false ∷ t) e within is = filter_from (s + 1) p g t (omega arith) (λ j. within (suc j)) (λ j. ap p (sym (next_place s j)) ∙ is (suc j))
 
--- the clause with one node more
-pub clause_yes : (which : Listed) (g t : Table) (v : ℕ) → members t v ≡ true → clause_for which g (take (v + 1) t) ≡ clause_for which g (take v t) ++ signed which (rank g v + 1) ∷ []
-clause_yes listed.Quorum g t v h = rw add-one (more_yes (λ w. Plus (variable_in g w)) t v h)
-clause_yes listed.Blocking g t v h = rw add-one (more_yes (λ w. Minus (variable_in g w)) t v h)
-
-pub clause_no : (which : Listed) (g t : Table) (v : ℕ) → members t v ≡ false → clause_for which g (take (v + 1) t) ≡ clause_for which g (take v t)
-clause_no listed.Quorum g t v h = rw add-one (ap (λ (xs : List ℕ). map (λ w. Plus (variable_in g w)) xs) (listed_no 0 t v h))
-clause_no listed.Blocking g t v h = rw add-one (ap (λ (xs : List ℕ). map (λ w. Minus (variable_in g w)) xs) (listed_no 0 t v h))
+pub clause_all : (which : Listed) (g t : Table) (ws : List ℕ) (ls : List Literal) → ws ≡ listed_from 0 g → length g ≡ length t → members t ⊆ members g → ls ≡ map (literal_for which g) (filter (members t) ws) → ls ≡ clause_for which g t
+clause_all which g t ws ls all e within is = is ∙ ap (λ (vs : List ℕ). map (literal_for which g) vs) (ap (λ (vs : List ℕ). filter (members t) vs) all ∙ filter_from 0 (members t) g t e within (λ j. ap (members t) (from_zero j))) ∙ same which
+  where
+    same : (which : Listed) → map (literal_for which g) (listed_from 0 t) ≡ clause_for which g t
+    same listed.Quorum = refl
+    same listed.Blocking = refl
 
 -- ---- its variables
 

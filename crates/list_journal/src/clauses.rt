@@ -40,12 +40,10 @@ pub fn clause_of(
 {
     let mut clause = Vec::new(alloc);
     let mut variable = 0;
-    for v in 0..n {
-        if greatest.has(v) {
-            variable += 1;
-            if set.has(v) {
-                clause.push(literal(which, variable))?;
-            }
+    for v in greatest.iter() {
+        variable += 1;
+        if set.has(v) {
+            clause.push(literal(which, variable))?;
         }
     }
     Ok(clause)

@@ -5,3 +5,6 @@ pub mod Truth
 pub mod Runs
 pub mod News
 pub mod StatusFrom
+pub mod RatTruth
+pub mod RatRuns
+mod Samples

@@ -14,8 +14,6 @@ mod lent;
 mod log;
 mod numbers;
 mod reading;
-#[cfg(test)]
-mod tests;
 mod words;
 mod writing;
 

@@ -1,7 +1,5 @@
 mod NameLists
-pub mod Places
 pub mod ListLaws
-mod KeptNames
 mod WordLaws
 mod WordMixes
 mod WordFinds

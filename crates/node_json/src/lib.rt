@@ -17,8 +17,3 @@ pub use faults::{ConfigFault, OrgFault, SetFault};
 pub use ids::read_ids;
 pub use organisations::{Orgs, read_orgs};
 pub use system::read_config;
-
-#[cfg(test)]
-mod org_tests;
-#[cfg(test)]
-mod tests;

@@ -48,11 +48,11 @@ fn every_two_quorums_share_a_node_or_two_share_none_or_the_budget_is_spent(
 ) -> Result<(), Fail> {
     let alloc = rt.alloc();
     for (config, faulty, budget, want) in [
-        (TWO_OF_THREE, "", 1_000_000, "yes 36 53"),
+        (TWO_OF_THREE, "", 1_000_000, "yes 16 25"),
         (TWO_OF_THREE, "a", 1_000_000, "no Some(1) 1 Some(2) 1"),
-        (TWO_OF_THREE, "", 0, "spent 0 36 53"),
-        (TWO_OF_THREE, "", 1, "spent 1 36 53"),
-        (TWO_OF_TWO, "", 6_561, "yes 8 16"),
+        (TWO_OF_THREE, "", 0, "spent 0 16 25"),
+        (TWO_OF_THREE, "", 1, "spent 1 16 25"),
+        (TWO_OF_TWO, "", 729, "yes 6 12"),
         ("[]", "", 0, "yes 0 2"),
     ] {
         assert_eq!(rt; asked(alloc, config, faulty, budget)?.as_str(), want);

@@ -1,8 +1,8 @@
 -- A set that is cut to a part lies in it.
-use Rattle.std.proofs.Common.{◌≡◌, ℕ, suc, ◌+◌, ◌<◌, [], ◌∷◌, length, Bool, true, false, ◌&&◌, Option, Some, None, refl, sym, ◌∙◌, ap, arith}
+use Rattle.std.proofs.Common.{◌≡◌, ℕ, suc, ◌+◌, ◌<◌, [], ◌∷◌, length, Bool, true, false, ◌&&◌, Option, Some, None, refl, sym, ◌∙◌, ap, subst, arith}
 use Rattle.std.proofs.lemmas.Bool.{and_parts}
-use Rattle.fbas_model.specs.Nodes.{Nodes, Table, members, ◌∩◌}
-use Rattle.fbas_model.specs.Fbas.{Fbas}
+use Rattle.fbas_model.specs.Nodes.{Nodes, Table, members, ∅, ◌∩◌}
+use Rattle.fbas_model.specs.Fbas.{Fbas, Intersects}
 use Rattle.fbas_model.specs.Systems.{System}
 use Rattle.fbas_model.specs.Restriction.{closure_of, everyone, kept, restricted, table_from}
 use Rattle.fbas_model.proofs.Tables.{table_is, length-table_from, members-table_from}
@@ -67,3 +67,8 @@ faulty_of_closure f h v t some is = is ∙ sym (ap (λ (o : Option ℕ). kept (p
 
 pub part_of_closure : (f p : System) (h : Header) (v : ℕ) → h.from ≡ Some v → p ≡ restricted (closure_of f.sets v) f → p ≡ part_of f h.from
 part_of_closure f p h v some is = is ∙ sym (ap (part_of f) some)
+
+-- where nobody is deleted of the whole, its quorums are those of the system
+pub meets_in_whole : (f : System) (h : Header) → h.from ≡ None → length h.faulty ≡ length f.sets → members h.faulty ≡ ∅ → Intersects f.sets ∅ → Intersects (part_of f h.from).sets (members (faulty_in f h))
+meets_in_whole f h none size empty meets =
+    subst (λ (p : System). Intersects p.sets (members (faulty_in f h))) (part_of_whole f h none) (subst (λ (t : Table). Intersects f.sets (members t)) (faulty_of_whole f h none size) (subst (λ (b : Nodes). Intersects f.sets b) (sym empty) meets))

@@ -16,7 +16,7 @@ use Rattle.cert_writer.specs.Finding.{Finds}
 use Rattle.cert_writer.specs.Listing.{FindsList}
 use Rattle.cli_words.specs.Words.{order_of}
 use Rattle.cli_words.specs.declared.orders.Goal.{Goal}
-use Rattle.cli_words.specs.declared.orders.Goal.TheVariants.{Intersect, Dset, Splits, Blocking}
+use Rattle.cli_words.specs.declared.orders.Goal.TheVariants.{Intersect, Dset, Splits, Blocking, Trial}
 use Rattle.report.specs.Lines.{Text, with_pair, counted}
 use Rattle.quorum_cli.specs.declared.early.Early.{Early}
 use Rattle.quorum_cli.specs.declared.reading.Asked.{Asked}
@@ -29,9 +29,10 @@ use Rattle.quorum_cli.specs.declared.status.Status.{Status}
 use Rattle.quorum_cli.specs.declared.status.Status.TheVariants.{Yes, No, Unknown, TooLarge}
 use Rattle.quorum_cli.specs.Finding.{FindsFound, accepted_as}
 use Rattle.quorum_cli.specs.Putting.{PutsBoth}
-use Rattle.quorum_cli.specs.Replies.{intersect_answer, splits_answer, available_lines, dset_answer, Replies}
+use Rattle.quorum_cli.specs.Replies.{intersect_answer, splits_answer, available_lines, dset_answer, size_lines, RepliesTrial, Replies}
 use Rattle.quorum_cli.specs.Printing.{part, deleted, request, PrintsFound, PrintsTooLarge, PrintsSearch, Prints}
-use Rattle.quorum_cli.specs.Showing.{IsAccepted, WritesAccepted, ShowsPair, PrintsPair, ShowsNone, ShowsUnknown, PrintsUnknown, IsAvailable, IsNoDset, PrintsList, PrintsPartOfList}
+use Rattle.quorum_cli.proofs.Titles.{title_there}
+use Rattle.quorum_cli.specs.Showing.{IsAccepted, WritesAccepted, ShowsPair, PrintsPair, ShowsNone, ShowsUnknown, PrintsUnknown, PrintsUnknownTrial, IsAvailable, IsNoDset, PrintsList, PrintsPartOfList}
 use Rattle.quorum_cli.specs.Answers.{asked_of}
 use Rattle.quorum_cli.specs.Meaning.{IsCheck, NamesAccepted}
 use Rattle.quorum_cli.specs.Headline.{NoShows, YesShows, UnknownShows, Headline}
@@ -139,6 +140,27 @@ splits_unknown s old new status (together log size) cert a is finds put at = abs
 splits_unknown s old new status (apart p) cert a is finds put at = absurd (let k : Yes ≡ Unknown = status_there s old new status cert a _ Unknown put is at in cc)
 splits_unknown s old new status (spent log size) cert a is finds put at = record { shows = of_unknown s old new log size cert finds put.files; out = text_there s old new status cert a _ put is }
 
+-- ---- `trial`: as `intersect`, and never no
+
+trial_no : (s : Search) (old new : DeskState) (status : Status) (found : Shown) (cert : Text) (a : Answer) → RepliesTrial (part s) s.budget found a → PutsBoth s.path cert a old new status → status ≡ No → ⊥
+trial_no s old new status (together log size) cert a is put at = absurd (let k : Yes ≡ No = status_there s old new status cert a _ No put is.said at in cc)
+trial_no s old new status (apart p) cert a is put at = is.has
+trial_no s old new status (spent log size) cert a is put at = absurd (let k : Unknown ≡ No = status_there s old new status cert a _ No put is.said at in cc)
+
+trial_yes : (s : Search) (old new : DeskState) (status : Status) (found : Shown) (cert : Text) (a : Answer) → RepliesTrial (part s) s.budget found a → Finds (request s) found cert → PutsBoth s.path cert a old new status → status ≡ Yes → ShowsNone s new
+trial_yes s old new status (together log size) cert a is finds put at = of_none s old new log size cert finds put.files
+trial_yes s old new status (apart p) cert a is finds put at = absurd is.has
+trial_yes s old new status (spent log size) cert a is finds put at = absurd (let k : Unknown ≡ Yes = status_there s old new status cert a _ Yes put is.said at in cc)
+
+trial_unknown : (s : Search) (old new : DeskState) (status : Status) (found : Shown) (cert : Text) (a : Answer) → RepliesTrial (part s) s.budget found a → Finds (request s) found cert → PutsBoth s.path cert a old new status
+    → status ≡ Unknown → PrintsUnknownTrial s (counted (codes "intersects unknown") s.budget) old new
+trial_unknown s old new status (together log size) cert a is finds put at = absurd (let k : Yes ≡ Unknown = status_there s old new status cert a _ Unknown put is.said at in cc)
+trial_unknown s old new status (apart p) cert a is finds put at = absurd is.has
+trial_unknown s old new status (spent log size) cert a is finds put at = record {
+  shows = of_unknown s old new log size cert finds put.files;
+  out = text_there s old new status cert a _ put is.said ∙ ap (λ (z : Size). old.out ++ (size_lines (part s) z ++ counted (codes "intersects unknown") s.budget)) is.has;
+}
+
 -- ---- `dset`: the status is that of both answers
 
 not_available : (s : Search) → (IsTrue false ↔ IsAvailable s) → IsAvailable s → ⊥
@@ -206,18 +228,22 @@ found_no s old new status Intersect (Shared answer) cert a is finds put = λ at.
 found_no s old new status Splits (Shared answer) cert a is finds put = λ at. splits_yes s old new status answer cert a is finds put at
 found_no s old new status Dset (Shared answer) cert a is finds put = λ at. dset_no s old new status answer cert a is.available is.unmet is.is.is is.said finds put at
 found_no s old new status Blocking found cert a is finds put = tt
+found_no s old new status Trial (Shared answer) cert a is finds put = λ at. trial_no s old new status answer cert a is put at
 found_no s old new status Intersect (Listed outcome) cert a is finds put = absurd is
 found_no s old new status Splits (Listed outcome) cert a is finds put = absurd is
 found_no s old new status Dset (Listed outcome) cert a is finds put = absurd is
+found_no s old new status Trial (Listed outcome) cert a is finds put = absurd is
 
 found_yes : (s : Search) (old new : DeskState) (status : Status) (goal : Goal) (found : Found) (cert : Text) (a : Answer) → Replies goal (part s) (deleted s) s.budget found a → FindsFound (request s) found cert → PutsBoth s.path cert a old new status → YesShows goal s new status
 found_yes s old new status Intersect (Shared answer) cert a is finds put = λ at. intersect_yes s old new status answer cert a is finds put at
 found_yes s old new status Splits (Shared answer) cert a is finds put = λ at. splits_no s old new status answer cert a is finds put at
 found_yes s old new status Dset (Shared answer) cert a is finds put = λ at. dset_yes s old new status answer cert a is.available is.unmet is.is.is is.said finds put at
 found_yes s old new status Blocking found cert a is finds put = tt
+found_yes s old new status Trial (Shared answer) cert a is finds put = λ at. trial_yes s old new status answer cert a is finds put at
 found_yes s old new status Intersect (Listed outcome) cert a is finds put = absurd is
 found_yes s old new status Splits (Listed outcome) cert a is finds put = absurd is
 found_yes s old new status Dset (Listed outcome) cert a is finds put = absurd is
+found_yes s old new status Trial (Listed outcome) cert a is finds put = absurd is
 
 found_unknown : (s : Search) (old new : DeskState) (status : Status) (goal : Goal) (found : Found) (cert : Text) (a : Answer) → Replies goal (part s) (deleted s) s.budget found a → FindsFound (request s) found cert → PutsBoth s.path cert a old new status → status ≡ Unknown
     → UnknownShows goal s old new
@@ -225,9 +251,11 @@ found_unknown s old new status Intersect (Shared answer) cert a is finds put at 
 found_unknown s old new status Splits (Shared answer) cert a is finds put at = splits_unknown s old new status answer cert a is finds put at
 found_unknown s old new status Dset (Shared answer) cert a is finds put at = dset_unknown s old new status answer cert a is.available is.unmet is.is.is is.said finds put at
 found_unknown s old new status Blocking found cert a is finds put at = list_unknown s old new status found cert a is finds put at
+found_unknown s old new status Trial (Shared answer) cert a is finds put at = trial_unknown s old new status answer cert a is finds put at
 found_unknown s old new status Intersect (Listed outcome) cert a is finds put at = absurd is
 found_unknown s old new status Splits (Listed outcome) cert a is finds put at = absurd is
 found_unknown s old new status Dset (Listed outcome) cert a is finds put at = absurd is
+found_unknown s old new status Trial (Listed outcome) cert a is finds put at = absurd is
 
 found_list : (s : Search) (old new : DeskState) (status : Status) (goal : Goal) (found : Found) (cert : Text) (a : Answer) → Replies goal (part s) (deleted s) s.budget found a → FindsFound (request s) found cert → PutsBoth s.path cert a old new status
     → goal ≡ Blocking → status ≡ Yes → PrintsList s old new
@@ -253,6 +281,7 @@ found_means s old new status p =
       finished = λ at. record {
         cert = r.cert;
         held = held_there s.path r.cert old.files new.files p.put.files;
+        title = title_there s r.found r.cert r.finds;
         answer = accepted_as (request s) r.found;
         accepted = accepted_there s r.found r.cert r.finds;
       };
@@ -269,12 +298,14 @@ no_no s old new status Intersect large = λ at. absurd cc
 no_no s old new status Splits large = λ at. absurd cc
 no_no s old new status Dset large = λ at. absurd cc
 no_no s old new status Blocking large = tt
+no_no s old new status Trial large = λ at. absurd cc
 
 no_yes : (s : Search) (new : DeskState) (status : Status) (goal : Goal) → status ≡ TooLarge → YesShows goal s new status
 no_yes s new status Intersect large = λ at. absurd cc
 no_yes s new status Splits large = λ at. absurd cc
 no_yes s new status Dset large = λ at. absurd cc
 no_yes s new status Blocking large = tt
+no_yes s new status Trial large = λ at. absurd cc
 
 too_large_means : (s : Search) (old new : DeskState) (status : Status) → PrintsTooLarge s old new status → SearchMeans s old new status
 too_large_means s old new status p =

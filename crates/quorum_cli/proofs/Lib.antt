@@ -2,7 +2,9 @@ pub mod Unions
 pub mod Puts
 pub mod Replied
 pub mod Shown
+pub mod Titles
 pub mod Headlines
 pub mod Cuts
 pub mod After
 pub mod Told
+pub mod Trials

@@ -1,18 +1,19 @@
 -- A reply of a search has the status of an answer.
 use Rattle.std.proofs.Common.{◌≡◌, ◌<◌, ℕ, IsTrue, Bool, true, false, Contains, length, refl, sym, subst, ap, ◌∙◌}
 use Rattle.std.proofs.lemmas.List.Elements.{All-weaker, All-contains_itself}
-use Rattle.fbas_model.specs.Fbas.{Fbas}
-use Rattle.fbas_model.specs.Nodes.{Table}
+use Rattle.fbas_model.specs.Fbas.{Fbas, Intersects}
+use Rattle.fbas_model.specs.Nodes.{Table, members}
 use Rattle.fbas_model.specs.Systems.{System}
-use Rattle.quorum_questions.specs.Evidence.{vars_of}
+use Rattle.quorum_questions.specs.Evidence.{vars_of, Shows}
 use Rattle.clause_encoder.specs.declared.limits.TheConstants.{MOST_VARS}
 use Rattle.cert_writer.specs.Finding.{CanBeWritten}
+use Rattle.witness_pair.specs.declared.Pair.{Pair}
 use Rattle.report.specs.Lines.{too_large}
 use Rattle.quorum_cli.specs.declared.status.Status.TheVariants.{TooLarge}
 use Rattle.quorum_questions.specs.declared.answers.Answer.{Answer as Shown}
 use Rattle.quorum_questions.specs.declared.answers.Answer.TheVariants.{Yes as together, No as apart, Spent as spent}
 use Rattle.cli_words.specs.declared.orders.Goal.{Goal}
-use Rattle.cli_words.specs.declared.orders.Goal.TheVariants.{Intersect, Dset, Splits, Blocking}
+use Rattle.cli_words.specs.declared.orders.Goal.TheVariants.{Intersect, Dset, Splits, Blocking, Trial}
 use Rattle.blocking_lists.specs.Outcomes.{OutcomeHolds}
 use Rattle.blocking_lists.specs.declared.outcome.ListOutcome.{ListOutcome}
 use Rattle.blocking_lists.specs.declared.outcome.ListOutcome.TheVariants.{Whole as whole_list, Spent as part_of_list}
@@ -48,10 +49,12 @@ reply_answered Intersect f deleted budget (Shared found) a is = subst Answered (
 reply_answered Splits f deleted budget (Shared found) a is = subst Answered (sym is) (splits_answered f budget found)
 reply_answered Dset f deleted budget (Shared found) a is = subst Answered (sym is.said) (dset_answered f budget is.available found)
 reply_answered Blocking f deleted budget (Listed found) a is = subst Answered (sym is) (blocking_answered f budget found)
+reply_answered Trial f deleted budget (Shared found) a is = subst Answered (sym is.said) (intersect_answered f budget found)
 reply_answered Intersect f deleted budget (Listed found) a is = absurd is
 reply_answered Splits f deleted budget (Listed found) a is = absurd is
 reply_answered Dset f deleted budget (Listed found) a is = absurd is
 reply_answered Blocking f deleted budget (Shared found) a is = absurd is
+reply_answered Trial f deleted budget (Listed found) a is = absurd is
 
 pub too_large_answered : (f : System) (deleted : Table) (a : Answer) → RepliesTooLarge f deleted a → IsTrue (is_answer a.status)
 too_large_answered f deleted a is = subst Answered (sym is.said) refl
@@ -71,3 +74,9 @@ pub list_sized : (f : Fbas) (b : Table) (units left : ℕ) (found : ListOutcome)
 list_sized f b units left (whole_list sets journal) holds =
     All-weaker (Contains sets.items) (λ s. length s ≡ length f) (λ s there. ((holds.list.exact s).0 there).0) sets.items (All-contains_itself sets.items)
 list_sized f b units left (part_of_list journal) holds = tt
+
+-- where every two quorums share a node, none are found apart
+pub found_together : (f : Fbas) (b : Table) (budget : ℕ) (found : Shown) → Intersects f (members b) → Shows f b budget found → (p : Pair) → found ≡ apart p → ⊥
+found_together f b budget found meets shows p is =
+    let pair = (subst (Shows f b budget) is shows).apart in
+    pair.apart (meets (members p.first) (members p.second) pair.first pair.second)

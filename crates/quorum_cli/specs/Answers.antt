@@ -5,7 +5,7 @@ use Rattle.sha2.specs.Sha256.{sha256}
 use Rattle.desk_io.specs.State.{Files}
 use Rattle.fbas_model.specs.Names.{Name}
 use Rattle.fbas_model.specs.Systems.{System}
-use Rattle.cli_words.specs.Order.{Ordered}
+use Rattle.cli_words.specs.Order.{Ordered, has_configuration}
 use Rattle.cli_words.specs.Words.{order_of}
 use Rattle.cli_words.specs.declared.orders.Command.{Command}
 use Rattle.cli_words.specs.declared.orders.Command.TheVariants as command
@@ -17,6 +17,7 @@ use Rattle.node_json.specs.Configuration.{system_of}
 use Rattle.node_json.specs.declared.faults.ConfigFault.{ConfigFault}
 use Rattle.node_json.specs.Organisations.{Org, orgs_of}
 use Rattle.node_json.specs.declared.faults.OrgFault.{OrgFault}
+use Rattle.trial_network.specs.Tree.{trial_text}
 use Rattle.certificate_file.specs.Acceptance.{checked}
 use Rattle.certificate_file.specs.declared.places.Accepted.{Accepted}
 use Rattle.certificate_file.specs.declared.places.Answer.{Answer as Shown}
@@ -34,7 +35,7 @@ use Rattle.quorum_cli.specs.declared.reading.Asked.TheVariants as asked
 use Rattle.quorum_cli.specs.declared.question.Inquiry.{Inquiry}
 use Rattle.quorum_cli.specs.Reading.{◌>>=◌}
 use Rattle.quorum_cli.specs.Questions.{question_of, part_of, FitsQuestion}
-use Rattle.quorum_cli.specs.Searches.{search_of, FitsSearch}
+use Rattle.quorum_cli.specs.Searches.{search_of, trial_of, FitsSearch}
 
 abbrev pub words_of : List (String Global) → List (List ℕ)
 words_of words = map string_bytes words
@@ -125,11 +126,21 @@ config_asked o files config = do
   f ← system_in config
   command_asked o.command o f config files
 
--- what an order asks, or its early answer
-abbrev pub order_asked : Ordered → Files → Result Asked Early
-order_asked o files = do
+-- what an order asks over the file of its configuration
+abbrev pub file_asked : Ordered → Files → Result Asked Early
+file_asked o files = do
   config ← file_in config_too_long (files o.config)
   config_asked o files config
+
+-- what a trial asks: the text of its configuration is in no file
+abbrev pub trial_asked : Ordered → Result Asked Early
+trial_asked o = do
+  f ← system_in (trial_text o.trial)
+  Ok (asked.Search (trial_of f (trial_text o.trial) o))
+
+-- what an order asks, or its early answer
+abbrev pub order_asked : Ordered → Files → Result Asked Early
+order_asked o files = if has_configuration o.command then file_asked o files else trial_asked o
 
 -- the early end where the words are no order
 abbrev pub refused_words : OrderFault → Early

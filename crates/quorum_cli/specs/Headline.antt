@@ -4,7 +4,7 @@ use Rattle.std.specs.Str.{bytes_eq}
 use Rattle.desk_io.specs.State.{DeskState, Files}
 use Rattle.cli_words.specs.Words.{order_of}
 use Rattle.cli_words.specs.declared.orders.Goal.{Goal}
-use Rattle.cli_words.specs.declared.orders.Goal.TheVariants.{Intersect, Dset, Splits, Blocking}
+use Rattle.cli_words.specs.declared.orders.Goal.TheVariants.{Intersect, Dset, Splits, Blocking, Trial}
 use Rattle.report.specs.Lines.{counted}
 use Rattle.quorum_cli.specs.declared.early.Early.{Early}
 use Rattle.quorum_cli.specs.declared.reading.Asked.{Asked}
@@ -14,18 +14,19 @@ use Rattle.quorum_cli.specs.declared.status.Status.{Status}
 use Rattle.quorum_cli.specs.declared.status.Status.TheVariants.{Yes, No, Unknown}
 use Rattle.quorum_cli.specs.Answers.{asked_of}
 use Rattle.quorum_cli.specs.Meaning.{IsCheck, NamesAccepted}
-use Rattle.quorum_cli.specs.Showing.{WritesAccepted, PrintsPair, ShowsNone, PrintsUnknown, IsAvailable, IsNoDset, PrintsList, PrintsPartOfList}
+use Rattle.quorum_cli.specs.Showing.{WritesAccepted, PrintsPair, ShowsNone, PrintsUnknown, PrintsUnknownTrial, IsAvailable, IsNoDset, PrintsList, PrintsPartOfList}
 
 -- the words ask for this search over the files
 abbrev pub Seeks : List (List ℕ) → Files → Search → Type 0
 Seeks words files s = asked_of words files ≡ Ok (asked.Search s)
 
--- two disjoint quorums are found, or no dispensable set
+-- two disjoint quorums are found, or no dispensable set; a trial never says no
 abbrev pub NoShows : Goal → Search → DeskState → DeskState → Status → Type 0
 NoShows Intersect s old new status = status ≡ No → PrintsPair s (codes "intersects no\n") [] old new
 NoShows Splits s old new status = status ≡ Yes → PrintsPair s (codes "splits yes\n") [] old new
 NoShows Dset s old new status = status ≡ No → IsNoDset s old new
 NoShows Blocking s old new status = Unit {0}
+NoShows Trial s old new status = status ≡ No → ⊥
 
 -- every two quorums share a node
 abbrev pub YesShows : Goal → Search → DeskState → Status → Type 0
@@ -33,6 +34,7 @@ YesShows Intersect s new status = status ≡ Yes → ShowsNone s new
 YesShows Splits s new status = status ≡ No → ShowsNone s new
 YesShows Dset s new status = status ≡ Yes → IsAvailable s × ShowsNone s new
 YesShows Blocking s new status = Unit {0}
+YesShows Trial s new status = status ≡ Yes → ShowsNone s new
 
 -- the budget is spent
 abbrev pub UnknownShows : Goal → Search → DeskState → DeskState → Type 0
@@ -40,6 +42,7 @@ UnknownShows Intersect s old new = PrintsUnknown s (counted (codes "intersects u
 UnknownShows Splits s old new = PrintsUnknown s (counted (codes "splits unknown") s.budget) old new
 UnknownShows Dset s old new = IsAvailable s × PrintsUnknown s (codes "available yes\n" ++ (counted (codes "intersects unknown") s.budget ++ codes "dset unknown\n")) old new
 UnknownShows Blocking s old new = PrintsPartOfList s old new
+UnknownShows Trial s old new = PrintsUnknownTrial s (counted (codes "intersects unknown") s.budget) old new
 
 -- the words were answered, and the files and the output were these before and are those now
 pub record Headline (words : List (List ℕ)) (old new : DeskState) (status : Status) : Type 0 where

@@ -9,6 +9,7 @@ use Rattle.fbas_model.specs.Restriction.{closure_of, kept, restricted, union}
 use Rattle.name_set.specs.Lists.{names_read, name_read}
 use Rattle.name_set.specs.declared.lists.NameFault.{NameFault}
 use Rattle.clause_encoder.specs.Formula.{formula_vars, formula_clauses}
+use Rattle.clause_encoder.specs.declared.version.Version.TheVariants.{Two}
 use Rattle.clause_encoder.specs.Dimacs.{dimacs}
 use Rattle.sha2.specs.Sha256.{sha256}
 use Rattle.node_json.specs.Organisations.{Org, ids_read}
@@ -183,10 +184,10 @@ AnswersVblocks f v s a = (BlocksNode f.sets v (members s) × says (codes "vblock
 -- the formula that says whether quorums intersect, or that it has too many variables
 abbrev pub export_answer : System → Origin → Table → Table → Answer
 export_answer f origin b greatest =
-    if nat_le (formula_vars f.sets b greatest) 4000000 then record {
+    if nat_le (formula_vars Two f.sets b greatest) 4000000 then record {
       status = Yes;
-      text = exported origin.digest origin.from f.names b (dimacs f.names (record { greatest = greatest; count = formula_vars f.sets b greatest }) (formula_clauses f.sets b greatest));
-    } else record { status = TooLarge; text = too_large (formula_vars f.sets b greatest) }
+      text = exported origin.digest origin.from f.names b (dimacs f.names (record { greatest = greatest; count = formula_vars Two f.sets b greatest }) (formula_clauses Two f.sets b greatest));
+    } else record { status = TooLarge; text = too_large (formula_vars Two f.sets b greatest) }
 
 -- the intersection formula over the greatest quorum is printed, once b is deleted
 pub record AnswersExport (f : System) (origin : Origin) (b : Table) (a : Answer) : Type 0 where

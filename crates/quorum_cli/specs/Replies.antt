@@ -1,18 +1,19 @@
 -- What a search prints of what it found.
-use Rattle.std.specs.Prelude.{◌≡◌, ◌↔◌, ◌<◌, ℕ, ◌++◌, Bool, true, false, IsTrue, List, All, length, codes}
+use Rattle.std.specs.Prelude.{◌≡◌, ◌↔◌, ◌<◌, ℕ, ◌++◌, ◌/◌, Bool, true, false, IsTrue, List, All, length, codes}
 use Rattle.fbas_model.specs.Names.{Name}
 use Rattle.fbas_model.specs.Nodes.{Table, members}
 use Rattle.fbas_model.specs.Fbas.{Available, AreUnmet}
 use Rattle.fbas_model.specs.Systems.{System}
 use Rattle.quorum_questions.specs.Evidence.{vars_of}
+use Rattle.quorum_questions.specs.declared.answers.Size.{Size}
 use Rattle.quorum_questions.specs.declared.answers.Answer.{Answer as Shown}
 use Rattle.quorum_questions.specs.declared.answers.Answer.TheVariants.{Yes as together, No as apart, Spent as spent}
 use Rattle.blocking_lists.specs.declared.outcome.ListOutcome.{ListOutcome}
 use Rattle.blocking_lists.specs.declared.outcome.ListOutcome.TheVariants.{Whole as whole, Spent as part}
 use Rattle.clause_encoder.specs.declared.limits.TheConstants.{MOST_VARS}
 use Rattle.cli_words.specs.declared.orders.Goal.{Goal}
-use Rattle.cli_words.specs.declared.orders.Goal.TheVariants.{Intersect, Dset, Splits, Blocking}
-use Rattle.report.specs.Lines.{Text, with_pair, with_sets, counted, unavailable, too_large}
+use Rattle.cli_words.specs.declared.orders.Goal.TheVariants.{Intersect, Dset, Splits, Blocking, Trial}
+use Rattle.report.specs.Lines.{Text, with_pair, with_sets, trial_size, counted, unavailable, too_large}
 use Rattle.quorum_cli.specs.declared.status.Status.{Status}
 use Rattle.quorum_cli.specs.declared.status.Status.TheVariants.{Yes, No, Unknown, TooLarge}
 use Rattle.quorum_cli.specs.declared.reply.Reply.{Reply as Answer}
@@ -76,6 +77,24 @@ pub record RepliesDset (f : System) (set : Table) (budget : ℕ) (found : Shown)
   pub is : IsAvailability f set available unmet
   pub said : a ≡ dset_answer f.names available unmet (intersect_answer f.names budget found)
 
+-- ---- a trial
+
+-- how large it is: an organisation has three nodes
+abbrev pub size_lines : System → Size → Text
+size_lines f size = trial_size (length f.names / 3) (length f.names) size.vars size.clauses
+
+-- how large the formula is, by what was found: where two quorums are apart there is no size
+abbrev pub HasSize : Shown → Size → Type 0
+HasSize (together log size) s = s ≡ size
+HasSize (apart p) s = ⊥
+HasSize (spent log size) s = s ≡ size
+
+-- how large it is, and whether every two quorums share a node, which is never no
+pub record RepliesTrial (f : System) (budget : ℕ) (found : Shown) (a : Answer) : Type 0 where
+  pub size : Size
+  pub has : HasSize found size
+  pub said : a ≡ record (intersect_answer f.names budget found) { text = size_lines f size ++ (intersect_answer f.names budget found).text }
+
 -- ---- the reply of a search over a part of the system, of which these nodes are deleted and this was found
 
 abbrev pub Replies : Goal → System → Table → ℕ → Found → Answer → Type 0
@@ -83,6 +102,7 @@ Replies Intersect f deleted budget (Shared found) a = a ≡ intersect_answer f.n
 Replies Splits f deleted budget (Shared found) a = a ≡ splits_answer f.names budget found
 Replies Dset f deleted budget (Shared found) a = RepliesDset f deleted budget found a
 Replies Blocking f deleted budget (Listed found) a = a ≡ blocking_answer f.names budget found
+Replies Trial f deleted budget (Shared found) a = RepliesTrial f budget found a
 Replies goal f deleted budget found a = ⊥
 
 -- the formula has too many variables, which are told

@@ -23,15 +23,21 @@ use Rattle.quorum_questions.specs.declared.answers.Answer.TheVariants.{Yes as to
 use Rattle.report.specs.Lines.{Text, with_pair, with_sets, counted}
 use Rattle.quorum_cli.specs.declared.searches.Search.{Search}
 use Rattle.quorum_cli.specs.Printing.{part, deleted, request}
+use Rattle.quorum_cli.specs.Replies.{size_lines}
 
 -- the certificate says this, for the asked node and the deleted nodes, and is accepted
 abbrev pub IsAccepted : Search → Text → Shown → Type 0
 IsAccepted s cert answer = checked s.whole s.digest cert ≡ Ok (record { header = s.header; answer = answer })
 
+-- the first line is the title of version 2
+abbrev pub IsOfVersionTwo : Text → Type 0
+IsOfVersionTwo cert = (rest : Text) × (cert ≡ codes "fbas-cert 2\n" ++ rest)
+
 -- the certificate is accepted, for the asked node and the deleted nodes
 pub record WritesAccepted (s : Search) (new : DeskState) : Type 0 where
   pub cert : Text
   pub held : new.files s.path ≡ Some cert
+  pub title : IsOfVersionTwo cert
   pub answer : Shown
   pub accepted : IsAccepted s cert answer
 
@@ -72,6 +78,11 @@ pub record ShowsUnknown (s : Search) (new : DeskState) : Type 0 where
 pub record PrintsUnknown (s : Search) (text : Text) (old new : DeskState) : Type 0 where
   pub shows : ShowsUnknown s new
   pub out : new.out ≡ old.out ++ text
+
+-- and so is how large the trial is, and a text behind it
+pub record PrintsUnknownTrial (s : Search) (text : Text) (old new : DeskState) : Type 0 where
+  pub shows : ShowsUnknown s new
+  pub out : new.out ≡ old.out ++ (size_lines (part s) shows.size ++ text)
 
 -- whether the others are available despite the deleted nodes
 abbrev pub IsAvailable : Search → Type 0

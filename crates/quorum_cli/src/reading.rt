@@ -2,12 +2,13 @@
 ghost use Rattle.std.specs.Prelude.{◌≡◌, ◌≤◌, All, Ok, IsTrue, IfOk, IfErr, IsOk, IsErr, IsErrOf, length, option_map, string_bytes};
 ghost use Rattle.desk_io.specs.State.{OnlyReads};
 ghost use Rattle.desk_io.specs.Faults.{ReadFails};
-ghost use Rattle.cli_words.specs.Order.{order_view};
+ghost use Rattle.cli_words.specs.Order.{order_view, has_configuration};
 ghost use Rattle.cli_words.specs.Words.{order_of};
 ghost use Rattle.cli_words.specs.declared.budget.TheConstants.{MOST_BUDGET};
+ghost use Rattle.cli_words.specs.declared.organisations.TheConstants.{MOST_ORGANISATIONS};
 ghost use Rattle.report.specs.Lines.{config_refused, orgs_refused};
 ghost use Rattle.node_json.specs.Organisations.{orgs_of};
-ghost use Rattle.quorum_cli.specs.Answers.{words_of, asked_of, or_words_refused, order_asked, config_asked, command_asked, query_asked, system_in, or_orgs_refused, orgs_given, FitsAsked};
+ghost use Rattle.quorum_cli.specs.Answers.{words_of, asked_of, or_words_refused, order_asked, file_asked, trial_asked, config_asked, command_asked, query_asked, system_in, or_orgs_refused, orgs_given, FitsAsked};
 ghost use Rattle.quorum_cli.specs.Meaning.{HasCert, HasAccepted, NamesFiles, NamesAccepted, YesMeans, IsCheck, IsUsage};
 ghost use Rattle.quorum_cli.specs.Reading.{Fails, Gives, GivesReading, IsRefusal, IsAnswer};
 
@@ -17,13 +18,14 @@ use crate::files::read_file;
 use crate::parts::part_of;
 use crate::question::{Inquiry, Question, question_asked};
 use crate::reply::{Reply, says};
-use crate::searches::{Search, search_asked};
+use crate::searches::{Search, search_asked, trial_search};
 use crate::status::Status;
 use cli_words::{Command, Goal, Order, OrderFault, Query};
 use desk_io::{Desk, Which};
 use fbas_core::System;
 use node_json::{ConfigFault, OrgFault, Orgs, read_config, read_orgs};
 use std::alloc::{AllocError, Global};
+use trial_network::Trial;
 
 /// What is asked.
 #[derive(Drop)]
@@ -39,6 +41,7 @@ fn order_in(alloc: Global, words: &[String]) -> Result<Order, Early>
     ensures ok { IfOk result (λ o. order_of (words_of words.now) ≡ Ok (order_view o)) }
     ensures err { IfErr result (λ e. Fails e (or_words_refused (order_of (words_of words.now)))) }
     ensures few { IfOk result (λ o. o.budget ≤ MOST_BUDGET) }
+    ensures organisations { IfOk result (λ o. o.command ≡ Command.Search Goal.Trial → (1 ≤ o.trial) × (o.trial ≤ MOST_ORGANISATIONS)) }
     ensures refused { IfErr result IsUsage }
 {
     match cli_words::order(alloc, words) {
@@ -46,7 +49,7 @@ fn order_in(alloc: Global, words: &[String]) -> Result<Order, Early>
         Err(OrderFault::Words) => Err(Early::Told(says(
             alloc,
             Status::Usage,
-            "usage: quorum_cli COMMAND\nshow CONFIG\nclosure CONFIG --node NAME\ngreatest CONFIG [COMMON]\nintersect CONFIG CERT [COMMON] [--budget UNITS]\navailable CONFIG --set NAMES [--from NAME]\ndset CONFIG CERT --set NAMES [--from NAME] [--budget UNITS]\nblocks CONFIG --set NAMES [COMMON]\nvblocks CONFIG --node NAME --set NAMES\nsplits CONFIG CERT --set NAMES [COMMON] [--budget UNITS]\nblocking CONFIG CERT [COMMON] [--budget UNITS]\ncheck CONFIG CERT\nexport CONFIG [COMMON]\nCOMMON: --from NAME --faulty NAMES --orgs ORGS --faulty-orgs IDS\n",
+            "usage: quorum_cli COMMAND\nshow CONFIG\nclosure CONFIG --node NAME\ngreatest CONFIG [COMMON]\nintersect CONFIG CERT [COMMON] [--budget UNITS]\navailable CONFIG --set NAMES [--from NAME]\ndset CONFIG CERT --set NAMES [--from NAME] [--budget UNITS]\nblocks CONFIG --set NAMES [COMMON]\nvblocks CONFIG --node NAME --set NAMES\nsplits CONFIG CERT --set NAMES [COMMON] [--budget UNITS]\nblocking CONFIG CERT [COMMON] [--budget UNITS]\ncheck CONFIG CERT\nexport CONFIG [COMMON]\ntrial N CERT [--budget UNITS]\nCOMMON: --from NAME --faulty NAMES --orgs ORGS --faulty-orgs IDS\n",
         )?)),
         Err(OrderFault::SamePath) => Err(Early::Told(says(
             alloc,
@@ -167,7 +170,8 @@ fn seek<D: Desk>(
     config: &[u8],
     desk: &mut D,
 ) -> Result<Asked, Early>
-    requires { order.now.budget ≤ MOST_BUDGET }
+    requires few { order.now.budget ≤ MOST_BUDGET }
+    requires file { IsTrue (has_configuration (Command.Search goal)) }
     ensures gives { IsTrue D.tells → GivesReading (D.state desk.old).plain result
         (command_asked (Command.Search goal) (order_view order.now) system config.now (D.state desk.old).files) }
     ensures refused { IfErr result IsRefusal }
@@ -188,7 +192,8 @@ fn command<D: Desk>(
     config: &[u8],
     desk: &mut D,
 ) -> Result<Asked, Early>
-    requires { order.now.budget ≤ MOST_BUDGET }
+    requires few { order.now.budget ≤ MOST_BUDGET }
+    requires file { IsTrue (has_configuration order.now.command) }
     ensures gives { IsTrue D.tells → GivesReading (D.state desk.old).plain result
         (command_asked order.now.command (order_view order.now) system config.now (D.state desk.old).files) }
     ensures answers { IfErr result IsAnswer }
@@ -216,7 +221,8 @@ fn over_config<D: Desk>(
     config: &[u8],
     desk: &mut D,
 ) -> Result<Asked, Early>
-    requires { order.now.budget ≤ MOST_BUDGET }
+    requires few { order.now.budget ≤ MOST_BUDGET }
+    requires file { IsTrue (has_configuration order.now.command) }
     ensures gives { IsTrue D.tells → GivesReading (D.state desk.old).plain result
         (config_asked (order_view order.now) (D.state desk.old).files config.now) }
     ensures answers { IfErr result IsAnswer }
@@ -231,10 +237,11 @@ fn over_config<D: Desk>(
     command(alloc, order, system, config, desk)
 }
 
-// What an order asks.
-fn carry_out<D: Desk>(alloc: Global, order: &Order, desk: &mut D) -> Result<Asked, Early>
-    requires { order.now.budget ≤ MOST_BUDGET }
-    ensures gives { IsTrue D.tells → GivesReading (D.state desk.old).plain result (order_asked (order_view order.now) (D.state desk.old).files) }
+// What an order asks over the file of its configuration.
+fn over_file<D: Desk>(alloc: Global, order: &Order, desk: &mut D) -> Result<Asked, Early>
+    requires few { order.now.budget ≤ MOST_BUDGET }
+    requires file { IsTrue (has_configuration order.now.command) }
+    ensures gives { IsTrue D.tells → GivesReading (D.state desk.old).plain result (file_asked (order_view order.now) (D.state desk.old).files) }
     ensures answers { IfErr result IsAnswer }
     ensures fits { IfOk result FitsAsked }
     ensures checked { order.now.command ≡ Command.Check → IsErr result }
@@ -251,6 +258,38 @@ fn carry_out<D: Desk>(alloc: Global, order: &Order, desk: &mut D) -> Result<Aske
         "config too-long\n",
     )?;
     over_config(alloc, order, &config, desk)
+}
+
+// What a trial asks. Its configuration's text is in no file.
+fn over_trial(alloc: Global, order: &Order) -> Result<Asked, AllocError>
+    requires few { order.now.budget ≤ MOST_BUDGET }
+    requires some { 1 ≤ order.now.trial }
+    requires organisations { order.now.trial ≤ MOST_ORGANISATIONS }
+    ensures gives { IfOk result (λ asked. trial_asked (order_view order.now) ≡ Ok asked) }
+    ensures fits { IfOk result FitsAsked }
+{
+    let Trial { text, system } = Trial::of(alloc, order.trial)?;
+    let search = trial_search(alloc, order, system, text.as_bytes())?;
+    Ok(Asked::Search(search))
+}
+
+// What an order asks.
+fn carry_out<D: Desk>(alloc: Global, order: &Order, desk: &mut D) -> Result<Asked, Early>
+    requires few { order.now.budget ≤ MOST_BUDGET }
+    requires organisations { order.now.command ≡ Command.Search Goal.Trial → (1 ≤ order.now.trial) × (order.now.trial ≤ MOST_ORGANISATIONS) }
+    ensures gives { IsTrue D.tells → GivesReading (D.state desk.old).plain result (order_asked (order_view order.now) (D.state desk.old).files) }
+    ensures answers { IfErr result IsAnswer }
+    ensures fits { IfOk result FitsAsked }
+    ensures checked { order.now.command ≡ Command.Check → IsErr result }
+    ensures shows { IfErr result (λ e. IsTrue D.tells → YesMeans
+        (NamesFiles (order_view order.now) (D.state desk.old).files) e) }
+    ensures reads { IsTrue D.tells → OnlyReads (D.state desk.old) (D.state desk.new) }
+    ensures faults { ReadFails (D.faults desk.old) (D.faults desk.new) (IsErrOf result Early.Read) }
+{
+    if order.command.has_configuration() {
+        return over_file(alloc, order, desk);
+    }
+    Ok(over_trial(alloc, order)?)
 }
 
 /// What the words ask, which begin with the program's name, or the early answer.

@@ -1,9 +1,10 @@
 //! What a search prints of what it found.
 ghost use Rattle.std.specs.Prelude.{◌≡◌, ◌⊎◌, ◌↔◌, All, IsTrue, IfOk, length};
+ghost use Rattle.witness_pair.specs.declared.Pair.{Pair};
 ghost use Rattle.fbas_model.specs.Nodes.{members};
 ghost use Rattle.fbas_model.specs.Fbas.{Available, AreUnmet};
 ghost use Rattle.cert_writer.specs.Finding.{CanBeWritten};
-ghost use Rattle.quorum_cli.specs.Replies.{intersect_answer as spec_intersect, splits_answer as spec_splits, blocking_answer as spec_blocking, HasSets, available_lines as spec_available, dset_status as spec_dset_status, dset_line as spec_dset_line, dset_answer as spec_dset};
+ghost use Rattle.quorum_cli.specs.Replies.{intersect_answer as spec_intersect, splits_answer as spec_splits, blocking_answer as spec_blocking, HasSets, HasSize, RepliesTrial, available_lines as spec_available, dset_status as spec_dset_status, dset_line as spec_dset_line, dset_answer as spec_dset};
 ghost use Rattle.quorum_cli.specs.Status.{is_answer};
 
 use crate::reply::{Reply, says};
@@ -11,7 +12,7 @@ use crate::status::Status;
 use blocking_lists::ListOutcome;
 use fbas_core::System;
 use name_set::NodeSet;
-use quorum_questions::Answer;
+use quorum_questions::{Answer, Size};
 use std::alloc::{AllocError, Global};
 
 /// Whether every two quorums share a node, by what a search found.
@@ -80,6 +81,37 @@ pub fn blocking_answer(
             Ok(Reply::new(Status::Unknown, text))
         }
     }
+}
+
+// How large the formula is, by what a search found: no two quorums are apart.
+fn size_of(found: &Answer) -> Size
+    requires { (p : Pair) → found.now ≡ Answer.No p → ⊥ }
+    ensures { HasSize found.now result }
+{
+    match found {
+        Answer::Yes(_, size) => *size,
+        Answer::No(_) => unreachable!(),
+        Answer::Spent(_, size) => *size,
+    }
+}
+
+/// How large a trial is, and whether every two quorums share a node, by what a search found: no two quorums are apart.
+pub fn trial_answer(
+    alloc: Global,
+    part: &System,
+    budget: u64,
+    found: &Answer,
+) -> Result<Reply, AllocError>
+    requires written { CanBeWritten (length part.now.sets) found.now }
+    requires together { (p : Pair) → found.now ≡ Answer.No p → ⊥ }
+    ensures { IfOk result (RepliesTrial part.now budget found.now) }
+{
+    let size = size_of(found);
+    let answer = intersect_answer(alloc, part, budget, found)?;
+    let nodes = part.len() as u64;
+    let mut text = report::trial_size(alloc, nodes / 3, nodes, size.vars, size.clauses)?;
+    text.extend_from_slice(answer.text.bytes())?;
+    Ok(Reply::new(answer.status, text))
 }
 
 // The lines that say whether the others are available.

@@ -1,9 +1,11 @@
 //! What a search is asked for.
-ghost use Rattle.std.specs.Prelude.{◌≡◌, ◌≤◌, ◌<◌, All, IfOk, IfErr, IfSome, Ok, length, option_map, string_bytes};
-ghost use Rattle.cli_words.specs.Order.{order_view};
+ghost use Rattle.std.specs.Prelude.{◌≡◌, ◌≤◌, ◌<◌, All, IfOk, IfErr, IfSome, IsTrue, Ok, length, option_map, string_bytes};
+ghost use Rattle.fbas_model.specs.Nodes.{members, ∅};
+ghost use Rattle.fbas_model.specs.Fbas.{Intersects};
+ghost use Rattle.cli_words.specs.Order.{order_view, has_configuration};
 ghost use Rattle.cli_words.specs.declared.budget.TheConstants.{MOST_BUDGET};
 ghost use Rattle.quorum_cli.specs.Questions.{set_named as set_by_option, faulty_named as faulty_by_options};
-ghost use Rattle.quorum_cli.specs.Searches.{deleted_by, cut_within as spec_cut_within, search_of, FitsSearch};
+ghost use Rattle.quorum_cli.specs.Searches.{deleted_by, nobody as spec_nobody, cut_within as spec_cut_within, search_of, trial_of, FitsSearch};
 ghost use Rattle.hex.specs.Hex.{IsBytes};
 ghost use Rattle.cert_writer.specs.Promises.{IsHeader};
 ghost use Rattle.quorum_cli.specs.Reading.{Gives, IsRefusal};
@@ -13,12 +15,12 @@ use crate::names::{faulty_named, set_named};
 use crate::parts::from_named;
 use crate::word::Word;
 use certificate_file::Header;
-use cli_words::{Goal, Order};
+use cli_words::{Command, Goal, Order};
 use digest_text::digest;
 use fbas_core::System;
 use name_set::NodeSet;
 use node_json::Orgs;
-use std::alloc::Global;
+use std::alloc::{AllocError, Global};
 
 /// A search over a system, and where its certificate goes.
 #[derive(Drop)]
@@ -36,7 +38,16 @@ pub struct Search {
     pub budget: u64,
 }
 
-// The nodes that are deleted: the faulty ones, those of the set, or both.
+// No node of a system.
+fn nobody(system: &System) -> NodeSet
+    ensures value { result ≡ spec_nobody system.now }
+    ensures empty { members result ≡ ∅ }
+    ensures places { length result ≡ length system.now.sets }
+{
+    NodeSet::new(system.len())
+}
+
+// The nodes that are deleted: the faulty ones, those of the set, or both, and none in a trial.
 fn deleted(
     alloc: Global,
     goal: Goal,
@@ -53,6 +64,7 @@ fn deleted(
         Goal::Intersect | Goal::Blocking => faulty_named(alloc, system, orgs, order),
         Goal::Dset => set_named(alloc, system, "--set", &order.set),
         Goal::Splits => both_named(alloc, system, orgs, order),
+        Goal::Trial => Ok(nobody(system)),
     }
 }
 
@@ -118,6 +130,7 @@ pub fn search_asked(
 ) -> Result<Search, Early>
     requires members { All (λ org. length org.members ≡ length system.names) orgs.now }
     requires few { order.now.budget ≤ MOST_BUDGET }
+    requires file { IsTrue (has_configuration (Command.Search goal)) }
     ensures gives { Gives result (search_of goal system config.now orgs.now (order_view order.now)) }
     ensures refused { IfErr result IsRefusal }
     ensures fits { IfOk result FitsSearch }
@@ -130,6 +143,33 @@ pub fn search_asked(
     look(&digest);
     Ok(Search {
         goal,
+        path,
+        whole: system,
+        digest,
+        header,
+        budget: order.budget,
+    })
+}
+
+/// What a trial asks of the system of its configuration's text, in which every two quorums share a node. It is the whole system
+/// that is meant, and nobody is deleted.
+pub fn trial_search(
+    alloc: Global,
+    order: &Order,
+    system: System,
+    config: &[u8],
+) -> Result<Search, AllocError>
+    requires few { order.now.budget ≤ MOST_BUDGET }
+    requires meets { Intersects system.sets ∅ }
+    ensures gives { IfOk result (λ s. s ≡ trial_of system config.now (order_view order.now)) }
+    ensures fits { IfOk result FitsSearch }
+{
+    let header = header_of(&system, None, nobody(&system));
+    let path = Word::of(alloc, &order.cert)?;
+    let digest = digest(config);
+    look(&digest);
+    Ok(Search {
+        goal: Goal::Trial,
         path,
         whole: system,
         digest,

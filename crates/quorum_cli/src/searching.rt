@@ -1,5 +1,7 @@
 //! A search: its answer, its certificate, and what is put out. All memory is taken before the certificate's file is created.
 ghost use Rattle.std.specs.Prelude.{◌≡◌, ◌⊎◌, ◌≤◌, ◌<◌, [], false, length, IsTrue, IsErr, OnOk, OnErr, IfOk};
+ghost use Rattle.fbas_model.specs.Nodes.{members};
+ghost use Rattle.fbas_model.specs.Fbas.{Intersects};
 ghost use Rattle.fbas_model.specs.Restriction.{closure_of, kept, restricted};
 ghost use Rattle.report.specs.Lines.{too_large as too_large_line};
 ghost use Rattle.desk_io.specs.Faults.{WriteFails};
@@ -14,7 +16,7 @@ ghost use Rattle.quorum_cli.specs.Status.{is_answer};
 
 use crate::found::{Found, what_is_shown_is_accepted, write_certificate};
 use crate::printing::print;
-use crate::replies::{blocking_answer, dset_answer, intersect_answer, splits_answer};
+use crate::replies::{blocking_answer, dset_answer, intersect_answer, splits_answer, trial_answer};
 use crate::reply::Reply;
 use crate::searches::Search;
 use crate::status::Status;
@@ -143,6 +145,30 @@ fn blocking_ready(
     hold(alloc, Found::Listed(found), reply)
 }
 
+// Every two quorums share a node there, so no two are found apart.
+fn trial_ready(
+    alloc: Global,
+    part: &System,
+    faulty: &NodeSet,
+    budget: u64,
+) -> Result<Ready, AllocError>
+    requires same_n { length faulty.now ≡ length part.now.sets }
+    requires few { budget ≤ MOST_UNITS }
+    requires meets { Intersects part.now.sets (members faulty.now) }
+    ensures { IfOk result (FitsReady Goal.Trial part.now faulty.now budget) }
+{
+    let _ = part.len();
+    what_is_shown_is_found();
+    match intersect(alloc, part, faulty, budget) {
+        Ok(found) => {
+            let reply = trial_answer(alloc, part, budget, &found)?;
+            hold(alloc, Found::Shared(found), reply)
+        }
+        Err(AskError::TooLarge(vars)) => too_large(alloc, vars),
+        Err(AskError::Memory) => Err(AllocError),
+    }
+}
+
 // What answers the search, with all the memory that is wanted to put it.
 fn make_ready(
     alloc: Global,
@@ -153,6 +179,7 @@ fn make_ready(
 ) -> Result<Ready, AllocError>
     requires same_n { length faulty.now ≡ length part.now.sets }
     requires few { budget ≤ MOST_UNITS }
+    requires meets { goal ≡ Goal.Trial → Intersects part.now.sets (members faulty.now) }
     ensures { IfOk result (FitsReady goal part.now faulty.now budget) }
 {
     match goal {
@@ -160,6 +187,7 @@ fn make_ready(
         Goal::Splits => splits_ready(alloc, part, faulty, budget),
         Goal::Dset => dset_ready(alloc, part, faulty, budget),
         Goal::Blocking => blocking_ready(alloc, part, faulty, budget),
+        Goal::Trial => trial_ready(alloc, part, faulty, budget),
     }
 }
 

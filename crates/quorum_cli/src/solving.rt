@@ -11,7 +11,7 @@ ghost use Rattle.lrat_model.specs.Runs.{formula_database};
 use crate::question::{Origin, Question};
 use crate::reply::{Reply, says};
 use crate::status::Status;
-use clause_encoder::{EncodeError, VarMap, encode, push_dimacs};
+use clause_encoder::{EncodeError, VarMap, Version, encode, push_dimacs};
 use clause_store::Store;
 use fbas_core::System;
 use name_set::NodeSet;
@@ -126,7 +126,7 @@ fn formula(
     requires greatest { IsGreatestQuorum system.now.sets (members faulty.now) (all_nodes system.now.sets) (members greatest.now) }
     ensures { IfOk result (λ a. a ≡ export_answer system.now origin.now faulty.now greatest.now) }
 {
-    match encode(alloc, system, faulty, greatest) {
+    match encode(alloc, Version::Two, system, faulty, greatest) {
         Ok((store, map)) => formula_text(alloc, system, origin, faulty, &store, &map),
         Err(EncodeError::TooLarge(vars)) => {
             let text = report::counted(alloc, "too-large", vars)?;

@@ -8,3 +8,4 @@ mod malicious;
 mod questions;
 mod searches;
 mod systems;
+mod trials;

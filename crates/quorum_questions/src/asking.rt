@@ -20,7 +20,7 @@ pub const MOST_UNITS: u64 = 4_000_000_000;
 /// Whether every two quorums (Mazières 2015) share a node once the faulty nodes are deleted, with the evidence: a log that
 /// refutes the intersection formula, or two quorums that share none, or the log of a search that spent the budget.
 ///
-/// Of the budget each lemma with a literal takes a unit. `TooLarge` comes exactly where the formula has more than 4,000,000
+/// The formula is that of version 2. Of the budget each lemma with a literal takes a unit. `TooLarge` comes exactly where the formula has more than 4,000,000
 /// variables. The cost is that of the greatest quorum, of `encode` and of the search.
 pub fn intersect(
     alloc: Global,

@@ -3,6 +3,7 @@ ghost use Rattle.std.specs.Prelude.{◌≡◌, ℕ, ◌<◌, length, Err, IfOk};
 ghost use Rattle.lrat_model.specs.Clauses.{numbered, Satisfies};
 ghost use Rattle.fbas_model.specs.Nodes.{members};
 ghost use Rattle.fbas_model.specs.Fbas.{IsGreatestQuorum, all_nodes};
+ghost use Rattle.clause_encoder.specs.declared.version.Version.TheVariants.{Two};
 ghost use Rattle.clause_encoder.specs.Formula.{formula_clauses};
 ghost use Rattle.clause_encoder.specs.declared.limits.TheConstants.{MOST_VARS};
 ghost use Rattle.clause_encoder.specs.Meaning.{value_of};
@@ -11,7 +12,7 @@ ghost use Rattle.quorum_questions.specs.Searching.{IsStarted};
 
 use crate::answers::{AskError, Size, no_formula};
 use cdcl_core::Solver;
-use clause_encoder::{VarMap, encode};
+use clause_encoder::{VarMap, Version, encode};
 use fbas_core::System;
 use greatest_quorum::greatest;
 use name_set::NodeSet;
@@ -25,14 +26,14 @@ pub struct Search {
     pub size: Size,
 }
 
-/// A solver that holds the intersection formula once the faulty nodes are deleted. The formula's store is gone when it is made.
+/// A solver that holds the intersection formula of version 2 once the faulty nodes are deleted. The formula's store is gone when it is made.
 pub fn start(alloc: Global, system: &System, faulty: &NodeSet) -> Result<Search, AskError>
     requires { length faulty.now ≡ length system.now.sets }
     ensures started { IfOk result (IsStarted system.now.sets faulty.now) }
     ensures too_large { (vars : ℕ) → result ≡ Err (AskError.TooLarge vars) → (vars ≡ vars_of system.now.sets faulty.now) × (MOST_VARS < vars) }
 {
     let greatest = greatest(system, faulty);
-    match encode(alloc, system, faulty, &greatest) {
+    match encode(alloc, Version::Two, system, faulty, &greatest) {
         Ok((store, map)) => {
             let size = Size {
                 vars: map.vars(),
@@ -64,7 +65,7 @@ pub fn witness(system: &System, faulty: &NodeSet, map: &VarMap, values: &[bool])
     requires places { length map.now.greatest ≡ length system.now.sets }
     requires greatest { IsGreatestQuorum system.now.sets (members faulty.now) (all_nodes system.now.sets) (members map.now.greatest) }
     requires values { length values.now ≡ map.now.count }
-    requires satisfied { Satisfies (value_of values.now) (numbered 1 (formula_clauses system.now.sets faulty.now map.now.greatest)) }
+    requires satisfied { Satisfies (value_of values.now) (numbered 1 (formula_clauses Two system.now.sets faulty.now map.now.greatest)) }
     ensures { IsWitness system.now.sets faulty.now result }
 {
     let (first, second) = map.pair(values);

@@ -1,27 +1,30 @@
 -- The printed names of the nodes from some node on.
-use Rattle.std.proofs.Common.{◌≡◌, ℕ, zero, suc, ◌+◌, ◌<◌, true, false, List, [], ◌∷◌, ◌++◌, length, drop, refl, sym, ◌∙◌, ap, arith, Some, slice_get, slice_index_or}
-use Rattle.std.proofs.lemmas.List.{append_assoc}
+use Rattle.std.proofs.Common.{◌≡◌, ℕ, zero, suc, ◌+◌, true, false, List, [], ◌∷◌, ◌++◌, length, drop, refl, sym, ◌∙◌, ap, arith, Some, slice_get, slice_index_or}
+use Rattle.std.proofs.lemmas.List.{append_assoc, append-nil, drop_more}
 use Rattle.fbas_model.specs.Names.{Name}
-use Rattle.fbas_model.specs.Nodes.{Table}
+use Rattle.fbas_model.specs.Nodes.{Table, listed_from}
 use Rattle.report.specs.Lines.{listed}
 
-pub listed-taken : (names : List Name) (marks : Table) (v : ℕ) (name : Name) → v < length names → v < length marks → slice_get names v ≡ Some name → slice_index_or marks v false ≡ true → listed (drop v names) (drop v marks) ≡ (32 ∷ name) ++ listed (drop (v + 1) names) (drop (v + 1) marks)
-listed-taken [] marks v name a b g m = absurd (omega arith)
-listed-taken (n ∷ ns) [] v name a b g m = absurd (omega arith)
-listed-taken (n ∷ ns) (true ∷ ms) zero name a b g m = let e : n ≡ name = cc in ap (λ (x : Name). (32 ∷ x) ++ listed ns ms) e
-listed-taken (n ∷ ns) (false ∷ ms) zero name a b g m = absurd cc
-listed-taken (n ∷ ns) (t ∷ ms) (suc v) name a b g m =
-    let e : suc v + 1 ≡ suc (v + 1) = omega arith in
-    rw e (listed-taken ns ms v name (omega arith) (omega arith) g m)
+-- the names of some nodes, each with a space before it
+abbrev pub named : List Name → List ℕ → List ℕ
+named names [] = []
+named names (v ∷ vs) = (32 ∷ slice_index_or names v []) ++ named names vs
 
-pub listed-passed : (names : List Name) (marks : Table) (v : ℕ) → v < length names → v < length marks → slice_index_or marks v false ≡ false → listed (drop v names) (drop v marks) ≡ listed (drop (v + 1) names) (drop (v + 1) marks)
-listed-passed [] marks v a b m = absurd (omega arith)
-listed-passed (n ∷ ns) [] v a b m = absurd (omega arith)
-listed-passed (n ∷ ns) (true ∷ ms) zero a b m = absurd cc
-listed-passed (n ∷ ns) (false ∷ ms) zero a b m = refl
-listed-passed (n ∷ ns) (t ∷ ms) (suc v) a b m =
-    let e : suc v + 1 ≡ suc (v + 1) = omega arith in
-    rw e (listed-passed ns ms v (omega arith) (omega arith) m)
+pub named-more : (names : List Name) (vs : List ℕ) (v : ℕ) → named names (vs ++ v ∷ []) ≡ named names vs ++ (32 ∷ slice_index_or names v [])
+named-more names [] v = append-nil (32 ∷ slice_index_or names v [])
+named-more names (w ∷ vs) v = ap (λ (t : List ℕ). (32 ∷ slice_index_or names w []) ++ t) (named-more names vs v) ∙ sym (append_assoc (32 ∷ slice_index_or names w []) (named names vs) (32 ∷ slice_index_or names v []))
+
+named-from : (v : ℕ) (names : List Name) (marks : Table) → v + length marks ≡ length names → named names (listed_from v marks) ≡ listed (drop v names) marks
+named-from v names [] e = sym (listed-none (drop v names))
+  where
+    listed-none : (ns : List Name) → listed ns [] ≡ []
+    listed-none [] = refl
+    listed-none (n ∷ ns) = refl
+named-from v names (true ∷ marks) e = ap (λ (t : List ℕ). (32 ∷ slice_index_or names v []) ++ t) (named-from (v + 1) names marks (omega arith)) ∙ sym (ap (λ (ns : List Name). listed ns (true ∷ marks)) (drop_more names v [] (omega arith)))
+named-from v names (false ∷ marks) e = named-from (v + 1) names marks (omega arith) ∙ sym (ap (λ (ns : List Name). listed ns (false ∷ marks)) (drop_more names v [] (omega arith)))
+
+pub named-all : (names : List Name) (marks : Table) → length marks ≡ length names → named names (listed_from 0 marks) ≡ listed names marks
+named-all names marks e = named-from 0 names marks (omega arith)
 
 -- what was to come is printed, and the rest is to come
 pub grown : (text more rest left whole : List ℕ) → left ≡ more ++ rest → text ++ left ≡ whole → (text ++ more) ++ rest ≡ whole

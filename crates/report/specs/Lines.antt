@@ -16,7 +16,7 @@ use Rattle.node_json.specs.declared.faults.OrgFault.{OrgFault}
 use Rattle.node_json.specs.declared.faults.OrgFault.TheVariants.{NotJson as NoTree, NotOrgs, BadOrg, DuplicateOrg, TooManyOrgs, Memory as NoOrgs}
 use Rattle.lrat_model.specs.Literal.{Literal, Plus, Minus}
 use Rattle.lrat_model.specs.declared.step.StepFault.{StepFault}
-use Rattle.lrat_model.specs.declared.step.StepFault.TheVariants.{IdOrder, BadLiteral, Tautology, NoSuchClause, NotUnit, NoConflict, RatStep, Memory as NoStep}
+use Rattle.lrat_model.specs.declared.step.StepFault.TheVariants.{IdOrder, BadLiteral, Tautology, NoSuchClause, NotUnit, NoConflict, RatStep, RatMissing, Memory as NoStep}
 use Rattle.cert_lines.specs.declared.faults.CertError.{CertError}
 use Rattle.cert_lines.specs.declared.faults.CertError.TheVariants.{BadLine, LineTooLong, TooManyLines, Digest, UnknownNode, NotQuorum, NotBlocking, NotMinimal, Overlap, Formula, Step, NotNew, NotRefuted, TooLarge, Truncated, Trailing, Read, Memory as NoMemory}
 use Rattle.certificate_file.specs.declared.places.Accepted.{Accepted}
@@ -61,7 +61,7 @@ name_at names v = unwrap_or (slice_get names v) []
 -- ---- refusals
 
 abbrev pub usage : Text
-usage = codes "usage: quorum_cli COMMAND\nshow CONFIG\nclosure CONFIG --node NAME\ngreatest CONFIG [COMMON]\nintersect CONFIG CERT [COMMON] [--budget UNITS]\navailable CONFIG --set NAMES [--from NAME]\ndset CONFIG CERT --set NAMES [--from NAME] [--budget UNITS]\nblocks CONFIG --set NAMES [COMMON]\nvblocks CONFIG --node NAME --set NAMES\nsplits CONFIG CERT --set NAMES [COMMON] [--budget UNITS]\nblocking CONFIG CERT [COMMON] [--budget UNITS]\ncheck CONFIG CERT\nexport CONFIG [COMMON]\nCOMMON: --from NAME --faulty NAMES --orgs ORGS --faulty-orgs IDS\n"
+usage = codes "usage: quorum_cli COMMAND\nshow CONFIG\nclosure CONFIG --node NAME\ngreatest CONFIG [COMMON]\nintersect CONFIG CERT [COMMON] [--budget UNITS]\navailable CONFIG --set NAMES [--from NAME]\ndset CONFIG CERT --set NAMES [--from NAME] [--budget UNITS]\nblocks CONFIG --set NAMES [COMMON]\nvblocks CONFIG --node NAME --set NAMES\nsplits CONFIG CERT --set NAMES [COMMON] [--budget UNITS]\nblocking CONFIG CERT [COMMON] [--budget UNITS]\ncheck CONFIG CERT\nexport CONFIG [COMMON]\ntrial N CERT [--budget UNITS]\nCOMMON: --from NAME --faulty NAMES --orgs ORGS --faulty-orgs IDS\n"
 
 abbrev pub same_path : Text
 same_path = codes "usage same-path\n"
@@ -129,6 +129,7 @@ step_fault (NoSuchClause id) = numbered (codes "no-such-clause") id
 step_fault (NotUnit place) = numbered (codes "not-unit") place
 step_fault NoConflict = codes "no-conflict"
 step_fault (RatStep place) = numbered (codes "rat-step") place
+step_fault (RatMissing id) = numbered (codes "rat-missing") id
 step_fault NoStep = []
 
 -- a failed read and a want of memory are no refusals of the bytes, and are not printed
@@ -215,6 +216,10 @@ export_comments digest from names faulty = with_list (export_head digest from) (
 -- an exported formula: its comment lines, and its DIMACS text
 abbrev pub exported : List ℕ → Option Name → List Name → Table → Text → Text
 exported digest from names faulty dimacs = export_comments digest from names faulty ++ dimacs
+
+-- how large a trial is: its organisations and their nodes, and the variables and clauses of its intersection formula
+abbrev pub trial_size : ℕ → ℕ → ℕ → ℕ → Text
+trial_size organisations nodes vars clauses = counted (codes "trial") organisations ++ (counted (codes "nodes") nodes ++ (counted (codes "variables") vars ++ counted (codes "clauses") clauses))
 
 -- a formula with this many variables is not written
 abbrev pub too_large : ℕ → Text

@@ -140,6 +140,7 @@ fn step_words(alloc: Global, fault: &StepFault) -> Result<Vec<u8>, AllocError>
         StepFault::NotUnit(place) => numbered_word(alloc, "not-unit", *place),
         StepFault::NoConflict => Vec::from_slice(alloc, b"no-conflict"),
         StepFault::RatStep(place) => numbered_word(alloc, "rat-step", *place),
+        StepFault::RatMissing(id) => numbered_word(alloc, "rat-missing", *id),
         StepFault::Memory => Ok(Vec::new(alloc)),
     }
 }

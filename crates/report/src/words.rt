@@ -1,7 +1,7 @@
 //! Words, numbers and names, one behind another.
 ghost use Rattle.std.specs.Prelude.{◌≡◌, ◌<◌, ◌++◌, ◌∷◌, [], length, decimal, codes, option_map, All, OnOk, IfOk};
 ghost use Rattle.certificate_file.specs.Meaning.{HasPlaces, AnswerHasPlaces};
-ghost use Rattle.report.specs.Lines.{numbered, worded, list, listed, line, word_if_any, accepted as spec_accepted, accepted_kind, set_lines, answer_sets, with_list as spec_with_list, counts as spec_counts, export_head as spec_export_head, export_comments as spec_export_comments, with_pair as spec_with_pair, with_sets as spec_with_sets, counted as spec_counted, name_at as spec_name_at};
+ghost use Rattle.report.specs.Lines.{numbered, worded, list, listed, line, word_if_any, accepted as spec_accepted, accepted_kind, set_lines, answer_sets, with_list as spec_with_list, counts as spec_counts, export_head as spec_export_head, export_comments as spec_export_comments, with_pair as spec_with_pair, with_sets as spec_with_sets, trial_size as spec_trial_size, counted as spec_counted, name_at as spec_name_at};
 
 use certificate_file::{Accepted, Answer, Pair};
 use fbas_core::System;
@@ -56,10 +56,9 @@ pub fn push_names(text: &mut Vec<u8>, system: &System, set: &NodeSet) -> Result<
     requires { length set.now ≡ length system.now.sets }
     ensures { OnOk result (text.new.items ≡ text.old.items ++ listed system.now.names set.now) }
 {
-    for v in 0..system.len() {
-        if set.has(v) {
-            push_behind(text, system.names().name(v))?;
-        }
+    let names = system.names();
+    for v in set.iter() {
+        push_behind(text, names.name(v))?;
     }
     Ok(())
 }
@@ -246,6 +245,25 @@ pub fn export_comments(
 {
     let mut text = export_head(alloc, digest, from)?;
     push_list(&mut text, "c faulty", system, faulty)?;
+    Ok(text)
+}
+
+/// How large a trial is: lines of its organisations and their nodes, and of the variables and clauses of its intersection
+/// formula.
+pub fn trial_size(
+    alloc: Global,
+    organisations: u64,
+    nodes: u64,
+    vars: u64,
+    clauses: u64,
+) -> Result<Vec<u8>, AllocError>
+    ensures { IfOk result (λ text. text.items ≡ spec_trial_size organisations nodes vars clauses) }
+{
+    let mut text = Vec::new(alloc);
+    push_count(&mut text, "trial", organisations)?;
+    push_count(&mut text, "nodes", nodes)?;
+    push_count(&mut text, "variables", vars)?;
+    push_count(&mut text, "clauses", clauses)?;
     Ok(text)
 }
 

@@ -6,7 +6,7 @@ use crate::reading::read_dimacs;
 use crate::trial::configuration;
 use anyhow::{Result, bail};
 use cdcl_core::{Budget, Solver, Verdict};
-use clause_encoder::{VarMap, encode, write_dimacs};
+use clause_encoder::{VarMap, Version, encode, write_dimacs};
 use clause_store::Store;
 use fbas_core::System;
 use greatest_quorum::greatest;
@@ -109,7 +109,7 @@ pub fn outcome_of_text(alloc: Global, text: &str, units: u64) -> Result<Outcome>
     solve(alloc, store, vars, units)
 }
 
-/// The intersection formula of a system, no node deleted.
+/// The intersection formula of a system in version 2, no node deleted.
 fn formula(alloc: Global, system: &System) -> Result<(Store, VarMap)>
     ensures small { IfOk result (λ r. r.1.count < 2 ^ 31) }
     ensures range { IfOk result (λ r. AreInRange r.1.count r.0.held) }
@@ -117,7 +117,7 @@ fn formula(alloc: Global, system: &System) -> Result<(Store, VarMap)>
 {
     let faulty = NodeSet::new(system.len());
     let greatest = greatest(system, &faulty);
-    Ok(encode(alloc, system, &faulty, &greatest)?)
+    Ok(encode(alloc, Version::Two, system, &faulty, &greatest)?)
 }
 
 /// Solves the formula of a trial configuration within a budget, and checks the log.

@@ -10,7 +10,7 @@ use Rattle.std.specs.Str.{bytes_eq}
 use Rattle.fbas_model.specs.Names.{name_cmp, is_key, is_among}
 use Rattle.node_json.specs.Configuration.{number_of}
 use Rattle.node_json.proofs.NamesInOrder.{apart}
-use Rattle.name_set.proofs.Places.{place-found}
+use Rattle.fbas_model.proofs.SortedNames.{place-found}
 use Rattle.trial_network.specs.Trial.{node_name, names_from}
 
 -- ---- tests of all numbers below a limit

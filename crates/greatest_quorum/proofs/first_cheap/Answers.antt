@@ -1,6 +1,5 @@
 use Rattle.std.proofs.Common.{◌<◌, ℕ, List, ◌++◌, length, sym, ◌∙◌, ap, arith}
-use Rattle.fbas_model.proofs.Listed.{iterated_below}
-use Rattle.greatest_quorum.proofs.Shrinking.{iterated_member}
+use Rattle.fbas_model.proofs.Listed.{iterated_below, iterated_member}
 use Rattle.greatest_quorum.proofs.first_cheap.Goals as goal
 
 pub has_few_entries-requires : goal.has_few_entries-requires

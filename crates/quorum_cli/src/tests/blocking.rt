@@ -1,6 +1,6 @@
 //! Lists of minimal blocking sets: what `blocking` prints, that `check` accepts what it wrote, and what `check` says of others.
 use crate::status::Status;
-use crate::tests::certificates::{DIGEST_OF_THREE, of_kind};
+use crate::tests::certificates::{DIGEST_OF_THREE, of_kind, shared_of_kind};
 use crate::tests::desks::{Files, run_over, wants_checked};
 use crate::tests::systems::{TWO_OF_THREE, TWO_PAIRS};
 use std::test::Fail;
@@ -77,7 +77,7 @@ fn a_list_without_a_budget_has_an_empty_certificate(rt: HostRuntime) -> Result<(
     let held = Files::of(TWO_OF_THREE.as_bytes());
     let line = "blocking config cert --budget 0";
     let left = run_over(alloc, line, &held, 7, Vec::new(alloc))?;
-    let cert = of_kind(alloc, DIGEST_OF_THREE, "partial-blocking", "end\n")?;
+    let cert = shared_of_kind(alloc, DIGEST_OF_THREE, "partial-blocking", "end\n")?;
     assert_eq!(rt; left.cert.as_slice(), cert.as_bytes());
     Ok(())
 }

@@ -17,20 +17,43 @@ pub const DIGEST_OF_HALF: &str = "d884224eb5c94b56192c3e255562a01521a12c4cab2b78
 /// The lines of a pair of two of three, a being faulty, behind the digest.
 pub const PAIR: &str = "from\nfaulty a\nkind pair\nfirst b\nsecond c\nend\n";
 
-/// A certificate for the configuration with this digest, with these lines behind it.
-pub fn certificate(alloc: Global, digest: &str, lines: &str) -> Result<String, AllocError> {
-    let mut cert = String::from_str(alloc, "fbas-cert 1\nconfig ")?;
+/// A certificate with this title for the configuration with this digest, with these lines behind it.
+fn titled(alloc: Global, title: &str, digest: &str, lines: &str) -> Result<String, AllocError> {
+    let mut cert = String::from_str(alloc, title)?;
+    cert.push_str("\nconfig ")?;
     cert.push_str(digest)?;
     cert.push_str("\n")?;
     cert.push_str(lines)?;
     Ok(cert)
 }
 
-/// A certificate of this kind for the whole configuration with this digest and no faulty nodes, with this body.
-pub fn of_kind(alloc: Global, digest: &str, kind: &str, body: &str) -> Result<String, AllocError> {
+/// A certificate of version 1 for the configuration with this digest, with these lines behind it.
+pub fn certificate(alloc: Global, digest: &str, lines: &str) -> Result<String, AllocError> {
+    titled(alloc, "fbas-cert 1", digest, lines)
+}
+
+/// The lines of this kind for the whole configuration and no faulty nodes, with this body.
+fn lines_of_kind(alloc: Global, kind: &str, body: &str) -> Result<String, AllocError> {
     let mut lines = String::from_str(alloc, "from\nfaulty\nkind ")?;
     lines.push_str(kind)?;
     lines.push_str("\n")?;
     lines.push_str(body)?;
+    Ok(lines)
+}
+
+/// A certificate of version 1 of this kind for the whole configuration with this digest and no faulty nodes, with this body.
+pub fn of_kind(alloc: Global, digest: &str, kind: &str, body: &str) -> Result<String, AllocError> {
+    let lines = lines_of_kind(alloc, kind, body)?;
     certificate(alloc, digest, &lines)
+}
+
+/// The same of version 2.
+pub fn shared_of_kind(
+    alloc: Global,
+    digest: &str,
+    kind: &str,
+    body: &str,
+) -> Result<String, AllocError> {
+    let lines = lines_of_kind(alloc, kind, body)?;
+    titled(alloc, "fbas-cert 2", digest, &lines)
 }

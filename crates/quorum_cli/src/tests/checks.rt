@@ -1,10 +1,15 @@
 //! What `check` says of certificates, and of configurations.
+ghost use Rattle.std.specs.Prelude.{◌<◌};
+
 use crate::status::Status;
 use crate::tests::certificates::{
     DIGEST_OF_HALF, DIGEST_OF_NONE, DIGEST_OF_THREE, DIGEST_OF_TWO, PAIR, certificate, of_kind,
+    shared_of_kind,
 };
 use crate::tests::desks::{Files, run_over, wants_checked};
 use crate::tests::systems::{TWO_OF_THREE, TWO_OF_TWO, half_of_two_hundred};
+use std::alloc::Global;
+use std::process::Abort;
 use std::test::Fail;
 
 // The lines of a certificate for two of three behind the digest, and what is said of it.
@@ -173,6 +178,67 @@ fn check_accepts_a_refutation_and_names_the_first_fault(rt: HostRuntime) -> Resu
         wants_checked(&rt, rt.alloc(), config, cert.as_bytes(), status, text)?;
     }
     Ok(())
+}
+
+// The steps of a refutation of two of two over the formula of version 2.
+const SHARED: &str = "formula 6 12\n13 -1 0 7 6 3 4 2 0\n14 0 13 1 8 5 0\nend\n";
+
+// Those over that of version 1.
+const UNSHARED: &str = "formula 8 16\n17 -1 0 7 6 3 4 2 0\n18 0 17 1 10 8 0\nend\n";
+
+#[test]
+fn check_uses_the_formula_of_the_certificates_version(rt: HostRuntime) -> Result<(), Fail> {
+    let alloc = rt.alloc();
+    let kind = "refutation";
+    let refused = "refused formula 6\n";
+    let rows = [
+        (
+            shared_of_kind(alloc, DIGEST_OF_TWO, kind, SHARED)?,
+            Status::Yes,
+            "accepted refutation\nfrom\nfaulty\n",
+        ),
+        (
+            of_kind(alloc, DIGEST_OF_TWO, kind, SHARED)?,
+            Status::CertRefused,
+            refused,
+        ),
+        (
+            shared_of_kind(alloc, DIGEST_OF_TWO, kind, UNSHARED)?,
+            Status::CertRefused,
+            refused,
+        ),
+    ];
+    for (cert, status, text) in &rows {
+        let cert = cert.as_bytes();
+        wants_checked(&rt, rt.alloc(), TWO_OF_TWO.as_bytes(), cert, *status, text)?;
+    }
+    Ok(())
+}
+
+// Fails unless the worked refutation is accepted in such pieces, and a bad last word is named behind the fault of a hint.
+fn wants_in_pieces(rt: &impl Abort, alloc: Global, piece: usize) -> Result<(), Fail>
+    requires { 0 < piece }
+{
+    let bad = "formula 8 16\n17 -1 0 6 7 3 4 2 x\n18 0 17 1 10 8 0\nend\n";
+    for (body, status, text) in [
+        REFUTATIONS_OF_TWO[0],
+        (bad, Status::CertRefused, "refused bad-line 7\n"),
+    ] {
+        let cert = of_kind(alloc, DIGEST_OF_TWO, "refutation", body)?;
+        let held = Files::with_cert(TWO_OF_TWO.as_bytes(), cert.as_bytes());
+        let left = run_over(alloc, "check config cert", &held, piece, Vec::new(alloc))?;
+        assert_eq!(rt; left.status, status, "{piece}");
+        assert_eq!(rt; left.out.as_slice(), text.as_bytes(), "{piece}");
+    }
+    Ok(())
+}
+
+#[test]
+fn check_reads_a_refutation_in_pieces_of_any_size(rt: HostRuntime) -> Result<(), Fail> {
+    let alloc = rt.alloc();
+    wants_in_pieces(&rt, alloc, 1)?;
+    wants_in_pieces(&rt, alloc, 7)?;
+    wants_in_pieces(&rt, alloc, 65_536)
 }
 
 #[test]

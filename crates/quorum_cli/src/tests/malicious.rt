@@ -28,7 +28,7 @@ const REFUSED: Status = Status::CertRefused;
 
 const REFUTED: &str = "accepted refutation\nfrom\nfaulty\n";
 
-const ROWS: [(Made, Status, &str); 46] = [
+const ROWS: [(Made, Status, &str); 47] = [
     (
         Made::Arrays(127),
         Status::ConfigRefused,
@@ -186,6 +186,7 @@ const ROWS: [(Made, Status, &str); 46] = [
         REFUSED,
         "refused bad-line 1\n",
     ),
+    (Made::Cert("fbas-cert 3\n"), REFUSED, "refused bad-line 1\n"),
     (
         Made::Cert(
             "fbas-cert 1\nconfig F823E204944ABCFF32C8DADFFBA2A0178A590A613358F9A6F271B651CD4E6FBB\n",

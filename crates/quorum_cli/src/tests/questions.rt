@@ -1,15 +1,16 @@
 //! What the plain questions and `export` answer, and which words are no order.
 use crate::status::Status;
 use crate::tests::certificates::{DIGEST_OF_PAIRS, certificate};
-use crate::tests::desks::{Files, run_words, wants, wants_checked};
+use crate::tests::desks::{Files, run_over, run_words, wants, wants_checked};
 use crate::tests::systems::{
     LARGE_THRESHOLD, ORG, REPEATED, TWO_OF_THREE, TWO_OF_TWO, TWO_PAIRS, UNDECLARED, ZERO_INSIDE,
-    half_of_two_hundred, organisations,
+    half_of_two_hundred, organisations, rotated_half_of_two_hundred,
 };
+use std::str::from_utf8;
 use std::test::Fail;
 
 pub const USAGE: &str =
-    "usage: quorum_cli COMMAND\nshow CONFIG\nclosure CONFIG --node NAME\ngreatest CONFIG [COMMON]\nintersect CONFIG CERT [COMMON] [--budget UNITS]\navailable CONFIG --set NAMES [--from NAME]\ndset CONFIG CERT --set NAMES [--from NAME] [--budget UNITS]\nblocks CONFIG --set NAMES [COMMON]\nvblocks CONFIG --node NAME --set NAMES\nsplits CONFIG CERT --set NAMES [COMMON] [--budget UNITS]\nblocking CONFIG CERT [COMMON] [--budget UNITS]\ncheck CONFIG CERT\nexport CONFIG [COMMON]\nCOMMON: --from NAME --faulty NAMES --orgs ORGS --faulty-orgs IDS\n";
+    "usage: quorum_cli COMMAND\nshow CONFIG\nclosure CONFIG --node NAME\ngreatest CONFIG [COMMON]\nintersect CONFIG CERT [COMMON] [--budget UNITS]\navailable CONFIG --set NAMES [--from NAME]\ndset CONFIG CERT --set NAMES [--from NAME] [--budget UNITS]\nblocks CONFIG --set NAMES [COMMON]\nvblocks CONFIG --node NAME --set NAMES\nsplits CONFIG CERT --set NAMES [COMMON] [--budget UNITS]\nblocking CONFIG CERT [COMMON] [--budget UNITS]\ncheck CONFIG CERT\nexport CONFIG [COMMON]\ntrial N CERT [--budget UNITS]\nCOMMON: --from NAME --faulty NAMES --orgs ORGS --faulty-orgs IDS\n";
 
 // Words that are no order, and files that are missing.
 const NO_ORDERS: [(&str, Status, &str); 6] = [
@@ -299,12 +300,12 @@ const EXPORTED: [(&str, &str, &str); 3] = [
     (
         TWO_OF_TWO,
         "export config",
-        "c config d5ccec4a141b4b11eb0b80bb62d235f24e373c62aa2fa9f6fb33f6b1e2871f41\nc from\nc faulty\nc 1 a p\nc 2 a q\nc 3 b p\nc 4 b q\np cnf 8 16\n1 2 0\n3 4 0\n-1 -3 0\n-2 -4 0\n-5 1 0\n-5 2 0\n-1 5 0\n-6 1 0\n-6 2 0\n-2 6 0\n-7 3 0\n-7 4 0\n-3 7 0\n-8 3 0\n-8 4 0\n-4 8 0\n",
+        "c config d5ccec4a141b4b11eb0b80bb62d235f24e373c62aa2fa9f6fb33f6b1e2871f41\nc from\nc faulty\nc 1 a p\nc 2 a q\nc 3 b p\nc 4 b q\np cnf 6 12\n1 2 0\n3 4 0\n-1 -3 0\n-2 -4 0\n-5 1 0\n-5 2 0\n-1 5 0\n-2 5 0\n-6 3 0\n-6 4 0\n-3 6 0\n-4 6 0\n",
     ),
     (
         TWO_OF_THREE,
         "export config --faulty a",
-        "c config f823e204944abcff32c8dadffba2a0178a590a613358f9a6f271b651cd4e6fbb\nc from\nc faulty a\nc 1 a b\nc 2 a c\nc 3 b b\nc 4 b c\np cnf 8 12\n1 2 0\n3 4 0\n-1 -3 0\n-2 -4 0\n-5 1 2 0\n-1 5 0\n-6 1 2 0\n-2 6 0\n-7 3 4 0\n-3 7 0\n-8 3 4 0\n-4 8 0\n",
+        "c config f823e204944abcff32c8dadffba2a0178a590a613358f9a6f271b651cd4e6fbb\nc from\nc faulty a\nc 1 a b\nc 2 a c\nc 3 b b\nc 4 b c\np cnf 6 10\n1 2 0\n3 4 0\n-1 -3 0\n-2 -4 0\n-5 1 2 0\n-1 5 0\n-2 5 0\n-6 3 4 0\n-3 6 0\n-4 6 0\n",
     ),
     (
         "[]",
@@ -329,10 +330,27 @@ fn export_writes_the_formula(rt: HostRuntime) -> Result<(), Fail> {
 }
 
 #[test]
+fn export_writes_each_gate_once_on_a_side(rt: HostRuntime) -> Result<(), Fail> {
+    let alloc = rt.alloc();
+    let config = half_of_two_hundred(alloc)?;
+    let left = run_over(
+        alloc,
+        "export config",
+        &Files::of(&config),
+        65_536,
+        Vec::new(alloc),
+    )?;
+    assert_eq!(rt; left.status, Status::Yes);
+    let text = from_utf8(&left.out)?;
+    assert!(rt; text.lines().any(|line| line == "p cnf 30500 60402"));
+    Ok(())
+}
+
+#[test]
 fn export_names_the_number_of_variables_where_they_are_too_many(
     rt: HostRuntime,
 ) -> Result<(), Fail> {
-    let config = half_of_two_hundred(rt.alloc())?;
+    let config = rotated_half_of_two_hundred(rt.alloc())?;
     let held = Files::of(&config);
     let text = "too-large 6020400\n";
     wants(

@@ -1,10 +1,10 @@
 //! What the searches answer, and that their certificates are accepted.
 use crate::status::Status;
-use crate::tests::certificates::{DIGEST_OF_THREE, of_kind};
+use crate::tests::certificates::{DIGEST_OF_THREE, shared_of_kind};
 use crate::tests::desks::{Files, ends, run_over};
 use crate::tests::questions::USAGE;
 use crate::tests::systems::{
-    ORG, THREE_OF_FOUR, TWO_OF_THREE, TWO_PAIRS, UNDECLARED, half_of_two_hundred,
+    ORG, THREE_OF_FOUR, TWO_OF_THREE, TWO_PAIRS, UNDECLARED, rotated_half_of_two_hundred,
 };
 use std::alloc::Global;
 use std::process::Abort;
@@ -225,7 +225,7 @@ fn a_search_that_is_refused_makes_no_certificate(rt: HostRuntime) -> Result<(), 
 
 #[test]
 fn a_search_whose_formula_is_too_large_makes_no_certificate(rt: HostRuntime) -> Result<(), Fail> {
-    let config = half_of_two_hundred(rt.alloc())?;
+    let config = rotated_half_of_two_hundred(rt.alloc())?;
     let text = "too-large 6020400\n";
     wants_refused(
         &rt,
@@ -249,7 +249,7 @@ fn an_unknown_answer_has_the_formula_in_its_certificate(rt: HostRuntime) -> Resu
         Vec::new(alloc),
     )?;
     assert_eq!(rt; left.status, Status::Unknown);
-    let cert = of_kind(alloc, DIGEST_OF_THREE, "partial", "formula 36 53\nend\n")?;
+    let cert = shared_of_kind(alloc, DIGEST_OF_THREE, "partial", "formula 16 25\nend\n")?;
     assert_eq!(rt;
         left.made.ok_or("no certificate")?.as_slice(),
         cert.as_bytes()

@@ -72,15 +72,28 @@ fn push_name(text: &mut Vec<u8>, number: u8) -> Result<(), AllocError> {
     Ok(())
 }
 
+// The names of all 200 nodes, from this number on and round again.
+fn push_names(text: &mut Vec<u8>, first: u8) -> Result<(), AllocError> {
+    for place in 0..200 {
+        if place != 0 {
+            text.push(b',')?;
+        }
+        push_name(text, ((u32::from(first) + place) % 200) as u8)?;
+    }
+    Ok(())
+}
+
 /// A configuration of 200 nodes, of which each needs 100 of all.
 pub fn half_of_two_hundred(alloc: Global) -> Result<Vec<u8>, AllocError> {
-    let mut all = Vec::new(alloc);
-    for number in 0..200 {
-        if number != 0 {
-            all.push(b',')?;
-        }
-        push_name(&mut all, number)?;
-    }
+    half(alloc, false)
+}
+
+/// The same, where each node names all from itself on: no two quorum sets have their entries in the same order.
+pub fn rotated_half_of_two_hundred(alloc: Global) -> Result<Vec<u8>, AllocError> {
+    half(alloc, true)
+}
+
+fn half(alloc: Global, is_rotated: bool) -> Result<Vec<u8>, AllocError> {
     let mut config = Vec::from_slice(alloc, b"[")?;
     for number in 0..200 {
         if number != 0 {
@@ -89,9 +102,43 @@ pub fn half_of_two_hundred(alloc: Global) -> Result<Vec<u8>, AllocError> {
         config.extend_from_slice(br#"{"publicKey":"#)?;
         push_name(&mut config, number)?;
         config.extend_from_slice(br#","quorumSet":{"threshold":100,"validators":["#)?;
-        config.extend_from_slice(&all)?;
+        push_names(&mut config, if is_rotated { number } else { 0 })?;
         config.extend_from_slice(b"]}}")?;
     }
     config.push(b']')?;
     Ok(config)
+}
+
+// The nodes of four organisations of a trial.
+const TRIAL_NODES: [&str; 12] = [
+    "t000", "t001", "t002", "t003", "t004", "t005", "t006", "t007", "t008", "t009", "t010", "t011",
+];
+
+// How many nodes a trial of one, two or four organisations has, and their quorum set: two nodes of each of all organisations,
+// or of three of four.
+fn trial_of(organisations: u32) -> (usize, &'static str) {
+    match organisations {
+        1 => (
+            3,
+            r#"{"innerQuorumSets":[{"innerQuorumSets":[],"threshold":2,"validators":["t000","t001","t002"]}],"threshold":1,"validators":[]}"#,
+        ),
+        2 => (
+            6,
+            r#"{"innerQuorumSets":[{"innerQuorumSets":[],"threshold":2,"validators":["t000","t001","t002"]},{"innerQuorumSets":[],"threshold":2,"validators":["t003","t004","t005"]}],"threshold":2,"validators":[]}"#,
+        ),
+        _ => (
+            12,
+            r#"{"innerQuorumSets":[{"innerQuorumSets":[],"threshold":2,"validators":["t000","t001","t002"]},{"innerQuorumSets":[],"threshold":2,"validators":["t003","t004","t005"]},{"innerQuorumSets":[],"threshold":2,"validators":["t006","t007","t008"]},{"innerQuorumSets":[],"threshold":2,"validators":["t009","t010","t011"]}],"threshold":3,"validators":[]}"#,
+        ),
+    }
+}
+
+/// The configuration of a trial of one, two or four organisations.
+pub fn trial(alloc: Global, organisations: u32) -> Result<String, AllocError> {
+    let (nodes, quorum_set) = trial_of(organisations);
+    let mut names = Vec::new(alloc);
+    for name in TRIAL_NODES.iter().take(nodes) {
+        names.push(*name)?;
+    }
+    alike(alloc, &names, quorum_set)
 }

@@ -1,42 +1,74 @@
-use Rattle.std.proofs.Common.{◌≡◌, ℕ, ◌+◌, ◌<◌, true, false, length, sym, ◌∙◌, ap, arith, Bool}
-use Rattle.std.proofs.lemmas.Bool.{both_ways}
-use Rattle.fbas_model.specs.Nodes.{members}
+use Rattle.std.proofs.Common.{◌≡◌, ℕ, ◌+◌, ◌++◌, [], ◌∷◌, List, append_assoc, refl, sym, ◌∙◌, ap, arith, lit<, Bool}
+use Rattle.std.proofs.lemmas.List.{length-append, append-nil}
+use Rattle.fbas_model.specs.Nodes.{members, listed_from}
 use Rattle.fbas_model.specs.Restriction.{rank}
-use Rattle.fbas_model.proofs.Kept.{rank_more_yes, rank_more_no}
+use Rattle.fbas_model.proofs.Closure.{size_le_length}
+use Rattle.fbas_model.proofs.Listed.{iterated_below, iterated_few, iterated_rank}
+use Rattle.fbas_model.proofs.Chosen.{chosen_none, chosen_pass, chosen_put}
 use Rattle.cdcl_core.specs.Solving.{assignment}
-use Rattle.list_journal.specs.Numbering.{variable_in}
-use Rattle.blocking_lists.proofs.ModelLoops.{model_none, model_pass, model_put, model_whole}
+use Rattle.blocking_lists.proofs.ModelLoops.{is_true, model_whole}
 use Rattle.blocking_lists.proofs.model.model_set.Goals as goal
-use Rattle.blocking_lists.proofs.model.model_set.Goals.{then-has+then-model, then-has+else-model, else-has}
 
 pub loop-v-init : goal.loop-v-init
-loop-v-init c = model_none c.args.n c.args.greatest.now (assignment c.args.solver.now) c.new-set.result c.new-set.ensures.size c.new-set.ensures.empty
+loop-v-init c = record {
+  whole = c.into_iter-v-iterator.ensures.into_iter_gives ∙ c.iter-v-items.ensures;
+  places = c.new-set.ensures.size;
+  next = refl;
+  chosen = chosen_none (is_true c.args.greatest.now (assignment c.args.solver.now)) (members c.new-set.result) c.new-set.ensures.empty;
+}
+
+pub overflow_add-variable : goal.overflow_add-variable
+overflow_add-variable c =
+    let g = c.args.greatest.now in
+    let whole = ap (λ (vs : List ℕ). c.loop-v.yielded ++ vs) (sym c.in-Some.ensures.steps) ∙ c.loop-v.invariant.whole in
+    omega (arith, c.loop-v.invariant.next, iterated_few g c.loop-v.yielded c.next.new.self c.in-Some.v whole, size_le_length g, c.requires.places, c.requires.few)
+
+pub model-requires : goal.model-requires
+model-requires c =
+    let g = c.args.greatest.now in
+    let whole = ap (λ (vs : List ℕ). c.loop-v.yielded ++ vs) (sym c.in-Some.ensures.steps) ∙ c.loop-v.invariant.whole in
+    (omega arith, omega (arith, c.loop-v.invariant.next, iterated_few g c.loop-v.yielded c.next.new.self c.in-Some.v whole, c.requires.vars))
+
+pub put-requires : goal.put-requires
+put-requires c =
+    let g = c.args.greatest.now in
+    let whole = ap (λ (vs : List ℕ). c.loop-v.yielded ++ vs) (sym c.in-Some.ensures.steps) ∙ c.loop-v.invariant.whole in
+    (lit< tt, omega (arith, iterated_below g c.loop-v.yielded c.next.new.self c.in-Some.v whole, c.loop-v.invariant.places, c.requires.places))
+
+pub loop-v-preserved-then-model : goal.loop-v-preserved-then-model
+loop-v-preserved-then-model c =
+    let g = c.args.greatest.now in
+    let a : ℕ → Bool = assignment c.args.solver.now in
+    let ws = c.loop-v.yielded in
+    let v = c.in-Some.v in
+    let whole = ap (λ (vs : List ℕ). ws ++ vs) (sym c.in-Some.ensures.steps) ∙ c.loop-v.invariant.whole in
+    let at : rank g v ≡ c.loop-v.variable = iterated_rank g ws c.next.new.self v whole ∙ sym c.loop-v.invariant.next in
+    let is : is_true g a v ≡ c.model.result = ap (λ (x : ℕ). a (x + 1)) at ∙ sym c.model.ensures in
+    record {
+      whole = append_assoc ws (v ∷ []) c.next.new.self ∙ whole;
+      places = c.put.ensures.size ∙ c.loop-v.invariant.places;
+      next = omega (arith, c.loop-v.invariant.next, length-append ws (v ∷ []));
+      chosen = chosen_put (is_true g a) ws (members c.loop-v.set) v c.loop-v.invariant.chosen (members c.put.new.self) (is ∙ c.if-model.true) c.put.ensures.added;
+    }
 
 pub loop-v-preserved : goal.loop-v-preserved
 loop-v-preserved c =
-    let n = c.args.n in
     let g = c.args.greatest.now in
     let a : ℕ → Bool = assignment c.args.solver.now in
-    let m = c.loop-v.set in
-    let v = c.loop-v.v in
-    let before = c.loop-v.invariant in
-    let low : v < length g = omega (arith, c.requires.places) in
-    elim c.if-has.branch [
-      | then-has+then-model w ↦
-          let here : members g v ≡ true = sym c.has.ensures ∙ w.if-has.true in
-          let is_true : a (variable_in g v) ≡ true = sym (w.model.ensures ∙ ap (λ x. a (x + 1)) before.next) ∙ w.if-model.true in
-          let next : c.if-has.variable ≡ rank g (v + 1) = omega (arith, w.variable-is, before.next, rank_more_yes g v low here) in
-          rw w.set-is (model_put n g a m w.put.new.self c.loop-v.variable c.if-has.variable v before next w.put.ensures.size w.put.ensures.added here is_true)
-      | then-has+else-model w ↦
-          let here : members g v ≡ true = sym c.has.ensures ∙ w.if-has.true in
-          let is_false : a (variable_in g v) ≡ false = sym (w.model.ensures ∙ ap (λ x. a (x + 1)) before.next) ∙ w.if-model.false in
-          let next : c.if-has.variable ≡ rank g (v + 1) = omega (arith, w.variable-is, before.next, rank_more_yes g v low here) in
-          rw w.set-is (model_pass n g a m c.loop-v.variable c.if-has.variable v before next (λ inside is_true. both_ways (a (variable_in g v)) is_false is_true))
-      | else-has w ↦
-          let gone : members g v ≡ false = sym c.has.ensures ∙ w.if-has.false in
-          let next : c.if-has.variable ≡ rank g (v + 1) = omega (arith, w.variable-is, before.next, rank_more_no g v low gone) in
-          rw w.set-is (model_pass n g a m c.loop-v.variable c.if-has.variable v before next (λ inside is_true. both_ways (members g v) gone inside))
-    ]
+    let ws = c.loop-v.yielded in
+    let v = c.in-Some.v in
+    let whole = ap (λ (vs : List ℕ). ws ++ vs) (sym c.in-Some.ensures.steps) ∙ c.loop-v.invariant.whole in
+    let at : rank g v ≡ c.loop-v.variable = iterated_rank g ws c.next.new.self v whole ∙ sym c.loop-v.invariant.next in
+    let is : is_true g a v ≡ c.model.result = ap (λ (x : ℕ). a (x + 1)) at ∙ sym c.model.ensures in
+    record {
+      whole = append_assoc ws (v ∷ []) c.next.new.self ∙ whole;
+      places = c.loop-v.invariant.places;
+      next = omega (arith, c.loop-v.invariant.next, length-append ws (v ∷ []));
+      chosen = chosen_pass (is_true g a) ws (members c.loop-v.set) v c.loop-v.invariant.chosen (is ∙ c.if-model.false);
+    }
 
 pub returns-clause-model : goal.returns-clause-model
-returns-clause-model c = model_whole c.args.n c.args.greatest.now (assignment c.args.solver.now) c.loop-v.set c.loop-v.variable c.loop-v.v c.loop-v.invariant c.requires.places (omega arith)
+returns-clause-model c =
+    let ws = c.loop-v.yielded in
+    let whole : ws ≡ listed_from 0 c.args.greatest.now = sym (append-nil ws) ∙ (ap (λ (vs : List ℕ). ws ++ vs) (sym c.in-None.ensures.steps.0) ∙ c.loop-v.invariant.whole) in
+    model_whole c.args.greatest.now (assignment c.args.solver.now) c.loop-v.set ws whole c.loop-v.invariant.chosen

@@ -1,11 +1,9 @@
 use Rattle.std.proofs.Common.{get_or, refl, ap, ◌∙◌, arith}
 use Rattle.threshold_circuit.specs.Gates.{gate_variables}
-use Rattle.threshold_circuit.specs.Views.{circuit_view}
 use Rattle.clause_encoder.specs.CircuitClauses.{Place}
 use Rattle.clause_encoder.specs.Formula.{side_from}
-use Rattle.clause_encoder.specs.SharedGates.{place_of}
-use Rattle.clause_encoder.specs.Written.{circuit_in}
-use Rattle.clause_encoder.proofs.SideWriting.{circuit_here}
+use Rattle.clause_encoder.specs.SharedGates.{place_of, gates_in}
+use Rattle.clause_encoder.specs.Written.{circuit_in, circuit_of_kind}
 use Rattle.clause_encoder.proofs.CountLaws.{side_counted_none, side_counted_room, side_counted_more, side_counted_all}
 use Rattle.clause_encoder.proofs.count.count_side.Goals as goal
 
@@ -15,15 +13,16 @@ loop-node-init c =
     record {
       counting = rw none (side_counted_none c.args.version (circuit_in c.args.circuits.now) (side_from c.args.next) c.args.nodes.now);
       version = c.new-shared.ensures.version;
+      same_kinds = c.in_ok-known.ensures.kinds ∙ c.len.ensures;
+      known = c.in_ok-known.ensures.none (gates_in c.new-shared.result) c.args.circuits.now;
     }
 
-pub count_circuit-requires-clause-room : goal.count_circuit-requires-clause-room
-count_circuit-requires-clause-room c =
+pub count_node-requires-clause-room : goal.count_node-requires-clause-room
+count_node-requires-clause-room c =
     let place = place_of c.loop-node.free c.loop-node.shared in
     let i = c.loop-node.node-index in
     let v = get_or c.args.nodes.now i 0 in
-    let x = c.index-circuits-node.result in
-    let here = circuit_here c.args.circuits.now v x (c.requires.nodes i 0 c.loop-node-test.true) c.index-circuits-node.is in
+    let here = ap (circuit_of_kind c.args.circuits.now) c.kind-kind.ensures.kind in
     let circuit = circuit_in c.args.circuits.now in
     let was = c.loop-node.invariant in
     omega (arith, side_counted_room c.args.version circuit (side_from c.args.next) place i v c.args.nodes.now c.loop-node-test.true refl was.counting, ap gate_variables here, c.requires.room)
@@ -33,13 +32,14 @@ loop-node-preserved c =
     let place = place_of c.loop-node.free c.loop-node.shared in
     let i = c.loop-node.node-index in
     let v = get_or c.args.nodes.now i 0 in
-    let x = c.index-circuits-node.result in
-    let here = circuit_here c.args.circuits.now v x (c.requires.nodes i 0 c.loop-node-test.true) c.index-circuits-node.is in
+    let here = ap (circuit_of_kind c.args.circuits.now) c.kind-kind.ensures.kind in
     let circuit = circuit_in c.args.circuits.now in
     let was = c.loop-node.invariant in
     record {
-      counting = side_counted_more c.args.version circuit (side_from c.args.next) place i v c.args.nodes.now c.loop-node-test.true refl was.counting (place_of c.in_ok-free.free c.count_circuit.new.shared) (circuit_view x) here (rw was.version at c.in_ok-free.ensures.after);
+      counting = side_counted_more c.args.version circuit (side_from c.args.next) place i v c.args.nodes.now c.loop-node-test.true refl was.counting (place_of c.in_ok-free.free c.count_node.new.shared) (circuit_of_kind c.args.circuits.now c.kind-kind.result) here (rw was.version at c.in_ok-free.ensures.after);
       version = c.in_ok-free.ensures.version ∙ was.version;
+      same_kinds = c.in_ok-free.ensures.same_kinds ∙ was.same_kinds;
+      known = c.in_ok-free.ensures.known;
     }
 
 pub returns : goal.returns

@@ -6,14 +6,14 @@ use Rattle.clause_encoder.proofs.CountLaws.{side_fits, side_next}
 use Rattle.clause_encoder.proofs.count.count_vars.Goals as goal
 
 pub count_side-requires-clause-room : goal.count_side-requires-clause-room
-count_side-requires-clause-room c = omega (arith, side_fits (length c.args.circuits.now) c.args.circuits.now c.args.nodes.now c.requires.writable c.requires.few, c.requires.few)
+count_side-requires-clause-room c = omega (arith, side_fits (length c.args.circuits.now.kinds) c.args.circuits.now c.args.nodes.now c.requires.writable c.requires.few, c.requires.few)
 
 pub count_side-requires-2-clause-room : goal.count_side-requires-2-clause-room
 count_side-requires-2-clause-room c =
     let circuit = circuit_in c.args.circuits.now in
     let ns = c.args.nodes.now in
     let start = 1 + length ns + length ns in
-    omega (arith, side_fits (length c.args.circuits.now) c.args.circuits.now ns c.requires.writable c.requires.few, c.requires.few, c.in_ok-middle.ensures, side_next c.args.version (λ v. v) circuit (side_from start) ns)
+    omega (arith, side_fits (length c.args.circuits.now.kinds) c.args.circuits.now ns c.requires.writable c.requires.few, c.requires.few, c.in_ok-middle.ensures, side_next c.args.version (λ v. v) circuit (side_from start) ns)
 
 pub overflow_sub-result : goal.overflow_sub-result
 overflow_sub-result c =

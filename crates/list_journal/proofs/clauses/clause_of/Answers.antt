@@ -1,43 +1,71 @@
-use Rattle.std.proofs.Common.{◌≡◌, ◌+◌, ◌<◌, ◌++◌, ◌∷◌, [], true, false, List, length, take, sym, ◌∙◌, ap, subst, arith, take_all}
-use Rattle.std.proofs.lemmas.Bool.{both_ways, false_from_ne_true}
-use Rattle.fbas_model.specs.Nodes.{Table, members, size}
+use Rattle.std.proofs.Common.{◌≡◌, ◌+◌, ◌<◌, ◌++◌, ◌∷◌, [], ℕ, List, length, append_assoc, sym, ◌∙◌, ap, subst, arith, lit<}
+use Rattle.std.proofs.lemmas.List.{length-append, append-nil}
+use Rattle.fbas_model.specs.Nodes.{size, listed_from}
 use Rattle.fbas_model.specs.Restriction.{rank}
-use Rattle.fbas_model.proofs.Kept.{rank_more_yes, rank_more_no}
+use Rattle.fbas_model.proofs.Closure.{size_le_length}
+use Rattle.fbas_model.proofs.Listed.{iterated_below, iterated_few, iterated_rank}
 use Rattle.lrat_model.specs.Literal.{Literal}
 use Rattle.lrat_model.specs.Ranges.{IsInRange}
-use Rattle.list_journal.specs.Listed.{signed, clause_for}
-use Rattle.list_journal.proofs.ClauseLoops.{clause_yes, clause_no, clause_range}
+use Rattle.list_journal.specs.Listed.{signed}
+use Rattle.list_journal.proofs.ClauseLoops.{literal_for, clause_yes, clause_no, clause_all, clause_range}
 use Rattle.list_journal.proofs.clauses.clause_of.Goals as goal
-use Rattle.list_journal.proofs.clauses.clause_of.Goals.{then-has+then-has-2+in_ok-push, then-has+else-has-2, else-has}
+
+pub overflow_add-variable : goal.overflow_add-variable
+overflow_add-variable c =
+    let g = c.args.greatest.now in
+    let whole = ap (λ (vs : List ℕ). c.loop-v.yielded ++ vs) (sym c.in-Some.ensures.steps) ∙ c.loop-v.invariant.whole in
+    omega (arith, c.loop-v.invariant.next, iterated_few g c.loop-v.yielded c.next.new.self c.in-Some.v whole, size_le_length g, c.requires.places, c.requires.few)
+
+pub has-requires : goal.has-requires
+has-requires c =
+    let whole = ap (λ (vs : List ℕ). c.loop-v.yielded ++ vs) (sym c.in-Some.ensures.steps) ∙ c.loop-v.invariant.whole in
+    let low : c.in-Some.v < length c.args.greatest.now = iterated_below c.args.greatest.now c.loop-v.yielded c.next.new.self c.in-Some.v whole in
+    (lit< tt, omega (arith, low, c.requires.places, c.requires.same_n))
+
+pub literal-requires : goal.literal-requires
+literal-requires c =
+    let g = c.args.greatest.now in
+    let whole = ap (λ (vs : List ℕ). c.loop-v.yielded ++ vs) (sym c.in-Some.ensures.steps) ∙ c.loop-v.invariant.whole in
+    record {
+      nonzero = omega arith;
+      small = omega (arith, c.loop-v.invariant.next, iterated_few g c.loop-v.yielded c.next.new.self c.in-Some.v whole, size_le_length g, c.requires.places, c.requires.few);
+    }
+
+pub loop-v-preserved-in-Continue-1 : goal.loop-v-preserved-in-Continue-1
+loop-v-preserved-in-Continue-1 c =
+    let g = c.args.greatest.now in
+    let q = c.args.which in
+    let ws = c.loop-v.yielded in
+    let v = c.in-Some.v in
+    let whole = ap (λ (vs : List ℕ). ws ++ vs) (sym c.in-Some.ensures.steps) ∙ c.loop-v.invariant.whole in
+    let at : rank g v ≡ c.loop-v.variable = iterated_rank g ws c.next.new.self v whole ∙ sym c.loop-v.invariant.next in
+    let literal_is : c.literal.result ≡ literal_for q g v = c.literal.ensures ∙ ap (λ (x : ℕ). signed q (x + 1)) (sym at) in
+    record {
+      whole = append_assoc ws (v ∷ []) c.next.new.self ∙ whole;
+      next = omega (arith, c.loop-v.invariant.next, length-append ws (v ∷ []));
+      clause = c.in_ok-push.ensures.items ∙ ap (λ (l : Literal). c.loop-v.clause.items ++ l ∷ []) literal_is ∙ clause_yes q g c.args.set.now ws v c.loop-v.clause.items (sym c.has.ensures ∙ c.if-has.true) c.loop-v.invariant.clause;
+    }
 
 pub loop-v-preserved : goal.loop-v-preserved
 loop-v-preserved c =
-    let g = c.args.greatest.now in
-    let t = c.args.set.now in
-    let v = c.loop-v.v in
-    let low : v < length g = omega (arith, c.requires.places) in
-    elim c.if-has.branch [
-      | then-has+then-has-2+in_ok-push w ↦
-          let here : members g v ≡ true = sym c.has.ensures ∙ w.if-has.true in
-          let there : members t v ≡ true = sym w.has-then-has.ensures ∙ w.if-has-2.true in
-          let q = c.args.which in
-          let literal_is : w.literal.result ≡ signed q (rank g v + 1) = w.literal.ensures ∙ ap (λ x. signed q (x + 1)) c.loop-v.invariant.0 in (
-            omega (arith, w.variable-is, c.loop-v.invariant.0, rank_more_yes g v low here),
-            rw w.clause-is
-                (w.in_ok-push.ensures.items ∙ ap (λ (l : Literal). c.loop-v.clause.items ++ l ∷ []) literal_is ∙ ap (λ (ls : List Literal). ls ++ signed q (rank g v + 1) ∷ []) c.loop-v.invariant.1 ∙ sym (clause_yes q g t v there)),
-          )
-      | then-has+else-has-2 w ↦
-          let here : members g v ≡ true = sym c.has.ensures ∙ w.if-has.true in
-          let out : members t v ≡ false = sym w.has-then-has.ensures ∙ w.if-has-2.false in
-          (omega (arith, w.variable-is, c.loop-v.invariant.0, rank_more_yes g v low here), rw w.clause-is (c.loop-v.invariant.1 ∙ sym (clause_no c.args.which g t v out)))
-      | else-has w ↦
-          let gone : members g v ≡ false = sym c.has.ensures ∙ w.if-has.false in
-          let out : members t v ≡ false = false_from_ne_true (members t v) (λ here. both_ways (members g v) gone (c.requires.within v here)) in
-          (omega (arith, w.variable-is, c.loop-v.invariant.0, rank_more_no g v low gone), rw w.clause-is (c.loop-v.invariant.1 ∙ sym (clause_no c.args.which g t v out)))
-    ]
+    let ws = c.loop-v.yielded in
+    let v = c.in-Some.v in
+    let whole = ap (λ (vs : List ℕ). ws ++ vs) (sym c.in-Some.ensures.steps) ∙ c.loop-v.invariant.whole in
+    record {
+      whole = append_assoc ws (v ∷ []) c.next.new.self ∙ whole;
+      next = omega (arith, c.loop-v.invariant.next, length-append ws (v ∷ []));
+      clause = clause_no c.args.which c.args.greatest.now c.args.set.now ws v c.loop-v.clause.items (sym c.has.ensures ∙ c.if-has.false) c.loop-v.invariant.clause;
+    }
+
+pub returns-clause-clause : goal.returns-clause-clause
+returns-clause-clause c =
+    let ws = c.loop-v.yielded in
+    let whole : ws ≡ listed_from 0 c.args.greatest.now = sym (append-nil ws) ∙ (ap (λ (vs : List ℕ). ws ++ vs) (sym c.in-None.ensures.steps.0) ∙ c.loop-v.invariant.whole) in
+    clause_all c.args.which c.args.greatest.now c.args.set.now ws c.loop-v.clause.items whole (c.requires.places ∙ sym c.requires.same_n) c.requires.within c.loop-v.invariant.clause
 
 pub returns-clause-range : goal.returns-clause-range
 returns-clause-range c =
-    let whole : take c.loop-v.v c.args.set.now ≡ c.args.set.now = take_all c.loop-v.v c.args.set.now (omega (arith, c.requires.same_n)) in
-    let is = c.loop-v.invariant.1 ∙ ap (λ (t : Table). clause_for c.args.which c.args.greatest.now t) whole in
+    let ws = c.loop-v.yielded in
+    let whole : ws ≡ listed_from 0 c.args.greatest.now = sym (append-nil ws) ∙ (ap (λ (vs : List ℕ). ws ++ vs) (sym c.in-None.ensures.steps.0) ∙ c.loop-v.invariant.whole) in
+    let is = clause_all c.args.which c.args.greatest.now c.args.set.now ws c.loop-v.clause.items whole (c.requires.places ∙ sym c.requires.same_n) c.requires.within c.loop-v.invariant.clause in
     subst (λ (ls : List Literal). IsInRange (size c.args.greatest.now) ls) (sym is) (clause_range c.args.which c.args.greatest.now c.args.set.now c.requires.within)

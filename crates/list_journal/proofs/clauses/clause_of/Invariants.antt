@@ -1,7 +1,12 @@
-use Rattle.std.proofs.Common.{◌≡◌, take}
-use Rattle.fbas_model.specs.Restriction.{rank}
-use Rattle.list_journal.specs.Listed.{clause_for}
+use Rattle.std.proofs.Common.{◌≡◌, ◌++◌, length, map}
+use Rattle.std.specs.List.{filter}
+use Rattle.fbas_model.specs.Nodes.{members, listed_from}
+use Rattle.list_journal.proofs.ClauseLoops.{literal_for}
 use Rattle.list_journal.proofs.clauses.clause_of.Given as goal
 
 abbrev pub invariant-loop-v : goal.invariant-loop-v
-invariant-loop-v l = (l.variable ≡ rank l.greatest l.v) × (l.clause.items ≡ clause_for l.which l.greatest (take l.v l.set))
+invariant-loop-v l = record {
+  whole : l.yielded ++ l.v-iterator ≡ listed_from 0 l.greatest;
+  next : l.variable ≡ length l.yielded;
+  clause : l.clause.items ≡ map (literal_for l.which l.greatest) (filter (members l.set) l.yielded);
+}

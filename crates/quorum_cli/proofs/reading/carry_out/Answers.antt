@@ -1,16 +1,9 @@
-use Rattle.std.proofs.lemmas.Result.{IfErr-weaker}
-use Rattle.std.proofs.Common.{◌≡◌, ℕ, List, Some, subst}
-use Rattle.cli_words.specs.Order.{order_view}
-use Rattle.desk_io.specs.State.{DeskState}
-use Rattle.quorum_cli.specs.Meaning.{HasAccepted}
-use Rattle.quorum_cli.proofs.Told.{YesMeans-weaker, file_held}
+use Rattle.std.proofs.Common.{sym, ◌∙◌}
+use Rattle.quorum_cli.proofs.Trials.{is_trial}
 use Rattle.quorum_cli.proofs.reading.carry_out.Goals as goal
 
-pub returns-clause-shows : goal.returns-clause-shows
-returns-clause-shows g c =
-    let files = (g.D.Desk.state c.args.desk.now).files in
-    IfErr-weaker c.over_config.result _ _ (λ e has tells. YesMeans-weaker _ _ e (λ accepted. record {
-      config = c.in_ok-config.config.items;
-      held = subst (λ (name : List ℕ). files name ≡ Some c.in_ok-config.config.items) c.deref.ensures (file_held _ (files c.deref.result.now) c.in_ok-config.config.items (c.in_ok-config.ensures.ok tells));
-      accepted = subst (λ (bytes : List ℕ). HasAccepted (order_view c.args.order.now) bytes files) c.deref-2.ensures.value (subst (λ (s : DeskState). HasAccepted (order_view c.args.order.now) c.deref-2.result.now s.files) (c.in_ok-config.ensures.reads tells) accepted);
-    }) (has tells)) c.over_config.ensures.shows
+pub over_trial-requires-clause-some : goal.over_trial-requires-clause-some
+over_trial-requires-clause-some g c = (c.requires.organisations (is_trial c.args.order.now.command ?)).0
+
+pub over_trial-requires-clause-organisations : goal.over_trial-requires-clause-organisations
+over_trial-requires-clause-organisations g c = (c.requires.organisations (is_trial c.args.order.now.command ?)).1

@@ -1,3 +1,8 @@
+use Rattle.std.proofs.Common.{IsTrue, subst}
+use Rattle.std.proofs.lemmas.Bool.{false≢true}
+use Rattle.cli_words.specs.Order.{has_configuration}
+use Rattle.cli_words.specs.declared.orders.Command.TheVariants.{Search}
+use Rattle.cli_words.specs.declared.orders.Goal.{Goal}
 use Rattle.quorum_cli.proofs.searches.search_asked.Goals as goal
 
 pub returns-clause-fits : goal.returns-clause-fits
@@ -6,4 +11,5 @@ returns-clause-fits c = record {
   long = c.look.ensures.long;
   bytes = c.look.ensures.bytes;
   few = c.requires.few;
+  meets = λ trial. absurd (false≢true (subst (λ (g : Goal). IsTrue (has_configuration (Search g))) trial c.requires.file));
 }

@@ -1,8 +1,16 @@
-use Rattle.std.proofs.Common.{subst}
-use Rattle.fbas_model.specs.Nodes.{Table}
+use Rattle.std.proofs.Common.{sym, subst}
+use Rattle.fbas_model.specs.Nodes.{Table, members}
+use Rattle.fbas_model.specs.Fbas.{Intersects}
+use Rattle.fbas_model.specs.Systems.{System}
+use Rattle.cert_writer.specs.Promises.{part_of}
 use Rattle.quorum_cli.specs.Searching.{FitsHeld, FitsReady}
 use Rattle.quorum_cli.proofs.Replied.{too_large_answered}
 use Rattle.quorum_cli.proofs.searching.search_in.Goals as goal
+
+pub make_ready-requires-clause-meets : goal.make_ready-requires-clause-meets
+make_ready-requires-clause-meets g c = λ trial.
+    let s = c.args.search.now in
+    subst (λ (p : System). Intersects p.sets (members c.args.faulty.now)) (sym c.requires.part) (subst (λ (t : Table). Intersects (part_of s.whole s.header.from).sets (members t)) (sym c.requires.faulty) (c.requires.search.meets trial))
 
 pub put_found-requires-clause-held : goal.put_found-requires-clause-held
 put_found-requires-clause-held g c =

@@ -4,6 +4,7 @@ use Rattle.lrat_model.specs.Clauses.{clause_at}
 use Rattle.lrat_model.specs.Steps.{Database}
 use Rattle.lrat_model.specs.Runs.{Run, formula_database}
 use Rattle.clause_encoder.specs.Formula.{formula_clauses}
+use Rattle.clause_encoder.specs.declared.version.Version.TheVariants.{Two}
 use Rattle.clause_encoder.specs.Meaning.{value_of}
 use Rattle.clause_encoder.specs.Variables.{Variables}
 use Rattle.cdcl_core.specs.Trail.{InRange}
@@ -19,7 +20,7 @@ witness-requires-clause-satisfied c = λ id clause at.
     let f = c.args.system.now.sets in
     let b = c.args.faulty.now in
     let s = c.in_ok-solver.ensures.started in
-    let at_g = subst (λ (m : Variables). clause_at (formula_database (formula_clauses f b m.greatest)).held id ≡ Some clause) s.map at in
+    let at_g = subst (λ (m : Variables). clause_at (formula_database (formula_clauses Two f b m.greatest)).held id ≡ Some clause) s.map at in
     let at_held = subst (λ (d : Database). clause_at d.held id ≡ Some clause) (sym s.database) at_g in
     let is : c.solve.result ≡ Ok Sat = c.in_ok-solve.was ∙ ap Ok c.in-Sat.is in
     let true_there = c.solve.ensures.sat is id clause (c.solve.ensures.kept id clause at_held) in

@@ -1,4 +1,5 @@
 use Rattle.fbas_model.specs.Nodes.{members}
+use Rattle.clause_encoder.specs.declared.version.Version.TheVariants.{Two}
 use Rattle.quorum_questions.proofs.Witnesses.{no_fault}
 use Rattle.quorum_questions.proofs.searching.witness.Goals as goal
 
@@ -7,4 +8,4 @@ unreachable-requires c =
     let f = c.args.system.now.sets in
     let b = c.args.faulty.now in
     no_fault f (members b) (members c.pair-first.result.0) (members c.pair-first.result.1) c.in-Err.field-0
-    (c.pair-first.ensures.quorums f b c.requires.greatest c.requires.satisfied) c.in-Err.ensures.fault
+    (c.pair-first.ensures.quorums Two f b c.requires.greatest c.requires.satisfied) c.in-Err.ensures.fault

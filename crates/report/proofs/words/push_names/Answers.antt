@@ -1,23 +1,36 @@
-use Rattle.std.proofs.Common.{◌<◌, ◌++◌, ◌∷◌, length, ℕ, ◌+◌, List, sym, ◌∙◌, ap, arith, drop}
-use Rattle.std.proofs.lemmas.List.{append_assoc}
-use Rattle.report.specs.Lines.{listed}
-use Rattle.report.proofs.Lists.{listed-taken, listed-passed}
+use Rattle.std.proofs.Common.{◌≡◌, ◌<◌, ◌++◌, ◌∷◌, [], length, ℕ, List, append_assoc, sym, ◌∙◌, ap, arith}
+use Rattle.std.proofs.lemmas.List.{append-nil}
+use Rattle.std.proofs.lemmas.Option.{get_or_from_slice_get}
+use Rattle.fbas_model.specs.Names.{Name}
+use Rattle.fbas_model.specs.Nodes.{listed_from}
+use Rattle.fbas_model.proofs.Listed.{iterated_below}
+use Rattle.report.proofs.Lists.{named, named-more, named-all}
 use Rattle.report.proofs.words.push_names.Goals as goal
-use Rattle.report.proofs.words.push_names.Goals.{then-has+in_ok-push_behind, else-has}
+
+pub name-requires : goal.name-requires
+name-requires c =
+    let whole = ap (λ (vs : List ℕ). c.loop-v.yielded ++ vs) (sym c.in-Some.ensures.steps) ∙ c.loop-v.invariant.0 in
+    let low : c.in-Some.v < length c.args.set.now = iterated_below c.args.set.now c.loop-v.yielded c.next.new.self c.in-Some.v whole in
+    let same = c.names-names.ensures.places in
+    rw c.names-names.ensures.names (omega (arith, low, c.requires, same))
 
 pub loop-v-preserved : goal.loop-v-preserved
 loop-v-preserved c =
     let names = c.args.system.now.names in
-    let marks = c.args.set.now in
-    let v = c.loop-v.v in
-    let later = listed (drop (v + 1) names) (drop (v + 1) marks) in
-    let low : v < length names = omega (arith, c.loop-v-test.true, c.len-v-end.ensures) in
-    elim c.if-has.branch [
-      | then-has+in_ok-push_behind w ↦
-          let name = w.name.result.now in
-          let step = listed-taken names marks v name low (omega arith) (rw w.names.ensures.names at w.name.ensures) (sym c.has.ensures ∙ w.if-has.true) in
-          rw (w.text-is, w.in_ok-push_behind.ensures) (append_assoc c.loop-v.text.items (32 ∷ name) later ∙ (ap (λ (t : List ℕ). c.loop-v.text.items ++ t) (sym step) ∙ c.loop-v.invariant))
-      | else-has w ↦
-          let step = listed-passed names marks v low (omega arith) (sym c.has.ensures ∙ w.if-has.false) in
-          rw w.text-is (ap (λ (t : List ℕ). c.loop-v.text.items ++ t) (sym step) ∙ c.loop-v.invariant)
-    ]
+    let ws = c.loop-v.yielded in
+    let v = c.in-Some.v in
+    let whole = ap (λ (vs : List ℕ). ws ++ vs) (sym c.in-Some.ensures.steps) ∙ c.loop-v.invariant.0 in
+    let is = get_or_from_slice_get names v c.name.result.now [] (rw c.names-names.ensures.names at c.name.ensures) in (
+      append_assoc ws (v ∷ []) c.next.new.self ∙ whole,
+      c.in_ok-push_behind.ensures
+          ∙ (ap (λ (t : List ℕ). t ++ (32 ∷ c.name.result.now)) c.loop-v.invariant.1
+          ∙ (append_assoc c.args.text.now.items (named names ws) (32 ∷ c.name.result.now)
+          ∙ ap (λ (t : List ℕ). c.args.text.now.items ++ t) (ap (λ (n : Name). named names ws ++ (32 ∷ n)) (sym is) ∙ sym (named-more names ws v)))),
+    )
+
+pub returns : goal.returns
+returns c =
+    let names = c.args.system.now.names in
+    let ws = c.loop-v.yielded in
+    let whole : ws ≡ listed_from 0 c.args.set.now = sym (append-nil ws) ∙ (ap (λ (vs : List ℕ). ws ++ vs) (sym c.in-None.ensures.steps.0) ∙ c.loop-v.invariant.0) in
+    c.loop-v.invariant.1 ∙ ap (λ (t : List ℕ). c.args.text.now.items ++ t) (ap (named names) whole ∙ named-all names c.args.set.now (c.requires ∙ sym c.names-names.ensures.places))

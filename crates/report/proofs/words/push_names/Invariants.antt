@@ -1,6 +1,7 @@
-use Rattle.std.proofs.Common.{◌≡◌, ◌++◌, drop}
-use Rattle.report.specs.Lines.{listed}
+use Rattle.std.proofs.Common.{◌≡◌, ◌++◌}
+use Rattle.fbas_model.specs.Nodes.{listed_from}
+use Rattle.report.proofs.Lists.{named}
 use Rattle.report.proofs.words.push_names.Given as goal
 
 abbrev pub invariant-loop-v : goal.invariant-loop-v
-invariant-loop-v l = l.text.items ++ listed (drop l.v l.system.names) (drop l.v l.set) ≡ l.fn.text.items ++ listed l.system.names l.set
+invariant-loop-v l = (l.yielded ++ l.v-iterator ≡ listed_from 0 l.set) × (l.text.items ≡ l.fn.text.items ++ named l.system.names l.yielded)

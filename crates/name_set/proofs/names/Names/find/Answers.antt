@@ -2,7 +2,7 @@ use Rattle.std.proofs.Common.{ℕ, Vec, Global, ◌<◌, ◌+◌, ◌-◌, ◌/�
 use Rattle.std.proofs.lemmas.List.{length-map}
 use Rattle.name_set.proofs.NameLists.{raised, lowered, found, nowhere, probed}
 use Rattle.std.proofs.lemmas.Option.{get_or_from_slice_get}
-use Rattle.name_set.proofs.Places.{place-found, place-missing, place-only}
+use Rattle.fbas_model.proofs.SortedNames.{place-found, place-missing, place-only}
 use Rattle.name_set.proofs.names.Names.find.Goals as goal
 
 pub loop-low-preserved-in-Less : goal.loop-low-preserved-in-Less

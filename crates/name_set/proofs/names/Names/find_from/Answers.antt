@@ -1,7 +1,7 @@
 use Rattle.std.proofs.Common.{◌≡◌, ◌<◌, length, [], sym, ◌∙◌, ap, Some, slice_get}
 use Rattle.std.proofs.lemmas.Option.{get_or_from_slice_get, slice_get_within}
 use Rattle.std.proofs.lemmas.Slice.Eq.{bytes_eq-Decides}
-use Rattle.name_set.proofs.Places.{place-found}
+use Rattle.fbas_model.proofs.SortedNames.{place-found}
 use Rattle.name_set.proofs.names.Names.find_from.Goals as goal
 
 pub returns-then-eq : goal.returns-then-eq

@@ -1,34 +1,49 @@
-use Rattle.std.proofs.Common.{◌≡◌, ◌≤◌, ◌++◌, [], ◌∷◌, List, length, map, take_all, sym, ◌∙◌, ap, ap₂, subst, arith, rules}
+use Rattle.std.proofs.Common.{◌≡◌, ◌<◌, ◌++◌, [], ◌∷◌, List, ℕ, Vec, Global, length, map, append_assoc, sym, ◌∙◌, ap, ap₂, subst, arith}
+use Rattle.std.specs.Prelude.{slice_index_or}
 use Rattle.std.specs.List.Sorted.{IsStrictlySortedBy}
-use Rattle.std.proofs.lemmas.List.{map-append, length-map}
-use Rattle.fbas_model.specs.Nodes.{Table}
+use Rattle.std.proofs.lemmas.List.{map-append, length-map, append-nil}
+use Rattle.std.proofs.lemmas.Option.{get_or_from_slice_get}
 use Rattle.fbas_model.specs.Names.{Name, name_cmp}
+use Rattle.fbas_model.specs.Nodes.{listed_from}
 use Rattle.fbas_model.specs.Restriction.{kept}
-use Rattle.fbas_model.proofs.Kept.{kept_more_yes, kept_more_no, kept_le}
-use Rattle.name_set.proofs.KeptNames.{kept_sorted}
+use Rattle.fbas_model.proofs.Kept.{length-kept}
+use Rattle.fbas_model.proofs.Listed.{iterated_below, kept_listed}
+use Rattle.fbas_model.proofs.SortedNames.{kept_sorted}
 use Rattle.name_set.proofs.names.Names.kept.Goals as goal
-use Rattle.name_set.proofs.names.Names.kept.Goals.{then-has+in_ok-from_slice+in_ok-push, else-has}
+
+pub name-requires : goal.name-requires
+name-requires c =
+    let whole = ap (λ (ws : List ℕ). c.loop-at.yielded ++ ws) (sym c.in-Some.ensures.steps) ∙ c.loop-at.invariant.0 in
+    let low : c.in-Some.at < length c.args.kept.now = iterated_below c.args.kept.now c.loop-at.yielded c.next.new.self c.in-Some.at whole in
+    omega (arith, low, c.requires)
 
 pub loop-at-preserved : goal.loop-at-preserved
 loop-at-preserved c =
-    let t = c.args.kept.now in
+    let ws = c.loop-at.yielded in
+    let v = c.in-Some.at in
     let names = c.args.self.now in
-    elim c.if-has.branch [
-      | then-has+in_ok-from_slice+in_ok-push w ↦
-          rw (w.list-is, w.in_ok-push.ensures.items)
-          (map-append (λ name. name.items) c.loop-at.list.items (w.in_ok-from_slice.field-0 ∷ [])
-          ∙ (ap₂ (λ (xs : List Name) (x : Name). xs ++ x ∷ []) c.loop-at.invariant w.in_ok-from_slice.ensures.items ∙ sym (kept_more_yes t names c.loop-at.at w.name.result.now (sym w.if-has.ensures) w.name.ensures)))
-      | else-has w ↦ rw (w.list-is) (c.loop-at.invariant ∙ sym (kept_more_no t names c.loop-at.at (sym w.if-has.ensures)))
-    ]
+    let whole = ap (λ (vs : List ℕ). ws ++ vs) (sym c.in-Some.ensures.steps) ∙ c.loop-at.invariant.0 in
+    let text = λ (name : Vec ℕ Global). name.items in
+    let named = λ (v : ℕ). slice_index_or names v [] in (
+      append_assoc ws (v ∷ []) c.next.new.self ∙ whole,
+      rw c.in_ok-push.ensures.items
+          (map-append text c.loop-at.list.items (c.in_ok-from_slice.field-0 ∷ [])
+          ∙ (ap₂ (λ (xs : List Name) (x : Name). xs ++ x ∷ []) c.loop-at.invariant.1 (c.in_ok-from_slice.ensures.items ∙ sym (get_or_from_slice_get names v c.name.result.now [] c.name.ensures))
+          ∙ sym (map-append named ws (v ∷ [])))),
+    )
 
 pub invariant_of-result : goal.invariant_of-result
 invariant_of-result c =
+    let ws = c.loop-at.yielded in
     let t = c.args.kept.now in
     let names = c.args.self.now in
-    let sorted : IsStrictlySortedBy name_cmp names = subst (λ (ns : List Name). IsStrictlySortedBy name_cmp ns) c.self.view_is c.self.invariant.0 in
-    let n : length names ≡ length c.self.inside.list.items = ap (λ (ns : List Name). length ns) (sym c.self.view_is) ∙ length-map c.self.inside.list.items (λ name. name.items) in
-    let end : c.len-at-end.result ≡ length c.self.inside.list.items = search rules in
-    let past : length t ≤ c.loop-at.at = omega (arith, c.requires) in
-    let all : map (λ name. name.items) c.loop-at.list.items ≡ kept t names = c.loop-at.invariant ∙ ap (λ (u : Table). kept u names) (take_all c.loop-at.at t past) in
+    let whole : ws ≡ listed_from 0 t = sym (append-nil ws) ∙ (ap (λ (vs : List ℕ). ws ++ vs) (sym c.in-None.ensures.steps.0) ∙ c.loop-at.invariant.0) in
+    let all : map (λ name. name.items) c.loop-at.list.items ≡ kept t names = c.loop-at.invariant.1 ∙ (ap (λ (vs : List ℕ). map (λ v. slice_index_or names v []) vs) whole ∙ sym (kept_listed t names [] c.requires)) in
     let size : length c.loop-at.list.items ≡ length (kept t names) = sym (length-map c.loop-at.list.items (λ name. name.items)) ∙ ap (λ (ns : List Name). length ns) all in
-    (subst (λ (ns : List Name). IsStrictlySortedBy name_cmp ns) (sym all) (kept_sorted t names sorted), omega (arith, kept_le t names, c.self.invariant.1))
+    (subst (λ (ns : List Name). IsStrictlySortedBy name_cmp ns) (sym all) (kept_sorted t names c.rise.ensures), omega (arith, size, length-kept t names c.requires, c.count.ensures, c.count.type_inv))
+
+pub returns : goal.returns
+returns c =
+    let ws = c.loop-at.yielded in
+    let whole : ws ≡ listed_from 0 c.args.kept.now = sym (append-nil ws) ∙ (ap (λ (vs : List ℕ). ws ++ vs) (sym c.in-None.ensures.steps.0) ∙ c.loop-at.invariant.0) in
+    c.loop-at.invariant.1 ∙ (ap (λ (vs : List ℕ). map (λ v. slice_index_or c.args.self.now v []) vs) whole ∙ sym (kept_listed c.args.kept.now c.args.self.now [] c.requires))

@@ -1,0 +1,213 @@
+//! Proofs by steps, whose steps are taken one after another while their state stays in its place.
+ghost use Rattle.std.specs.Prelude.{◌≡◌, ℕ, List, ◌+◌, ◌++◌, ◌<◌, ◌≤◌, ◌⊎◌, None, length, IsTrue, IfOk, IfErr, IfSome, IsErrOf, OnOk, Ok, Err};
+ghost use Rattle.desk_io.specs.State.{left_of, with_left};
+ghost use Rattle.desk_io.specs.Faults.{ReadFails};
+ghost use Rattle.fbas_model.specs.Systems.{System};
+ghost use Rattle.cert_lines.specs.Lines.{lines_of};
+ghost use Rattle.cert_lines.specs.declared.lines.TheConstants.{MAX_LINES};
+ghost use Rattle.certificate_file.specs.Acceptance.{and_then, take_line, check_lines};
+ghost use Rattle.certificate_file.specs.Known.{IsKnown, IsKnownState};
+ghost use Rattle.certificate_file.specs.Streamed.{is_part, is_part_kind, place_of, end_of, checking_of, HasSizedSets};
+
+use crate::places::{Accepted, Answer, Listing, Place, Proof, State};
+use crate::streaming::take_read;
+use crate::taking::take_line;
+use cert_lines::{CertError, Lines, line_or_step};
+use desk_io::{Desk, Which};
+use fbas_core::System;
+use list_journal::ListKind;
+use lrat_checker::{Checker, IdleChecker};
+use lrat_model::Progress;
+use std::alloc::Global;
+use step_stream::StepReader;
+
+/// A proof with its checker and its units.
+#[derive(Drop)]
+pub struct Steps {
+    pub proof: Proof,
+    pub checker: IdleChecker,
+    pub units: u64,
+}
+
+impl Steps {
+    /// The proof of a place at which a step may stand, or else the place.
+    pub fn of(place: Place) -> Result<Steps, Place>
+        ensures steps { IfOk result (λ s. place_of s.proof s.checker s.units ≡ place) }
+        ensures other { IfErr result (λ p. p ≡ place) }
+    {
+        match place {
+            Place::AtSteps(header, checker) => Ok(Steps {
+                proof: Proof::Refutation(header),
+                checker,
+                units: 0,
+            }),
+            Place::AtLemmas(header, checker, units) => Ok(Steps {
+                proof: Proof::Partial(header),
+                checker,
+                units,
+            }),
+            Place::AtList(subject, listing) => {
+                let Listing {
+                    kind,
+                    part,
+                    checker,
+                    sets,
+                    units,
+                } = listing;
+                let proof = Proof::List(subject, kind, part, sets);
+                Ok(Steps {
+                    proof,
+                    checker,
+                    units,
+                })
+            }
+            other => Err(other),
+        }
+    }
+}
+
+impl Proof {
+    /// Whether it is a part of a proof, so that the empty lemma may not stand in it and each lemma has to be new.
+    fn is_part(&self) -> bool
+        ensures { result ≡ is_part self.now }
+    {
+        match self {
+            Proof::Refutation(_) => false,
+            Proof::Partial(_) => true,
+            Proof::List(_, kind, _, _) => is_part_kind(*kind),
+        }
+    }
+
+    /// The place of the next line.
+    fn place(self, checker: IdleChecker, units: u64) -> Place
+        ensures { result ≡ place_of self checker units }
+    {
+        match self {
+            Proof::Refutation(header) => Place::AtSteps(header, checker),
+            Proof::Partial(header) => Place::AtLemmas(header, checker, units),
+            Proof::List(subject, kind, part, sets) => {
+                let listing = Listing {
+                    kind,
+                    part,
+                    checker,
+                    sets,
+                    units,
+                };
+                Place::AtList(subject, listing)
+            }
+        }
+    }
+
+    /// The place behind the empty lemma, which ends a refutation, and a list, whose sets are then put in order. In no part of a
+    /// proof is it taken.
+    fn end(self) -> Place
+        requires { HasSizedSets self }
+        ensures { result ≡ end_of self }
+    {
+        match self {
+            Proof::Refutation(header) => Place::AtEnd(Accepted {
+                header,
+                answer: Answer::Refutation,
+            }),
+            Proof::Partial(header) => Place::AtEnd(Accepted {
+                header,
+                answer: Answer::Refutation,
+            }),
+            Proof::List(subject, _, _, sets) => Place::AtEnd(Accepted {
+                header: subject.header,
+                answer: Answer::Blocking(sets.ordered()),
+            }),
+        }
+    }
+}
+
+/// Whether it is a part of such a list.
+fn is_part_kind(kind: ListKind) -> bool
+    ensures { result ≡ is_part_kind kind }
+{
+    match kind {
+        ListKind::Whole => false,
+        ListKind::Partial => true,
+    }
+}
+
+/// Takes the steps that come next. Gives the first line that begins as no step does, with its number, or None behind the empty
+/// lemma.
+fn take_steps<D: Desk>(
+    alloc: Global,
+    lines: &mut Lines,
+    desk: &mut D,
+    reader: &mut StepReader,
+    proof: &Proof,
+    checker: &mut Checker,
+    units: &mut u64,
+) -> Result<Option<(u64, Vec<u8>)>, CertError>
+    requires fresh { lines.old.taken ≡ 0 }
+    requires closed { checker.old.open_addition ≡ None }
+    ensures closed { OnOk result (checker.new.open_addition ≡ None) }
+    ensures known { IfOk result (λ o. IfSome o (λ _. (f : System) → IsKnown f (place_of proof.now (checking_of checker.old) units.old) → IsKnown f (place_of proof.now (checking_of checker.new) units.new))) }
+    ensures shown { result ≡ Ok None → (f : System) → IsKnown f (place_of proof.now (checking_of checker.old) units.old) → IsKnown f (end_of proof.now) }
+    ensures text { IfOk result (λ o. IfSome o (λ t. IsTrue D.tells → (f : System) (d : List ℕ) → check_lines f d lines.old.number (State.Going (place_of proof.now (checking_of checker.old) units.old)) (lines_of (lines.old.unread ++ left_of Which.Cert (D.state desk.old)))
+        ≡ and_then (λ s. check_lines f d lines.new.number s (lines_of (lines.new.unread ++ left_of Which.Cert (D.state desk.new)))) (take_line f d (place_of proof.now (checking_of checker.new) units.new) t.0 t.1.items))) }
+    ensures end { result ≡ Ok None → IsTrue D.tells → (f : System) (d : List ℕ) → check_lines f d lines.old.number (State.Going (place_of proof.now (checking_of checker.old) units.old)) (lines_of (lines.old.unread ++ left_of Which.Cert (D.state desk.old)))
+        ≡ check_lines f d lines.new.number (State.Going (end_of proof.now)) (lines_of (lines.new.unread ++ left_of Which.Cert (D.state desk.new))) }
+    ensures few { OnOk result (lines.new.number ≤ MAX_LINES + 1) }
+    ensures number { OnOk result (lines.old.number < lines.new.number) }
+    ensures taken { OnOk result (lines.new.taken ≡ 0) }
+    ensures err { IfErr result (λ e. IsTrue D.tells → (e ≡ CertError.Memory) ⊎ (e ≡ CertError.Read)
+        ⊎ ((f : System) (d : List ℕ) → check_lines f d lines.old.number (State.Going (place_of proof.now (checking_of checker.old) units.old)) (lines_of (lines.old.unread ++ left_of Which.Cert (D.state desk.old))) ≡ Err e)) }
+    ensures plain { IsErrOf result CertError.Read → IsTrue D.tells → IsTrue (D.state desk.old).plain → ⊥ }
+    ensures rest { IsTrue D.tells → D.state desk.new ≡ with_left Which.Cert (left_of Which.Cert (D.state desk.new)) (D.state desk.old) }
+    ensures faults { ReadFails (D.faults desk.old) (D.faults desk.new) (IsErrOf result CertError.Read) }
+{
+    let is_part = proof.is_part();
+    'steps: loop {
+        let line = lines.number();
+        match line_or_step(alloc, lines, desk, checker, reader)? {
+            Some(text) => return Ok(Some((line, text))),
+            None => match take_read(checker, units, is_part, &mut reader.words, line)? {
+                Progress::Going => {}
+                Progress::Refuted => return Ok(None),
+            },
+        }
+    }
+}
+
+/// The steps that come next, and then the line that begins as no step does, or the place behind the empty lemma.
+pub fn next_steps<D: Desk>(
+    alloc: Global,
+    lines: &mut Lines,
+    desk: &mut D,
+    reader: &mut StepReader,
+    system: &System,
+    digest: &[u8; 32],
+    steps: Steps,
+) -> Result<State, CertError>
+    requires fresh { lines.old.taken ≡ 0 }
+    requires known { IsKnown system.now (place_of steps.proof steps.checker steps.units) }
+    ensures known { IfOk result (IsKnownState system.now) }
+    ensures few { OnOk result (lines.new.number ≤ MAX_LINES + 1) }
+    ensures number { OnOk result (lines.old.number < lines.new.number) }
+    ensures taken { OnOk result (lines.new.taken ≡ 0) }
+    ensures ok { IfOk result (λ s. IsTrue D.tells → check_lines system.now digest.now lines.old.number (State.Going (place_of steps.proof steps.checker steps.units)) (lines_of (lines.old.unread ++ left_of Which.Cert (D.state desk.old)))
+        ≡ check_lines system.now digest.now lines.new.number s (lines_of (lines.new.unread ++ left_of Which.Cert (D.state desk.new)))) }
+    ensures err { IfErr result (λ e. IsTrue D.tells → (e ≡ CertError.Memory) ⊎ (e ≡ CertError.Read)
+        ⊎ (check_lines system.now digest.now lines.old.number (State.Going (place_of steps.proof steps.checker steps.units)) (lines_of (lines.old.unread ++ left_of Which.Cert (D.state desk.old))) ≡ Err e)) }
+    ensures plain { IsErrOf result CertError.Read → IsTrue D.tells → IsTrue (D.state desk.old).plain → ⊥ }
+    ensures rest { IsTrue D.tells → D.state desk.new ≡ with_left Which.Cert (left_of Which.Cert (D.state desk.new)) (D.state desk.old) }
+    ensures faults { ReadFails (D.faults desk.old) (D.faults desk.new) (IsErrOf result CertError.Read) }
+{
+    let Steps {
+        proof,
+        checker,
+        mut units,
+    } = steps;
+    let mut checker = checker.opening();
+    match take_steps(alloc, lines, desk, reader, &proof, &mut checker, &mut units)? {
+        Some((line, text)) => {
+            let place = proof.place(IdleChecker::closing(checker), units);
+            take_line(alloc, system, digest, place, line, &text)
+        }
+        None => Ok(State::Going(proof.end())),
+    }
+}

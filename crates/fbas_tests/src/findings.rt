@@ -1,0 +1,56 @@
+//! What is found in a quorum set.
+
+ghost use Rattle.std.specs.Prelude.{◌≡◌, ◌+◌, ◌<◌, ◌^◌, length, sum_by, IfOk};
+ghost use Rattle.fbas_model.specs.QuorumSets.{all_entries};
+
+use quorum_set::{Finding, QuorumSet};
+use std::alloc::{AllocError, Global};
+use std::test::Fail;
+
+fn of(
+    alloc: Global,
+    threshold: u64,
+    nodes: &[u32],
+    inner: Vec<QuorumSet>,
+) -> Result<QuorumSet, AllocError>
+    ensures { IfOk result (λ q. all_entries q ≡ length nodes.now + sum_by (λ q. 1 + all_entries q) inner.items) }
+{
+    let validators = Vec::from_slice(alloc, nodes)?;
+    Ok(QuorumSet {
+        threshold,
+        validators,
+        inner,
+    })
+}
+
+/// A quorum set with inner ones, of which the second has one inside it.
+fn nested(alloc: Global) -> Result<QuorumSet, AllocError>
+    ensures { IfOk result (λ q. all_entries q < 2 ^ 32) }
+{
+    let mut innermost = Vec::new(alloc);
+    innermost.push(of(alloc, 1, &[5, 5, 5], Vec::new(alloc))?)?;
+    let mut inner = Vec::new(alloc);
+    inner.push(of(alloc, 1, &[0, 1], Vec::new(alloc))?)?;
+    inner.push(of(alloc, 0, &[2, 3, 3, 2], innermost)?)?;
+    inner.push(of(alloc, 1, &[], Vec::new(alloc))?)?;
+    of(alloc, 7, &[1, 2, 1], inner)
+}
+
+#[test]
+fn faults_are_found_from_the_outside_in(rt: HostRuntime) -> Result<(), Fail> {
+    let alloc = rt.alloc();
+    let mut found = Vec::new(alloc);
+    found.push(Finding::Repeated(vec![in alloc; 4]?, 9))?;
+    nested(alloc)?.findings(alloc, &mut found)?;
+    let mut want = Vec::new(alloc);
+    want.push(Finding::Repeated(vec![in alloc; 4]?, 9))?;
+    want.push(Finding::BadThreshold(Vec::new(alloc), 7, 6))?;
+    want.push(Finding::Repeated(Vec::new(alloc), 1))?;
+    want.push(Finding::BadThreshold(vec![in alloc; 1]?, 0, 5))?;
+    want.push(Finding::Repeated(vec![in alloc; 1]?, 3))?;
+    want.push(Finding::Repeated(vec![in alloc; 1]?, 2))?;
+    want.push(Finding::Repeated(vec![in alloc; 1, 0]?, 5))?;
+    want.push(Finding::BadThreshold(vec![in alloc; 2]?, 1, 0))?;
+    assert!(rt; found == want);
+    Ok(())
+}
