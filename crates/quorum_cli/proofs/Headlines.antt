@@ -154,6 +154,7 @@ trial_yes s old new status (spent log size) cert a is finds put at = absurd (let
 
 trial_unknown : (s : Search) (old new : DeskState) (status : Status) (found : Shown) (cert : Text) (a : Answer) → RepliesTrial (part s) s.budget found a → Finds (request s) found cert → PutsBoth s.path cert a old new status
     → status ≡ Unknown → PrintsUnknownTrial s (counted (codes "intersects unknown") s.budget) old new
+unfolding of_unknown
 trial_unknown s old new status (together log size) cert a is finds put at = absurd (let k : Yes ≡ Unknown = status_there s old new status cert a _ Unknown put is.said at in cc)
 trial_unknown s old new status (apart p) cert a is finds put at = absurd is.has
 trial_unknown s old new status (spent log size) cert a is finds put at = record {

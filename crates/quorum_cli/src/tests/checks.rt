@@ -188,31 +188,29 @@ const UNSHARED: &str = "formula 8 16\n17 -1 0 7 6 3 4 2 0\n18 0 17 1 10 8 0\nend
 
 #[test]
 fn check_uses_the_formula_of_the_certificates_version(rt: HostRuntime) -> Result<(), Fail> {
-    let alloc = rt.alloc();
-    let kind = "refutation";
+    let config = TWO_OF_TWO.as_bytes();
     let refused = "refused formula 6\n";
-    let rows = [
-        (
-            shared_of_kind(alloc, DIGEST_OF_TWO, kind, SHARED)?,
-            Status::Yes,
-            "accepted refutation\nfrom\nfaulty\n",
-        ),
-        (
-            of_kind(alloc, DIGEST_OF_TWO, kind, SHARED)?,
-            Status::CertRefused,
-            refused,
-        ),
-        (
-            shared_of_kind(alloc, DIGEST_OF_TWO, kind, UNSHARED)?,
-            Status::CertRefused,
-            refused,
-        ),
-    ];
-    for (cert, status, text) in &rows {
-        let cert = cert.as_bytes();
-        wants_checked(&rt, rt.alloc(), TWO_OF_TWO.as_bytes(), cert, *status, text)?;
-    }
-    Ok(())
+    let cert = shared_of_kind(rt.alloc(), DIGEST_OF_TWO, "refutation", SHARED)?;
+    let text = "accepted refutation\nfrom\nfaulty\n";
+    wants_checked(&rt, rt.alloc(), config, cert.as_bytes(), Status::Yes, text)?;
+    let cert = of_kind(rt.alloc(), DIGEST_OF_TWO, "refutation", SHARED)?;
+    wants_checked(
+        &rt,
+        rt.alloc(),
+        config,
+        cert.as_bytes(),
+        Status::CertRefused,
+        refused,
+    )?;
+    let cert = shared_of_kind(rt.alloc(), DIGEST_OF_TWO, "refutation", UNSHARED)?;
+    wants_checked(
+        &rt,
+        rt.alloc(),
+        config,
+        cert.as_bytes(),
+        Status::CertRefused,
+        refused,
+    )
 }
 
 // Fails unless the worked refutation is accepted in such pieces, and a bad last word is named behind the fault of a hint.

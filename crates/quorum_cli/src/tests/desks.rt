@@ -56,6 +56,9 @@ fn push_file(
     Ok(())
 }
 
+/// How many bytes may be put in a run: more than the longest text of a test, the formula of half of two hundred.
+const ROOM: usize = 2_000_000;
+
 // A desk with the three files, which may create the file `c`, moves so many bytes at once and fails these calls.
 fn desk(
     alloc: Global,
@@ -71,7 +74,7 @@ fn desk(
     push_file(alloc, &mut files, "orgs", held.orgs)?;
     let mut may_create = Vec::new(alloc);
     may_create.push(String::from_str(alloc, "c")?)?;
-    MemDesk::new(alloc, files, may_create, piece, 100_000, failing)
+    MemDesk::new(alloc, files, may_create, piece, ROOM, failing)
 }
 
 // The words of a line behind the program's name.

@@ -1,4 +1,4 @@
-use Rattle.std.proofs.Common.{◌≡◌, ◌∙◌, None, ap, length}
+use Rattle.std.proofs.Common.{◌≡◌, ◌∙◌, ap, length}
 use Rattle.fbas_model.specs.Nodes.{Table, members}
 use Rattle.certificate_file.specs.declared.places.Header.{Header}
 use Rattle.quorum_cli.proofs.Cuts.{meets_in_whole}

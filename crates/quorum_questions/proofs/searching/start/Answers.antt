@@ -1,8 +1,9 @@
-use Rattle.std.proofs.Common.{◌≡◌, ◌<◌, ◌≤◌, ◌↔◌, ◌∙◌, sym, ap, subst, ℕ, length, Err, refl}
+use Rattle.std.proofs.Common.{arith, ◌≡◌, ◌<◌, ◌≤◌, ◌↔◌, ◌∙◌, sym, ap, subst, ℕ, length, Err, refl}
 use Rattle.fbas_model.specs.Nodes.{Table, members}
 use Rattle.fbas_model.specs.Fbas.{Fbas, Intersects, IsGreatestQuorum, all_nodes}
 use Rattle.lrat_model.specs.Clauses.{IsUnsatisfiable}
 use Rattle.lrat_model.specs.Steps.{Database}
+use Rattle.lrat_model.specs.Ranges.{AreInRange}
 use Rattle.lrat_model.specs.Runs.{formula_database}
 use Rattle.greatest_quorum.specs.Greatest.{greatest_of}
 use Rattle.clause_encoder.specs.Formula.{formula_vars, formula_clauses}
@@ -15,6 +16,14 @@ use Rattle.quorum_questions.specs.Evidence.{vars_of, clauses_of}
 use Rattle.quorum_questions.specs.declared.answers.AskError as AskError
 use Rattle.quorum_questions.specs.declared.answers.AskError.{AskError}
 use Rattle.quorum_questions.proofs.searching.start.Goals as goal
+
+pub start-requires-clause-small : goal.start-requires-clause-small
+start-requires-clause-small c =
+    let small : c.vars.result ≤ MOST_VARS = subst (λ (n : ℕ). n ≤ MOST_VARS) (sym (c.vars.ensures ∙ ap (λ (m : Variables). m.count) c.in-Ok.ensures.variables)) c.in-Ok.ensures.small in
+    omega (arith, small)
+
+pub start-requires-clause-range : goal.start-requires-clause-range
+start-requires-clause-range c = subst (λ (n : ℕ). AreInRange n c.in-Ok.store.held) (sym c.vars.ensures) c.in-Ok.ensures.in_range
 
 pub returns-in_ok-solver-in-Ok-clause-started : goal.returns-in_ok-solver-in-Ok-clause-started
 returns-in_ok-solver-in-Ok-clause-started c =
