@@ -1,9 +1,11 @@
 #!/usr/bin/env python3
-"""Times `check` on long refutations: bench/certificates.py [FOLDER] [LEMMAS]. Needs the program, built by ./quorum_cli.
+"""Times `check` on long refutations: bench/certificates.py [FOLDER] [LEMMAS] [PROGRAM]. Needs the program, built by
+./quorum_cli.
 
-All are refutations of examples/two.json, which begin with the first lemma of examples/two.cert so many times, under rising
-ids. In the second file each lemma is deleted, by a line of its own, when the next one has come, so that few are held at a
-time. Prints the least processor time of three runs and the largest memory of a run.
+All are refutations of examples/two.json. Two begin with the first lemma that is known of it so many times, under rising ids;
+in the second of them each lemma is deleted, by a line of its own, when the next one has come, so that few are held at a time.
+In the third that lemma stands once, and behind its conflict come 130,000,000 bytes of hints on the same line. Prints the least
+processor time of three runs and the largest memory of a run.
 """
 import hashlib
 import os
@@ -16,11 +18,29 @@ CONFIG = os.path.join(TOP, "examples", "two.json")
 CLAUSES = 16
 
 
-def write(path, lemmas, deletes):
+LINE_BYTES = 130_000_000
+
+
+def write_head(cert):
     with open(CONFIG, "rb") as config:
         digest = hashlib.sha256(config.read()).hexdigest()
+    cert.write("fbas-cert 1\nconfig %s\nfrom\nfaulty\nkind refutation\nformula 8 %d\n" % (digest, CLAUSES))
+
+
+def write_line(path):
+    """One lemma with hints behind its conflict, all on one line."""
+    hints = " 7 6 3 4 2" * 1000
     with open(path, "w") as cert:
-        cert.write("fbas-cert 1\nconfig %s\nfrom\nfaulty\nkind refutation\nformula 8 %d\n" % (digest, CLAUSES))
+        write_head(cert)
+        cert.write("17 -1 0 7 6 3 4 2")
+        for _ in range(LINE_BYTES // len(hints)):
+            cert.write(hints)
+        cert.write(" 0\n18 0 17 1 10 8 0\nend\n")
+
+
+def write(path, lemmas, deletes):
+    with open(path, "w") as cert:
+        write_head(cert)
         last = CLAUSES
         for step in range(lemmas):
             last += 1
@@ -30,11 +50,11 @@ def write(path, lemmas, deletes):
         cert.write("%d 0 %d 1 10 8 0\nend\n" % (last + 1, last))
 
 
-def run(path):
+def run(program, path):
     """The least processor time of three runs, and the largest memory in MB."""
     best, most = None, 0
     for _ in range(3):
-        child = subprocess.Popen([PROGRAM, "check", CONFIG, path], stdout=subprocess.PIPE)
+        child = subprocess.Popen([program, "check", CONFIG, path], stdout=subprocess.PIPE)
         text = child.stdout.read()
         _, status, usage = os.wait4(child.pid, 0)
         if status != 0 or text != b"accepted refutation\nfrom\nfaulty\n":
@@ -48,15 +68,20 @@ def run(path):
 def main():
     folder = sys.argv[1] if len(sys.argv) > 1 else "/tmp/gemzulat-bench"
     lemmas = int(sys.argv[2]) if len(sys.argv) > 2 else 10_000_000
+    program = sys.argv[3] if len(sys.argv) > 3 else PROGRAM
     os.makedirs(folder, exist_ok=True)
     print("| certificate | bytes | lines | time | bytes a second | largest memory |")
     print("|---|---|---|---|---|---|")
-    for name, deletes in [("lemmas", False), ("lemmas and deletions", True)]:
+    files = [
+        ("lemmas", 8 + lemmas, lambda path: write(path, lemmas, False)),
+        ("lemmas and deletions", 7 + 2 * lemmas, lambda path: write(path, lemmas, True)),
+        ("one line of hints", 9, write_line),
+    ]
+    for name, lines, write_file in files:
         path = os.path.join(folder, name.replace(" ", "-") + ".cert")
-        write(path, lemmas, deletes)
+        write_file(path)
         size = os.path.getsize(path)
-        lines = 8 + lemmas + (lemmas - 1 if deletes else 0)
-        took, memory = run(path)
+        took, memory = run(program, path)
         print("| %s | %d | %d | %.2f s | %d | %d MB |" % (name, size, lines, took, size / took, memory))
 
 

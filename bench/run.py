@@ -1,5 +1,6 @@
 #!/usr/bin/env python3
-"""Times the program on generated configurations: bench/run.py [FOLDER]. Needs jq, and the program built by ./quorum_cli.
+"""Times the program on generated configurations: bench/run.py [FOLDER] [PROGRAM]. Needs jq, and the program built by
+./quorum_cli.
 
 Each figure is the least processor time of five runs, which other work on the machine hardly changes; beside reading, that of
 `jq -c length` on the same file in the same run.
@@ -30,6 +31,7 @@ def name_at(path, place):
 
 def main():
     folder = sys.argv[1] if len(sys.argv) > 1 else "/tmp/gemzulat-bench"
+    program = sys.argv[2] if len(sys.argv) > 2 else PROGRAM
     subprocess.run([os.path.join(TOP, "bench", "configurations.py"), folder], check=True)
     print("| file | bytes | show | jq -c length | greatest | blocks | available | vblocks | closure |")
     print("|---|---|---|---|---|---|---|---|---|")
@@ -39,13 +41,13 @@ def main():
         # The node from which all others are reached: in a chain, one by one.
         begin = name_at(path, -1) if name == "chain-down" else node
         rows = [
-            least([PROGRAM, "show", path]),
+            least([program, "show", path]),
             least(["jq", "-c", "length", path]),
-            least([PROGRAM, "greatest", path]),
-            least([PROGRAM, "blocks", path, "--set", node]),
-            least([PROGRAM, "available", path, "--set", node]),
-            least([PROGRAM, "vblocks", path, "--node", node, "--set", node]),
-            least([PROGRAM, "closure", path, "--node", begin]),
+            least([program, "greatest", path]),
+            least([program, "blocks", path, "--set", node]),
+            least([program, "available", path, "--set", node]),
+            least([program, "vblocks", path, "--node", node, "--set", node]),
+            least([program, "closure", path, "--node", begin]),
         ]
         print("| %s | %d | %s |" % (name, os.path.getsize(path), " | ".join("%.3f s" % r for r in rows)))
     print("largest memory of a child: %d MB" % (resource.getrusage(resource.RUSAGE_CHILDREN).ru_maxrss // 1024))

@@ -71,7 +71,10 @@ class Trial:
         places = set(re.findall(r'id="(n\d+)"', page))
         lost = [link for link in re.findall(r'href="#(n\d+)"', page) if link not in places]
         self.judge("the page loads nothing", not found and not lost and len(page) < 300_000, (found, lost, len(page)))
-        xml.etree.ElementTree.fromstring(re.search(r"<svg.*?</svg>", page, re.S).group())
+        picture = re.search(r"<svg.*?</svg>", page, re.S).group()
+        xml.etree.ElementTree.fromstring(picture)
+        wide = [text for x, text in re.findall(r'<text class="k" x="(\d+)"[^>]*>([^<]*)', picture) if int(x) + 6.3 * len(text) > 960]
+        self.judge("what the circles mean fits the picture", not wide, wide)
 
     def certificates(self, page):
         """Each certificate that the page names lies beside it, has the digest that the page says, and is accepted."""
@@ -126,6 +129,15 @@ class Trial:
         wanted = ["twin (b)", "twin (-x&lt;i&gt;)", "has the threshold 4 over 3 entries", "more than once", "organisations is in the network: none."]
         self.judge("what is odd", all(text in page for text in wanted), [text for text in wanted if text not in page])
 
+    def two_apart(self):
+        """Two quorums that share no node, and a blocking set: every kind of circle is explained."""
+        config = self.written("apart.json", json.dumps([{"publicKey": it, "quorumSet": {"threshold": 1, "validators": [it]}} for it in "ab"]))
+        status, error, page = self.run(config)
+        self.judge("a page of a network that can fork", status == 0 and page is not None, error)
+        if page is not None:
+            self.loads_nothing(page)
+            self.judge("every circle is explained", len(re.findall('class="k"', page)) == 5 and "The network can fork." in page)
+
     def nothing_unchecked(self):
         for name, text in (("refusing", REFUSING % PROGRAM), ("about-others", ABOUT_OTHERS % (PROGRAM, PROGRAM))):
             status, error, page = self.run(NETWORK, "--orgs", ORGS, program=self.written(name, text, 0o755))
@@ -149,6 +161,7 @@ def main():
         trial.a_network()
         trial.spent()
         trial.odd_names()
+        trial.two_apart()
         trial.nothing_unchecked()
         trial.refusals()
     print("network-report: %d passed, %d failed" % (trial.passed, trial.failed))

@@ -73,6 +73,7 @@ def rest_box(network, paint, keys, y):
 
 
 def legend(paint, y, marked_as):
+    """What the circles mean, in as many rows as it takes; and where the next row would begin."""
     rows = []
     if paint.first:
         rows += [("p1", "one quorum"), ("p2", "another one, which shares no node with it")]
@@ -81,9 +82,12 @@ def legend(paint, y, marked_as):
         rows.append(("b", marked_as))
     parts, x = [], 0
     for kind, text in rows:
+        width = 44 + int(6.3 * len(text))
+        if x and x + width > WIDTH:
+            x, y = 0, y + SMALL
         parts.append('<circle class="%s" cx="%d" cy="%d" r="7"/><text class="k" x="%d" y="%d">%s</text>' % (kind, x + 10, y + 12, x + 24, y + 16, html.escape(text)))
-        x += 44 + int(6.3 * len(text))
-    return "".join(parts)
+        x += width
+    return "".join(parts), y + SMALL
 
 
 def draw(network, paint, marked_as):
@@ -101,5 +105,6 @@ def draw(network, paint, marked_as):
         text, height = rest_box(network, paint, network.outside(), y)
         parts.append(text)
         y += height + GAP
-    parts.append(legend(paint, y, marked_as))
-    return '<svg role="img" aria-label="The network" viewBox="-2 -2 %d %d" xmlns="http://www.w3.org/2000/svg">%s</svg>' % (WIDTH + 4, y + 30, "\n".join(parts))
+    text, y = legend(paint, y, marked_as)
+    parts.append(text)
+    return '<svg role="img" aria-label="The network" viewBox="-2 -2 %d %d" xmlns="http://www.w3.org/2000/svg">%s</svg>' % (WIDTH + 4, y + 6, "\n".join(parts))
