@@ -2,12 +2,14 @@
 """Times the solver beside minisat, cadical and cryptominisat on the same formulas: bench/solver.py [FOLDER [NETWORKS]].
 
 Builds crates/solver_bench (with its proofs, some minutes the first time) and writes each formula as DIMACS text into FOLDER:
-those of trial configurations, of the networks in the folder NETWORKS by `quorum_cli export` (pairs of NAME.json and
-NAME-orgs.json; left out without the folder), and random 3-SAT. For each it prints the processor time of one run of each
-program and its conflicts, ours being the lemmas with a literal; of random formulas the sums. A run ends after LIMIT seconds
-of processor time. Our time has the reading of the formula, the search and the check of the log; the others (Debian's packages)
-run with their own settings. Each model of ours is checked here, each refutation by the proved checker.
+those of trial configurations and of the networks in the folder NETWORKS (NAME.json; left out without the folder) as the
+program writes them, which is version 2; the same in version 1, in which each node has gates of its own; and random 3-SAT. For
+each it prints the processor time of one run of each program and its conflicts, ours being the lemmas with a literal; of random
+formulas the sums. A run ends after LIMIT seconds of processor time. Our time has the reading of the formula, the search and
+the check of the log; the others (Debian's packages) run with their own settings. Each model of ours is checked here, each
+refutation by the proved checker.
 """
+import json
 import os
 import random
 import re
@@ -16,9 +18,13 @@ import subprocess
 import sys
 
 TOP = os.path.dirname(os.path.dirname(os.path.abspath(__file__)))
+sys.path.insert(0, os.path.join(TOP, "tests"))
+import plain_checker
+
 CRATE = os.path.join(TOP, "crates", "solver_bench")
 PROGRAM = os.path.join(CRATE, "out", "solver_bench")
-ORGANISATIONS = [4, 8, 12, 16, 20, 24]
+ORGANISATIONS = {1: [8, 12, 16, 20, 24], 2: [12, 16, 20, 24, 32, 48, 64]}
+NETWORKS = ["network", "network-large", "network-skewed", "network-split"]
 RANDOM_FORMULAS, RANDOM_VARIABLES, RANDOM_RATIO = 100, 150, 4.26
 LIMIT = 120
 OTHERS = {
@@ -88,18 +94,21 @@ def total(numbers):
     return "did not end" if None in numbers else sum(numbers)
 
 
-def trial(folder, organisations):
-    path = os.path.join(folder, "trial-%d.cnf" % organisations)
-    with open(path, "w") as file:
-        subprocess.run([PROGRAM, str(organisations), "dimacs"], stdout=file, check=True)
-    return path
+def trial(organisations):
+    """The trial configuration: three nodes each, of which two speak for the organisation; more than two thirds of all."""
+    inner = [{"threshold": 2, "validators": ["t%03d" % (3 * i + j) for j in range(3)]} for i in range(organisations)]
+    quorum_set = {"threshold": organisations - (organisations - 1) // 3, "validators": [], "innerQuorumSets": inner}
+    return json.dumps([{"publicKey": "t%03d" % node, "quorumSet": quorum_set} for node in range(3 * organisations)]).encode()
 
 
-def exported(folder, networks, name):
-    path = os.path.join(folder, name + ".cnf")
-    words = [os.path.join(TOP, "quorum_cli"), "export", os.path.join(networks, name + ".json")]
+def written(folder, name, config, version):
+    """The formula of a configuration in a version, written by the plain checker of the tests."""
+    path = os.path.join(folder, "%s-%d.cnf" % (name, version))
+    formula = plain_checker.Formula(plain_checker.system_of(config), set(), version)
     with open(path, "w") as file:
-        subprocess.run(words + ["--orgs", os.path.join(networks, name + "-orgs.json")], stdout=file, check=True)
+        print("p cnf %d %d" % (formula.variables, len(formula.clauses)), file=file)
+        for clause in formula.clauses:
+            print(*clause, 0, file=file)
     return path
 
 
@@ -122,11 +131,13 @@ def main():
     subprocess.run(["rt", "run", "--", "2"], cwd=CRATE, check=True, capture_output=True)
     print("| formula | answer | our lemmas | our time | " + " | ".join("%s: conflicts | time" % name for name in OTHERS) + " |")
     print("|---" * (4 + 2 * len(OTHERS)) + "|")
-    for organisations in ORGANISATIONS:
-        row("%d organisations" % organisations, [trial(folder, organisations)])
-    if len(sys.argv) > 2:
-        for name in ["network", "network-large", "network-skewed", "network-split"]:
-            row(name, [exported(folder, sys.argv[2], name)])
+    for version in sorted(ORGANISATIONS):
+        for organisations in ORGANISATIONS[version]:
+            name = "%d organisations" % organisations
+            row("%s, version %d" % (name, version), [written(folder, "trial-%d" % organisations, trial(organisations), version)])
+        for name in NETWORKS if len(sys.argv) > 2 else []:
+            with open(os.path.join(sys.argv[2], name + ".json"), "rb") as file:
+                row("%s, version %d" % (name, version), [written(folder, name, file.read(), version)])
     row("random 3-SAT", [random_formula(folder, seed) for seed in range(RANDOM_FORMULAS)])
 
 
