@@ -44,6 +44,12 @@ Suits rule trues groups (course.InGroup before is_done) = (rule ≡ Rat) × (bef
 abbrev pub IsUnitHint : Rule → ℤ → Type 0
 IsUnitHint rule hint = (rule ≡ Rup) ⊎ (group_id hint ≡ None)
 
+-- whether the hints up to the next RAT hint are passed over
+abbrev pub is_over : Course → Bool
+is_over course.Propagates = false
+is_over course.Met = true
+is_over (course.InGroup before is_done) = is_done
+
 -- where a hint leads that was taken by unit propagation
 abbrev pub onward : Course → Hinting → Course
 onward c hinting.More = c

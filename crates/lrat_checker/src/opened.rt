@@ -7,7 +7,7 @@ ghost use Rattle.lrat_model.specs.declared.step.Rule.TheVariants.{Rat};
 ghost use Rattle.lrat_model.specs.declared.step.StepFault.TheVariants.{Memory, NoConflict};
 ghost use Rattle.rat_candidates.specs.Groups.{group_id, ids_in};
 ghost use Rattle.lrat_checker.specs.Adding.{fault_from, GoesOn, StopsAt, has_met, is_met};
-ghost use Rattle.lrat_checker.specs.Courses.{led, adding_of, Suits, IsUnitHint, onward, Ends, IsUndone, missing_of};
+ghost use Rattle.lrat_checker.specs.Courses.{led, adding_of, Suits, IsUnitHint, is_over, onward, Ends, IsUndone, missing_of};
 
 use crate::hint::{Hinting, take_hint, undo_to};
 use crate::rat::open_group;
@@ -25,6 +25,19 @@ pub enum Course {
     Met,
     /// Into a group: how many literals were true before it, and whether it is done.
     InGroup { before: usize, is_done: bool },
+}
+
+impl Course {
+    /// Whether the hints up to the next RAT hint are passed over.
+    fn is_over(self) -> bool
+        ensures { result ≡ is_over self }
+    {
+        match self {
+            Course::Propagates => false,
+            Course::Met => true,
+            Course::InGroup { before: _, is_done } => is_done,
+        }
+    }
 }
 
 /// What is known of an open addition beside its literals and RAT hints: its id, how many hints were looked at, and where they
@@ -97,14 +110,11 @@ pub fn after_unit(
     ensures id { IfOk result (λ next. next.id ≡ opened.id) }
     ensures vars { assignment.new.vars ≡ assignment.old.vars }
 {
-    match opened.course {
-        Course::Met => Ok(opened),
-        Course::InGroup { before: _, is_done: true } => Ok(opened.after(opened.course)),
-        Course::Propagates | Course::InGroup { before: _, is_done: false } => {
-            let hinting = take_hint(store, assignment, opened.hints + 1, hint)?;
-            Ok(opened.after(onward(opened.course, hinting)))
-        }
+    if opened.course.is_over() {
+        return Ok(opened.after(opened.course));
     }
+    let hinting = take_hint(store, assignment, opened.hints + 1, hint)?;
+    Ok(opened.after(onward(opened.course, hinting)))
 }
 
 /// Ends the group, if there is one: what was true before it is true again. Gives how many literals that are.

@@ -1,5 +1,5 @@
 //! Additions whose hints come one after another, so that no list of them is kept.
-ghost use Rattle.std.specs.Prelude.{◌≡◌, ◌≢◌, ℕ, ◌<◌, ◌^◌, ℤ, List, [], Some, None, Err, IsSome, IfSome, IfOk, IfErr, OnErr, OnOk};
+ghost use Rattle.std.specs.Prelude.{◌≡◌, ◌≢◌, ℕ, ◌<◌, ◌^◌, ℤ, List, [], false, Some, None, Err, IsSome, IfSome, IfOk, IfErr, OnErr, OnOk};
 ghost use Rattle.lrat_model.specs.Literal.{Literal};
 ghost use Rattle.lrat_model.specs.Clauses.{with_clause};
 ghost use Rattle.lrat_model.specs.Steps.{progress_at};
