@@ -1,6 +1,7 @@
 -- An open addition, one hint later.
 use Rattle.std.proofs.Common.{◌≡◌, ℕ, suc, ◌+◌, ◌≤◌, true, false, Bool, List, [], ◌∷◌, ◌++◌, length, take, refl, sym, ap, ◌∙◌, subst, arith, ⊎_elim, Option, Some, None, ℤ, pos, negsuc, Ok, Err, append_assoc}
 use Rattle.std.specs.Option.{option_or}
+use Rattle.std.specs.Prelude.{slice_get}
 use Rattle.std.proofs.lemmas.List.{append-nil, take-append-le}
 use Rattle.lrat_model.specs.Literal.{Literal, negated}
 use Rattle.lrat_model.specs.Clauses.{Held}
@@ -10,17 +11,18 @@ use Rattle.lrat_model.specs.Rat.{Group, first_hints, groups_of, take_group, grou
 use Rattle.lrat_model.specs.declared.step.Rule.{Rule}
 use Rattle.lrat_model.specs.declared.step.Rule.TheVariants.{Rup, Rat}
 use Rattle.lrat_model.specs.declared.step.StepFault.{StepFault}
-use Rattle.lrat_model.specs.declared.step.StepFault.TheVariants.{NoConflict}
+use Rattle.lrat_model.specs.declared.step.StepFault.TheVariants.{NoConflict, RatStep}
 use Rattle.rat_candidates.specs.Groups.{group_id, ids_in}
 use Rattle.lrat_checker.specs.declared.hint.Hinting.{Hinting}
 use Rattle.lrat_checker.specs.declared.hint.Hinting.TheVariants as hinting
+use Rattle.lrat_checker.specs.declared.opened.Opened.{Opened}
 use Rattle.lrat_checker.specs.declared.opened.Course.{Course}
 use Rattle.lrat_checker.specs.declared.opened.Course.TheVariants as course
 use Rattle.lrat_checker.specs.Hints.{Took}
 use Rattle.lrat_checker.specs.Extends.{Extends}
 use Rattle.lrat_checker.specs.Groups.{Opens}
-use Rattle.lrat_checker.specs.Adding.{group_rest, left_out, more_groups, unit_fault, fault_from, has_met}
-use Rattle.lrat_checker.specs.Courses.{unless_done, led, Suits, IsUnitHint, onward, is_over, Ends, IsUndone, missing_of}
+use Rattle.lrat_checker.specs.Adding.{group_rest, left_out, more_groups, unit_fault, fault_from, fault_after, has_met, GoesOn, StopsAt}
+use Rattle.lrat_checker.specs.Courses.{unless_done, led, adding_of, Suits, IsUnitHint, onward, is_over, Ends, IsUndone, missing_of}
 use Rattle.lrat_checker.proofs.AddingLaws.{alike_fault, unit_alike}
 use Rattle.lrat_checker.proofs.GroupLaws.{ids_in-append}
 
@@ -180,3 +182,69 @@ module _ (held : Held) (before new rest : List Literal) (pivot : Literal) (group
 pub none_left_out : (held : Held) (before lits : List Literal) (ids : List ℕ) → more_groups held before lits ids [] ≡ left_out (missing_of held ids lits)
 none_left_out held before [] ids = refl
 none_left_out held before (pivot ∷ rest) ids = ap (λ xs. left_out (first_without held (negated pivot) xs)) (append-nil ids)
+
+-- ---- the addition
+
+module _ (held : Held) (lits trues new : List Literal) (groups : List ℤ) (o next : Opened) (hint : ℤ) (same_id : next.id ≡ o.id) (count : next.hints ≡ o.hints + 1) where
+  pub passes_over : (rule : Rule) → is_over o.course ≡ true → next.course ≡ o.course → IsUnitHint rule hint → Suits rule trues groups o.course → GoesOn rule held hint (Some (adding_of lits trues groups o)) (Some (adding_of lits trues groups next))
+  passes_over rule over course_is unit suits =
+      (same_id, refl, omega (arith, count), λ hints. rw (count, course_is) (over_goes_on rule held lits trues groups o.course (o.hints + 1) hint over unit suits hints))
+
+  pub goes_on : (rule : Rule) (h : Hinting) → is_over o.course ≡ false → next.course ≡ onward o.course h → Took (take_hint held trues (o.hints + 1) hint) (Ok h) new → Extends trues new → IsUnitHint rule hint → Suits rule trues groups o.course
+      → GoesOn rule held hint (Some (adding_of lits trues groups o)) (Some (adding_of lits new groups next))
+  goes_on rule h over course_is took grows unit suits =
+      (same_id, refl, omega (arith, count), λ hints. rw (count, course_is) (unit_goes_on rule held lits trues new groups (o.hints + 1) hint unit o.course h over suits took grows hints))
+
+pub halts : (rule : Rule) (held : Held) (lits trues : List Literal) (groups : List ℤ) (o : Opened) (hint : ℤ) (fault : StepFault) → is_over o.course ≡ false → take_hint held trues (o.hints + 1) hint ≡ Stops fault → IsUnitHint rule hint → Suits rule trues groups o.course
+    → StopsAt rule held hint (Some (adding_of lits trues groups o)) fault
+halts rule held lits trues groups o hint fault over took unit suits hints = unit_stops rule held lits trues trues groups (o.hints + 1) hint unit o.course fault over suits took hints
+
+-- a RAT hint is a negative one
+pub as_group : (hint : ℤ) (id : ℕ) → Some id ≡ group_id hint → (n : ℕ) × (hint ≡ negsuc n) × (id ≡ suc n)
+as_group (pos k) id is = absurd cc
+as_group (negsuc n) id is = (n, refl, cc)
+
+module _ (held : Held) (trues before : List Literal) (groups : List ℤ) (o : Opened) (hint : ℤ) (id : ℕ) (names : Some id ≡ group_id hint) where
+  pub undone_halts : (lits : List Literal) (fault : StepFault) → IsUndone trues groups o.course fault → StopsAt Rat held hint (Some (adding_of lits trues groups o)) fault
+  undone_halts lits fault undone hints =
+      let is = as_group hint id names in
+      subst (λ (h : ℤ). fault_from Rat held lits (o.hints + 1) (led trues groups o.course) (h ∷ hints) ≡ Some fault) (sym is.1) (undone held lits (o.hints + 1) is.0 hints)
+
+  module _ (ends : Ends trues groups o.course before) where
+    pub empty_halts : StopsAt Rat held hint (Some (adding_of [] trues groups o)) (RatStep (o.hints + 1))
+    empty_halts hints =
+        let is = as_group hint id names in
+        subst (λ (h : ℤ). fault_from Rat held [] (o.hints + 1) (led trues groups o.course) (h ∷ hints) ≡ Some (RatStep (o.hints + 1))) (sym is.1) (ends held [] (o.hints + 1) is.0 hints)
+
+    pub group_halts : (pivot : Literal) (rest new : List Literal) (fault : StepFault) → Opens held before pivot (o.hints + 1) id (Err fault) new → StopsAt Rat held hint (Some (adding_of (pivot ∷ rest) trues groups o)) fault
+    group_halts pivot rest new fault opens hints =
+        let is = as_group hint id names in
+        let so : Opens held before pivot (o.hints + 1) (suc is.0) (Err fault) new = subst (λ (k : ℕ). Opens held before pivot (o.hints + 1) k (Err fault) new) is.2 opens in
+        subst (λ (h : ℤ). fault_from Rat held (pivot ∷ rest) (o.hints + 1) (led trues groups o.course) (h ∷ hints) ≡ Some fault) (sym is.1)
+        (ends held (pivot ∷ rest) (o.hints + 1) is.0 hints ∙ group_stops_at held before new rest pivot groups (o.hints + 1) is.0 fault so hints)
+
+    pub group_goes : (pivot : Literal) (rest new : List Literal) (next : Opened) (h : Hinting) (count : ℕ) → next.id ≡ o.id → next.hints ≡ o.hints + 1 → next.course ≡ course.InGroup count (has_met h) → count ≡ length before
+        → Opens held before pivot (o.hints + 1) id (Ok h) new → Extends before new → GoesOn Rat held hint (Some (adding_of (pivot ∷ rest) trues groups o)) (Some (adding_of (pivot ∷ rest) new (groups ++ hint ∷ []) next))
+    group_goes pivot rest new next h count same_id hints_is course_is count_is opens grows =
+        let is = as_group hint id names in
+        let so : Opens held before pivot (o.hints + 1) (suc is.0) (Ok h) new = subst (λ (k : ℕ). Opens held before pivot (o.hints + 1) k (Ok h) new) is.2 opens in (
+          same_id,
+          refl,
+          omega (arith, hints_is),
+          λ hints. rw (hints_is, course_is, is.1) (ends held (pivot ∷ rest) (o.hints + 1) is.0 hints ∙ group_opens held before new rest pivot groups (o.hints + 1) is.0 h count so grows count_is hints),
+        )
+
+-- the first literal, if there is one
+pub first_of : (lits : List Literal) (pivot : Literal) → Some pivot ≡ slice_get lits 0 → (rest : List Literal) × (lits ≡ pivot ∷ rest)
+first_of [] pivot is = absurd cc
+first_of (l ∷ rest) pivot is = (rest, cc)
+
+-- the fault of an addition that ends, where these are its literals and RAT hints
+pub ended_fault : (rule : Rule) (held : Held) (trues lits ls : List Literal) (groups gs : List ℤ) (o : Opened) (r : Option StepFault) → ls ≡ lits → gs ≡ groups → Suits rule trues groups o.course
+    → ((t : List Literal) (place : ℕ) → Suits rule t gs o.course → r ≡ fault_from rule held ls place (led t gs o.course) []) → fault_after rule held (adding_of lits trues groups o) [] ≡ r
+ended_fault rule held trues lits ls groups gs o r same_lits same_groups suits told =
+    let so : Suits rule trues gs o.course = subst (λ (xs : List ℤ). Suits rule trues xs o.course) (sym same_groups) suits in
+    sym (
+      told trues (o.hints + 1) so ∙ ap (λ (xs : List Literal). fault_from rule held xs (o.hints + 1) (led trues gs o.course) []) same_lits
+      ∙ ap (λ (xs : List ℤ). fault_from rule held lits (o.hints + 1) (led trues xs o.course) []) same_groups
+    )

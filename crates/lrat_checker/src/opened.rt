@@ -139,6 +139,16 @@ fn end_group(assignment: &mut Assignment, course: Course) -> Result<usize, StepF
     }
 }
 
+/// Whether a hint's clause was false.
+fn has_met(hinting: Hinting) -> bool
+    ensures { result ≡ has_met hinting }
+{
+    match hinting {
+        Hinting::More => false,
+        Hinting::Conflict => true,
+    }
+}
+
 /// Begins a group, with a RAT hint that names this id.
 pub fn after_group(
     store: &Store,
@@ -168,7 +178,7 @@ pub fn after_group(
     let end = open_group(store, assignment, *pivot, place, id)?;
     Ok(opened.after(Course::InGroup {
         before,
-        is_done: matches!(end, Hinting::Conflict),
+        is_done: has_met(end),
     }))
 }
 

@@ -1,11 +1,12 @@
 //! RAT hints: groups of them, one for each clause that has the negation of the lemma's first literal, its pivot (Cruz-Filipe
 //! et al. 2017, Efficient Certified RAT Verification).
-ghost use Rattle.std.specs.Prelude.{◌≡◌, ℕ, ◌+◌, ◌≤◌, ◌<◌, ◌^◌, length, take, List, [], map, Some, None};
+ghost use Rattle.std.specs.Prelude.{◌≡◌, ◌≢◌, ℕ, ◌+◌, ◌≤◌, ◌<◌, ◌^◌, length, take, List, [], map, Some, None, Err};
 ghost use Rattle.lrat_model.specs.Literal.{Literal, negated};
 ghost use Rattle.lrat_model.specs.Steps.{outcome_fault};
 ghost use Rattle.lrat_model.specs.Ranges.{IsInRange, AreInRange};
 ghost use Rattle.lrat_model.specs.Alike.{Alike};
-ghost use Rattle.lrat_model.specs.Rat.{first_hints, groups_of, made_false, take_group, groups_fault, pivot_fault, rat_fault};
+ghost use Rattle.lrat_model.specs.Rat.{first_hints, groups_of, made_false, take_group, groups_fault, ids_of, first_without, pivot_fault, rat_fault};
+ghost use Rattle.lrat_model.specs.declared.step.StepFault.TheVariants.{Memory};
 ghost use Rattle.lrat_checker.specs.Extends.{Extends};
 ghost use Rattle.lrat_checker.specs.Groups.{first_place, MadeFalse, Opens};
 
@@ -71,6 +72,7 @@ pub fn open_group(
 ) -> Result<Hinting, StepFault>
     requires { AreInRange assignment.old.vars store.now.held }
     ensures opens { (trues : List Literal) → Alike trues assignment.old.trues → Opens store.now.held trues pivot place id result assignment.new.trues }
+    ensures no_memory { result ≢ Err Memory }
     ensures vars { assignment.new.vars ≡ assignment.old.vars }
     ensures grows { Extends assignment.old.trues assignment.new.trues }
 {
@@ -157,6 +159,14 @@ fn groups_fault(
     None
 }
 
+/// The least id of a clause that has the literal and no group.
+fn without_group(clauses: &mut CountedStore, l: Lit, hints: &[i64]) -> Option<u64>
+    ensures missing { result ≡ first_without clauses.old.held l (ids_of (groups_of 1 hints.now)) }
+    ensures unchanged { clauses.new ≡ clauses.old }
+{
+    clauses.first_missing(l, hints)
+}
+
 /// Why the groups of a lemma do not show that it may be added, if they do not. What is true stays as it was.
 fn pivot_fault(
     clauses: &mut CountedStore,
@@ -180,7 +190,7 @@ fn pivot_fault(
     if fault.is_some() {
         return fault;
     }
-    let Some(id) = clauses.first_missing(pivot.negated(), hints) else {
+    let Some(id) = without_group(clauses, pivot.negated(), hints) else {
         return None;
     };
     Some(if place.is_some() {

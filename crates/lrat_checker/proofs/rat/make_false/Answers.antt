@@ -30,12 +30,12 @@ loop-l-preserved c =
     elim c.if-not-same.branch [
       | then-not-same+else-is_true w ↦ record {
         vars = ap (λ (a : Assigned). a.vars) w.assignment-is ∙ w.force.ensures.vars ∙ c.loop-l.invariant.vars;
-        grows = subst (λ (a : Assigned). Extends c.args.assignment.now.trues a.trues) (sym w.assignment-is) (extends_more c.args.assignment.now.trues old w.force.new.self.trues c.loop-l.invariant.grows w.force.ensures.grows);
+        grows = subst (λ (a : Assigned). Extends c.args.assignment.now.trues a.trues) (sym w.assignment-is) (extends_more c.args.assignment.now.trues old w.force.new.assignment.trues c.loop-l.invariant.grows w.force.ensures.grows);
         so_far = λ trues alike.
             let so = c.loop-l.invariant.so_far trues alike in
             let differs : same c.args.left_out l ≡ false = sym c.same.ensures ∙ w.if-not-same.true in
             let absent : has old l ≡ false = sym w.is_true.ensures ∙ w.if-is_true.false in
-            let more : Alike (negated l ∷ old) w.force.new.self.trues = subst (λ k. Alike (k ∷ old) w.force.new.self.trues) w.negated.ensures w.force.ensures.trues in (
+            let more : Alike (negated l ∷ old) w.force.new.assignment.trues = subst (λ k. Alike (k ∷ old) w.force.new.assignment.trues) w.negated.ensures w.force.ensures.trues in (
               negated l ∷ so.0,
               subst (λ (a : Assigned). Alike (negated l ∷ so.0) a.trues) (sym w.assignment-is) (λ m. ap (λ b. same m (negated l) || b) (so.1 m) ∙ more m),
               made_more c.args.left_out trues so.0 old c.args.clause.now c.loop-l.l-index l c.loop-l-test.true c.l-item.is so.1 so.2 differs absent,

@@ -4,6 +4,7 @@ use Rattle.lrat_checker.specs.declared.opened.Opened.{Opened}
 use Rattle.lrat_checker.proofs.AddingLaws.{not_opened}
 use Rattle.std.specs.Prelude.{IfSome}
 use Rattle.lrat_model.specs.Clauses.{Held}
+use Rattle.lrat_model.specs.Steps.{Database}
 use Rattle.lrat_model.specs.Ranges.{AreInRange}
 use Rattle.lrat_checker.specs.Subsets.{AreFound}
 use Rattle.lrat_checker.proofs.RangeLaws.{range-without}
@@ -13,8 +14,9 @@ use Rattle.lrat_checker.proofs.checker.Checker.delete.Goals as goal
 pub without-requires : goal.without-requires
 without-requires c =
     let inside = c.self.inside in
-    subst (λ index. IfSome index (AreFound c.remove_all.new.self.held)) (sym c.take.ensures.value)
-    (subst (λ (h : Held). IfSome inside.subsets (AreFound h)) (sym c.in-Ok.ensures.held) (found_without inside.subsets inside.clauses.held c.args.ids.now c.self.invariant.found))
+    subst (λ (d : Database). IfSome c.take.result (AreFound d.held)) (sym c.store.ensures)
+    (subst (λ index. IfSome index (AreFound c.remove_all.new.self.held)) (sym c.take.ensures.value)
+    (subst (λ (h : Held). IfSome inside.subsets (AreFound h)) (sym c.in-Ok.ensures.held) (found_without inside.subsets inside.clauses.held c.args.ids.now c.self.invariant.found)))
 
 pub invariant_of-self : goal.invariant_of-self
 invariant_of-self c =
@@ -27,5 +29,5 @@ invariant_of-self c =
       literals = c.self.invariant.literals;
       suits = c.self.invariant.suits;
       in_range = subst (λ (h : Held). AreInRange vars h) (sym c.in-Ok.ensures.held) (range-without vars inside.clauses.held c.args.ids.now c.self.invariant.in_range);
-      found = c.without.ensures;
+      found = subst (λ (d : Database). IfSome c.without.result (AreFound d.held)) c.store.ensures c.without.ensures;
     }
