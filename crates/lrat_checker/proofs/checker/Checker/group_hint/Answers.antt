@@ -1,4 +1,6 @@
-use Rattle.std.proofs.Common.{◌≡◌, ◌<◌, ◌++◌, [], ◌∷◌, ℕ, ℤ, List, Option, sym, ap, ◌∙◌, subst, Some}
+use Rattle.std.proofs.Common.{◌≡◌, ◌<◌, ◌++◌, [], ◌∷◌, ℕ, ℤ, List, Option, sym, ap, ◌∙◌, subst, refl, Some, w64, to_z, of_z, rules}
+use mir.Val.{SFits}
+use Rattle.std.proofs.lemmas.Int.{to_z-of_z}
 use Rattle.std.specs.Prelude.{IfSome}
 use Rattle.lrat_model.specs.Literal.{Literal}
 use Rattle.lrat_model.specs.Steps.{Database}
@@ -39,7 +41,10 @@ returns-in-Ok-clause-taken c =
     let hint = c.args.hint in
     let new = c.after_group.new.assignment.trues in
     let next = c.in-Ok.next in
-    let pushed : c.push.new.self.items ≡ groups ++ hint ∷ [] = c.push.ensures.items ∙ taken c.push.result (groups ++ hint ∷ []) groups (sym c.is_err.ensures.value ∙ c.if-is_err.false) in
+    let fits : SFits w64 hint = search rules in
+    let same : to_z w64 (of_z w64 hint) ≡ hint = simp to_z-of_z refl in
+    let pushed : c.push.new.self.items ≡ groups ++ hint ∷ [] =
+    c.push.ensures.items ∙ taken c.push.result (groups ++ to_z w64 (of_z w64 hint) ∷ []) groups (sym c.is_err.ensures.value ∙ c.if-is_err.false) ∙ ap (λ (z : ℤ). groups ++ z ∷ []) same in
     let suits : Suits Rat trues groups o.course = subst (λ (r : Rule). Suits r trues groups o.course) rat (subst (λ (x : Option Opened). IfSome x (λ k. Suits inside.rule trues groups k.course)) is c.self.invariant.suits) in
     let told : GoesOn Rat c.store.result.now.held hint (Some (adding_of c.deref.result.now trues groups o)) (Some (adding_of c.deref.result.now new (groups ++ hint ∷ []) next)) = c.in-Ok.ensures.taken hint groups c.requires.names suits in
     let later = Some (adding_of lits new c.push.new.self.items next) in
