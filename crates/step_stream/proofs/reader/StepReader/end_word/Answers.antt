@@ -9,6 +9,6 @@ returns-clause-ahead c = λ rest.
     let checker = c.args.checker.now in
     let begun = c.args.self.now.begun.items in
     let some : 0 < length begun = search rules in
-    ap (λ (ws : List Word). ahead checker.vars checker.database c.args.self.now.words checker.open_addition (ws ++ rest)) (one_word begun some c.requires.solid)
-    ∙ ap (λ (w : Word). ahead checker.vars checker.database c.args.self.now.words checker.open_addition (w ∷ rest)) (sym c.deref.ensures.value)
+    ap (λ (ws : List Word). ahead checker.rule checker.vars checker.database c.args.self.now.words checker.open_addition (ws ++ rest)) (one_word begun some c.requires.solid)
+    ∙ ap (λ (w : Word). ahead checker.rule checker.vars checker.database c.args.self.now.words checker.open_addition (w ∷ rest)) (sym c.deref.ensures.value)
     ∙ c.in_ok-word.ensures.ahead rest
