@@ -6,7 +6,7 @@ ghost use Rattle.lrat_model.specs.Ranges.{AreInRange, IsInRange};
 use cdcl_core::{Budget, Solver, Verdict};
 use clause_store::Store;
 use lrat_checker::IdleChecker;
-use lrat_model::{Lit, Progress};
+use lrat_model::{Lit, Progress, Rule};
 use lrat_text::write_lent;
 use std::alloc::{AllocError, Global};
 use std::test::Fail;
@@ -96,7 +96,7 @@ fn is_refutation(alloc: Global, store: Store, vars: u64, solver: &Solver) -> Res
     requires small { vars < 2 ^ 31 }
     requires range { AreInRange vars store.held }
 {
-    let mut checker = IdleChecker::start(alloc, store, vars)?;
+    let mut checker = IdleChecker::start(alloc, store, vars, Rule::Rup)?;
     let mut progress = Progress::Going;
     let log = solver.log();
     for place in 0..log.len() {
