@@ -6,4 +6,6 @@ mod clauses;
 #[cfg(test)]
 mod lines;
 #[cfg(test)]
+mod rat;
+#[cfg(test)]
 mod tests;

@@ -5,8 +5,8 @@ ghost use Rattle.lrat_model.specs.Ranges.{AreInRange, IsInRange};
 
 use cdcl_core::{Budget, Solver, Verdict};
 use clause_store::Store;
-use lrat_checker::IdleChecker;
-use lrat_model::{Lit, Progress, Rule};
+use lrat_checker::{IdleChecker, Rule};
+use lrat_model::{Lit, Progress};
 use lrat_text::write_lent;
 use std::alloc::{AllocError, Global};
 use std::test::Fail;
