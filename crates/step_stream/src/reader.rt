@@ -5,9 +5,10 @@ ghost use Rattle.step_stream.specs.Ahead.{ahead, Fits};
 ghost use Rattle.step_stream.specs.Solid.{IsSolid};
 ghost use Rattle.step_stream.specs.declared.words.Stage.TheVariants.{Start};
 
+use crate::spelled::SpelledWords;
 use crate::words::StepWords;
 use lrat_checker::Checker;
-use lrat_text::{Words, blank_end, word_len};
+use lrat_text::{blank_end, word_len};
 use std::alloc::{AllocError, Global};
 
 /// A step line that is being read: what is kept of its words, and the bytes of a word whose end has not come.
@@ -53,7 +54,7 @@ impl StepReader {
     {
         let rest = self.join(checker, part)?;
         let (whole, begun) = rest.split_at(blank_end(rest));
-        take_words(&mut self.words, checker, &mut Words::of(whole))?;
+        take_words(&mut self.words, checker, &mut SpelledWords::of(whole))?;
         self.begun.extend_from_slice(begun)
     }
 
@@ -70,7 +71,7 @@ impl StepReader {
     {
         let rest = self.join(checker, part)?;
         self.end_word(checker)?;
-        take_words(&mut self.words, checker, &mut Words::of(rest))
+        take_words(&mut self.words, checker, &mut SpelledWords::of(rest))
     }
 
     /// Puts the end of the word that is begun behind it, if there is one, and takes it where a blank follows. Gives what is
@@ -113,7 +114,7 @@ impl StepReader {
         if self.begun.is_empty() {
             return Ok(());
         }
-        self.words.word(checker, &self.begun)?;
+        take_words(&mut self.words, checker, &mut SpelledWords::of(&self.begun))?;
         self.begun.clear();
         Ok(())
     }
@@ -123,7 +124,7 @@ impl StepReader {
 fn take_words(
     reader: &mut StepWords,
     checker: &mut Checker,
-    words: &mut Words<'_>,
+    words: &mut SpelledWords<'_>,
 ) -> Result<(), AllocError>
     requires { Fits reader.old checker.old.open_addition }
     ensures fits { OnOk result (Fits reader.new checker.new.open_addition) }
@@ -134,7 +135,7 @@ fn take_words(
     ensures vars { checker.new.vars ≡ checker.old.vars }
 {
     while let Some(word) = words.next() {
-        reader.word(checker, word)?;
+        reader.word(checker, &word)?;
     }
     Ok(())
 }

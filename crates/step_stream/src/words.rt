@@ -12,9 +12,9 @@ ghost use Rattle.lrat_text.specs.Numbers.{hint_in};
 ghost use Rattle.step_stream.specs.Outline.{outline_in};
 ghost use Rattle.step_stream.specs.Ahead.{ahead, ahead_at, added, fault_then, addition_from, deletion_from, IsOpen, IsClear, FitsAt, Fits};
 
+use crate::spelled::SpelledWord;
 use lrat_checker::Checker;
 use lrat_model::{Lit, StepFault};
-use lrat_text::{is_mark, is_zero, read_hint, read_id, read_literal};
 use std::alloc::{AllocError, Global};
 
 /// How many hints an addition may have before want of memory is answered: none that was ever written has.
@@ -80,7 +80,7 @@ impl StepWords {
     }
 
     /// Takes a word of the line. O(its bytes), and what the checker does with a hint or with the literals.
-    pub fn word(&mut self, checker: &mut Checker, word: &[u8]) -> Result<(), AllocError>
+    pub fn word(&mut self, checker: &mut Checker, word: &SpelledWord<'_>) -> Result<(), AllocError>
         requires { Fits self.old checker.old.open_addition }
         ensures fits { OnOk result (Fits self.new checker.new.open_addition) }
         ensures ahead { OnOk result ((rest : List Word) → ahead checker.old.rule checker.old.vars checker.old.database self.old checker.old.open_addition (word.now ∷ rest) ≡ ahead checker.old.rule checker.old.vars checker.old.database self.new checker.new.open_addition rest) }
@@ -105,7 +105,12 @@ impl StepWords {
     }
 
     /// The word behind the id: `d` begins a deletion.
-    fn numbered(&mut self, checker: &mut Checker, id: u64, word: &[u8]) -> Result<(), AllocError>
+    fn numbered(
+        &mut self,
+        checker: &mut Checker,
+        id: u64,
+        word: &SpelledWord<'_>,
+    ) -> Result<(), AllocError>
         requires clear { IsClear self.old.fault checker.old.open_addition }
         requires lits { self.old.lits.items ≡ [] }
         requires ids { self.old.ids.items ≡ [] }
@@ -115,7 +120,7 @@ impl StepWords {
         ensures rule { checker.new.rule ≡ checker.old.rule }
         ensures vars { checker.new.vars ≡ checker.old.vars }
     {
-        if is_mark(word) {
+        if word.is_mark() {
             self.stage = Stage::Ids(id);
             return Ok(());
         }
@@ -123,7 +128,12 @@ impl StepWords {
     }
 
     /// A literal, or the 0 behind the last one, with which the addition begins.
-    fn literal(&mut self, checker: &mut Checker, id: u64, word: &[u8]) -> Result<(), AllocError>
+    fn literal(
+        &mut self,
+        checker: &mut Checker,
+        id: u64,
+        word: &SpelledWord<'_>,
+    ) -> Result<(), AllocError>
         requires { IsClear self.old.fault checker.old.open_addition }
         ensures fits { OnOk result (Fits self.new checker.new.open_addition) }
         ensures ahead { OnOk result ((rest : List Word) → outline_in checker.old.rule checker.old.vars checker.old.database (addition_from id self.old.lits.items (word.now ∷ rest)) ≡ ahead checker.old.rule checker.old.vars checker.old.database self.new checker.new.open_addition rest) }
@@ -131,11 +141,11 @@ impl StepWords {
         ensures rule { checker.new.rule ≡ checker.old.rule }
         ensures vars { checker.new.vars ≡ checker.old.vars }
     {
-        if is_zero(word) {
+        if word.is_zero() {
             self.stage = Stage::Hints(id);
             return self.begin(checker, id);
         }
-        match read_literal(word) {
+        match word.literal() {
             Some(l) => {
                 self.stage = Stage::Literals(id);
                 self.lits.push(l)?;
@@ -171,7 +181,12 @@ impl StepWords {
     }
 
     /// A hint, or the 0 behind the last one.
-    fn hint(&mut self, checker: &mut Checker, id: u64, word: &[u8]) -> Result<(), AllocError>
+    fn hint(
+        &mut self,
+        checker: &mut Checker,
+        id: u64,
+        word: &SpelledWord<'_>,
+    ) -> Result<(), AllocError>
         requires { IsOpen id self.old.lits.items self.old.fault checker.old.open_addition }
         ensures fits { OnOk result (Fits self.new checker.new.open_addition) }
         ensures ahead { OnOk result ((rest : List Word) → added id self.old.lits.items (fault_then checker.old.rule checker.old.database.held self.old.fault checker.old.open_addition) (closed_list hint_in (word.now ∷ rest)) ≡ ahead checker.old.rule checker.old.vars checker.old.database self.new checker.new.open_addition rest) }
@@ -179,11 +194,11 @@ impl StepWords {
         ensures rule { checker.new.rule ≡ checker.old.rule }
         ensures vars { checker.new.vars ≡ checker.old.vars }
     {
-        if is_zero(word) {
+        if word.is_zero() {
             self.stage = Stage::Added(id);
             return Ok(());
         }
-        let Some(hint) = read_hint(word) else {
+        let Some(hint) = word.hint() else {
             self.stage = Stage::Bad;
             return Ok(());
         };
@@ -220,15 +235,15 @@ impl StepWords {
     }
 
     /// An id of a deletion, or the 0 behind the last one.
-    fn listed(&mut self, id: u64, word: &[u8]) -> Result<(), AllocError>
+    fn listed(&mut self, id: u64, word: &SpelledWord<'_>) -> Result<(), AllocError>
         ensures ahead { (rule : Rule) (vars : ℕ) (database : Database) (now : Option Adding) → OnOk result ((rest : List Word) → outline_in rule vars database (deletion_from id self.old.ids.items (word.now ∷ rest)) ≡ ahead rule vars database self.new now rest) }
         ensures fits { (now : Option Adding) → OnOk result (now ≡ None → Fits self.new now) }
     {
-        if is_zero(word) {
+        if word.is_zero() {
             self.stage = Stage::Deleted(id);
             return Ok(());
         }
-        match read_id(word) {
+        match word.id() {
             Some(other) => {
                 self.stage = Stage::Ids(id);
                 self.ids.push(other)?;
@@ -243,11 +258,11 @@ impl StepWords {
 }
 
 /// The stage behind the first word.
-fn after_start(word: &[u8]) -> Stage
+fn after_start(word: &SpelledWord<'_>) -> Stage
     ensures fits { (lits : List Literal) (ids : List ℕ) (fault : Option StepFault) (now : Option Adding) → FitsAt Stage.Start lits ids fault now → FitsAt result lits ids fault now }
     ensures ahead { (rule : Rule) (vars : ℕ) (database : Database) (now : Option Adding) (rest : List Word) → outline_in rule vars database (step_of_words (word.now ∷ rest)) ≡ ahead_at result rule vars database [] [] None now rest }
 {
-    match read_id(word) {
+    match word.id() {
         Some(id) => Stage::Numbered(id),
         None => Stage::Bad,
     }
