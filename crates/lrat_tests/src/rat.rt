@@ -1,11 +1,11 @@
 //! RAT steps on the formula of three nodes that each need two of the three, as steps and hint by hint.
 ghost use Rattle.std.specs.Prelude.{◌≡◌, None, IfOk, OnOk};
 
+use crate::shared::{addition, deletion, lits, same};
 use clause_store::Store;
-use lrat_checker::{Checker, IdleChecker, Rule, Step, StepFault};
-use lrat_model::{Lit, Progress};
+use lrat_checker::{Checker, IdleChecker, Rule, StepFault};
+use lrat_model::Progress;
 use std::alloc::{AllocError, Global};
-use std::process::Abort;
 
 // Its 53 clauses, over 36 variables.
 const TWO_OF_THREE: [&[i32]; 53] = [
@@ -64,16 +64,6 @@ const TWO_OF_THREE: [&[i32]; 53] = [
     &[-6, 36],
 ];
 
-fn lits(alloc: Global, numbers: &[i32]) -> Result<Vec<Lit>, AllocError> {
-    let mut lits = Vec::new(alloc);
-    for number in numbers {
-        if *number != 0 && *number != i32::MIN {
-            lits.push(Lit::of(*number))?;
-        }
-    }
-    Ok(lits)
-}
-
 // A checker of the formula.
 fn checker(alloc: Global, rule: Rule) -> Result<IdleChecker, AllocError> {
     let mut checker = IdleChecker::start(alloc, Store::new(alloc), 36, rule)?;
@@ -102,11 +92,7 @@ fn at_once(
     numbers: &[i32],
     hints: &[i64],
 ) -> Result<String, AllocError> {
-    let step = Step::Add {
-        id,
-        lits: lits(alloc, numbers)?,
-        hints: Vec::from_slice(alloc, hints)?,
-    };
+    let step = addition(alloc, id, numbers, hints)?;
     shown(alloc, checker.step(&step))
 }
 
@@ -135,22 +121,21 @@ fn streamed(
     shown(alloc, checker.finish_add())
 }
 
-// What is answered both ways to an addition after the formula: a text, or two where they differ.
-fn both(alloc: Global, rule: Rule, numbers: &[i32], hints: &[i64]) -> Result<String, AllocError> {
-    let mut whole = checker(alloc, rule)?;
-    let first = at_once(alloc, &mut whole, 54, numbers, hints)?;
-    let mut parts = checker(alloc, rule)?.opening();
-    let second = streamed(alloc, &mut parts, 54, numbers, hints)?;
-    if first.as_str() == second.as_str() {
-        Ok(first)
-    } else {
-        format!(in alloc; "{first} or {second}")
-    }
+// What is answered to an addition after the formula, as a step.
+fn whole(alloc: Global, rule: Rule, numbers: &[i32], hints: &[i64]) -> Result<String, AllocError> {
+    let mut checker = checker(alloc, rule)?;
+    at_once(alloc, &mut checker, 54, numbers, hints)
 }
 
-fn same(rt: &impl Abort, found: Result<String, AllocError>, want: &str) {
-    let found = found.expect(rt, "memory");
-    assert_eq!(rt; found.as_str(), want);
+// The same, hint by hint.
+fn in_parts(
+    alloc: Global,
+    rule: Rule,
+    numbers: &[i32],
+    hints: &[i64],
+) -> Result<String, AllocError> {
+    let mut checker = checker(alloc, rule)?.opening();
+    streamed(alloc, &mut checker, 54, numbers, hints)
 }
 
 const ADDITIONS: [(Rule, &[i32], &[i64], &str); 20] = [
@@ -180,16 +165,14 @@ const ADDITIONS: [(Rule, &[i32], &[i64], &str); 20] = [
 fn additions_with_groups(rt: HostRuntime) {
     let alloc = rt.alloc();
     for (rule, numbers, hints, want) in ADDITIONS {
-        same(&rt, both(alloc, rule, numbers, hints), want);
+        same(&rt, whole(alloc, rule, numbers, hints), want);
+        same(&rt, in_parts(alloc, rule, numbers, hints), want);
     }
 }
 
 // What is answered to the deletion of clauses.
 fn deleted(alloc: Global, checker: &mut IdleChecker, ids: &[u64]) -> Result<String, AllocError> {
-    let step = Step::Delete {
-        id: 1,
-        ids: Vec::from_slice(alloc, ids)?,
-    };
+    let step = deletion(alloc, 1, ids)?;
     shown(alloc, checker.step(&step))
 }
 
