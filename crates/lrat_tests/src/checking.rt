@@ -2,12 +2,12 @@
 
 use crate::shared::{TWO_OF_TWO, addition, deletion, lits, same};
 use clause_store::Store;
-use lrat_checker::IdleChecker;
+use lrat_checker::{IdleChecker, Rule};
 use lrat_model::{Progress, StepFault};
 use std::alloc::{AllocError, Global};
 
 fn checker(alloc: Global) -> Result<IdleChecker, AllocError> {
-    let mut checker = IdleChecker::start(alloc, Store::new(alloc), 8)?;
+    let mut checker = IdleChecker::start(alloc, Store::new(alloc), 8, Rule::Rup)?;
     for numbers in TWO_OF_TWO {
         let clause = lits(alloc, numbers)?;
         let last = checker.last();

@@ -12,6 +12,8 @@ mod clauses;
 #[cfg(test)]
 mod lines;
 #[cfg(test)]
+mod rat;
+#[cfg(test)]
 mod rules;
 #[cfg(test)]
 mod shared;

@@ -3,7 +3,7 @@ ghost use Rattle.std.specs.Prelude.{◌≡◌, None, IfOk};
 
 use crate::shared::same;
 use clause_store::Store;
-use lrat_checker::Checker;
+use lrat_checker::{Checker, Rule};
 use lrat_model::Lit;
 use std::alloc::{AllocError, Global};
 
@@ -11,7 +11,7 @@ use std::alloc::{AllocError, Global};
 fn checker(alloc: Global) -> Result<Checker, AllocError>
     ensures { IfOk result (λ checker. checker.open_addition ≡ None) }
 {
-    let mut checker = Checker::start(alloc, Store::new(alloc), 2)?;
+    let mut checker = Checker::start(alloc, Store::new(alloc), 2, Rule::Rup)?;
     checker.give(1, &[Lit::of(1)])?;
     checker.give(2, &[Lit::of(-1), Lit::of(2)])?;
     checker.give(3, &[Lit::of(-2)])?;

@@ -6,7 +6,7 @@ ghost use Rattle.lrat_model.specs.Ranges.{AreInRange, IsInRange};
 use crate::shared::{TWO_OF_TWO, lits, same};
 use cdcl_core::{Budget, Solver, Verdict};
 use clause_store::Store;
-use lrat_checker::IdleChecker;
+use lrat_checker::{IdleChecker, Rule};
 use lrat_model::{Lit, Progress};
 use lrat_text::write_lent;
 use std::alloc::{AllocError, Global};
@@ -71,7 +71,7 @@ fn is_refutation(
     requires small { vars < 2 ^ 31 }
     requires range { AreInRange vars store.held }
 {
-    let mut checker = IdleChecker::start(alloc, store, vars)?;
+    let mut checker = IdleChecker::start(alloc, store, vars, Rule::Rup)?;
     let mut progress = Progress::Going;
     let log = solver.log();
     for place in 0..log.len() {

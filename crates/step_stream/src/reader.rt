@@ -46,9 +46,10 @@ impl StepReader {
         requires solid { IsSolid self.old.begun.items }
         ensures fits { OnOk result (Fits self.new.words checker.new.open_addition) }
         ensures solid { OnOk result (IsSolid self.new.begun.items) }
-        ensures ahead { OnOk result ((more : List ℕ) → ahead checker.old.vars checker.old.database self.old.words checker.old.open_addition (words_of (self.old.begun.items ++ (part.now ++ more)))
-            ≡ ahead checker.old.vars checker.old.database self.new.words checker.new.open_addition (words_of (self.new.begun.items ++ more))) }
+        ensures ahead { OnOk result ((more : List ℕ) → ahead checker.old.rule checker.old.vars checker.old.database self.old.words checker.old.open_addition (words_of (self.old.begun.items ++ (part.now ++ more)))
+            ≡ ahead checker.old.rule checker.old.vars checker.old.database self.new.words checker.new.open_addition (words_of (self.new.begun.items ++ more))) }
         ensures database { checker.new.database ≡ checker.old.database }
+        ensures rule { checker.new.rule ≡ checker.old.rule }
         ensures vars { checker.new.vars ≡ checker.old.vars }
     {
         let rest = self.join(checker, part)?;
@@ -62,9 +63,10 @@ impl StepReader {
         requires fits { Fits self.old.words checker.old.open_addition }
         requires solid { IsSolid self.old.begun.items }
         ensures fits { OnOk result (Fits self.new.words checker.new.open_addition) }
-        ensures ahead { OnOk result (ahead checker.old.vars checker.old.database self.old.words checker.old.open_addition (words_of (self.old.begun.items ++ part.now))
-            ≡ ahead checker.old.vars checker.old.database self.new.words checker.new.open_addition []) }
+        ensures ahead { OnOk result (ahead checker.old.rule checker.old.vars checker.old.database self.old.words checker.old.open_addition (words_of (self.old.begun.items ++ part.now))
+            ≡ ahead checker.old.rule checker.old.vars checker.old.database self.new.words checker.new.open_addition []) }
         ensures database { checker.new.database ≡ checker.old.database }
+        ensures rule { checker.new.rule ≡ checker.old.rule }
         ensures vars { checker.new.vars ≡ checker.old.vars }
     {
         let rest = self.join(checker, part)?;
@@ -79,10 +81,11 @@ impl StepReader {
         requires solid { IsSolid self.old.begun.items }
         ensures fits { OnOk result (Fits self.new.words checker.new.open_addition) }
         ensures solid { OnOk result (IsSolid self.new.begun.items) }
-        ensures ahead { IfOk result (λ rest. (more : List ℕ) → ahead checker.old.vars checker.old.database self.old.words checker.old.open_addition (words_of (self.old.begun.items ++ (part.now ++ more)))
-            ≡ ahead checker.old.vars checker.old.database self.new.words checker.new.open_addition (words_of (self.new.begun.items ++ (rest.now ++ more)))) }
+        ensures ahead { IfOk result (λ rest. (more : List ℕ) → ahead checker.old.rule checker.old.vars checker.old.database self.old.words checker.old.open_addition (words_of (self.old.begun.items ++ (part.now ++ more)))
+            ≡ ahead checker.old.rule checker.old.vars checker.old.database self.new.words checker.new.open_addition (words_of (self.new.begun.items ++ (rest.now ++ more)))) }
         ensures one { IfOk result (λ rest. (self.new.begun.items ≡ []) ⊎ (rest.now ≡ [])) }
         ensures database { checker.new.database ≡ checker.old.database }
+        ensures rule { checker.new.rule ≡ checker.old.rule }
         ensures vars { checker.new.vars ≡ checker.old.vars }
     {
         if self.begun.is_empty() {
@@ -102,9 +105,10 @@ impl StepReader {
         requires solid { IsSolid self.old.begun.items }
         ensures fits { OnOk result (Fits self.new.words checker.new.open_addition) }
         ensures begun { OnOk result (self.new.begun.items ≡ []) }
-        ensures ahead { OnOk result ((rest : List Word) → ahead checker.old.vars checker.old.database self.old.words checker.old.open_addition (words_of self.old.begun.items ++ rest)
-            ≡ ahead checker.old.vars checker.old.database self.new.words checker.new.open_addition rest) }
+        ensures ahead { OnOk result ((rest : List Word) → ahead checker.old.rule checker.old.vars checker.old.database self.old.words checker.old.open_addition (words_of self.old.begun.items ++ rest)
+            ≡ ahead checker.old.rule checker.old.vars checker.old.database self.new.words checker.new.open_addition rest) }
         ensures database { checker.new.database ≡ checker.old.database }
+        ensures rule { checker.new.rule ≡ checker.old.rule }
         ensures vars { checker.new.vars ≡ checker.old.vars }
     {
         if self.begun.is_empty() {
@@ -124,9 +128,10 @@ fn take_words(
 ) -> Result<(), AllocError>
     requires { Fits reader.old checker.old.open_addition }
     ensures fits { OnOk result (Fits reader.new checker.new.open_addition) }
-    ensures ahead { OnOk result ((rest : List Word) → ahead checker.old.vars checker.old.database reader.old checker.old.open_addition (words.old ++ rest)
-        ≡ ahead checker.old.vars checker.old.database reader.new checker.new.open_addition rest) }
+    ensures ahead { OnOk result ((rest : List Word) → ahead checker.old.rule checker.old.vars checker.old.database reader.old checker.old.open_addition (words.old ++ rest)
+        ≡ ahead checker.old.rule checker.old.vars checker.old.database reader.new checker.new.open_addition rest) }
     ensures database { checker.new.database ≡ checker.old.database }
+    ensures rule { checker.new.rule ≡ checker.old.rule }
     ensures vars { checker.new.vars ≡ checker.old.vars }
 {
     while let Some(word) = words.next() {

@@ -1,7 +1,9 @@
 //! The words of a step line, one after another.
 ghost use Rattle.std.specs.Prelude.{◌≡◌, ◌∷◌, [], ℕ, ℤ, None, Option, List, OnOk};
 ghost use Rattle.lrat_model.specs.Literal.{Literal};
-ghost use Rattle.lrat_model.specs.Steps.{Database, addition_fault};
+ghost use Rattle.lrat_model.specs.Steps.{Database};
+ghost use Rattle.lrat_model.specs.Rules.{addition_fault_by};
+ghost use Rattle.lrat_model.specs.declared.step.Rule.{Rule};
 ghost use Rattle.lrat_model.specs.declared.step.StepFault.{StepFault};
 ghost use Rattle.lrat_checker.specs.Adding.{Adding};
 ghost use Rattle.lrat_text.specs.Words.{Word};
@@ -81,8 +83,9 @@ impl StepWords {
     pub fn word(&mut self, checker: &mut Checker, word: &SpelledWord<'_>) -> Result<(), AllocError>
         requires { Fits self.old checker.old.open_addition }
         ensures fits { OnOk result (Fits self.new checker.new.open_addition) }
-        ensures ahead { OnOk result ((rest : List Word) → ahead checker.old.vars checker.old.database self.old checker.old.open_addition (word.now ∷ rest) ≡ ahead checker.old.vars checker.old.database self.new checker.new.open_addition rest) }
+        ensures ahead { OnOk result ((rest : List Word) → ahead checker.old.rule checker.old.vars checker.old.database self.old checker.old.open_addition (word.now ∷ rest) ≡ ahead checker.old.rule checker.old.vars checker.old.database self.new checker.new.open_addition rest) }
         ensures database { checker.new.database ≡ checker.old.database }
+        ensures rule { checker.new.rule ≡ checker.old.rule }
         ensures vars { checker.new.vars ≡ checker.old.vars }
     {
         match self.stage {
@@ -112,8 +115,9 @@ impl StepWords {
         requires lits { self.old.lits.items ≡ [] }
         requires ids { self.old.ids.items ≡ [] }
         ensures fits { OnOk result (Fits self.new checker.new.open_addition) }
-        ensures ahead { OnOk result ((rest : List Word) → outline_in checker.old.vars checker.old.database (after_id id (word.now ∷ rest)) ≡ ahead checker.old.vars checker.old.database self.new checker.new.open_addition rest) }
+        ensures ahead { OnOk result ((rest : List Word) → outline_in checker.old.rule checker.old.vars checker.old.database (after_id id (word.now ∷ rest)) ≡ ahead checker.old.rule checker.old.vars checker.old.database self.new checker.new.open_addition rest) }
         ensures database { checker.new.database ≡ checker.old.database }
+        ensures rule { checker.new.rule ≡ checker.old.rule }
         ensures vars { checker.new.vars ≡ checker.old.vars }
     {
         if word.is_mark() {
@@ -132,8 +136,9 @@ impl StepWords {
     ) -> Result<(), AllocError>
         requires { IsClear self.old.fault checker.old.open_addition }
         ensures fits { OnOk result (Fits self.new checker.new.open_addition) }
-        ensures ahead { OnOk result ((rest : List Word) → outline_in checker.old.vars checker.old.database (addition_from id self.old.lits.items (word.now ∷ rest)) ≡ ahead checker.old.vars checker.old.database self.new checker.new.open_addition rest) }
+        ensures ahead { OnOk result ((rest : List Word) → outline_in checker.old.rule checker.old.vars checker.old.database (addition_from id self.old.lits.items (word.now ∷ rest)) ≡ ahead checker.old.rule checker.old.vars checker.old.database self.new checker.new.open_addition rest) }
         ensures database { checker.new.database ≡ checker.old.database }
+        ensures rule { checker.new.rule ≡ checker.old.rule }
         ensures vars { checker.new.vars ≡ checker.old.vars }
     {
         if word.is_zero() {
@@ -157,11 +162,12 @@ impl StepWords {
     fn begin(&mut self, checker: &mut Checker, id: u64) -> Result<(), AllocError>
         requires { IsClear self.old.fault checker.old.open_addition }
         ensures opened { OnOk result (IsOpen id self.old.lits.items self.new.fault checker.new.open_addition) }
-        ensures fault { OnOk result ((hints : List ℤ) → fault_then checker.old.database.held self.new.fault checker.new.open_addition hints ≡ addition_fault checker.old.vars checker.old.database id self.old.lits.items hints) }
+        ensures fault { OnOk result ((hints : List ℤ) → fault_then checker.old.rule checker.old.database.held self.new.fault checker.new.open_addition hints ≡ addition_fault_by checker.old.rule checker.old.vars checker.old.database id self.old.lits.items hints) }
         ensures stage { self.new.stage ≡ self.old.stage }
         ensures lits { self.new.lits ≡ self.old.lits }
         ensures ids { self.new.ids ≡ self.old.ids }
         ensures database { checker.new.database ≡ checker.old.database }
+        ensures rule { checker.new.rule ≡ checker.old.rule }
         ensures vars { checker.new.vars ≡ checker.old.vars }
     {
         match checker.begin_add(id, &self.lits) {
@@ -183,8 +189,9 @@ impl StepWords {
     ) -> Result<(), AllocError>
         requires { IsOpen id self.old.lits.items self.old.fault checker.old.open_addition }
         ensures fits { OnOk result (Fits self.new checker.new.open_addition) }
-        ensures ahead { OnOk result ((rest : List Word) → added id self.old.lits.items (fault_then checker.old.database.held self.old.fault checker.old.open_addition) (closed_list hint_in (word.now ∷ rest)) ≡ ahead checker.old.vars checker.old.database self.new checker.new.open_addition rest) }
+        ensures ahead { OnOk result ((rest : List Word) → added id self.old.lits.items (fault_then checker.old.rule checker.old.database.held self.old.fault checker.old.open_addition) (closed_list hint_in (word.now ∷ rest)) ≡ ahead checker.old.rule checker.old.vars checker.old.database self.new checker.new.open_addition rest) }
         ensures database { checker.new.database ≡ checker.old.database }
+        ensures rule { checker.new.rule ≡ checker.old.rule }
         ensures vars { checker.new.vars ≡ checker.old.vars }
     {
         if word.is_zero() {
@@ -203,11 +210,12 @@ impl StepWords {
     fn take_hint(&mut self, checker: &mut Checker, hint: i64) -> Result<(), AllocError>
         requires { (id : ℕ) × IsOpen id self.old.lits.items self.old.fault checker.old.open_addition }
         ensures opened { (id : ℕ) → IsOpen id self.old.lits.items self.old.fault checker.old.open_addition → OnOk result (IsOpen id self.new.lits.items self.new.fault checker.new.open_addition) }
-        ensures fault { (id : ℕ) → IsOpen id self.old.lits.items self.old.fault checker.old.open_addition → OnOk result ((hints : List ℤ) → fault_then checker.old.database.held self.old.fault checker.old.open_addition (hint ∷ hints) ≡ fault_then checker.old.database.held self.new.fault checker.new.open_addition hints) }
+        ensures fault { (id : ℕ) → IsOpen id self.old.lits.items self.old.fault checker.old.open_addition → OnOk result ((hints : List ℤ) → fault_then checker.old.rule checker.old.database.held self.old.fault checker.old.open_addition (hint ∷ hints) ≡ fault_then checker.old.rule checker.old.database.held self.new.fault checker.new.open_addition hints) }
         ensures stage { self.new.stage ≡ self.old.stage }
         ensures lits { self.new.lits ≡ self.old.lits }
         ensures ids { self.new.ids ≡ self.old.ids }
         ensures database { checker.new.database ≡ checker.old.database }
+        ensures rule { checker.new.rule ≡ checker.old.rule }
         ensures vars { checker.new.vars ≡ checker.old.vars }
     {
         if self.fault.is_some() {
@@ -216,15 +224,19 @@ impl StepWords {
         if checker.hints() >= MOST_HINTS {
             return Err(AllocError);
         }
-        if let Err(fault) = checker.hint(hint) {
-            self.fault = Some(fault);
+        match checker.hint(hint) {
+            Ok(_) => Ok(()),
+            Err(StepFault::Memory) => Err(AllocError),
+            Err(fault) => {
+                self.fault = Some(fault);
+                Ok(())
+            }
         }
-        Ok(())
     }
 
     /// An id of a deletion, or the 0 behind the last one.
     fn listed(&mut self, id: u64, word: &SpelledWord<'_>) -> Result<(), AllocError>
-        ensures ahead { (vars : ℕ) (database : Database) (now : Option Adding) → OnOk result ((rest : List Word) → outline_in vars database (deletion_from id self.old.ids.items (word.now ∷ rest)) ≡ ahead vars database self.new now rest) }
+        ensures ahead { (rule : Rule) (vars : ℕ) (database : Database) (now : Option Adding) → OnOk result ((rest : List Word) → outline_in rule vars database (deletion_from id self.old.ids.items (word.now ∷ rest)) ≡ ahead rule vars database self.new now rest) }
         ensures fits { (now : Option Adding) → OnOk result (now ≡ None → Fits self.new now) }
     {
         if word.is_zero() {
@@ -248,7 +260,7 @@ impl StepWords {
 /// The stage behind the first word.
 fn after_start(word: &SpelledWord<'_>) -> Stage
     ensures fits { (lits : List Literal) (ids : List ℕ) (fault : Option StepFault) (now : Option Adding) → FitsAt Stage.Start lits ids fault now → FitsAt result lits ids fault now }
-    ensures ahead { (vars : ℕ) (database : Database) (now : Option Adding) (rest : List Word) → outline_in vars database (step_of_words (word.now ∷ rest)) ≡ ahead_at result vars database [] [] None now rest }
+    ensures ahead { (rule : Rule) (vars : ℕ) (database : Database) (now : Option Adding) (rest : List Word) → outline_in rule vars database (step_of_words (word.now ∷ rest)) ≡ ahead_at result rule vars database [] [] None now rest }
 {
     match word.id() {
         Some(id) => Stage::Numbered(id),

@@ -6,5 +6,5 @@ use Rattle.step_stream.proofs.reader.StepReader.end_word.Goals as goal
 pub returns-clause-ahead : goal.returns-clause-ahead
 returns-clause-ahead c = λ rest.
     let checker = c.args.checker.now in
-    ap (λ (ws : List Word). ahead checker.vars checker.database c.args.self.now.words checker.open_addition (ws ++ rest)) (ap words_of (sym c.deref.ensures.value) ∙ sym c.of.ensures)
+    ap (λ (ws : List Word). ahead checker.rule checker.vars checker.database c.args.self.now.words checker.open_addition (ws ++ rest)) (ap words_of (sym c.deref.ensures.value) ∙ sym c.of.ensures)
     ∙ c.in_ok-take_words.ensures.ahead rest
