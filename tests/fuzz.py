@@ -27,13 +27,13 @@ import plain_checker as plain
 TOP = os.path.dirname(os.path.dirname(os.path.abspath(__file__)))
 BUILT = os.path.join(TOP, "crates", "quorum_cli", "out", "quorum_cli")
 
+# What is put out with a status. 8 is none of them: no case wants more memory than there is.
 REFUSALS = {
     3: rb"usage: quorum_cli COMMAND\n(.+\n)+|usage [a-z].*\n",
     4: rb"(config|orgs) .*\n",
     5: rb"refused .*\n",
     6: rb"",
     7: rb"",
-    8: rb"",
     9: rb"too-large [0-9]+\n",
 }
 ANSWERS = rb"(?!usage|config|orgs|refused|too-large)(.+\n)+"
@@ -89,10 +89,10 @@ def trial_config(count):
     return compact([{"publicKey": name, "quorumSet": common} for name in names])
 
 
-def sizes_of_trial(subject):
+def sizes_of_trial(system):
     """What 'trial' prints before the answer."""
-    formula = plain.Formula(subject.system, set(), 2)
-    nodes = len(subject.system)
+    formula = plain.Formula(system, set(), 2)
+    nodes = len(system)
     return "trial %d\nnodes %d\nvariables %d\nclauses %d\nintersects " % (nodes // 3, nodes, formula.variables, len(formula.clauses))
 
 
@@ -430,7 +430,7 @@ class Program:
         self.has_trial = b"\ntrial N CERT" in usage
 
     def run(self, case):
-        """The status, what is put out, what is on standard error, and what the file 'cert' then holds."""
+        """The status, what is put out, what is on standard error, and what the files then hold."""
         for name in os.listdir(self.folder):
             if name not in case.files:
                 os.remove(os.path.join(self.folder, name))
@@ -440,17 +440,16 @@ class Program:
         try:
             ended = subprocess.run([self.program] + case.words, cwd=self.folder, stdin=subprocess.DEVNULL, stdout=subprocess.PIPE, stderr=subprocess.PIPE, timeout=120)
         except subprocess.TimeoutExpired:
-            return "no end in 120 seconds", b"", b"", None
-        path = os.path.join(self.folder, "cert")
-        cert = None
-        if os.path.exists(path):
-            with open(path, "rb") as it:
-                cert = it.read()
-        return ended.returncode, ended.stdout, ended.stderr, cert
+            return "no end in 120 seconds", b"", b"", {}
+        files = {}
+        for name in os.listdir(self.folder):
+            with open(os.path.join(self.folder, name), "rb") as it:
+                files[name] = it.read()
+        return ended.returncode, ended.stdout, ended.stderr, files
 
     def fault(self, case):
         """What is wrong with the program's answer, or None."""
-        status, text, err, cert = self.run(case)
+        status, text, err, files = self.run(case)
         if err or not isinstance(status, int) or status < 0:
             return "status %s, standard error %r" % (status, err[:200])
         if not re.fullmatch(REFUSALS.get(status, ANSWERS if status in (0, 1, 2) else rb"(?!)"), text):
@@ -458,16 +457,16 @@ class Program:
         wanted = self.wanted(case)
         if wanted is not None and wanted != (status, text.decode("latin-1")):
             return "found %r, wanted %r" % ((status, text[:300]), wanted)
-        if case.kind == "search":
-            return self.search_fault(case, status, text.decode(), cert)
-        if cert != case.files.get("cert") and case.words[:1] and case.words[0] not in SEARCHES + ("trial",):
-            return "the certificate has changed"
-        return None
+        changed = [name for name, data in files.items() if data != case.files.get(name)]
+        if changed and (status not in (0, 1, 2) or case.words[0] not in SEARCHES + ("trial",) or len(changed) > 1):
+            return "status %d, and %s changed" % (status, " and ".join(changed))
+        return self.search_fault(case, status, text.decode(), files["cert"]) if case.kind == "search" else None
 
     def wanted(self, case):
         """The status and the text by the plain checker, where it says them."""
         if case.kind == "check":
-            return plain.check(case.files["config"], case.files["cert"])
+            self.said = plain.check(case.files["config"], case.files["cert"])
+            return self.said
         if case.kind == "orgs":
             return wanted_of_orgs(case)
         if case.kind == "question":
@@ -476,7 +475,7 @@ class Program:
 
     def search_fault(self, case, status, text, cert):
         if status not in (0, 1, 2):
-            return None if cert == case.files["cert"] else "refused, and the certificate has changed"
+            return "status %d of a search over a right configuration" % status
         command, subject, budget = case.wanted
         found, said = plain.check(subject.data, cert)
         head = "".join(line + "\n" for line in said.split("\n")[1:3])
@@ -492,7 +491,7 @@ class Program:
             if said.startswith("accepted partial-blocking %d\n" % budget) and (status, text) == (2, "blocking unknown %d\n" % budget):
                 return fault_of_units(subject, cert)
             return "found %r with %r" % ((status, text), said)
-        if command == "trial" and not text.startswith(sizes_of_trial(subject)):
+        if command == "trial" and not text.startswith(sizes_of_trial(subject.system)):
             return "the sizes are others: %r" % text
         apart = None if every is None else any(not a & b for a, b in itertools.combinations(every, 2))
         answer = {"pair": "no", "refutation": "yes", "partial": "unknown"}.get(kind)
@@ -592,6 +591,7 @@ class Maker:
         self.rng, self.program = rng, program
         self.others = []
         self.written = []
+        self.accepted = collections.Counter()
 
     def case(self):
         chance = self.rng.random()
@@ -615,6 +615,8 @@ class Maker:
         rng = self.rng
         if self.written and rng.random() < 0.4:
             subject, lines = rng.choice(self.written)
+            # a search writes version 2; a pair and a list are the same in both
+            lines = (["fbas-cert 1"] if rng.random() < 0.3 else lines[:1]) + lines[1:]
         else:
             subject = Subject(rng, self.config())
             kind = rng.choice(plain.KINDS)
@@ -652,6 +654,15 @@ class Maker:
         subject.start, subject.given, subject.faulty, subject.system = None, [], set(), subject.whole
         words = ["trial", str(count), "cert"] + (["--budget", str(budget)] if budget != 1000000 else [])
         return Case("search", words, {"cert": b"old\n"}, ("trial", subject, budget))
+
+    def count(self, case):
+        """Counts the certificate by its kind and version, if it was accepted."""
+        status, said = self.program.said
+        if status in (0, 2):
+            self.accepted[said.split("\n")[0].split(" ")[1], case.files["cert"][10:11].decode()] += 1
+
+    def told(self):
+        return ", ".join("%s %d and %d" % (kind, self.accepted[kind, "1"], self.accepted[kind, "2"]) for kind in plain.KINDS)
 
     def keep(self, case):
         """Keeps the certificate that the search wrote."""
@@ -759,10 +770,13 @@ def main():
                 passed += 1
                 if case.kind == "search":
                     maker.keep(case)
+                elif case.kind == "check":
+                    maker.count(case)
             else:
                 failed += 1
                 if failed <= 10:
                     show(program, number, case)
+    print("fuzz: certificates that were accepted, of version 1 and of version 2: %s" % maker.told())
     print("fuzz: %d passed, %d failed" % (passed, failed))
     return 1 if failed else 0
 

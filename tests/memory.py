@@ -13,7 +13,9 @@ import sys
 import tempfile
 
 sys.path.insert(0, os.path.dirname(os.path.abspath(__file__)))
+import fuzz
 import malicious
+import plain_checker as plain
 
 MB = 1 << 20
 MOST_BYTES = 16777216
@@ -165,10 +167,13 @@ class Trial:
 
     def searches(self):
         """A search leaves the certificate as it was, or whole and accepted."""
-        for name, config, command, text in [
-            ("intersect, three nodes and blanks", malicious.THREE.ljust(MOST_BYTES), "intersect", "intersects yes\n"),
-            ("intersect, twelve of sixteen", malicious.system("abcdefghijklmnop", 12), "intersect", "intersects yes\n"),
-            ("blocking, three nodes and blanks", malicious.THREE.ljust(MOST_BYTES), "blocking", "blocking 3\nset a b\nset a c\nset b c\n"),
+        blanks = malicious.THREE.ljust(MOST_BYTES)
+        fifty = fuzz.trial_config(50)
+        for name, config, words, text, said in [
+            ("intersect, three nodes and blanks", blanks, "intersect config cert", "intersects yes\n", malicious.REFUTED),
+            ("intersect, twelve of sixteen", malicious.system("abcdefghijklmnop", 12), "intersect config cert", "intersects yes\n", malicious.REFUTED),
+            ("blocking, three nodes and blanks", blanks, "blocking config cert", "blocking 3\nset a b\nset a c\nset b c\n", malicious.LISTED),
+            ("trial, fifty organisations", fifty, "trial 50 cert", fuzz.sizes_of_trial(plain.system_of(fifty)) + "yes\n", malicious.REFUTED),
         ]:
             self.put("config", config)
             self.put("cert", b"old\n")
@@ -177,12 +182,11 @@ class Trial:
                 if ended.status == 8:
                     whole = self.held("cert") == b"old\n"
                 else:
-                    said = malicious.LISTED if command == "blocking" else malicious.REFUTED
                     whole = Ended([self.program, "check", "config", "cert"], self.folder).is_right(0, said)
                 self.put("cert", b"old\n")
                 return whole
 
-            self.limits(name, [command, "config", "cert"], 0, text, after=after)
+            self.limits(name, words.split(), 0, text, after=after)
 
     def stack(self):
         """The least stack under which the deepest files are answered."""
@@ -201,6 +205,7 @@ class Trial:
             (["check", "sets", "cert"], 5, "refused not-quorum 7\n"),
             (["intersect", "sets", "made"], 0, "intersects yes\n"),
             (["blocking", "sets", "made"], 0, "blocking 1\nset a\n"),
+            (["trial", "4", "made"], 0, "trial 4\nnodes 12\nvariables 82\nclauses 122\nintersects yes\n"),
             (["intersect"], 3, None),
         ]
         for size in (8192, 1024, 512, 256, 192, 128, 96, 64, 48, 32, 16):
