@@ -245,6 +245,6 @@ pub ended_fault : (rule : Rule) (held : Held) (trues lits ls : List Literal) (gr
 ended_fault rule held trues lits ls groups gs o r same_lits same_groups suits told =
     let so : Suits rule trues gs o.course = subst (λ (xs : List ℤ). Suits rule trues xs o.course) (sym same_groups) suits in
     sym (
-      told trues (o.hints + 1) so ∙ ap (λ (xs : List Literal). fault_from rule held xs (o.hints + 1) (led trues gs o.course) []) same_lits
-      ∙ ap (λ (xs : List ℤ). fault_from rule held lits (o.hints + 1) (led trues xs o.course) []) same_groups
+    told trues (o.hints + 1) so ∙ ap (λ (xs : List Literal). fault_from rule held xs (o.hints + 1) (led trues gs o.course) []) same_lits
+    ∙ ap (λ (xs : List ℤ). fault_from rule held lits (o.hints + 1) (led trues xs o.course) []) same_groups
     )

@@ -70,7 +70,11 @@ impl Opened {
     {
         match self.course {
             Course::Met => Hinting::Conflict,
-            Course::Propagates | Course::InGroup { before: _, is_done: _ } => Hinting::More,
+            Course::Propagates
+            | Course::InGroup {
+                before: _,
+                is_done: _,
+            } => Hinting::More,
         }
     }
 }

@@ -136,12 +136,7 @@ fn streamed(
 }
 
 // What is answered both ways to an addition after the formula: a text, or two where they differ.
-fn both(
-    alloc: Global,
-    rule: Rule,
-    numbers: &[i32],
-    hints: &[i64],
-) -> Result<String, AllocError> {
+fn both(alloc: Global, rule: Rule, numbers: &[i32], hints: &[i64]) -> Result<String, AllocError> {
     let mut whole = checker(alloc, rule)?;
     let first = at_once(alloc, &mut whole, 54, numbers, hints)?;
     let mut parts = checker(alloc, rule)?.opening();

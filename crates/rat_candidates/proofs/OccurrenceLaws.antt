@@ -71,9 +71,9 @@ in-unheld l ids id (e ∷ held) above =
     let rest : occurrences_in l (ids ++ id ∷ []) held ≡ occurrences_in l ids held = in-unheld l ids id held (All-tail (λ f. id < f.0) e held above) in
     let same_test : has_id (ids ++ id ∷ []) e.0 ≡ has_id ids e.0 = has-one_more ids id e.0 ∙ ap (λ b. has_id ids e.0 || b) (ne_eqb id e.0 (λ is. absurd (omega (arith, up, is)))) ∙ or_false (has_id ids e.0) in
     ap (λ b. cond b (times l e.1) 0 + occurrences_in l (ids ++ id ∷ []) held) same_test ∙ ap (λ n. cond (has_id ids e.0) (times l e.1) 0 + n) rest where
-  or_false : (b : Bool) → (b || false) ≡ b
-  or_false true = refl
-  or_false false = refl
+      or_false : (b : Bool) → (b || false) ≡ b
+      or_false true = refl
+      or_false false = refl
 
 tail_rises : (e : ℕ × List Literal) (held : Held) → AllPairs (λ f g. f.0 < g.0) (e ∷ held) → AllPairs (λ f g. f.0 < g.0) held
 tail_rises e held up = λ i j d lt within. up (suc i) (suc j) d (omega arith) (omega arith)
@@ -101,23 +101,25 @@ in-one_more l ids id clause (e ∷ held) up at new =
           let rest : occurrences_in l (ids ++ id ∷ []) held ≡ occurrences_in l ids held + times l clause = in-one_more l ids id clause held (tail_rises e held up) found new in
           ap (λ b. cond b (times l e.1) 0 + occurrences_in l (ids ++ id ∷ []) held) same_test ∙ omega (arith, rest)
     ] refl at where
-  or_false : (b : Bool) → (b || false) ≡ b
-  or_false true = refl
-  or_false false = refl
-  turned : (x y : ℕ) → (x == y) ≡ false → (y == x) ≡ false
-  turned x y differ = ne_eqb y x (λ is. absurd (false≢true (sym differ ∙ eq-eqb x y (sym is))))
+      or_false : (b : Bool) → (b || false) ≡ b
+      or_false true = refl
+      or_false false = refl
+
+      turned : (x y : ℕ) → (x == y) ≡ false → (y == x) ≡ false
+      turned x y differ = ne_eqb y x (λ is. absurd (false≢true (sym differ ∙ eq-eqb x y (sym is))))
 
 -- an id that was among them adds nothing
 pub in-again : (l : Literal) (ids : List ℕ) (id : ℕ) (held : Held) → has_id ids id ≡ true → occurrences_in l (ids ++ id ∷ []) held ≡ occurrences_in l ids held
 in-again l ids id [] old = refl
 in-again l ids id (e ∷ held) old =
     ap (λ b. cond b (times l e.1) 0 + occurrences_in l (ids ++ id ∷ []) held) same_test ∙ ap (λ n. cond (has_id ids e.0) (times l e.1) 0 + n) (in-again l ids id held old) where
-  or_itself : (b c : Bool) → (c ≡ true → b ≡ true) → (b || c) ≡ b
-  or_itself true c sub = refl
-  or_itself false true sub = sym (sub refl)
-  or_itself false false sub = refl
-  same_test : has_id (ids ++ id ∷ []) e.0 ≡ has_id ids e.0
-  same_test = has-one_more ids id e.0 ∙ or_itself (has_id ids e.0) (id == e.0) (λ is. subst (λ k. has_id ids k ≡ true) (eqb-true id e.0 is) old)
+      or_itself : (b c : Bool) → (c ≡ true → b ≡ true) → (b || c) ≡ b
+      or_itself true c sub = refl
+      or_itself false true sub = sym (sub refl)
+      or_itself false false sub = refl
+
+      same_test : has_id (ids ++ id ∷ []) e.0 ≡ has_id ids e.0
+      same_test = has-one_more ids id e.0 ∙ or_itself (has_id ids e.0) (id == e.0) (λ is. subst (λ k. has_id ids k ≡ true) (eqb-true id e.0 is) old)
 
 -- with one id more there are no fewer
 pub in-longer : (l : Literal) (ids : List ℕ) (id : ℕ) (held : Held) → occurrences_in l ids held ≤ occurrences_in l (ids ++ id ∷ []) held
