@@ -17,6 +17,9 @@ use lrat_model::Lit;
 use partial_assignment::Assignment;
 use std::alloc::AllocError;
 
+/// From so many literals on a clause is long.
+const LONG: usize = 32;
+
 /// The other literal that is watched, where this one is and differs from it.
 fn other_of(pair: Pair, l: Lit) -> Option<Lit>
     ensures some { IfSome result (λ o. (same pair.first pair.second ≡ false) × (((pair.first ≡ l) × (pair.second ≡ o)) ⊎ ((pair.second ≡ l) × (pair.first ≡ o)))) }
@@ -53,16 +56,16 @@ fn find_free<V: ClauseView>(
     None
 }
 
-/// A literal that is not false, and is another one. It is looked for from a place on that depends on the literal
-/// which became false, and then from the first, so that of a long clause the false literals that stand first are not
-/// gone through each time. O(literals).
+/// A literal that is not false, and is another one. Of a long clause it is looked for from a place on that depends on
+/// the literal which became false, and then from the first, so that the false literals that stand first are not gone
+/// through each time; of a short one that would cost more than it saves. O(literals).
 fn find_watch<V: ClauseView>(assignment: &Assignment, clause: &V, other: Lit, l: Lit) -> Option<Lit>
     requires { (l : Literal) → has (V.literals clause.now) l ≡ true → variable_of l ≤ assignment.now.vars }
     ensures some { IfSome result (λ m. (has (V.literals clause.now) m ≡ true) × (same m other ≡ false) × (has assignment.now.trues (negated m) ≡ false)) }
     ensures none { result ≡ None → (m : Literal) → has (V.literals clause.now) m ≡ true → (m ≡ other) ⊎ (has assignment.now.trues (negated m) ≡ true) }
 {
     let count = clause.len();
-    if count > 0 {
+    if count >= LONG {
         let from = l.variable() as usize % count;
         if let Some(m) = find_free(assignment, clause, other, from) {
             return Some(m);
