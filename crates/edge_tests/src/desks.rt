@@ -1,10 +1,10 @@
 //! What no clause says: that calls succeed where memory is ample, and what the machine's files do.
 ghost use Rattle.std.specs.Prelude.{◌<◌};
 
-use desk_io::{Call, Desk, MemDesk, ReadError, RealDesk, To, Which, put_all, read_all};
+use crate::shared::same;
+use desk_io::{Call, Desk, MemDesk, RealDesk, To, Which, put_all, read_all};
 use std::alloc::{AllocError, Global};
 use std::fs;
-use std::test::Fail;
 
 /// A desk with one file of ten bytes, that may create another.
 fn desk(
@@ -23,22 +23,42 @@ fn desk(
     MemDesk::new(alloc, files, may_create, piece, capacity, failing)
 }
 
-#[test]
-fn memory_answers_each_call(rt: HostRuntime) -> Result<(), Fail> {
-    let alloc = rt.alloc();
-    let mut desk = desk(alloc, 4, 8, Vec::new(alloc))?;
+/// A piece of the file, and the buffer that it is read to.
+fn piece(alloc: Global, desk: &mut MemDesk) -> Result<String, AllocError> {
     let mut buf = [0u8; 8];
-    desk.begin(Which::Config, "held")?;
-    assert_eq!(rt; desk.next(Which::Config, &mut buf), Ok(4));
-    assert_eq!(rt; buf, *b"0123\0\0\0\0");
-    desk.create("made")?;
-    assert_eq!(rt; desk.put(To::Cert, b"certificate"), Ok(4));
-    assert_eq!(rt; desk.put(To::Out, b"yes\n"), Ok(4));
-    assert!(rt; desk.put(To::Out, b"\n").is_err());
-    assert_eq!(rt; desk.out(), b"yes\n".as_slice());
-    assert_eq!(rt; desk.file("made"), Some(b"cert".as_slice()));
-    assert_eq!(rt; desk.file("other"), None);
-    Ok(())
+    let is_begun = desk.begin(Which::Config, "held").is_ok();
+    let moved = desk.next(Which::Config, &mut buf);
+    format!(in alloc; "{is_begun} {moved:?} {buf:?}")
+}
+
+/// How many bytes of a certificate and of two texts are taken.
+fn puts(alloc: Global, desk: &mut MemDesk) -> Result<String, AllocError> {
+    let is_made = desk.create("made").is_ok();
+    let cert = desk.put(To::Cert, b"certificate");
+    let text = desk.put(To::Out, b"yes\n");
+    let more = desk.put(To::Out, b"\n");
+    format!(in alloc; "{is_made} {cert:?} {text:?} {more:?}")
+}
+
+/// What was written.
+fn written(alloc: Global, desk: &MemDesk) -> Result<String, AllocError> {
+    let (made, other) = (desk.file("made"), desk.file("other"));
+    format!(in alloc; "{:?} {made:?} {other:?}", desk.out())
+}
+
+#[test]
+fn memory_answers_each_call(rt: HostRuntime) {
+    let alloc = rt.alloc();
+    let mut desk = desk(alloc, 4, 8, Vec::new(alloc)).expect(&rt, "memory");
+    let want = "true Ok(4) [48, 49, 50, 51, 0, 0, 0, 0]";
+    same(&rt, piece(alloc, &mut desk), want);
+    same(
+        &rt,
+        puts(alloc, &mut desk),
+        "true Ok(4) Ok(4) Err(WriteFailed)",
+    );
+    let want = "[121, 101, 115, 10] Some([99, 101, 114, 116]) None";
+    same(&rt, written(alloc, &desk), want);
 }
 
 /// Makes a call of that kind, which fails only where it's told to.
@@ -51,72 +71,116 @@ fn fails(desk: &mut MemDesk, call: Call) -> bool {
     }
 }
 
-#[test]
-fn the_listed_call_fails(rt: HostRuntime) -> Result<(), Fail> {
-    let alloc = rt.alloc();
-    let calls = [
-        Call::Begin(Which::Config),
-        Call::Begin(Which::Orgs),
-        Call::Begin(Which::Cert),
-        Call::Next(Which::Config),
-        Call::Next(Which::Orgs),
-        Call::Next(Which::Cert),
-        Call::Create,
-        Call::Put(To::Out),
-        Call::Put(To::Cert),
-    ];
-    for call in calls {
-        let mut failing = Vec::new(alloc);
-        failing.push((call, 2))?;
-        let mut desk = desk(alloc, 1, 100, failing)?;
-        if call == Call::Put(To::Cert) {
-            desk.create("made")?;
-        }
-        for due in [false, true, false] {
-            assert_eq!(rt; fails(&mut desk, call), due, "at {call:?}");
-        }
+/// A desk at which the second call of that kind is to fail.
+fn failing(alloc: Global, call: Call) -> Result<MemDesk, AllocError> {
+    let mut failing = Vec::new(alloc);
+    failing.push((call, 2))?;
+    desk(alloc, 1, 100, failing)
+}
+
+/// Whether the first three calls of that kind fail.
+fn three_calls(alloc: Global, call: Call) -> Result<String, AllocError> {
+    let mut desk = failing(alloc, call)?;
+    if call == Call::Put(To::Cert) {
+        let _made = desk.create("made");
     }
-    Ok(())
+    let first = fails(&mut desk, call);
+    let second = fails(&mut desk, call);
+    let third = fails(&mut desk, call);
+    format!(in alloc; "{call:?} {first} {second} {third}")
 }
 
+const CALLS: [(Call, &str); 9] = [
+    (Call::Begin(Which::Config), "Begin(Config) false true false"),
+    (Call::Begin(Which::Orgs), "Begin(Orgs) false true false"),
+    (Call::Begin(Which::Cert), "Begin(Cert) false true false"),
+    (Call::Next(Which::Config), "Next(Config) false true false"),
+    (Call::Next(Which::Orgs), "Next(Orgs) false true false"),
+    (Call::Next(Which::Cert), "Next(Cert) false true false"),
+    (Call::Create, "Create false true false"),
+    (Call::Put(To::Out), "Put(Out) false true false"),
+    (Call::Put(To::Cert), "Put(Cert) false true false"),
+];
+
 #[test]
-fn a_file_is_read_whole_or_too_long(rt: HostRuntime) -> Result<(), Fail> {
-    let alloc = rt.alloc();
-    for (piece, limit, whole) in [(1, 10, true), (7, 10, true), (1, 9, false), (20, 9, false)] {
-        let mut desk = desk(alloc, piece, 0, Vec::new(alloc))?;
-        desk.begin(Which::Orgs, "held")?;
-        match read_all(alloc, &mut desk, Which::Orgs, limit) {
-            Ok(bytes) => assert!(rt; whole && bytes.as_slice() == b"0123456789".as_slice()),
-            Err(error) => assert!(rt; !whole && error == ReadError::Longer),
-        }
+fn the_listed_call_fails(rt: HostRuntime) {
+    for (call, want) in CALLS {
+        same(&rt, three_calls(rt.alloc(), call), want);
     }
-    Ok(())
+}
+
+/// The file, read in such pieces, or why it is not read.
+fn whole(alloc: Global, piece: usize, limit: u64) -> Result<String, AllocError>
+    requires { 0 < piece }
+{
+    let mut desk = desk(alloc, piece, 0, Vec::new(alloc))?;
+    let is_begun = desk.begin(Which::Orgs, "held").is_ok();
+    let read = read_all(alloc, &mut desk, Which::Orgs, limit);
+    format!(in alloc; "{is_begun} {read:?}")
 }
 
 #[test]
-fn a_text_stops_at_the_capacity(rt: HostRuntime) -> Result<(), Fail> {
+fn a_file_is_read_whole_or_too_long(rt: HostRuntime) {
+    let digits = "true Ok([48, 49, 50, 51, 52, 53, 54, 55, 56, 57])";
+    for (piece, limit, want) in [
+        (1, 10, digits),
+        (7, 10, digits),
+        (1, 9, "true Err(Longer)"),
+        (20, 9, "true Err(Longer)"),
+    ] {
+        same(&rt, whole(rt.alloc(), piece, limit), want);
+    }
+}
+
+/// Whether a text is put whole, and what was put then.
+fn put(alloc: Global, desk: &mut MemDesk, text: &[u8]) -> Result<String, AllocError> {
+    let is_put = put_all(desk, To::Out, text).is_ok();
+    format!(in alloc; "{is_put} {:?}", desk.out())
+}
+
+#[test]
+fn a_text_stops_at_the_capacity(rt: HostRuntime) {
     let alloc = rt.alloc();
-    let mut desk = desk(alloc, 3, 8, Vec::new(alloc))?;
-    assert!(rt; put_all(&mut desk, To::Out, b"0123456789").is_err());
-    assert_eq!(rt; desk.out(), b"012345".as_slice());
-    put_all(&mut desk, To::Out, b"67")?;
-    assert_eq!(rt; desk.out(), b"01234567".as_slice());
-    Ok(())
+    let mut desk = desk(alloc, 3, 8, Vec::new(alloc)).expect(&rt, "memory");
+    let want = "false [48, 49, 50, 51, 52, 53]";
+    same(&rt, put(alloc, &mut desk, b"0123456789"), want);
+    let want = "true [48, 49, 50, 51, 52, 53, 54, 55]";
+    same(&rt, put(alloc, &mut desk, b"67"), want);
+}
+
+/// Whether a file is written before it is created, whether it is created and then written, and a text put.
+fn write<D: Desk>(alloc: Global, desk: &mut D) -> Result<String, AllocError> {
+    let is_early = desk.put(To::Cert, b"0123").is_ok();
+    let is_made = desk.create("desk_io_written").is_ok();
+    let is_written = put_all(desk, To::Cert, b"0123").is_ok();
+    let is_put = put_all(desk, To::Out, b"written\n").is_ok();
+    format!(in alloc; "{is_early} {is_made} {is_written} {is_put}")
+}
+
+/// Whether the file is begun, and its bytes.
+fn read_back<D: Desk>(alloc: Global, desk: &mut D) -> Result<String, AllocError> {
+    let is_begun = desk.begin(Which::Config, "desk_io_written").is_ok();
+    let read = read_all(alloc, desk, Which::Config, 4);
+    format!(in alloc; "{is_begun} {read:?}")
+}
+
+/// Whether the file is begun, and what comes next.
+fn read_next<D: Desk>(alloc: Global, desk: &mut D) -> Result<String, AllocError> {
+    let is_begun = desk.begin(Which::Config, "desk_io_written").is_ok();
+    let next = desk.next(Which::Config, &mut [0; 1]);
+    format!(in alloc; "{is_begun} {next:?}")
 }
 
 #[test]
-fn the_machine_writes_and_reads_back(rt: HostRuntime) -> Result<(), Fail> {
+fn the_machine_writes_and_reads_back(rt: HostRuntime) {
     let alloc = rt.alloc();
     let mut desk = RealDesk::new(&rt);
-    assert!(rt; desk.put(To::Cert, b"0123").is_err());
-    desk.create("desk_io_written")?;
-    put_all(&mut desk, To::Cert, b"0123")?;
-    put_all(&mut desk, To::Out, b"written\n")?;
-    desk.begin(Which::Config, "desk_io_written")?;
-    let bytes = read_all(alloc, &mut desk, Which::Config, 4)?;
-    assert_eq!(rt; bytes.as_slice(), b"0123".as_slice());
-    fs::remove_file(&rt, "desk_io_written")?;
-    assert!(rt; desk.begin(Which::Config, "desk_io_written").is_err());
-    assert_eq!(rt; desk.next(Which::Config, &mut [0; 1]), Ok(0));
-    Ok(())
+    same(&rt, write(alloc, &mut desk), "false true true true");
+    same(
+        &rt,
+        read_back(alloc, &mut desk),
+        "true Ok([48, 49, 50, 51])",
+    );
+    assert!(rt; fs::remove_file(&rt, "desk_io_written").is_ok());
+    same(&rt, read_next(alloc, &mut desk), "false Ok(0)");
 }

@@ -1,7 +1,15 @@
-//! The edge of the program: desks that fail, and the machine's.
+//! The edge of the program: the words of the command line, desks that fail, and the machine's.
+//!
+//! A test function may stop the program at each of its comparisons, and what is proved of it grows with its
+//! ways out times its values that are to be dropped. So the steps stand in functions of their own, that return a text, and a
+//! test has no `?`.
 #![tactic(auto)]
 
 #[cfg(test)]
 mod desks;
 #[cfg(test)]
 mod interruptions;
+#[cfg(test)]
+mod shared;
+#[cfg(test)]
+mod words;

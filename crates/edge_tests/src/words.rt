@@ -1,0 +1,144 @@
+//! Which orders the words give.
+
+use crate::shared::same;
+use cli_words::{Order, order};
+use std::alloc::{AllocError, Global};
+
+/// The words of a line after the program's name, parted at each space.
+fn words_of(alloc: Global, line: &str) -> Result<Vec<String>, AllocError> {
+    let mut words = Vec::new(alloc);
+    words.push(String::from_str(alloc, "quorum_cli")?)?;
+    for word in line.split(' ') {
+        words.push(String::from_str(alloc, word)?)?;
+    }
+    Ok(words)
+}
+
+/// The command, the paths, and what `--node`, `--faulty` and `--set` give.
+fn shown(alloc: Global, order: &Order) -> Result<String, AllocError> {
+    let paths = (order.config.as_str(), order.cert.as_str());
+    let (node, faulty, set) = (
+        order.node.as_deref(),
+        order.faulty.as_deref(),
+        order.set.as_deref(),
+    );
+    format!(in alloc; "{:?} {paths:?} {node:?} {faulty:?} {set:?}", order.command)
+}
+
+/// The order that a line gives, or its fault.
+fn read(alloc: Global, line: &str) -> Result<String, AllocError> {
+    let words = words_of(alloc, line)?;
+    match order(alloc, &words) {
+        Ok(order) => shown(alloc, &order),
+        Err(fault) => format!(in alloc; "{fault:?}"),
+    }
+}
+
+const ORDERS: [(&str, &str); 11] = [
+    ("show f", r#"Query(Show) ("f", "") None None None"#),
+    (
+        "closure f --node v",
+        r#"Query(Closure) ("f", "") Some("v") None None"#,
+    ),
+    (
+        "greatest f --faulty a,b",
+        r#"Query(Greatest) ("f", "") None Some("a,b") None"#,
+    ),
+    (
+        "available f --set a",
+        r#"Query(Available) ("f", "") None None Some("a")"#,
+    ),
+    (
+        "blocks f --set=",
+        r#"Query(Blocks) ("f", "") None None Some("")"#,
+    ),
+    (
+        "blocks --set=-x --faulty b f",
+        r#"Query(Blocks) ("f", "") None Some("b") Some("-x")"#,
+    ),
+    (
+        "vblocks f --node v --set a",
+        r#"Query(Vblocks) ("f", "") Some("v") None Some("a")"#,
+    ),
+    ("check f c", r#"Check ("f", "c") None None None"#),
+    (
+        "blocking f c --faulty a",
+        r#"Search(Blocking) ("f", "c") None Some("a") None"#,
+    ),
+    (
+        "trial --budget 0 100 c",
+        r#"Search(Trial) ("", "c") None None None"#,
+    ),
+    (
+        "export f --faulty a",
+        r#"Query(Export) ("f", "") None Some("a") None"#,
+    ),
+];
+
+#[test]
+fn takes_each_command(rt: HostRuntime) {
+    for (line, want) in ORDERS {
+        same(&rt, read(rt.alloc(), line), want);
+    }
+}
+
+/// What `--from`, `--orgs` and `--faulty-orgs` give.
+fn common_of(alloc: Global, order: &Order) -> Result<String, AllocError> {
+    let (from, orgs, faulty_orgs) = (
+        order.from.as_deref(),
+        order.orgs.as_deref(),
+        order.faulty_orgs.as_deref(),
+    );
+    format!(in alloc; "{from:?} {orgs:?} {faulty_orgs:?}")
+}
+
+/// The same of the order that a line gives, or its fault.
+fn common(alloc: Global, line: &str) -> Result<String, AllocError> {
+    let words = words_of(alloc, line)?;
+    match order(alloc, &words) {
+        Ok(order) => common_of(alloc, &order),
+        Err(fault) => format!(in alloc; "{fault:?}"),
+    }
+}
+
+const COMMON: [(&str, &str); 4] = [
+    ("greatest f", "None None None"),
+    (
+        "greatest f --from a --orgs o --faulty-orgs c,d",
+        r#"Some("a") Some("o") Some("c,d")"#,
+    ),
+    ("available f --from a --set b", r#"Some("a") None None"#),
+    (
+        "blocks --faulty-orgs= --set b --orgs o f",
+        r#"None Some("o") Some("")"#,
+    ),
+];
+
+#[test]
+fn takes_the_common_options(rt: HostRuntime) {
+    for (line, want) in COMMON {
+        same(&rt, common(rt.alloc(), line), want);
+    }
+}
+
+const REFUSED: [(&str, &str); 12] = [
+    ("", "Words"),
+    ("--help", "Words"),
+    ("check f", "Words"),
+    ("check f f", "SamePath"),
+    ("blocks f --set -x", "Words"),
+    ("blocks f --set a --set a", "Words"),
+    ("available f --set a --faulty b", "Words"),
+    ("closure f", "Words"),
+    ("check f c --from a", "Words"),
+    ("interse f c", "Words"),
+    ("trial 0 c", "Words"),
+    ("trial 101 c", "Words"),
+];
+
+#[test]
+fn refuses_other_words(rt: HostRuntime) {
+    for (line, want) in REFUSED {
+        same(&rt, read(rt.alloc(), line), want);
+    }
+}
