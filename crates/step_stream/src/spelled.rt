@@ -84,6 +84,8 @@ impl<'a> SpelledWord<'a> {
 }
 
 /// The number that a word says.
+#[cold]
+#[inline(never)]
 fn said(word: &[u8]) -> Option<i64>
     ensures { result ≡ said word.now }
 {
@@ -127,21 +129,17 @@ impl<'a> Iterator for SpelledWords<'a> {
     /// In time linear in the bytes that it goes over.
     #[inline(always)]
     fn next(&mut self) -> Option<SpelledWord<'a>> {
-        let (word, rest) = first_word(self.rest)?;
+        if let Some((word, rest)) = front(self.rest) {
+            self.rest = rest;
+            return Some(word);
+        }
+        // The word is put together here, so that what the call gives and what comes from `front` share no memory: with a
+        // place of its own each, the latter stays in registers.
+        let Some((bytes, rest)) = any_word(self.rest) else {
+            return None;
+        };
         self.rest = rest;
-        Some(word)
-    }
-}
-
-/// The first word, and what follows it.
-#[inline(always)]
-fn first_word(text: &[u8]) -> Option<(SpelledWord<'_>, &[u8])>
-    ensures some { IfSome result (λ r. words_of text.now ≡ r.0 ∷ words_of r.1.now) }
-    ensures none { result ≡ None → words_of text.now ≡ [] }
-{
-    match front(text) {
-        Some(found) => Some(found),
-        None => any_word(text),
+        Some(SpelledWord::of(bytes))
     }
 }
 
@@ -159,19 +157,18 @@ fn front(text: &[u8]) -> Option<(SpelledWord<'_>, &[u8])>
     Some((word, behind_blank(behind)))
 }
 
-/// The first word, whatever it is.
+/// The first word, whatever it is, and what follows it.
 #[cold]
 #[inline(never)]
-fn any_word(text: &[u8]) -> Option<(SpelledWord<'_>, &[u8])>
-    ensures some { IfSome result (λ r. words_of text.now ≡ r.0 ∷ words_of r.1.now) }
+fn any_word(text: &[u8]) -> Option<(&[u8], &[u8])>
+    ensures some { IfSome result (λ r. words_of text.now ≡ r.0.now ∷ words_of r.1.now) }
     ensures none { result ≡ None → words_of text.now ≡ [] }
 {
     let line = without_blanks(text);
     if line.is_empty() {
         return None;
     }
-    let (word, rest) = line.split_at(word_len(line));
-    Some((SpelledWord::of(word), rest))
+    Some(line.split_at(word_len(line)))
 }
 
 /// The text behind the blanks at its front.

@@ -11,4 +11,4 @@ returns-clause-some c =
     let line = c.without_blanks-line.result.now in
     let some : 0 < length line = search rules in
     sym c.without_blanks-line.ensures.words
-    ∙ first_word line c.of.result c.split_at.result.1.now c.word_len.result c.word_len.ensures some (c.without_blanks-line.ensures.first some) (c.of.ensures ∙ c.split_at.ensures.front) c.split_at.ensures.back
+    ∙ first_word line c.split_at.result.0.now c.split_at.result.1.now c.word_len.result c.word_len.ensures some (c.without_blanks-line.ensures.first some) c.split_at.ensures.front c.split_at.ensures.back
