@@ -9,6 +9,9 @@ A log's formula has GROUPS groups of clauses. A group has the variables x1 to x1
 in turn: from its negation nine clauses of the group force y1 to y9, and the tenth hint is false, which is the last clause
 of the group or, later, the group's lemma before this one. So each addition has ten literals and ten hints.
 
+In `definitions` each three lemmas define a new variable as the conjunction of two of the formula's, which are RAT steps: the
+first has no group, since no clause has the new variable yet, and the two others have one each.
+
 Two more logs are as a partial certificate asks for them: no lemma is covered by a clause before it, and each is asked about.
 In `pairs` the formula says that x1 implies x2, x2 implies x3, and so on, and the lemmas are all other implications
 of them. In `sets` each of many groups has the clause `a1 .. a10`, and each ai is equivalent to its bi; the lemmas
@@ -125,6 +128,25 @@ def write_sets(path, additions):
     return groups * 20, given
 
 
+def write_definitions(path, additions):
+    """About so many lemmas over a formula of a tenth as many clauses. Gives the numbers of variables and clauses."""
+    clauses = [[x, x + 1, x + 2] for x in range(1, additions // 10 + 1)]
+    variables = len(clauses) + 2
+    definitions = additions // 3
+
+    def lemmas():
+        last = len(clauses)
+        for number in range(definitions):
+            z, a = variables + number + 1, number % (variables - 1) + 1
+            yield [z, -a, -a - 1], []
+            yield [-z, a], [-last - 1]
+            yield [-z, a + 1], [-last - 1]
+            last += 3
+
+    given, _ = write_lines(path, clauses, lemmas())
+    return variables + definitions, given
+
+
 def run(path, arguments):
     """The least processor time of three runs, the largest memory in MB, and what was printed."""
     best, most, text = None, 0, b""
@@ -158,6 +180,13 @@ def main():
         steps = sum(int(word) for word in text.split()[1:4:2])
         print("| %s | %d | %s | %.2f s | %.2f s | %d | %d MB |"
               % (name, os.path.getsize(path), text, reading, checking, steps / checking, memory))
+    path = os.path.join(folder, "definitions.lrat")
+    variables, given = write_definitions(path, additions)
+    reading, _, _ = run(path, [])
+    checking, memory, text = run(path, [str(variables), str(given)])
+    steps = sum(int(word) for word in text.split()[1:4:2])
+    print("| definitions | %d | %s | %.2f s | %.2f s | %d | %d MB |"
+          % (os.path.getsize(path), text, reading, checking, steps / checking, memory))
     print()
     print("| log | bytes | lemmas | reading and checking | and asking of each whether it is covered | largest memory |")
     print("|---|---|---|---|---|---|")

@@ -344,8 +344,8 @@ def step_in(line):
 class Held:
     """The clauses that are held, by id, with the last id."""
 
-    def __init__(self, variables, clauses):
-        self.variables = variables
+    def __init__(self, variables, clauses, takes_rat):
+        self.variables, self.takes_rat = variables, takes_rat
         self.clauses = {i: frozenset(clause) for i, clause in enumerate(clauses, 1)}
         self.last = len(clauses)
 
@@ -371,7 +371,7 @@ class Held:
             del self.clauses[number]
 
     def follows(self, number, literals, hints):
-        """Takes no addition; raises the fault of one that does not follow."""
+        """Takes no addition; raises the fault of one that may not be added."""
         self.in_order(number)
         true = set()
         for literal in literals:
@@ -380,18 +380,56 @@ class Held:
             if literal in true:
                 raise Fault("tautology %d" % literal)
             true.add(-literal)
-        for place, hint in enumerate(hints, 1):
+        first = group_end(hints, 0) if self.takes_rat else len(hints)
+        if self.come_to_conflict(true, hints[:first], 1):
+            return
+        if first < len(hints) and not literals:
+            raise Fault("rat-step %d" % (first + 1))
+        named = set()
+        at = first
+        while at < len(hints):
+            end = group_end(hints, at + 1)
+            self.take_group(set(true), -literals[0], -hints[at], hints[at + 1 : end], at + 1)
+            named.add(-hints[at])
+            at = end
+        missing = [i for i, clause in self.clauses.items() if literals and -literals[0] in clause and i not in named]
+        if not self.takes_rat or not literals or missing and not named:
+            raise Fault("no-conflict")
+        if missing:
+            raise Fault("rat-missing %d" % min(missing))
+
+    def come_to_conflict(self, true, hints, first_place):
+        """Makes true what the hints do, and tells whether the clause of one is false."""
+        for place, hint in enumerate(hints, first_place):
             if hint < 0:
                 raise Fault("rat-step %d" % place)
             if hint not in self.clauses:
                 raise Fault("no-such-clause %d" % hint)
             open_ones = {literal for literal in self.clauses[hint] if -literal not in true}
             if not open_ones:
-                return
+                return True
             if len(open_ones) > 1:
                 raise Fault("not-unit %d" % place)
             true |= open_ones
-        raise Fault("no-conflict")
+        return False
+
+    def take_group(self, true, left_out, number, hints, place):
+        """Raises the fault of a group: the hint at this place names this clause."""
+        if number not in self.clauses:
+            raise Fault("no-such-clause %d" % number)
+        if left_out not in self.clauses[number]:
+            raise Fault("rat-step %d" % place)
+        others = self.clauses[number] - {left_out}
+        if others & true:
+            return
+        true |= {-literal for literal in others}
+        if not self.come_to_conflict(true, hints, place + 1):
+            raise Fault("no-conflict")
+
+
+def group_end(hints, at):
+    """The place of the first negative hint from here on, or that behind the last hint."""
+    return next((place for place in range(at, len(hints)) if hints[place] < 0), len(hints))
 
 
 # ---- Certificates
@@ -492,7 +530,7 @@ class Check:
             self.formula()
         else:
             self.order = sorted(greatest_in(self.system, self.faulty, set(self.system)))
-            self.held = Held(len(self.order), [])
+            self.held = Held(len(self.order), [], takes_rat=False)
         units, sets = self.steps(kind)
         if kind == "refutation":
             return kind, 0, ""
@@ -524,7 +562,7 @@ class Check:
             raise Refused("too-large %d" % formula.variables, 9)
         if [int(it) for it in said] != [formula.variables, len(formula.clauses)]:
             self.refuse("formula")
-        self.held = Held(formula.variables, formula.clauses)
+        self.held = Held(formula.variables, formula.clauses, takes_rat=True)
 
     def steps(self, kind):
         """The number of units, and the sets of the lines b."""

@@ -1,13 +1,11 @@
 -- A list that is taken out and put in again, and the queue's end.
-use Rattle.std.proofs.Common.{◌≡◌, ◌≢◌, ℕ, suc, ◌+◌, ◌*◌, ◌<◌, ◌≤◌, true, false, not, cond, List, [], ◌∷◌, ◌++◌, ⊎_elim, inl, inr, refl, sym, ap, ◌∙◌, subst, arith, length, get_or, set, take, get_or-set_same, get_or-set_other, Some}
+use Rattle.std.proofs.Common.{◌≡◌, ◌≢◌, ℕ, suc, ◌+◌, ◌*◌, ◌<◌, ◌≤◌, true, false, not, cond, List, [], ◌∷◌, ◌++◌, ⊎_elim, inl, inr, refl, sym, ap, ◌∙◌, subst, arith, length, get_or, set, get_or-set_same, get_or-set_other, Some}
 use Rattle.std.specs.Prelude.{◌==◌, All}
 use Rattle.std.specs.List.{list_all}
 use Rattle.std.proofs.lemmas.List.{take_all}
 use Rattle.std.proofs.lemmas.List.Folds.{list_any-append}
 use Rattle.cdcl_core.proofs.Walks.{has-at}
-use Rattle.cdcl_core.specs.Search.{IsState, IsClosed}
-use Rattle.cdcl_core.proofs.Jumps.{not_so}
-use Rattle.cdcl_core.proofs.Tops.{take_within}
+use Rattle.cdcl_core.specs.Search.{IsState}
 use Rattle.std.proofs.lemmas.List.Elements.{All-nil}
 use Rattle.std.proofs.lemmas.Bool.{true≢false, false≢true, not_from_false, or_left}
 use Rattle.lrat_model.specs.Literal.{Literal, variable_of, negated, same, has}

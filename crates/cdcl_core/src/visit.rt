@@ -33,19 +33,42 @@ fn other_of(pair: Pair, l: Lit) -> Option<Lit>
     }
 }
 
-/// The first literal that is not false, and is another one. O(literals).
-fn find_free<V: ClauseView>(assignment: &Assignment, clause: &V, other: Lit) -> Option<Lit>
+/// The first literal from a place on that is not false, and is another one. O(literals).
+fn find_free<V: ClauseView>(
+    assignment: &Assignment,
+    clause: &V,
+    other: Lit,
+    from: usize,
+) -> Option<Lit>
     requires { (l : Literal) → has (V.literals clause.now) l ≡ true → variable_of l ≤ assignment.now.vars }
     ensures some { IfSome result (λ m. (has (V.literals clause.now) m ≡ true) × (same m other ≡ false) × (has assignment.now.trues (negated m) ≡ false)) }
-    ensures none { result ≡ None → (m : Literal) → has (V.literals clause.now) m ≡ true → (m ≡ other) ⊎ (has assignment.now.trues (negated m) ≡ true) }
+    ensures none { result ≡ None → from ≡ 0 → (m : Literal) → has (V.literals clause.now) m ≡ true → (m ≡ other) ⊎ (has assignment.now.trues (negated m) ≡ true) }
 {
-    for i in 0..clause.len() {
+    for i in from..clause.len() {
         let m = clause.at(i);
         if !m.same(other) && !assignment.is_true(m.negated()) {
             return Some(m);
         }
     }
     None
+}
+
+/// A literal that is not false, and is another one. It is looked for from a place on that depends on the literal
+/// which became false, and then from the first, so that of a long clause the false literals that stand first are not
+/// gone through each time. O(literals).
+fn find_watch<V: ClauseView>(assignment: &Assignment, clause: &V, other: Lit, l: Lit) -> Option<Lit>
+    requires { (l : Literal) → has (V.literals clause.now) l ≡ true → variable_of l ≤ assignment.now.vars }
+    ensures some { IfSome result (λ m. (has (V.literals clause.now) m ≡ true) × (same m other ≡ false) × (has assignment.now.trues (negated m) ≡ false)) }
+    ensures none { result ≡ None → (m : Literal) → has (V.literals clause.now) m ≡ true → (m ≡ other) ⊎ (has assignment.now.trues (negated m) ≡ true) }
+{
+    let count = clause.len();
+    if count > 0 {
+        let from = l.variable() as usize % count;
+        if let Some(m) = find_free(assignment, clause, other, from) {
+            return Some(m);
+        }
+    }
+    find_free(assignment, clause, other, 0)
 }
 
 /// What is seen of a clause that watches a literal which became false: it is true by this literal; it watches
@@ -94,7 +117,7 @@ fn look_long<V: ClauseView>(clause: &V, pair: Pair, assignment: &Assignment, l: 
     if assignment.is_true(other) {
         return Sight::Holds(other, l);
     }
-    if let Some(m) = find_free(assignment, clause, other) {
+    if let Some(m) = find_watch(assignment, clause, other, l) {
         return Sight::Moves(other, m, other, m);
     }
     if assignment.is_true(other.negated()) {

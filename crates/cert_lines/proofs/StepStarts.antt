@@ -1,6 +1,7 @@
 -- The first bytes of a step's line.
 use Rattle.std.proofs.Common.{◌≡◌, ℕ, ◌<◌, List, [], ◌∷◌, ◌++◌, length, refl, sym, ap, ◌∙◌, Option, arith}
 use Rattle.lrat_model.specs.Steps.{Database}
+use Rattle.lrat_model.specs.declared.step.Rule.{Rule}
 use Rattle.lrat_checker.specs.Adding.{Adding}
 use Rattle.lrat_text.specs.Words.{words_of}
 use Rattle.lrat_text.specs.Lines.{step_in}
@@ -12,11 +13,11 @@ use Rattle.step_stream.specs.declared.reader.StepReader.{StepReader}
 use Rattle.cert_lines.specs.Steps.{is_other}
 
 -- before the first word the line says what its words do
-pub at_start : (vars : ℕ) (database : Database) (r : StepReader) (now : Option Adding) (bytes : List ℕ) → r.words.stage ≡ Start → r.begun.items ≡ []
-    → outline_in vars database (step_in bytes) ≡ ahead vars database r.words now (words_of (r.begun.items ++ bytes))
-at_start vars database r now bytes stage none =
-    ap (λ (st : Stage). ahead_at st vars database r.words.lits.items r.words.ids.items r.words.fault now (words_of bytes)) (sym stage)
-    ∙ ap (λ (xs : List ℕ). ahead vars database r.words now (words_of (xs ++ bytes))) (sym none)
+pub at_start : (rule : Rule) (vars : ℕ) (database : Database) (r : StepReader) (now : Option Adding) (bytes : List ℕ) → r.words.stage ≡ Start → r.begun.items ≡ []
+    → outline_in rule vars database (step_in bytes) ≡ ahead rule vars database r.words now (words_of (r.begun.items ++ bytes))
+at_start rule vars database r now bytes stage none =
+    ap (λ (st : Stage). ahead_at st rule vars database r.words.lits.items r.words.ids.items r.words.fault now (words_of bytes)) (sym stage)
+    ∙ ap (λ (xs : List ℕ). ahead rule vars database r.words now (words_of (xs ++ bytes))) (sym none)
 
 -- how a line begins is seen at its first part
 pub other_front : (part more : List ℕ) → 0 < length part → is_other (part ++ more) ≡ is_other part

@@ -49,9 +49,10 @@ pub fn line_or_step<D: Desk>(
     ensures step { result ≡ Ok None → (text : List ℕ) × (is_other text ≡ false)
         × (IsTrue D.tells → next_line lines.old.number (lines_of (lines.old.unread ++ left_of Which.Cert (D.state desk.old)))
         ≡ Ok (record { text = text; more = lines_of (lines.new.unread ++ left_of Which.Cert (D.state desk.new)) }))
-        × (outline_in checker.old.vars checker.old.database (step_in text) ≡ ahead checker.old.vars checker.old.database reader.new.words checker.new.open_addition []) }
+        × (outline_in checker.old.rule checker.old.vars checker.old.database (step_in text) ≡ ahead checker.old.rule checker.old.vars checker.old.database reader.new.words checker.new.open_addition []) }
     ensures fits { result ≡ Ok None → Fits reader.new.words checker.new.open_addition }
     ensures database { checker.new.database ≡ checker.old.database }
+    ensures rule { checker.new.rule ≡ checker.old.rule }
     ensures vars { checker.new.vars ≡ checker.old.vars }
     ensures few { OnOk result (lines.old.number ≤ MAX_LINES) }
     ensures number { OnOk result (lines.new.number ≡ lines.old.number + 1) }
@@ -94,9 +95,10 @@ fn rest_of_step<D: Desk>(
     requires solid { IsSolid reader.old.begun.items }
     ensures line { OnOk result ((suffix : List ℕ)
         × (IsTrue D.tells → (front : List ℕ) → length front ≡ lines.old.taken → IsPart true lines.old.number front suffix (lines_of (lines.old.unread ++ left_of Which.Cert (D.state desk.old))) (lines_of (lines.new.unread ++ left_of Which.Cert (D.state desk.new))))
-        × (ahead checker.old.vars checker.old.database reader.old.words checker.old.open_addition (words_of (reader.old.begun.items ++ suffix)) ≡ ahead checker.old.vars checker.old.database reader.new.words checker.new.open_addition [])) }
+        × (ahead checker.old.rule checker.old.vars checker.old.database reader.old.words checker.old.open_addition (words_of (reader.old.begun.items ++ suffix)) ≡ ahead checker.old.rule checker.old.vars checker.old.database reader.new.words checker.new.open_addition [])) }
     ensures fits { OnOk result (Fits reader.new.words checker.new.open_addition) }
     ensures database { checker.new.database ≡ checker.old.database }
+    ensures rule { checker.new.rule ≡ checker.old.rule }
     ensures vars { checker.new.vars ≡ checker.old.vars }
     ensures number { OnOk result (lines.new.number ≡ lines.old.number + 1) }
     ensures taken { OnOk result (lines.new.taken ≡ 0) }

@@ -24,7 +24,7 @@ use Rattle.list_journal.specs.declared.kinds.Listed.TheVariants as listed
 use Rattle.list_journal.specs.Order.{ordered}
 use Rattle.list_journal.proofs.Runs.{sets_append}
 use Rattle.blocking_lists.specs.Lines.{HasLineNumbers, HasFewWords}
-use Rattle.certificate_file.specs.Acceptance.{take_line, checked, list_part, listing_on, no_listing}
+use Rattle.certificate_file.specs.Acceptance.{take_line, checked, list_part, listing_on, list_checking, no_listing}
 use Rattle.certificate_file.specs.Meaning.{part_from}
 use Rattle.certificate_file.specs.Known.{IsPart}
 use Rattle.certificate_file.specs.declared.places.Header.{Header}
@@ -135,7 +135,7 @@ module _ (f : System) (d : List ℕ) (h : Header) (is : IsSystem f.names f.sets)
       let sets = map (spread nodes) (blocking_sets journal) in
       let taken = takes_journal f d s Part are part_names (part.places ∙ is.places) same count (omega (arith, small)) 6 nothing_held new [] sets 0 (journal_units journal) journal fine on run refl (omega arith) in
       let lines = map (journal_line (kept nodes f.names)) journal in
-      takes-append f d 6 (6 + length lines) (Going (AtList s (no_listing f Part s))) (Going (AtList s (listing_on Part (list_part f s) (size greatest) new sets (journal_units journal)))) (Done (record { header = h; answer = PartialBlocking (journal_units journal) })) lines (codes "end" ∷ []) refl taken
+      takes-append f d 6 (6 + length lines) (Going (AtList s (no_listing f Part s))) (Going (AtList s (listing_on Part (list_part f s) (list_checking (size greatest) new) sets (journal_units journal)))) (Done (record { header = h; answer = PartialBlocking (journal_units journal) })) lines (codes "end" ∷ []) refl taken
       (takes_part_end f d s (6 + length lines) (size greatest) new sets (journal_units journal))
   takes_body Whole new journal run fine ends =
       let s = subject f h in
@@ -148,7 +148,7 @@ module _ (f : System) (d : List ℕ) (h : Header) (is : IsSystem f.names f.sets)
       let taken = takes_journal f d s Whole are part_names (part.places ∙ is.places) same count (omega (arith, small)) 6 nothing_held split.0 [] sets 0 (journal_units before) before each.0 on split.1 refl (omega arith) in
       let lines = map (journal_line (kept nodes f.names)) before in
       let end = takes_refuted f d s are part_names (part.places ∙ is.places) same count (omega (arith, small)) (6 + length lines) split.0 new sets (journal_units before) last each.1 ends.ends split.2 in
-      let whole = takes-append f d 6 (6 + length lines) (Going (AtList s (no_listing f Whole s))) (Going (AtList s (listing_on Whole (list_part f s) (size greatest) split.0 sets (journal_units before)))) (Done (record { header = h; answer = Blocking (ordered sets) })) lines (journal_line (kept nodes f.names) last ∷ codes "end" ∷ []) refl taken end in
+      let whole = takes-append f d 6 (6 + length lines) (Going (AtList s (no_listing f Whole s))) (Going (AtList s (listing_on Whole (list_part f s) (list_checking (size greatest) split.0) sets (journal_units before)))) (Done (record { header = h; answer = Blocking (ordered sets) })) lines (journal_line (kept nodes f.names) last ∷ codes "end" ∷ []) refl taken end in
       let texts : lines ++ journal_line (kept nodes f.names) last ∷ codes "end" ∷ [] ≡ map (journal_line (kept nodes f.names)) journal ++ codes "end" ∷ [] =
       sym (split_lines (kept nodes f.names) before last (codes "end" ∷ [])) ∙ ap (λ (ls : List JournalLine). map (journal_line (kept nodes f.names)) ls ++ codes "end" ∷ []) (sym ends.is) in
       let blocks : blocking_sets before ≡ blocking_sets journal = sym (append-nil (blocking_sets before)) ∙ ap (λ (xs : List Table). blocking_sets before ++ xs) (sym (no_set last ends.ends)) ∙ sym (sets_append before (last ∷ [])) ∙ ap blocking_sets (sym ends.is) in

@@ -21,6 +21,7 @@ use Rattle.lrat_text.specs.Texts.{line_of, IsLiteral, HasNumbers}
 use Rattle.lrat_text.specs.declared.faults.LineFault.{LineFault}
 use Rattle.lrat_text.proofs.BackLaws.{step_back}
 use Rattle.cdcl_core.specs.Trail.{IsVariable}
+use Rattle.lrat_model.specs.Rules.{step_fault_by}
 use Rattle.list_journal.specs.Journals.{JournalLine, QuorumLine, BlockingLine, StepLine, JournalRun, IsNewStep, after_line, line_progress, blocking_sets, journal_units}
 use Rattle.list_journal.specs.declared.kinds.ListKind.{ListKind}
 use Rattle.list_journal.specs.declared.kinds.ListKind.TheVariants.{Whole, Partial as Part}
@@ -32,7 +33,7 @@ use Rattle.cert_lines.specs.Saying.{or_bad_line}
 use Rattle.cert_lines.specs.Words.{Word, words_of}
 use Rattle.cert_lines.specs.declared.faults.CertError.{CertError}
 use Rattle.cert_lines.specs.declared.faults.CertError.TheVariants.{NotNew}
-use Rattle.certificate_file.specs.Acceptance.{and_then, listed_by, literal_in, is_old_step, with_step, after_list_step, list_step, list_step_unless, list_end, list_text, list_part, listing_on, take_line, asks_new, is_covered}
+use Rattle.certificate_file.specs.Acceptance.{and_then, listed_by, literal_in, is_old_step, with_step, after_list_step, list_step, list_step_unless, list_end, list_text, list_part, listing_on, list_checking, take_line, asks_new, is_covered}
 use Rattle.certificate_file.specs.declared.places.Subject.{Subject}
 use Rattle.certificate_file.specs.declared.places.Listing.{Listing}
 use Rattle.certificate_file.specs.declared.places.Place.TheVariants.{AtList, AtEnd}
@@ -80,7 +81,7 @@ step_is_new Whole k id lits hints same new = ap (λ (x : ListKind). asks_new x l
 step_is_new Part k id lits hints same new = ap (λ (x : ListKind). asks_new x listed.Quorum && is_covered k.checker.database.held id lits) same ∙ new_uncovered k.checker.database.held id lits new
 
 -- a step, however it goes on
-step_taken : (f : System) (d : List ℕ) (s : Subject) (k : Listing) (l : ℕ) (step : ProofStep) → IsRead step → listed_by (words_of (line_of step)) ≡ None → literal_in k.kind l step ≡ Ok step → step_fault k.checker.vars k.checker.database step ≡ None → is_old_step k step ≡ false
+step_taken : (f : System) (d : List ℕ) (s : Subject) (k : Listing) (l : ℕ) (step : ProofStep) → IsRead step → listed_by (words_of (line_of step)) ≡ None → literal_in k.kind l step ≡ Ok step → step_fault_by k.checker.rule k.checker.vars k.checker.database step ≡ None → is_old_step k step ≡ false
     → take_line f d (AtList s k) l (line_of step) ≡ Ok (after_list_step s (with_step k step) (progress_of step))
 unfolding take_line
 step_taken f d s k l step read none literal fault fresh =
@@ -102,7 +103,7 @@ module _ (f : System) (d : List ℕ) (s : Subject) (kind : ListKind) (are : AreN
 
   -- the list where so much is held, with these sets and units
   abbrev pub at : Database → List Table → ℕ → Listing
-  at database sets units = listing_on kind (list_part f s) (size (list_part f s).greatest) database sets units
+  at database sets units = listing_on kind (list_part f s) (list_checking (size (list_part f s).greatest) database) sets units
 
   -- a line that is written and reads back
   abbrev pub IsFine : JournalLine → Type 0
@@ -156,7 +157,7 @@ pub takes_refuted : (f : System) (d : List ℕ) (s : Subject) (are : AreNames f.
     (same : length (list_part f s).faulty ≡ length (list_part f s).system.sets) (count : length (list_part f s).system.sets ≡ size s.nodes) (small : size (list_part f s).greatest < 2147483648)
     (l : ℕ) (old new : Database) (sets : List Table) (units : ℕ) (last : JournalLine) → HasLineNumbers last × HasFewWords (size (list_part f s).greatest) last → line_progress last ≡ Refuted
     → JournalRun Whole (list_part f s).system.sets (members (list_part f s).faulty) (list_part f s).greatest old (last ∷ []) new
-    → Takes f d l (Going (AtList s (listing_on Whole (list_part f s) (size (list_part f s).greatest) old sets units))) (journal_line (kept s.nodes f.names) last ∷ codes "end" ∷ []) (Done (record { header = s.header; answer = Blocking (ordered sets) }))
+    → Takes f d l (Going (AtList s (listing_on Whole (list_part f s) (list_checking (size (list_part f s).greatest) old) sets units))) (journal_line (kept s.nodes f.names) last ∷ codes "end" ∷ []) (Done (record { header = s.header; answer = Blocking (ordered sets) }))
 unfolding take_line
 takes_refuted f d s are part places same count small l old new sets units (QuorumLine id u) fine ends run = absurd cc
 takes_refuted f d s are part places same count small l old new sets units (BlockingLine id u) fine ends run = absurd cc
@@ -164,11 +165,11 @@ takes_refuted f d s are part places same count small l old new sets units (StepL
 takes_refuted f d s are part places same count small l old new sets units (StepLine (Addition id lits hints)) fine ends run = (
   Going (AtEnd (record { header = s.header; answer = Blocking (ordered sets) })),
   lemma_taken f d s Whole are part places same count small l id lits hints old sets units fine refl run.0 run.1
-      ∙ ap (λ (p : Progress). Ok (after_list_step s (listing_on Whole (list_part f s) (size (list_part f s).greatest) (after_step old (Addition id lits hints)) sets (units + 1)) p)) ends,
+      ∙ ap (λ (p : Progress). Ok (after_list_step s (listing_on Whole (list_part f s) (list_checking (size (list_part f s).greatest) (after_step old (Addition id lits hints))) sets (units + 1)) p)) ends,
   (Done (record { header = s.header; answer = Blocking (ordered sets) }), refl, refl),
 )
 
 -- the last line of a part of a list
-pub takes_part_end : (f : System) (d : List ℕ) (s : Subject) (l vars : ℕ) (database : Database) (sets : List Table) (units : ℕ) → Takes f d l (Going (AtList s (listing_on Part (list_part f s) vars database sets units))) (codes "end" ∷ []) (Done (record { header = s.header; answer = PartialBlocking units }))
+pub takes_part_end : (f : System) (d : List ℕ) (s : Subject) (l vars : ℕ) (database : Database) (sets : List Table) (units : ℕ) → Takes f d l (Going (AtList s (listing_on Part (list_part f s) (list_checking vars database) sets units))) (codes "end" ∷ []) (Done (record { header = s.header; answer = PartialBlocking units }))
 unfolding take_line
 takes_part_end f d s l vars database sets units = (Done (record { header = s.header; answer = PartialBlocking units }), refl, refl)

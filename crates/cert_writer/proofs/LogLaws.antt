@@ -15,6 +15,8 @@ use Rattle.lrat_model.specs.Literal.{Literal}
 use Rattle.lrat_model.specs.Steps.{ProofStep, Addition, Deletion, Database, step_fault, literal_fault, after_step}
 use Rattle.lrat_model.specs.declared.step.StepFault.{StepFault}
 use Rattle.lrat_model.specs.Runs.{Run}
+use Rattle.lrat_model.specs.declared.step.Rule.{Rule}
+use Rattle.lrat_model.specs.declared.step.Rule.TheVariants.{Rat}
 use Rattle.lrat_checker.specs.Checking.{Checking}
 use Rattle.lrat_text.specs.Texts.{line_of, IsId, HasNumbers, HasLiterals}
 use Rattle.lrat_text.specs.Left.{spaced}
@@ -38,7 +40,7 @@ use Rattle.cert_writer.proofs.Names.{AreNames, are_keys}
 use Rattle.cert_writer.specs.Promises.{IsHeader, subject, EndsAs, shown_by, IsLogOf}
 use Rattle.cert_writer.proofs.Headers.{takes_header, lines_header}
 use Rattle.cert_writer.proofs.StepLines.{line_addition, few_literals, decimal_word}
-use Rattle.cert_writer.proofs.Runs.{IsRead, IsGoing, takes_steps, takes_last, run_split, takes_lemmas, takes_end}
+use Rattle.cert_writer.proofs.Runs.{IsRead, IsGoing, takes_steps, takes_last, run_split, taken_by_rat, takes_lemmas, takes_end}
 use Rattle.cert_lines.specs.declared.lines.TheConstants.{MAX_LINES}
 use Rattle.clause_encoder.specs.declared.limits.TheConstants.{MOST_VARS}
 
@@ -122,15 +124,15 @@ pub front_all : {A : Type 0} (P : A → Type 0) (xs : List A) (y : A) → AllByR
 front_all P [] y all = (tt, all.0)
 front_all P (x ∷ xs) y all = let rest = front_all P xs y all.1 in ((all.0, rest.0), rest.1)
 
-takes_log : (f : System) (d : List ℕ) (h : Header) (to : Aim) (vars : ℕ) (old new : Database) (log : List ProofStep) → AllByRecursion IsRead log → Run vars old log new → AreLemmas vars old log → EndsAs to log → Takes f d 7 (Going (steps_from to h (record { vars = vars; database = old }))) (map line_of log ++ codes "end" ∷ []) (Done (record { header = h; answer = shown_by to log }))
+takes_log : (f : System) (d : List ℕ) (h : Header) (to : Aim) (vars : ℕ) (old new : Database) (log : List ProofStep) → AllByRecursion IsRead log → Run vars old log new → AreLemmas vars old log → EndsAs to log → Takes f d 7 (Going (steps_from to h (record { rule = Rat; vars = vars; database = old }))) (map line_of log ++ codes "end" ∷ []) (Done (record { header = h; answer = shown_by to log }))
 takes_log f d h aim.Partial vars old new log all run lemmas ends =
     let on = recursion_from_All IsGoing log ends in
     let zero_more : 0 + units log ≡ units log = omega arith in
     let steps = takes_lemmas f d h vars old new 0 7 log all on run lemmas in
-    let middle = Going (AtLemmas h (record { vars = vars; database = new }) (0 + units log)) in
-    let end = takes_end f d h (record { vars = vars; database = new }) (0 + units log) (7 + length (map line_of log)) in
-    let whole = takes-append f d 7 (7 + length (map line_of log)) (Going (AtLemmas h (record { vars = vars; database = old }) 0)) middle (Done (record { header = h; answer = Partial (0 + units log) })) (map line_of log) (codes "end" ∷ []) refl steps end in
-    subst (λ (n : ℕ). Takes f d 7 (Going (AtLemmas h (record { vars = vars; database = old }) 0)) (map line_of log ++ codes "end" ∷ []) (Done (record { header = h; answer = Partial n }))) zero_more whole
+    let middle = Going (AtLemmas h (record { rule = Rat; vars = vars; database = new }) (0 + units log)) in
+    let end = takes_end f d h (record { rule = Rat; vars = vars; database = new }) (0 + units log) (7 + length (map line_of log)) in
+    let whole = takes-append f d 7 (7 + length (map line_of log)) (Going (AtLemmas h (record { rule = Rat; vars = vars; database = old }) 0)) middle (Done (record { header = h; answer = Partial (0 + units log) })) (map line_of log) (codes "end" ∷ []) refl steps end in
+    subst (λ (n : ℕ). Takes f d 7 (Going (AtLemmas h (record { rule = Rat; vars = vars; database = old }) 0)) (map line_of log ++ codes "end" ∷ []) (Done (record { header = h; answer = Partial n }))) zero_more whole
 takes_log f d h aim.Refutation vars old new log all run lemmas ends =
     let before = ends.0 in
     let last = ends.1 in
@@ -138,12 +140,16 @@ takes_log f d h aim.Refutation vars old new log all run lemmas ends =
     let each = front_all IsRead before last (subst (AllByRecursion IsRead) ends.2 all) in
     let on = recursion_from_All IsGoing before ends.4 in
     let steps = takes_steps f d h vars old split.0 7 before each.0 on split.1 in
-    let end = takes_last f d h (record { vars = vars; database = split.0 }) (7 + length (map line_of before)) last each.1 split.2 ends.3 in
-    let whole = takes-append f d 7 (7 + length (map line_of before)) (Going (AtSteps h (record { vars = vars; database = old }))) (Going (AtSteps h (record { vars = vars; database = split.0 }))) (Done (record { header = h; answer = Refutation })) (map line_of before) (line_of last ∷ codes "end" ∷ []) refl steps end in
+    let end = takes_last f d h (record { rule = Rat; vars = vars; database = split.0 }) (7 + length (map line_of before)) last each.1 (taken_by_rat vars split.0 last split.2) ends.3 in
+    let whole = takes-append f d 7 (7 + length (map line_of before)) (Going (AtSteps h (record { rule = Rat; vars = vars; database = old }))) (Going (AtSteps h (record { rule = Rat; vars = vars; database = split.0 }))) (Done (record { header = h; answer = Refutation })) (map line_of before) (line_of last ∷ codes "end" ∷ []) refl steps end in
     let same : map line_of before ++ line_of last ∷ codes "end" ∷ [] ≡ map line_of log ++ codes "end" ∷ [] = sym (lines-split before last (codes "end" ∷ [])) ∙ ap (λ (x : List ProofStep). map line_of x ++ codes "end" ∷ []) (sym ends.2) in
-    subst (λ (ls : List Text). Takes f d 7 (Going (AtSteps h (record { vars = vars; database = old }))) ls (Done (record { header = h; answer = Refutation }))) same whole
+    subst (λ (ls : List Text). Takes f d 7 (Going (AtSteps h (record { rule = Rat; vars = vars; database = old }))) ls (Done (record { header = h; answer = Refutation }))) same whole
 
 -- ---- a log that is written is accepted
+
+rat_formula : (f : System) (s : Subject) → Rat ≡ (formula_of f s).rule
+unfolding formula_of
+rat_formula f s = refl
 
 pub log_accepted : (f : System) (d : List ℕ) (h : Header) (to : Aim) (vars clauses : ℕ) (log : List ProofStep) (new : Database) → IsSystem f.names f.sets → IsStrictlySortedBy name_cmp f.names → length d ≡ 32 → IsBytes d → IsHeader f h
     → vars ≡ (formula_of f (subject f h)).vars → clauses ≡ (formula_of f (subject f h)).database.last → vars ≤ MOST_VARS → IsId clauses
@@ -156,7 +162,7 @@ log_accepted f d h to vars clauses log new is sorted size bytes head v k small i
     let all = reads log ns ls in
     let head_lines = header_lines f.names d h in
     let body = log_lines to vars clauses log in
-    let of_vars : record { vars = vars; database = c.database } ≡ c = ap (λ (n : ℕ). record { vars = n; database = c.database }) v in
+    let of_vars : record { rule = Rat; vars = vars; database = c.database } ≡ c = ap (λ (n : ℕ). record { rule = Rat; vars = n; database = c.database }) v ∙ ap (λ (r : Rule). record { rule = r; vars = c.vars; database = c.database }) (rat_formula f s) in
     let steps = takes_log f d h to vars c.database new log all run lemmas ends in
     let from_formula = subst (λ (x : Checking). Takes f d 7 (Going (steps_from to h x)) (map line_of log ++ codes "end" ∷ []) (Done (record { header = h; answer = shown_by to log }))) of_vars steps in
     let taken : Takes f d 5 (Going (AtKind s)) body (Done (record { header = h; answer = shown_by to log })) = (Going (AtFormula to s), kind_taken f d s to, (Going (steps_from to h c), formula_taken f d h to vars clauses c refl v k small id, from_formula)) in

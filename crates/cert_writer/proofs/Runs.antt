@@ -8,6 +8,9 @@ use Rattle.lrat_model.specs.Literal.{Literal}
 use Rattle.lrat_model.specs.Clauses.{Held}
 use Rattle.lrat_model.specs.Steps.{ProofStep, Addition, Deletion, Database, step_fault, after_step, progress_of, progress_at}
 use Rattle.lrat_model.specs.Runs.{Run}
+use Rattle.lrat_model.specs.Rules.{step_fault_by}
+use Rattle.lrat_model.specs.declared.step.Rule.TheVariants.{Rat}
+use Rattle.lrat_model.proofs.RatRuns.{rat_takes, rup_is_the_first_rule}
 use Rattle.lrat_model.specs.Lemmas.{IsNew}
 use Rattle.lrat_model.specs.declared.step.Progress.{Progress}
 use Rattle.lrat_model.specs.declared.step.Progress.TheVariants.{Going as going, Refuted}
@@ -45,27 +48,31 @@ not_end step read = elim (cases_Bool (bytes_eq (line_of step) (codes "end"))) [
 
 -- ---- a refutation
 
-with_step : Checking → ProofStep → Checking
-with_step c step = record { vars = c.vars; database = after_step c.database step }
+-- what the solver logs is taken where RAT hints are taken too
+pub taken_by_rat : (vars : ℕ) (old : Database) (step : ProofStep) → step_fault vars old step ≡ None → step_fault_by Rat vars old step ≡ None
+taken_by_rat vars old step none = rat_takes vars old step (rup_is_the_first_rule vars old step ∙ none)
 
-step_taken : (f : System) (d : List ℕ) (h : Header) (c : Checking) (l : ℕ) (step : ProofStep) → IsRead step → step_fault c.vars c.database step ≡ None → take_line f d (AtSteps h c) l (line_of step) ≡ Ok (after_progress h (record { vars = c.vars; database = after_step c.database step }) (progress_of step))
+with_step : Checking → ProofStep → Checking
+with_step c step = record { rule = c.rule; vars = c.vars; database = after_step c.database step }
+
+step_taken : (f : System) (d : List ℕ) (h : Header) (c : Checking) (l : ℕ) (step : ProofStep) → IsRead step → step_fault_by c.rule c.vars c.database step ≡ None → take_line f d (AtSteps h c) l (line_of step) ≡ Ok (after_progress h (record { rule = c.rule; vars = c.vars; database = after_step c.database step }) (progress_of step))
 unfolding take_line
 step_taken f d h c l step read fault = rw (not_end step read, read, fault) refl
 
-pub takes_steps : (f : System) (d : List ℕ) (h : Header) (vars : ℕ) (old new : Database) (l : ℕ) (log : List ProofStep) → AllByRecursion IsRead log → AllByRecursion IsGoing log → Run vars old log new → Takes f d l (Going (AtSteps h (record { vars = vars; database = old }))) (map line_of log) (Going (AtSteps h (record { vars = vars; database = new })))
+pub takes_steps : (f : System) (d : List ℕ) (h : Header) (vars : ℕ) (old new : Database) (l : ℕ) (log : List ProofStep) → AllByRecursion IsRead log → AllByRecursion IsGoing log → Run vars old log new → Takes f d l (Going (AtSteps h (record { rule = Rat; vars = vars; database = old }))) (map line_of log) (Going (AtSteps h (record { rule = Rat; vars = vars; database = new })))
 takes_steps f d h vars old new l [] reads on run = rw run refl
 takes_steps f d h vars old new l (step ∷ log) reads on run = (
-  Going (AtSteps h (record { vars = vars; database = after_step old step })),
-  step_taken f d h (record { vars = vars; database = old }) l step reads.0 run.0 ∙ ap (λ (p : Progress). Ok (after_progress h (record { vars = vars; database = after_step old step }) p)) on.0,
+  Going (AtSteps h (record { rule = Rat; vars = vars; database = after_step old step })),
+  step_taken f d h (record { rule = Rat; vars = vars; database = old }) l step reads.0 (taken_by_rat vars old step run.0) ∙ ap (λ (p : Progress). Ok (after_progress h (record { rule = Rat; vars = vars; database = after_step old step }) p)) on.0,
   takes_steps f d h vars (after_step old step) new (l + 1) log reads.1 on.1 run.1,
 )
 
 -- the empty lemma, which ends it
-pub takes_last : (f : System) (d : List ℕ) (h : Header) (c : Checking) (l : ℕ) (step : ProofStep) → IsRead step → step_fault c.vars c.database step ≡ None → progress_of step ≡ Refuted → Takes f d l (Going (AtSteps h c)) (line_of step ∷ codes "end" ∷ []) (Done (record { header = h; answer = Refutation }))
+pub takes_last : (f : System) (d : List ℕ) (h : Header) (c : Checking) (l : ℕ) (step : ProofStep) → IsRead step → step_fault_by c.rule c.vars c.database step ≡ None → progress_of step ≡ Refuted → Takes f d l (Going (AtSteps h c)) (line_of step ∷ codes "end" ∷ []) (Done (record { header = h; answer = Refutation }))
 unfolding take_line
 takes_last f d h c l step read fault is = (
   Going (AtEnd (record { header = h; answer = Refutation })),
-  step_taken f d h c l step read fault ∙ ap (λ (p : Progress). Ok (after_progress h (record { vars = c.vars; database = after_step c.database step }) p)) is,
+  step_taken f d h c l step read fault ∙ ap (λ (p : Progress). Ok (after_progress h (record { rule = c.rule; vars = c.vars; database = after_step c.database step }) p)) is,
   (Done (record { header = h; answer = Refutation }), refl, refl),
 )
 
@@ -84,16 +91,16 @@ new_uncovered held id lits new = elim (cases_Bool (is_covered held id lits)) [
 ]
 
 lemma_taken : (f : System) (d : List ℕ) (h : Header) (vars : ℕ) (old : Database) (n l id : ℕ) (lits : List Literal) (hints : List ℤ) → IsRead (Addition id lits hints) → progress_at lits ≡ going → step_fault vars old (Addition id lits hints) ≡ None → IsNew old.held lits
-    → take_line f d (AtLemmas h (record { vars = vars; database = old }) n) l (line_of (Addition id lits hints)) ≡ Ok (Going (AtLemmas h (record { vars = vars; database = after_step old (Addition id lits hints) }) (n + 1)))
+    → take_line f d (AtLemmas h (record { rule = Rat; vars = vars; database = old }) n) l (line_of (Addition id lits hints)) ≡ Ok (Going (AtLemmas h (record { rule = Rat; vars = vars; database = after_step old (Addition id lits hints) }) (n + 1)))
 unfolding take_line
 lemma_taken f d h vars old n l id lits hints read on fault new =
-    rw (not_end (Addition id lits hints) read, read, on, fault, new_uncovered old.held id lits new) refl
+    rw (not_end (Addition id lits hints) read, read, on, taken_by_rat vars old (Addition id lits hints) fault, new_uncovered old.held id lits new) refl
 
 pub going_long : (lits : List Literal) → progress_at lits ≡ going → (0 < length lits) × ((length lits == 0) ≡ false)
 going_long [] e = absurd cc
 going_long (l ∷ lits) e = (omega arith, ne_eqb (length (l ∷ lits)) 0 (λ k. omega arith))
 
-pub takes_lemmas : (f : System) (d : List ℕ) (h : Header) (vars : ℕ) (old new : Database) (n l : ℕ) (log : List ProofStep) → AllByRecursion IsRead log → AllByRecursion IsGoing log → Run vars old log new → AreLemmas vars old log → Takes f d l (Going (AtLemmas h (record { vars = vars; database = old }) n)) (map line_of log) (Going (AtLemmas h (record { vars = vars; database = new }) (n + units log)))
+pub takes_lemmas : (f : System) (d : List ℕ) (h : Header) (vars : ℕ) (old new : Database) (n l : ℕ) (log : List ProofStep) → AllByRecursion IsRead log → AllByRecursion IsGoing log → Run vars old log new → AreLemmas vars old log → Takes f d l (Going (AtLemmas h (record { rule = Rat; vars = vars; database = old }) n)) (map line_of log) (Going (AtLemmas h (record { rule = Rat; vars = vars; database = new }) (n + units log)))
 takes_lemmas f d h vars old new n l [] reads on run lemmas =
     let e : n + 0 ≡ n = omega arith in rw (run, e) refl
 takes_lemmas f d h vars old new n l (Deletion id ids ∷ log) reads on run lemmas = absurd lemmas
@@ -102,9 +109,9 @@ takes_lemmas f d h vars old new n l (Addition id lits hints ∷ log) reads on ru
     let next = after_step old (Addition id lits hints) in
     let rest = takes_lemmas f d h vars next new (n + 1) (l + 1) log reads.1 on.1 run.1 lemmas.1 in
     let count : n + units (Addition id lits hints ∷ log) ≡ n + 1 + units log = ap (λ (b : Bool). n + (cond b 0 1 + units log)) long.1 ∙ (omega arith) in (
-      Going (AtLemmas h (record { vars = vars; database = next }) (n + 1)),
+      Going (AtLemmas h (record { rule = Rat; vars = vars; database = next }) (n + 1)),
       lemma_taken f d h vars old n l id lits hints reads.0 on.0 run.0 (useful_is_new old.held lits (lemmas.0.useful long.0)),
-      subst (λ (k : ℕ). Takes f d (l + 1) (Going (AtLemmas h (record { vars = vars; database = next }) (n + 1))) (map line_of log) (Going (AtLemmas h (record { vars = vars; database = new }) k))) (sym count) rest,
+      subst (λ (k : ℕ). Takes f d (l + 1) (Going (AtLemmas h (record { rule = Rat; vars = vars; database = next }) (n + 1))) (map line_of log) (Going (AtLemmas h (record { rule = Rat; vars = vars; database = new }) k))) (sym count) rest,
     )
 
 pub takes_end : (f : System) (d : List ℕ) (h : Header) (c : Checking) (n l : ℕ) → Takes f d l (Going (AtLemmas h c n)) (codes "end" ∷ []) (Done (record { header = h; answer = Partial n }))

@@ -17,6 +17,10 @@ use Rattle.fbas_model.proofs.QuorumLaw.{quorum-to}
 use Rattle.lrat_model.specs.Literal.{Literal, IsSubset}
 use Rattle.lrat_model.specs.Clauses.{clause_at, with_clause}
 use Rattle.lrat_model.specs.Steps.{ProofStep, Addition, Deletion, Database, step_fault, after_step, progress_of}
+use Rattle.lrat_model.specs.Rules.{step_fault_by}
+use Rattle.lrat_model.proofs.RatRuns.{rup_is_the_first_rule}
+use Rattle.lrat_model.specs.declared.step.Rule.{Rule}
+use Rattle.lrat_model.specs.declared.step.Rule.TheVariants.{Rup}
 use Rattle.lrat_model.specs.declared.step.StepFault.{StepFault}
 use Rattle.lrat_model.specs.declared.step.StepFault.TheVariants.{IdOrder}
 use Rattle.lrat_model.specs.declared.step.Progress.{Progress}
@@ -58,6 +62,7 @@ pub list_starts : (f : System) (kind : ListKind) (s : Subject) → IsSubject f s
 list_starts f kind s is = record {
   subject = is;
   part = refl;
+  rule = refl;
   vars = refl;
   sets = All-nil (IsPartSet f s.nodes);
   journal = [];
@@ -80,13 +85,13 @@ new_line Whole listed.Blocking g d id u below above off = new_where_uncovered d 
 new_line Part listed.Quorum g d id u below above off = new_where_uncovered d id (clause_for listed.Quorum g u) below above off
 new_line Part listed.Blocking g d id u below above off = new_where_uncovered d id (clause_for listed.Blocking g u) below above off
 
-new_step : (kind : ListKind) (g : Table) (vars : ℕ) (d : Database) (step : ProofStep) → AreBelow d → step_fault vars d step ≡ None → (asks_new kind listed.Quorum && adds_covered d.held step) ≡ false → IsNewLine kind g d.held (StepLine step)
-new_step Whole g vars d step below none off = tt
-new_step Part g vars d (Addition id lits hints) below none off = elim (cases_Bool (nat_le id d.last)) [
+new_step : (kind : ListKind) (g : Table) (d : Database) (step : ProofStep) → AreBelow d → step_fault (size g) d step ≡ None → (asks_new kind listed.Quorum && adds_covered d.held step) ≡ false → IsNewLine kind g d.held (StepLine step)
+new_step Whole g d step below none off = tt
+new_step Part g d (Addition id lits hints) below none off = elim (cases_Bool (nat_le id d.last)) [
   | inl low ↦ let refused = rw low at none in absurd cc
   | inr above ↦ new_where_uncovered d id lits below (leb-false id d.last above) off
 ]
-new_step Part g vars d (Deletion id ids) below none off = tt
+new_step Part g d (Deletion id ids) below none off = tt
 
 no_start : AreBelow nothing_held
 no_start k h = refl
@@ -175,6 +180,7 @@ set_known f s k l which id u state is above part e =
     let known : IsList f s next = record {
       subject = is.subject;
       part = is.part;
+      rule = is.rule;
       vars = is.vars;
       sets = sets_more (IsPartSet f s.nodes) k.sets which u is.sets part;
       journal = is.journal ++ line ∷ [];
@@ -207,23 +213,27 @@ numbered_known f s k l which n state is e =
 
 -- ---- a step more
 
-step_goes : (f : System) (s : Subject) (k : Listing) (step : ProofStep) (p : Progress) → IsList f s k → step_fault k.checker.vars k.checker.database step ≡ None → is_old_step k step ≡ false → progress_of step ≡ p → IsKnownState f (after_list_step s (with_step k step) p)
+step_goes : (f : System) (s : Subject) (k : Listing) (step : ProofStep) (p : Progress) → IsList f s k → step_fault_by k.checker.rule k.checker.vars k.checker.database step ≡ None → is_old_step k step ≡ false → progress_of step ≡ p → IsKnownState f (after_list_step s (with_step k step) p)
 step_goes f s k step p is none off progress = by_progress p progress
   where
     g : Table
     g = k.part.greatest
 
     taken : step_fault (size g) k.checker.database step ≡ None
-    taken = subst (λ (n : ℕ). step_fault n k.checker.database step ≡ None) is.vars none
+    taken =
+        sym (rup_is_the_first_rule (size g) k.checker.database step)
+        ∙ subst (λ (n : ℕ). step_fault_by Rup n k.checker.database step ≡ None) is.vars
+        (subst (λ (r : Rule). step_fault_by r k.checker.vars k.checker.database step ≡ None) is.rule none)
 
     run : JournalRun k.kind k.part.system.sets (members k.part.faulty) g nothing_held (is.journal ++ StepLine step ∷ []) (after_step k.checker.database step)
     run = run_append k.kind k.part.system.sets (members k.part.faulty) g nothing_held is.journal (StepLine step ∷ []) k.checker.database (after_step k.checker.database step) is.run
-        (taken, new_step k.kind g k.checker.vars k.checker.database step (held_below f s k is) none off, refl)
+        (taken, new_step k.kind g k.checker.database step (held_below f s k is) taken off, refl)
 
     by_progress : (q : Progress) → progress_of step ≡ q → IsKnownState f (after_list_step s (with_step k step) q)
     by_progress going is_going = record {
       subject = is.subject;
       part = is.part;
+      rule = is.rule;
       vars = is.vars;
       sets = is.sets;
       journal = is.journal ++ StepLine step ∷ [];
@@ -236,7 +246,7 @@ step_goes f s k step p is none off progress = by_progress p progress
         (subst (λ (p : ListPart). JournalRun k.kind p.system.sets (members p.faulty) p.greatest nothing_held (is.journal ++ StepLine step ∷ []) (after_step k.checker.database step)) is.part run)
         is.blocks is.sets
 
-step_in_list : (f : System) (s : Subject) (k : Listing) (l : ℕ) (step : ProofStep) (o : Option StepFault) (state : State) → IsList f s k → step_fault k.checker.vars k.checker.database step ≡ o → list_step_unless l s k step o ≡ Ok state → IsKnownState f state
+step_in_list : (f : System) (s : Subject) (k : Listing) (l : ℕ) (step : ProofStep) (o : Option StepFault) (state : State) → IsList f s k → step_fault_by k.checker.rule k.checker.vars k.checker.database step ≡ o → list_step_unless l s k step o ≡ Ok state → IsKnownState f state
 step_in_list f s k l step (Some fault) state is at e = absurd cc
 step_in_list f s k l step None state is at e =
     let next : State = after_list_step s (with_step k step) (progress_of step) in
@@ -258,7 +268,7 @@ text_known f s k l text (Some which) state is e =
     numbered_known f s k l which g.0 state is g.2
 text_known f s k l text None state is e =
     let g = got (and_then (literal_in k.kind l) (or_bad_line l (step_in text))) (list_step s k l) state e in
-    step_in_list f s k l g.0 (step_fault k.checker.vars k.checker.database g.0) state is refl g.2
+    step_in_list f s k l g.0 (step_fault_by k.checker.rule k.checker.vars k.checker.database g.0) state is refl g.2
 
 pub known_list : (f : System) (s : Subject) (k : Listing) (l : ℕ) (text : List ℕ) → IsList f s k → (state : State) → list_line f s k l text ≡ Ok state → IsKnownState f state
 known_list f s k l text is state e = elim (cases_Bool (bytes_eq text (codes "end"))) [

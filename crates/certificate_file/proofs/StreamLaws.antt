@@ -5,7 +5,9 @@ use Rattle.std.proofs.lemmas.Bool.{false≢true}
 use Rattle.fbas_model.specs.Nodes.{Table}
 use Rattle.fbas_model.specs.Systems.{System}
 use Rattle.lrat_model.specs.Clauses.{with_clause}
-use Rattle.lrat_model.specs.Steps.{ProofStep, Addition, Deletion, Database, addition_fault, deletion_fault, progress_at}
+use Rattle.lrat_model.specs.Steps.{ProofStep, Addition, Deletion, Database, deletion_fault, progress_at}
+use Rattle.lrat_model.specs.Rules.{addition_fault_by}
+use Rattle.lrat_model.specs.declared.step.Rule.{Rule}
 use Rattle.lrat_model.specs.declared.step.Progress.{Progress}
 use Rattle.lrat_model.specs.declared.step.Progress.TheVariants.{Going as going, Refuted}
 use Rattle.lrat_checker.specs.Checking.{Checking, Stepping}
@@ -57,9 +59,11 @@ not_listed (b ∷ bytes) is =
       | false ↦ first_word b (words_of bytes) later.0 later.1
     ]
 
--- checkers with the same variables and clauses
-pub same_checking : (a b : Checking) → a.vars ≡ b.vars → a.database ≡ b.database → a ≡ b
-same_checking a b vars database = ap (λ (n : ℕ). record { vars = n; database = a.database }) vars ∙ ap (λ (d : Database). record { vars = b.vars; database = d }) database
+-- checkers with the same rule, variables and clauses
+pub same_checking : (a b : Checking) → a.rule ≡ b.rule → a.vars ≡ b.vars → a.database ≡ b.database → a ≡ b
+same_checking a b rule vars database =
+    ap (λ (r : Rule). record { rule = r; vars = a.vars; database = a.database }) rule ∙ ap (λ (n : ℕ). record { rule = b.rule; vars = n; database = a.database }) vars
+    ∙ ap (λ (d : Database). record { rule = b.rule; vars = b.vars; database = d }) database
 
 -- the places of steps, where lines are taken so
 pub at_steps : (f : System) (d : List ℕ) (h : Header) (c : Checking) (l : ℕ) (text : List ℕ) → take_line f d (AtSteps h c) l text ≡ step_line h c l text
@@ -93,53 +97,53 @@ list_progress_so s kind part sets c n going = refl
 list_progress_so s kind part sets c n Refuted = refl
 
 module _ (l : ℕ) (h : Header) (c : Checking) (n : ℕ) where
-  step_taken : (r : Result ProofStep LineFault) → and_then (take_step l h c) (or_bad_line l r) ≡ and_then (next_of (proof.Refutation h)) (read l false c.vars c.database n (outline_in c.vars c.database r))
+  step_taken : (r : Result ProofStep LineFault) → and_then (take_step l h c) (or_bad_line l r) ≡ and_then (next_of (proof.Refutation h)) (read l false c.rule c.vars c.database n (outline_in c.rule c.vars c.database r))
   step_taken (Err e) = refl
-  step_taken (Ok (Addition id lits hints)) = elim (addition_fault c.vars c.database id lits hints) as (λ o. step_unless l h c (Addition id lits hints) o ≡ and_then (next_of (proof.Refutation h)) (read l false c.vars c.database n (Some (Adds id lits o)))) [
+  step_taken (Ok (Addition id lits hints)) = elim (addition_fault_by c.rule c.vars c.database id lits hints) as (λ o. step_unless l h c (Addition id lits hints) o ≡ and_then (next_of (proof.Refutation h)) (read l false c.rule c.vars c.database n (Some (Adds id lits o)))) [
     | Some fault ↦ refl
-    | None ↦ ap (λ (s : State). Ok s) (progress_so h (record { vars = c.vars; database = record { held = with_clause c.database.held id lits; last = id } }) (n + 1) (progress_at lits))
+    | None ↦ ap (λ (s : State). Ok s) (progress_so h (record { rule = c.rule; vars = c.vars; database = record { held = with_clause c.database.held id lits; last = id } }) (n + 1) (progress_at lits))
   ]
-  step_taken (Ok (Deletion id ids)) = elim (deletion_fault c.database.held [] ids) as (λ o. step_unless l h c (Deletion id ids) o ≡ and_then (next_of (proof.Refutation h)) (and_then (λ t. Ok (t, n)) (after_deletion l c.vars c.database ids o))) [
+  step_taken (Ok (Deletion id ids)) = elim (deletion_fault c.database.held [] ids) as (λ o. step_unless l h c (Deletion id ids) o ≡ and_then (next_of (proof.Refutation h)) (and_then (λ t. Ok (t, n)) (after_deletion l c.rule c.vars c.database ids o))) [
     | Some fault ↦ refl
     | None ↦ refl
   ]
 
-  lemma_taken : (r : Result ProofStep LineFault) → and_then (take_lemma l h c n) (and_then (with_literal l) (or_bad_line l r)) ≡ and_then (next_of (proof.Partial h)) (read l true c.vars c.database n (outline_in c.vars c.database r))
+  lemma_taken : (r : Result ProofStep LineFault) → and_then (take_lemma l h c n) (and_then (with_literal l) (or_bad_line l r)) ≡ and_then (next_of (proof.Partial h)) (read l true c.rule c.vars c.database n (outline_in c.rule c.vars c.database r))
   lemma_taken (Err e) = refl
   lemma_taken (Ok (Addition id [] hints)) = refl
-  lemma_taken (Ok (Addition id (x ∷ xs) hints)) = elim (addition_fault c.vars c.database id (x ∷ xs) hints) as (λ o. lemma_unless l h c n (Addition id (x ∷ xs) hints) o ≡ and_then (next_of (proof.Partial h)) (read l true c.vars c.database n (Some (Adds id (x ∷ xs) o)))) [
+  lemma_taken (Ok (Addition id (x ∷ xs) hints)) = elim (addition_fault_by c.rule c.vars c.database id (x ∷ xs) hints) as (λ o. lemma_unless l h c n (Addition id (x ∷ xs) hints) o ≡ and_then (next_of (proof.Partial h)) (read l true c.rule c.vars c.database n (Some (Adds id (x ∷ xs) o)))) [
     | Some fault ↦ refl
-    | None ↦ unless_then (next_of (proof.Partial h)) (NotNew l) (not (is_covered c.database.held id (x ∷ xs))) (Ok ((record { vars = c.vars; database = record { held = with_clause c.database.held id (x ∷ xs); last = id } }, going), n + 1))
+    | None ↦ unless_then (next_of (proof.Partial h)) (NotNew l) (not (is_covered c.database.held id (x ∷ xs))) (Ok ((record { rule = c.rule; vars = c.vars; database = record { held = with_clause c.database.held id (x ∷ xs); last = id } }, going), n + 1))
   ]
-  lemma_taken (Ok (Deletion id ids)) = elim (deletion_fault c.database.held [] ids) as (λ o. lemma_unless l h c n (Deletion id ids) o ≡ and_then (next_of (proof.Partial h)) (and_then (λ t. Ok (t, n)) (after_deletion l c.vars c.database ids o))) [
+  lemma_taken (Ok (Deletion id ids)) = elim (deletion_fault c.database.held [] ids) as (λ o. lemma_unless l h c n (Deletion id ids) o ≡ and_then (next_of (proof.Partial h)) (and_then (λ t. Ok (t, n)) (after_deletion l c.rule c.vars c.database ids o))) [
     | Some fault ↦ refl
     | None ↦ refl
   ]
 
 module _ (l : ℕ) (s : Subject) (part : ListPart) (c : Checking) (sets : List Table) (n : ℕ) where
-  list_taken : (kind : ListKind) (r : Result ProofStep LineFault) → and_then (list_step s (record { kind = kind; part = part; checker = c; sets = sets; units = n }) l) (and_then (literal_in kind l) (or_bad_line l r)) ≡ and_then (next_of (proof.List s kind part sets)) (read l (is_part_kind kind) c.vars c.database n (outline_in c.vars c.database r))
+  list_taken : (kind : ListKind) (r : Result ProofStep LineFault) → and_then (list_step s (record { kind = kind; part = part; checker = c; sets = sets; units = n }) l) (and_then (literal_in kind l) (or_bad_line l r)) ≡ and_then (next_of (proof.List s kind part sets)) (read l (is_part_kind kind) c.rule c.vars c.database n (outline_in c.rule c.vars c.database r))
   list_taken Whole (Err e) = refl
   list_taken Part (Err e) = refl
-  list_taken Whole (Ok (Addition id lits hints)) = elim (addition_fault c.vars c.database id lits hints) as (λ o. list_step_unless l s (record { kind = Whole; part = part; checker = c; sets = sets; units = n }) (Addition id lits hints) o ≡ and_then (next_of (proof.List s Whole part sets)) (read l false c.vars c.database n (Some (Adds id lits o)))) [
+  list_taken Whole (Ok (Addition id lits hints)) = elim (addition_fault_by c.rule c.vars c.database id lits hints) as (λ o. list_step_unless l s (record { kind = Whole; part = part; checker = c; sets = sets; units = n }) (Addition id lits hints) o ≡ and_then (next_of (proof.List s Whole part sets)) (read l false c.rule c.vars c.database n (Some (Adds id lits o)))) [
     | Some fault ↦ refl
-    | None ↦ ap (λ (s : State). Ok s) (list_progress_so s Whole part sets (record { vars = c.vars; database = record { held = with_clause c.database.held id lits; last = id } }) (n + 1) (progress_at lits))
+    | None ↦ ap (λ (s : State). Ok s) (list_progress_so s Whole part sets (record { rule = c.rule; vars = c.vars; database = record { held = with_clause c.database.held id lits; last = id } }) (n + 1) (progress_at lits))
   ]
   list_taken Part (Ok (Addition id [] hints)) = refl
-  list_taken Part (Ok (Addition id (x ∷ xs) hints)) = elim (addition_fault c.vars c.database id (x ∷ xs) hints) as (λ o. list_step_unless l s (record { kind = Part; part = part; checker = c; sets = sets; units = n }) (Addition id (x ∷ xs) hints) o ≡ and_then (next_of (proof.List s Part part sets)) (read l true c.vars c.database n (Some (Adds id (x ∷ xs) o)))) [
+  list_taken Part (Ok (Addition id (x ∷ xs) hints)) = elim (addition_fault_by c.rule c.vars c.database id (x ∷ xs) hints) as (λ o. list_step_unless l s (record { kind = Part; part = part; checker = c; sets = sets; units = n }) (Addition id (x ∷ xs) hints) o ≡ and_then (next_of (proof.List s Part part sets)) (read l true c.rule c.vars c.database n (Some (Adds id (x ∷ xs) o)))) [
     | Some fault ↦ refl
-    | None ↦ unless_then (next_of (proof.List s Part part sets)) (NotNew l) (not (is_covered c.database.held id (x ∷ xs))) (Ok ((record { vars = c.vars; database = record { held = with_clause c.database.held id (x ∷ xs); last = id } }, going), n + 1))
+    | None ↦ unless_then (next_of (proof.List s Part part sets)) (NotNew l) (not (is_covered c.database.held id (x ∷ xs))) (Ok ((record { rule = c.rule; vars = c.vars; database = record { held = with_clause c.database.held id (x ∷ xs); last = id } }, going), n + 1))
   ]
-  list_taken Whole (Ok (Deletion id ids)) = elim (deletion_fault c.database.held [] ids) as (λ o. list_step_unless l s (record { kind = Whole; part = part; checker = c; sets = sets; units = n }) (Deletion id ids) o ≡ and_then (next_of (proof.List s Whole part sets)) (and_then (λ t. Ok (t, n)) (after_deletion l c.vars c.database ids o))) [
+  list_taken Whole (Ok (Deletion id ids)) = elim (deletion_fault c.database.held [] ids) as (λ o. list_step_unless l s (record { kind = Whole; part = part; checker = c; sets = sets; units = n }) (Deletion id ids) o ≡ and_then (next_of (proof.List s Whole part sets)) (and_then (λ t. Ok (t, n)) (after_deletion l c.rule c.vars c.database ids o))) [
     | Some fault ↦ refl
     | None ↦ refl
   ]
-  list_taken Part (Ok (Deletion id ids)) = elim (deletion_fault c.database.held [] ids) as (λ o. list_step_unless l s (record { kind = Part; part = part; checker = c; sets = sets; units = n }) (Deletion id ids) o ≡ and_then (next_of (proof.List s Part part sets)) (and_then (λ t. Ok (t, n)) (after_deletion l c.vars c.database ids o))) [
+  list_taken Part (Ok (Deletion id ids)) = elim (deletion_fault c.database.held [] ids) as (λ o. list_step_unless l s (record { kind = Part; part = part; checker = c; sets = sets; units = n }) (Deletion id ids) o ≡ and_then (next_of (proof.List s Part part sets)) (and_then (λ t. Ok (t, n)) (after_deletion l c.rule c.vars c.database ids o))) [
     | Some fault ↦ refl
     | None ↦ refl
   ]
 
 -- a step line is taken as its outline is
-read_so : (f : System) (d : List ℕ) (p : Proof) (c : Checking) (n l : ℕ) (text : List ℕ) → is_other text ≡ false → take_line f d (place_of p c n) l text ≡ and_then (next_of p) (read l (is_part p) c.vars c.database n (outline_in c.vars c.database (step_in text)))
+read_so : (f : System) (d : List ℕ) (p : Proof) (c : Checking) (n l : ℕ) (text : List ℕ) → is_other text ≡ false → take_line f d (place_of p c n) l text ≡ and_then (next_of p) (read l (is_part p) c.rule c.vars c.database n (outline_in c.rule c.vars c.database (step_in text)))
 read_so f d (proof.Refutation h) c n l text is = at_steps f d h c l text ∙ rw (not_end text is) (step_taken l h c n (step_in text))
 read_so f d (proof.Partial h) c n l text is = at_lemmas f d h c n l text ∙ rw (not_end text is) (lemma_taken l h c n (step_in text))
 read_so f d (proof.List s kind part sets) c n l text is =
@@ -149,18 +153,19 @@ read_so f d (proof.List s kind part sets) c n l text is =
 
 -- a step line that was read as a stream, before and after which the checkers were these, is taken so
 pub read_line : (f : System) (d : List ℕ) (p : Proof) (part : Bool) (now later : Stepping) (n l line : ℕ) (words : StepWords) (text : List ℕ) (r : Result (Finished × ℕ) CertError)
-    → later.vars ≡ now.vars → later.database ≡ now.database → line ≡ l → part ≡ is_part p → is_other text ≡ false
-    → outline_in now.vars now.database (step_in text) ≡ ahead now.vars now.database words later.open_addition []
-    → read line part later.vars later.database n (ahead later.vars later.database words later.open_addition []) ≡ r
+    → later.rule ≡ now.rule → later.vars ≡ now.vars → later.database ≡ now.database → line ≡ l → part ≡ is_part p → is_other text ≡ false
+    → outline_in now.rule now.vars now.database (step_in text) ≡ ahead now.rule now.vars now.database words later.open_addition []
+    → read line part later.rule later.vars later.database n (ahead later.rule later.vars later.database words later.open_addition []) ≡ r
     → take_line f d (place_of p (checking_of now) n) l text ≡ and_then (next_of p) r
-read_line f d p part now later n l line words text r vars database number is other told came =
+read_line f d p part now later n l line words text r rule vars database number is other told came =
     read_so f d p (checking_of now) n l text other
     ∙ ap (and_then (next_of p)) (
-    ap (read l (is_part p) now.vars now.database n) told
-    ∙ sym (ap (λ (v : ℕ). read l (is_part p) v now.database n (ahead v now.database words later.open_addition [])) vars)
-    ∙ sym (ap (λ (b : Database). read l (is_part p) later.vars b n (ahead later.vars b words later.open_addition [])) database)
-    ∙ sym (ap (λ (x : ℕ). read x (is_part p) later.vars later.database n (ahead later.vars later.database words later.open_addition [])) number)
-    ∙ sym (ap (λ (x : Bool). read line x later.vars later.database n (ahead later.vars later.database words later.open_addition [])) is)
+    ap (read l (is_part p) now.rule now.vars now.database n) told
+    ∙ sym (ap (λ (u : Rule). read l (is_part p) u now.vars now.database n (ahead u now.vars now.database words later.open_addition [])) rule)
+    ∙ sym (ap (λ (v : ℕ). read l (is_part p) later.rule v now.database n (ahead later.rule v now.database words later.open_addition [])) vars)
+    ∙ sym (ap (λ (b : Database). read l (is_part p) later.rule later.vars b n (ahead later.rule later.vars b words later.open_addition [])) database)
+    ∙ sym (ap (λ (x : ℕ). read x (is_part p) later.rule later.vars later.database n (ahead later.rule later.vars later.database words later.open_addition [])) number)
+    ∙ sym (ap (λ (x : Bool). read line x later.rule later.vars later.database n (ahead later.rule later.vars later.database words later.open_addition [])) is)
     ∙ came
     )
 

@@ -2,6 +2,7 @@
 use Rattle.std.specs.Prelude.{◌≡◌, ℕ, ◌+◌, List, [], ◌∷◌, length, All, Bool, true, false, not, ◌&&◌, Option, None, Some, Result, Ok, Err, if◌then◌else◌}
 use Rattle.lrat_model.specs.Clauses.{Held, with_clause, without}
 use Rattle.lrat_model.specs.Steps.{Database, deletion_fault, progress_at}
+use Rattle.lrat_model.specs.declared.step.Rule.{Rule}
 use Rattle.lrat_model.specs.declared.step.StepFault.{StepFault}
 use Rattle.lrat_model.specs.declared.step.Progress.{Progress}
 use Rattle.lrat_model.specs.declared.step.Progress.TheVariants.{Going as going, Refuted}
@@ -22,20 +23,20 @@ use Rattle.certificate_file.specs.declared.places.Proof.TheVariants as proof
 use Rattle.cert_lines.specs.declared.faults.CertError.{CertError}
 use Rattle.cert_lines.specs.declared.faults.CertError.TheVariants.{BadLine, NotNew, Step}
 
--- a checker with these variables and clauses, and where a step led
+-- what a checker holds, and where a step led
 abbrev pub Finished : Type 0
 Finished = Checking × Progress
 
-abbrev pub after_deletion : ℕ → ℕ → Database → List ℕ → Option StepFault → Result Finished CertError
-after_deletion l vars database ids (Some fault) = Err (Step l fault)
-after_deletion l vars database ids None = Ok (record { vars = vars; database = record { held = without database.held ids; last = database.last } }, going)
+abbrev pub after_deletion : ℕ → Rule → ℕ → Database → List ℕ → Option StepFault → Result Finished CertError
+after_deletion l rule vars database ids (Some fault) = Err (Step l fault)
+after_deletion l rule vars database ids None = Ok (record { rule = rule; vars = vars; database = record { held = without database.held ids; last = database.last } }, going)
 
 -- the step of line l taken, where the line has one
-abbrev pub finished : ℕ → ℕ → Database → Option StepOutline → Result Finished CertError
-finished l vars database None = Err (BadLine l)
-finished l vars database (Some (Adds id lits (Some fault))) = Err (Step l fault)
-finished l vars database (Some (Adds id lits None)) = Ok (record { vars = vars; database = record { held = with_clause database.held id lits; last = id } }, progress_at lits)
-finished l vars database (Some (Deletes id ids)) = after_deletion l vars database ids (deletion_fault database.held [] ids)
+abbrev pub finished : ℕ → Rule → ℕ → Database → Option StepOutline → Result Finished CertError
+finished l rule vars database None = Err (BadLine l)
+finished l rule vars database (Some (Adds id lits (Some fault))) = Err (Step l fault)
+finished l rule vars database (Some (Adds id lits None)) = Ok (record { rule = rule; vars = vars; database = record { held = with_clause database.held id lits; last = id } }, progress_at lits)
+finished l rule vars database (Some (Deletes id ids)) = after_deletion l rule vars database ids (deletion_fault database.held [] ids)
 
 -- it adds the empty lemma
 abbrev pub is_empty_lemma : Option StepOutline → Bool
@@ -58,14 +59,14 @@ counted_read n (Some (Deletes id ids)) = n
 
 -- the step of line l taken, and the units after it. In a part of a proof the empty lemma may not stand, and each lemma has to
 -- be new
-abbrev pub read : ℕ → Bool → ℕ → Database → ℕ → Option StepOutline → Result (Finished × ℕ) CertError
-read l part vars database n o =
+abbrev pub read : ℕ → Bool → Rule → ℕ → Database → ℕ → Option StepOutline → Result (Finished × ℕ) CertError
+read l part rule vars database n o =
     if part && is_empty_lemma o then Err (BadLine l)
-    else and_then (λ t. unless (NotNew l) (not (part && covers_read database.held o)) (Ok (t, counted_read n o))) (finished l vars database o)
+    else and_then (λ t. unless (NotNew l) (not (part && covers_read database.held o)) (Ok (t, counted_read n o))) (finished l rule vars database o)
 
 -- what a checker holds between two steps
 abbrev pub checking_of : Stepping → Checking
-checking_of c = record { vars = c.vars; database = c.database }
+checking_of c = record { rule = c.rule; vars = c.vars; database = c.database }
 
 -- ---- proofs by steps
 

@@ -11,6 +11,7 @@ use fbas_core::System;
 use greatest_quorum::greatest;
 use list_journal::{ListKind, SetList};
 use lrat_checker::IdleChecker;
+use lrat_model::Rule;
 use std::alloc::{AllocError, Global};
 
 /// A list of the part before its first line: nothing is held, and each node of the greatest quorum has a variable.
@@ -26,7 +27,8 @@ fn no_listing(
     let part = system.restrict(alloc, &subject.nodes)?;
     let faulty = system.cut(&subject.header.faulty, &subject.nodes);
     let greatest = greatest(&part, &faulty);
-    let mut checker = IdleChecker::start(alloc, Store::new(alloc), u64::from(greatest.count()))?;
+    let vars = u64::from(greatest.count());
+    let mut checker = IdleChecker::start(alloc, Store::new(alloc), vars, Rule::Rup)?;
     checker.expect_covers(alloc);
     Ok(Listing {
         kind,

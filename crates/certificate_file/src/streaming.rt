@@ -1,6 +1,7 @@
 //! One step that was read as a stream.
 ghost use Rattle.std.specs.Prelude.{◌≡◌, ◌⊎◌, [], ℕ, Option, None, IfOk, IfErr, IfSome, IsErrOf, OnOk, Ok, Err};
 ghost use Rattle.lrat_model.specs.Steps.{Database};
+ghost use Rattle.lrat_model.specs.declared.step.Rule.{Rule};
 ghost use Rattle.lrat_checker.specs.Adding.{Adding};
 ghost use Rattle.step_stream.specs.Ahead.{ahead, IsOpen, Fits};
 ghost use Rattle.certificate_file.specs.Streamed.{finished, is_empty_lemma, covers_read, counted_read, read, checking_of};
@@ -15,8 +16,8 @@ fn finish(checker: &mut Checker, words: &mut StepWords, line: u64) -> Result<Pro
     requires { Fits words.old checker.old.open_addition }
     ensures closed { OnOk result (checker.new.open_addition ≡ None) }
     ensures unread { IsErrOf result CertError.Read → ⊥ }
-    ensures ok { IfOk result (λ p. finished line checker.old.vars checker.old.database (ahead checker.old.vars checker.old.database words.old checker.old.open_addition []) ≡ Ok (checking_of checker.new, p)) }
-    ensures err { IfErr result (λ e. (e ≡ CertError.Memory) ⊎ (finished line checker.old.vars checker.old.database (ahead checker.old.vars checker.old.database words.old checker.old.open_addition []) ≡ Err e)) }
+    ensures ok { IfOk result (λ p. finished line checker.old.rule checker.old.vars checker.old.database (ahead checker.old.rule checker.old.vars checker.old.database words.old checker.old.open_addition []) ≡ Ok (checking_of checker.new, p)) }
+    ensures err { IfErr result (λ e. (e ≡ CertError.Memory) ⊎ (finished line checker.old.rule checker.old.vars checker.old.database (ahead checker.old.rule checker.old.vars checker.old.database words.old checker.old.open_addition []) ≡ Err e)) }
 {
     match words.stage {
         Stage::Added(_) => finish_addition(checker, words, line),
@@ -39,8 +40,8 @@ fn finish_addition(
     requires { (id : ℕ) × (words.old.stage ≡ Stage.Added id) × IsOpen id words.old.lits.items words.old.fault checker.old.open_addition }
     ensures closed { OnOk result (checker.new.open_addition ≡ None) }
     ensures unread { IsErrOf result CertError.Read → ⊥ }
-    ensures ok { IfOk result (λ p. finished line checker.old.vars checker.old.database (ahead checker.old.vars checker.old.database words.old checker.old.open_addition []) ≡ Ok (checking_of checker.new, p)) }
-    ensures err { IfErr result (λ e. (e ≡ CertError.Memory) ⊎ (finished line checker.old.vars checker.old.database (ahead checker.old.vars checker.old.database words.old checker.old.open_addition []) ≡ Err e)) }
+    ensures ok { IfOk result (λ p. finished line checker.old.rule checker.old.vars checker.old.database (ahead checker.old.rule checker.old.vars checker.old.database words.old checker.old.open_addition []) ≡ Ok (checking_of checker.new, p)) }
+    ensures err { IfErr result (λ e. (e ≡ CertError.Memory) ⊎ (finished line checker.old.rule checker.old.vars checker.old.database (ahead checker.old.rule checker.old.vars checker.old.database words.old checker.old.open_addition []) ≡ Err e)) }
 {
     if let Some(fault) = words.fault.take() {
         return Err(CertError::Step(line, fault));
@@ -61,8 +62,8 @@ fn finish_deletion(
     requires { (id : ℕ) × (words.old.stage ≡ Stage.Deleted id) × (checker.old.open_addition ≡ None) }
     ensures closed { OnOk result (checker.new.open_addition ≡ None) }
     ensures unread { IsErrOf result CertError.Read → ⊥ }
-    ensures ok { IfOk result (λ p. finished line checker.old.vars checker.old.database (ahead checker.old.vars checker.old.database words.old checker.old.open_addition []) ≡ Ok (checking_of checker.new, p)) }
-    ensures err { IfErr result (λ e. (e ≡ CertError.Memory) ⊎ (finished line checker.old.vars checker.old.database (ahead checker.old.vars checker.old.database words.old checker.old.open_addition []) ≡ Err e)) }
+    ensures ok { IfOk result (λ p. finished line checker.old.rule checker.old.vars checker.old.database (ahead checker.old.rule checker.old.vars checker.old.database words.old checker.old.open_addition []) ≡ Ok (checking_of checker.new, p)) }
+    ensures err { IfErr result (λ e. (e ≡ CertError.Memory) ⊎ (finished line checker.old.rule checker.old.vars checker.old.database (ahead checker.old.rule checker.old.vars checker.old.database words.old checker.old.open_addition []) ≡ Err e)) }
 {
     match checker.delete(&words.ids) {
         Ok(progress) => Ok(progress),
@@ -72,7 +73,7 @@ fn finish_deletion(
 
 /// Whether it adds the empty lemma.
 fn is_empty_lemma(words: &StepWords) -> bool
-    ensures { (vars : ℕ) (database : Database) (now : Option Adding) → result ≡ is_empty_lemma (ahead vars database words.now now []) }
+    ensures { (rule : Rule) (vars : ℕ) (database : Database) (now : Option Adding) → result ≡ is_empty_lemma (ahead rule vars database words.now now []) }
 {
     match words.stage {
         Stage::Added(_) => words.lits.is_empty(),
@@ -88,7 +89,7 @@ fn is_empty_lemma(words: &StepWords) -> bool
 
 /// Whether it adds a clause of which one that is held is a subset.
 fn covers_read(checker: &Checker, words: &StepWords) -> bool
-    ensures { (vars : ℕ) (database : Database) (now : Option Adding) → result ≡ covers_read checker.now.database.held (ahead vars database words.now now []) }
+    ensures { (rule : Rule) (vars : ℕ) (database : Database) (now : Option Adding) → result ≡ covers_read checker.now.database.held (ahead rule vars database words.now now []) }
 {
     match words.stage {
         Stage::Added(id) => checker.covers(id, &words.lits),
@@ -104,7 +105,7 @@ fn covers_read(checker: &Checker, words: &StepWords) -> bool
 
 /// The units after it, while they can be counted.
 fn counted_read(units: u64, words: &StepWords) -> Option<u64>
-    ensures { (vars : ℕ) (database : Database) (now : Option Adding) → IfSome result (λ n. n ≡ counted_read units (ahead vars database words.now now [])) }
+    ensures { (rule : Rule) (vars : ℕ) (database : Database) (now : Option Adding) → IfSome result (λ n. n ≡ counted_read units (ahead rule vars database words.now now [])) }
 {
     match words.stage {
         Stage::Added(_) => units.checked_add(1),
@@ -130,8 +131,8 @@ pub fn take_read(
     requires { Fits words.old checker.old.open_addition }
     ensures closed { OnOk result (checker.new.open_addition ≡ None) }
     ensures unread { IsErrOf result CertError.Read → ⊥ }
-    ensures ok { IfOk result (λ p. read line is_part checker.old.vars checker.old.database units.old (ahead checker.old.vars checker.old.database words.old checker.old.open_addition []) ≡ Ok ((checking_of checker.new, p), units.new)) }
-    ensures err { IfErr result (λ e. (e ≡ CertError.Memory) ⊎ (read line is_part checker.old.vars checker.old.database units.old (ahead checker.old.vars checker.old.database words.old checker.old.open_addition []) ≡ Err e)) }
+    ensures ok { IfOk result (λ p. read line is_part checker.old.rule checker.old.vars checker.old.database units.old (ahead checker.old.rule checker.old.vars checker.old.database words.old checker.old.open_addition []) ≡ Ok ((checking_of checker.new, p), units.new)) }
+    ensures err { IfErr result (λ e. (e ≡ CertError.Memory) ⊎ (read line is_part checker.old.rule checker.old.vars checker.old.database units.old (ahead checker.old.rule checker.old.vars checker.old.database words.old checker.old.open_addition []) ≡ Err e)) }
 {
     if is_part && is_empty_lemma(words) {
         return Err(CertError::BadLine(line));

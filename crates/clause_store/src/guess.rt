@@ -1,6 +1,4 @@
 //! Where the entry of an id is looked for first.
-ghost use Rattle.std.specs.Prelude.{◌<◌, length};
-
 use crate::index::Entry;
 use std::alloc::Global;
 
@@ -9,8 +7,8 @@ use std::alloc::Global;
 ///
 /// While ids follow one another from the first on, an id's place is its distance from the first, and no memory is needed.
 /// From the first gap on, or where clauses were taken out between others, the places stand in a table, at the id modulo
-/// the table's length, which is two to four times that of the index: ids that follow one another never meet there. Where
-/// two do, the greater one stands. Where memory for the table runs out there is none.
+/// the table's length, a power of two that is two to four times the length of the index: ids that follow one another never
+/// meet there. Where two do, the greater one stands. Where memory for the table runs out there is none.
 #[derive(Drop)]
 pub struct Guesses {
     places: Vec<u32>,
@@ -18,6 +16,9 @@ pub struct Guesses {
 
 /// A place that is none.
 const NOWHERE: u32 = u32::MAX;
+
+/// More entries than any memory has room for.
+const MOST_ENTRIES: usize = 1 << 60;
 
 impl Guesses {
     /// No table. Takes no memory.
@@ -29,9 +30,8 @@ impl Guesses {
 
     /// Where to look first. O(1).
     pub fn place(&self, entries: &[Entry], id: u64) -> usize {
-        let slots = self.places.len();
-        if slots > 0 {
-            return self.places[id as usize % slots] as usize;
+        if let Some(place) = self.places.get(slot(id, self.places.len())) {
+            return *place as usize;
         }
         match entries.first() {
             Some(first) => id.saturating_sub(first.id) as usize,
@@ -50,18 +50,20 @@ impl Guesses {
                 self.see_all(entries);
             }
         } else {
-            self.places[last.id as usize % slots] = place_number(entries.len() - 1);
+            set_place(&mut self.places, last.id, entries.len() - 1);
         }
     }
 
     /// Sees all entries anew. O(entries).
     pub fn see_all(&mut self, entries: &[Entry]) {
         self.places.clear();
-        let slots = entries.len().saturating_mul(4);
-        if slots == 0 || are_dense(entries) || self.places.resize(slots, NOWHERE).is_err() {
+        let slots = (entries.len().min(MOST_ENTRIES) * 2).next_power_of_two();
+        if are_dense(entries) || self.places.resize(slots, NOWHERE).is_err() {
             return;
         }
-        set_places(&mut self.places, entries);
+        for (place, entry) in entries.iter().enumerate() {
+            set_place(&mut self.places, entry.id, place);
+        }
     }
 }
 
@@ -78,12 +80,15 @@ fn place_number(place: usize) -> u32 {
     u32::try_from(place).unwrap_or(NOWHERE)
 }
 
-/// Writes each entry's place into the table. O(entries).
-fn set_places(places: &mut [u32], entries: &[Entry])
-    requires { 0 < length places.old }
-{
-    for (place, entry) in entries.iter().enumerate() {
-        let slot = entry.id as usize % places.len();
-        places[slot] = place_number(place);
+/// The slot of an id in a table of this length. With no slot there is none: the length less 1 wraps.
+fn slot(id: u64, slots: usize) -> usize {
+    id as usize & slots.wrapping_sub(1)
+}
+
+/// Writes the place of an id into the table.
+fn set_place(places: &mut [u32], id: u64, place: usize) {
+    let slot = slot(id, places.len());
+    if let Some(there) = places.get_mut(slot) {
+        *there = place_number(place);
     }
 }

@@ -3,7 +3,7 @@ use Rattle.std.proofs.Common.{◌≡◌, ℕ, ◌+◌, ◌<◌, ◌&&◌, ◌||�
 use Rattle.std.specs.Prelude.{All, set}
 use Rattle.std.proofs.Math.Bool.{or-false, and-true, and-false}
 use Rattle.std.proofs.lemmas.Bool.{cases_Bool, false_from_ne_true, cases_lt, lt-ltb, ltb-true, eqb-true, eq-eqb}
-use Rattle.std.proofs.lemmas.List.{get_or_past, get_or_read, get_or-set_same, get_or-set_other, length-set, length_push, drop_all, append-nil}
+use Rattle.std.proofs.lemmas.List.{get_or_past, get_or_read, get_or_push, get_or_append_left, get_or-set_same, get_or-set_other, length-set, length_push, drop_all, append-nil}
 use Rattle.std.proofs.lemmas.List.Elements.{All-push, All-set}
 use mathlib.Core.Path.{fun_ext}
 use Rattle.fbas_model.specs.Nodes.{Nodes, Table, members, ∅, only, ◌∪◌, listed_from}
@@ -12,7 +12,7 @@ use Rattle.fbas_model.specs.QuorumSets.{mentioned}
 use Rattle.fbas_model.specs.Fbas.{Fbas}
 use Rattle.fbas_model.specs.Lists.{among}
 use Rattle.fbas_model.proofs.Listed.{among_more, iterated_all}
-use Rattle.fbas_core.specs.Mentioning.{AreSquare, AreMentioning, IsAdded, members_at, mentioning, stands_in}
+use Rattle.fbas_core.specs.Mentioning.{AreSquare, AreMentioned, AreSwapped, IsAdded, members_at, mentioning, mentioned_by, stands_in}
 
 -- the numbers below i + 1 in a set are those below i, and i
 one_more : (m : Nodes) (w i : ℕ) → (nat_lt w (i + 1) && m w) ≡ ((nat_lt w i && m w) || (m i && (w == i)))
@@ -35,45 +35,63 @@ one_more m w i = elim (cases_Bool (w == i)) [
     both : (w i : ℕ) → (w == i) ≡ false → w ≡ i → ⊥
     both w i e same = absurd (let yes = eq-eqb w i same in cc)
 
-pub mentioning_first : (f : Fbas) (tables : List Table) → AreSquare (length f) tables → ((v w : ℕ) → members_at tables v w ≡ false) → AreMentioning f 0 tables
-mentioning_first f tables square empty = record {
+-- ---- the nodes that each mentions
+
+-- one node more
+pub mentioned_push : (f : Fbas) (i : ℕ) (tables : List Table) (t : Table) → AreMentioned f i tables → length t ≡ length f → members t ≡ (λ w. stands_in w (slice_index_or f i None)) → AreMentioned f (i + 1) (tables ++ t ∷ [])
+mentioned_push f i tables t m size is = record {
+  many = length_push tables t ∙ ap (λ (k : ℕ). k + 1) m.many;
+  each = All-push (λ (r : Table). length r ≡ length f) tables t m.each size;
+  same = λ v w low. elim (cases_lt v i) [
+    | inl lt ↦ ap (λ (r : Table). members r w) (get_or_append_left tables (t ∷ []) [] v (let n = m.many in omega (arith, n, lt))) ∙ m.same v w lt
+    | inr le ↦
+        let here : v ≡ i = omega (arith, le, low) in
+        ap (λ (r : Table). members r w) (get_or_push tables t [] v (m.many ∙ sym here)) ∙ ap (λ (s : Nodes). s w) is ∙ ap (λ (k : ℕ). mentioned_by f k w) (sym here)
+  ];
+}
+
+pub mentioned_whole : (f : Fbas) (tables : List Table) (v : ℕ) (t : Table) → v < length f → t ≡ slice_index_or tables v t → AreMentioned f (length f) tables → members t ≡ mentioned_by f v
+mentioned_whole f tables v t low is m = fun_ext (λ w. ap (λ (u : Table). members u w) (get_or_read tables v t (let n = m.many in omega (arith, low, n)) is []) ∙ m.same v w low)
+
+-- a set with nothing but what a quorum set mentions
+pub mentioned_alone : (d : QuorumSet) (s t : Nodes) → s ≡ ∅ → t ≡ s ∪ mentioned d → t ≡ (λ w. stands_in w (Some d))
+mentioned_alone d s t none m = m ∙ ap (λ (u : Nodes). u ∪ mentioned d) none
+
+-- ---- the nodes that mention each
+
+pub swapped_first : (tables swapped : List Table) → AreSquare (length tables) swapped → ((v w : ℕ) → members_at swapped v w ≡ false) → AreSwapped 0 tables swapped
+swapped_first tables swapped square empty = record {
   square = square;
   same = λ v w.
       let none : nat_lt w 0 ≡ false = false_from_ne_true (nat_lt w 0) (λ t. absurd (let h = ltb-true w 0 t in omega (arith, h))) in
-      empty v w ∙ sym (ap (λ (b : Bool). b && mentioning f v w) none);
+      empty v w ∙ sym (ap (λ (b : Bool). b && members_at tables w v) none);
 }
 
--- one without a quorum set mentions nothing
-pub mentioning_none : (f : Fbas) (i : ℕ) (tables : List Table) → None ≡ slice_index_or f i None → AreMentioning f i tables → AreMentioning f (i + 1) tables
-mentioning_none f i tables none m = record {
-  square = m.square;
+-- one node is added to the sets of those that it mentions
+pub swapped_more : (tables old new : List Table) (i : ℕ) (t : Table) → i < length tables → t ≡ slice_index_or tables i t → AreSwapped i tables old → IsAdded i (members t) old new → AreSwapped (i + 1) tables new
+swapped_more tables old new i t low is s a = record {
+  square = subst (λ (n : ℕ). AreSquare n new) s.square.many a.square;
   same = λ v w.
-      let here : mentioning f v i ≡ false = ap (stands_in v) (sym none) in
-      m.same v w ∙ sym (one_more (mentioning f v) w i ∙ ap (λ (b : Bool). (nat_lt w i && mentioning f v w) || (b && (w == i))) here ∙ or-false (nat_lt w i && mentioning f v w));
+      let here : members t v ≡ members_at tables i v = ap (λ (u : Table). members u v) (get_or_read tables i t low is []) in
+      a.same v w
+      ∙ ap (λ (b : Bool). b || (members t v && (w == i))) (s.same v w)
+      ∙ ap (λ (b : Bool). (nat_lt w i && members_at tables w v) || (b && (w == i))) here
+      ∙ sym (one_more (λ x. members_at tables x v) w i);
 }
 
--- one with a quorum set is added to the sets of those that stand in it
-pub mentioning_more : (f : Fbas) (i : ℕ) (d : QuorumSet) (tables next : List Table) (places : Nodes) → Some d ≡ slice_index_or f i None → places ≡ mentioned d → AreMentioning f i tables → IsAdded i places tables next → AreMentioning f (i + 1) next
-mentioning_more f i d tables next places some is m a = record {
-  square = subst (λ (n : ℕ). AreSquare n next) m.square.many a.square;
-  same = λ v w.
-      let here : places v ≡ mentioning f v i = ap (λ (s : Nodes). s v) is ∙ ap (stands_in v) some in
-      a.same v w ∙ ap (λ (b : Bool). b || (places v && (w == i))) (m.same v w) ∙ ap (λ (b : Bool). (nat_lt w i && mentioning f v w) || (b && (w == i))) here ∙ sym (one_more (mentioning f v) w i);
-}
-
--- all nodes were looked at
-pub mentioning_whole : (f : Fbas) (tables : List Table) (v : ℕ) (t : Table) → v < length f → t ≡ slice_index_or tables v t → AreMentioning f (length f) tables → members t ≡ mentioning f v
-mentioning_whole f tables v t low is m = fun_ext (λ w. here w ∙ (m.same v w ∙ all w))
+pub mentioning_whole : (f : Fbas) (tables swapped : List Table) (v : ℕ) (t : Table) → v < length f → t ≡ slice_index_or swapped v t → AreMentioned f (length f) tables → AreSwapped (length tables) tables swapped → members t ≡ mentioning f v
+mentioning_whole f tables swapped v t low is m s = fun_ext (λ w. here w ∙ (s.same v w ∙ all w))
   where
-    here : (w : ℕ) → members t w ≡ members_at tables v w
-    here w = ap (λ (u : Table). members u w) (get_or_read tables v t (let n = m.square.many in omega (arith, low, n)) is [])
+    here : (w : ℕ) → members t w ≡ members_at swapped v w
+    here w = ap (λ (u : Table). members u w) (get_or_read swapped v t (let n = m.many in let k = s.square.many in omega (arith, low, n, k)) is [])
 
-    all : (w : ℕ) → (nat_lt w (length f) && mentioning f v w) ≡ mentioning f v w
+    all : (w : ℕ) → (nat_lt w (length tables) && members_at tables w v) ≡ mentioning f v w
     all w = elim (cases_lt w (length f)) [
-      | inl lt ↦ ap (λ (b : Bool). b && mentioning f v w) (lt-ltb w (length f) lt)
+      | inl lt ↦ ap (λ (b : Bool). b && members_at tables w v) (lt-ltb w (length tables) (let n = m.many in omega (arith, lt, n))) ∙ m.same w v lt
       | inr past ↦
           let none : mentioning f v w ≡ false = ap (stands_in v) (get_or_past f w None past) in
-          ap (λ (b : Bool). nat_lt w (length f) && b) none ∙ and-false (nat_lt w (length f)) ∙ sym none
+          let out : members_at tables w v ≡ false = ap (λ (u : Table). members u v) (get_or_past tables w [] (let n = m.many in omega (arith, past, n))) in
+          ap (λ (b : Bool). nat_lt w (length tables) && b) out ∙ and-false (nat_lt w (length tables)) ∙ sym none
     ]
 
 -- ---- one node is added to several sets

@@ -8,7 +8,7 @@ ghost use Rattle.fbas_model.specs.Names.{name_cmp, place_of};
 ghost use Rattle.fbas_model.specs.QuorumSets.{all_entries, IsBelow};
 ghost use Rattle.fbas_model.specs.Systems.{System as Whole, IsSystem, entries_in, unset_in};
 ghost use Rattle.fbas_model.specs.Fbas.{HasSliceWithin, Quorum, BlocksNode, all_nodes};
-ghost use Rattle.fbas_core.specs.Mentioning.{mentioning};
+ghost use Rattle.fbas_core.specs.Mentioning.{mentioning, mentioned_by};
 
 mod mentions;
 mod restriction;
@@ -28,14 +28,15 @@ use std::marker::Model;
 pub struct System {
     names: Names,
     sets: Vec<Option<QuorumSet>>,
-    /// For each node those whose quorum sets mention it.
+    /// For each node those that its quorum set mentions, and those whose quorum sets mention it.
+    mentioned: Vec<NodeSet>,
     mentioning: Vec<NodeSet>,
 }
 
 impl Model for System {
     ghost use Rattle.std.specs.Prelude.{length};
     ghost use Rattle.fbas_model.specs.Systems.{System as Whole, coded_system, IsSystem};
-    ghost use Rattle.fbas_core.specs.Mentioning.{AreMentioning};
+    ghost use Rattle.fbas_core.specs.Mentioning.{AreMentioned, AreSwapped};
 
     ghost Value = { Whole };
 
@@ -43,7 +44,7 @@ impl Model for System {
 
     ghost view = { λ s. record { names = s.names; sets = s.sets.items } };
 
-    ghost invariant = { λ s. IsSystem s.names s.sets.items × AreMentioning s.sets.items (length s.sets.items) s.mentioning.items };
+    ghost invariant = { λ s. IsSystem s.names s.sets.items × AreMentioned s.sets.items (length s.sets.items) s.mentioned.items × AreSwapped (length s.mentioned.items) s.mentioned.items s.mentioning.items };
 }
 
 /// How many of the nodes have no quorum set.
@@ -54,8 +55,8 @@ fn count_unset(sets: &[Option<QuorumSet>]) -> usize
 }
 
 impl System {
-    /// The system of the names, where the quorum set of each stands at its place. Linear in the entries, and 512 bytes a node
-    /// to keep who mentions whom.
+    /// The system of the names, where the quorum set of each stands at its place. Linear in the entries, and 1,024 bytes a
+    /// node to keep who mentions whom.
     pub fn of(
         alloc: Global,
         names: Names,
@@ -65,10 +66,12 @@ impl System {
         ensures names { IfOk result (λ system. system.names ≡ names) }
         ensures sets { IfOk result (λ system. system.sets ≡ sets.items) }
     {
-        let mentioning = mentions::mentioning(alloc, &sets)?;
+        let mentioned = mentions::mentioned(alloc, &sets)?;
+        let mentioning = mentions::mentioning(alloc, &mentioned)?;
         Ok(System {
             names,
             sets,
+            mentioned,
             mentioning,
         })
     }
@@ -116,6 +119,15 @@ impl System {
             Some(quorum_set) => Some(quorum_set),
             None => None,
         }
+    }
+
+    /// The nodes that the node's quorum set mentions, at any depth: O(1).
+    pub fn mentioned(&self, v: u32) -> &NodeSet
+        requires { v < length self.now.sets }
+        ensures same_n { length result.now ≡ length self.now.sets }
+        ensures nodes { members result.now ≡ mentioned_by self.now.sets v }
+    {
+        &self.mentioned[v as usize]
     }
 
     /// The nodes whose quorum sets mention the node, at any depth: O(1).

@@ -113,11 +113,15 @@ module _ (f : Fbas) (b : Nodes) (start now next again later : Table) (v : ℕ) w
     settled = λ k at out.
         let parts = and_parts (members now k) (not (k == v)) (subst (λ (t : Nodes). k ∈ t) gone.taken at) in
         let apart : (k == v) ≡ false = not-true (k == v) parts.1 in
-        let no = neither (members again k && not (k == v)) (mentioning f v k) (sym (ap (λ (t : Nodes). t k) gone.waiting) ∙ out) in
+        let no = neither (members again k && not (k == v)) (mentioning f v k) (left_false ((members again k && not (k == v)) || mentioning f v k) (members next k) (sym (ap (λ (t : Nodes). t k) gone.waiting) ∙ out) at) in
         let done : members again k ≡ false = elim (and_cases (members again k) (not (k == v)) no.0) [ inl e ↦ e | inr e ↦ absurd (both_ways (not (k == v)) e parts.1) ] in
         subst (λ (t : Nodes). HasSliceWithin f b k t) (sym gone.taken) (slice_without f b (members now) k v apart no.1 (s.settled k parts.0 done));
   }
     where
+      left_false : (a c : Bool) → (a && c) ≡ false → c ≡ true → a ≡ false
+      left_false true c e here = absurd (both_ways c e here)
+      left_false false c e here = refl
+
       neither : (a c : Bool) → (a || c) ≡ false → (a ≡ false) × (c ≡ false)
       neither true c e = absurd (false≢true (sym e))
       neither false c e = (refl, e)

@@ -1,6 +1,6 @@
 -- What a look at one node of a set does, and what many leave.
 use Rattle.std.specs.Prelude.{◌≡◌, ℕ, Bool, length, MatchBool}
-use Rattle.fbas_model.specs.Nodes.{Nodes, Table, members, ◌∈◌, ◌⊆◌, only, ◌∪◌, ◌∖◌, IsInhabited}
+use Rattle.fbas_model.specs.Nodes.{Nodes, Table, members, ◌∈◌, ◌⊆◌, only, ◌∪◌, ◌∩◌, ◌∖◌, IsInhabited}
 use Rattle.fbas_model.specs.Fbas.{Fbas, HasSliceWithin, Quorum}
 use Rattle.fbas_core.specs.Mentioning.{mentioning}
 
@@ -10,12 +10,12 @@ pub record IsKept (f : Fbas) (b : Nodes) (v : ℕ) (set next again later : Table
   pub has : v ∈ members set → HasSliceWithin f b v (members set)
   pub waiting : members later ≡ members again ∖ only v
 
--- v is taken out of the set, inside which it has no slice, and those that mention it have to be looked at again
+-- v is taken out of the set, inside which it has no slice, and those of the others that mention it have to be looked at again
 pub record IsTaken (f : Fbas) (b : Nodes) (v : ℕ) (set next again later : Table) : Type 0 where
   pub here : v ∈ members set
   pub stuck : HasSliceWithin f b v (members set) → ⊥
   pub taken : members next ≡ members set ∖ only v
-  pub waiting : members later ≡ (members again ∖ only v) ∪ mentioning f v
+  pub waiting : members later ≡ ((members again ∖ only v) ∪ mentioning f v) ∩ members next
 
 -- the node v was looked at, and maybe taken out
 pub record IsLook (f : Fbas) (b : Nodes) (v : ℕ) (set next again later : Table) (taken : Bool) : Type 0 where

@@ -1,9 +1,9 @@
 //! Reads step lines from standard input and feeds them to the checker, to be timed by `bench/lrat.py`.
 //!
 //! `lrat_bench VARS GIVEN` takes the first GIVEN lines, additions, as the clauses of a formula over VARS variables,
-//! and the others as steps; `lrat_bench VARS GIVEN covers` also asks of each lemma whether a clause covers it. Without words
-//! it only reads the lines. `lrat_bench log COUNT` makes a log of this many lemmas of 20 literals and 100 hints, and
-//! counts its numbers.
+//! and the others as steps, which may have RAT hints; `lrat_bench VARS GIVEN covers` also asks of each lemma whether a clause
+//! covers it. Without words it only reads the lines. `lrat_bench log COUNT` makes a log of this many lemmas of 20 literals and
+//! 100 hints, and counts its numbers.
 #![tactic(auto)]
 
 ghost use Rattle.std.specs.Prelude.{◌≡◌, ◌<◌, ◌^◌};
@@ -13,7 +13,7 @@ ghost use Rattle.lrat_model.specs.Ranges.{IsInRange};
 use anyhow::{Context, Result, bail};
 use clause_store::Store;
 use lrat_checker::IdleChecker;
-use lrat_model::{Lit, Step};
+use lrat_model::{Lit, Rule, Step};
 use lrat_text::{HintsRef, Log, StepRef, read_step};
 use std::alloc::Global;
 use std::env;
@@ -110,7 +110,7 @@ fn check_all<R: BufRead>(
         deletions: 0,
         covered: 0,
     };
-    let mut checker = IdleChecker::start(alloc, Store::new(alloc), vars)?;
+    let mut checker = IdleChecker::start(alloc, Store::new(alloc), vars, Rule::Rat)?;
     if asks {
         checker.expect_covers(alloc);
     }

@@ -1,5 +1,5 @@
 -- What the faults of a lemma tell.
-use Rattle.std.proofs.Common.{◌≡◌, ◌≢◌, ℕ, ◌≤◌, ◌+◌, true, false, cond, List, [], ◌∷◌, ◌++◌, refl, Option, Some, None, ℤ, pos, negsuc, Result, Ok, Err, OnOk, OnErr}
+use Rattle.std.proofs.Common.{◌≡◌, ◌≢◌, ℕ, ◌≤◌, ◌+◌, true, false, cond, List, [], ◌∷◌, ◌++◌, refl, Option, Some, None, ℤ, pos, negsuc, map, Result, Ok, Err, OnOk, OnErr}
 use Rattle.std.specs.Prelude.{nat_lt, is_ok, is_err}
 use Rattle.std.specs.Option.{option_or}
 use Rattle.std.proofs.lemmas.Bool.{ltb-false}
@@ -11,8 +11,12 @@ use Rattle.lrat_model.specs.Steps.{literal_fault, outcome_fault}
 use Rattle.lrat_model.specs.declared.step.ClauseStatus.{ClauseStatus}
 use Rattle.lrat_model.specs.declared.step.ClauseStatus.TheVariants.{Falsified, Forces, Unresolved}
 use Rattle.lrat_model.specs.declared.step.StepFault.{StepFault}
-use Rattle.lrat_model.specs.declared.step.StepFault.TheVariants.{BadLiteral, Tautology, Memory}
+use Rattle.lrat_model.specs.declared.step.StepFault.TheVariants.{BadLiteral, Tautology, RatStep, Memory}
 use Rattle.lrat_model.specs.Ranges.{IsInRange}
+use Rattle.lrat_model.specs.Rat.{Group, first_hints, groups_of, made_false, group_outcome, named_outcome, take_group, groups_fault, ids_of, first_without, missing_fault, pivot_fault, rest_fault}
+use Rattle.lrat_model.specs.Rules.{hints_fault}
+use Rattle.lrat_model.specs.declared.step.Rule.{Rule}
+use Rattle.lrat_model.specs.declared.step.Rule.TheVariants.{Rup, Rat}
 
 -- literals without a fault are in range
 pub range-literal_fault : (vars : ℕ) (before ls : List Literal) → literal_fault vars before ls ≡ None → IsInRange vars ls
@@ -71,12 +75,55 @@ outcome_fault-not_memory Conflict not is = cc
 outcome_fault-not_memory (Stops fault) not is = not cc
 outcome_fault-not_memory (Leaves trues) not is = cc
 
-pub lemma_fault-not_memory : (vars : ℕ) (held : Held) (clause trues : List Literal) (hints : List ℤ) → option_or (literal_fault vars [] clause) (outcome_fault (propagate held trues 1 hints)) ≡ Some Memory → ⊥
-lemma_fault-not_memory vars held clause trues hints is =
-    elim (literal_fault vars [] clause) as (λ o. (o ≡ Some Memory → ⊥) → option_or o (outcome_fault (propagate held trues 1 hints)) ≡ Some Memory → ⊥) [
-      | None ↦ λ _ later. outcome_fault-not_memory (propagate held trues 1 hints) (propagate-not_memory held trues 1 hints) later
-      | Some fault ↦ λ never here. never here
-    ] (literal_fault-not_memory vars [] clause) is
+after_first : (first second : Option StepFault) → (first ≡ Some Memory → ⊥) → (second ≡ Some Memory → ⊥) → option_or first second ≡ Some Memory → ⊥
+after_first None second one two is = two is
+after_first (Some fault) second one two is = one is
+
+-- nor of RAT hints
+group_outcome-not_memory : (held : Held) (g : Group) (opened : Option (List Literal)) → IsNotMemory (group_outcome held g opened)
+group_outcome-not_memory held g None = tt
+group_outcome-not_memory held g (Some trues) = propagate-not_memory held trues (g.place + 1) g.hints
+
+take_group-not_memory : (held : Held) (trues : List Literal) (pivot : Literal) (g : Group) (found : Option (List Literal)) → IsNotMemory (named_outcome held trues pivot g found)
+take_group-not_memory held trues pivot g None = λ is. cc
+take_group-not_memory held trues pivot g (Some clause) =
+    elim (has clause (negated pivot)) as (λ b. IsNotMemory (cond b (group_outcome held g (made_false (negated pivot) trues clause)) (Stops (RatStep g.place)))) [
+      | true ↦ group_outcome-not_memory held g (made_false (negated pivot) trues clause)
+      | false ↦ λ is. cc
+    ]
+
+groups_fault-not_memory : (held : Held) (trues : List Literal) (pivot : Literal) (groups : List Group) → groups_fault held trues pivot groups ≡ Some Memory → ⊥
+groups_fault-not_memory held trues pivot [] is = cc
+groups_fault-not_memory held trues pivot (g ∷ groups) is =
+    after_first (outcome_fault (take_group held trues pivot g)) (groups_fault held trues pivot groups)
+    (outcome_fault-not_memory (take_group held trues pivot g) (take_group-not_memory held trues pivot g (clause_at held g.id)))
+    (groups_fault-not_memory held trues pivot groups) is
+
+missing_fault-not_memory : (groups : List Group) (o : Option ℕ) → missing_fault groups o ≡ Some Memory → ⊥
+missing_fault-not_memory groups None is = cc
+missing_fault-not_memory [] (Some id) is = cc
+missing_fault-not_memory (g ∷ groups) (Some id) is = cc
+
+pivot_fault-not_memory : (held : Held) (trues clause : List Literal) (groups : List Group) → pivot_fault held trues clause groups ≡ Some Memory → ⊥
+pivot_fault-not_memory held trues [] [] is = cc
+pivot_fault-not_memory held trues [] (g ∷ groups) is = cc
+pivot_fault-not_memory held trues (pivot ∷ rest) groups is =
+    after_first (groups_fault held trues pivot groups) (missing_fault groups (first_without held (negated pivot) (ids_of groups)))
+    (groups_fault-not_memory held trues pivot groups) (missing_fault-not_memory groups (first_without held (negated pivot) (ids_of groups))) is
+
+rest_fault-not_memory : (held : Held) (clause : List Literal) (groups : List Group) (outcome : Outcome) → IsNotMemory outcome → rest_fault held clause groups outcome ≡ Some Memory → ⊥
+rest_fault-not_memory held clause groups Conflict not is = cc
+rest_fault-not_memory held clause groups (Stops fault) not is = not cc
+rest_fault-not_memory held clause groups (Leaves trues) not is = pivot_fault-not_memory held trues clause groups is
+
+hints_fault-not_memory : (rule : Rule) (held : Held) (clause : List Literal) (hints : List ℤ) → hints_fault rule held clause hints ≡ Some Memory → ⊥
+hints_fault-not_memory Rup held clause hints is = outcome_fault-not_memory (propagate held (map negated clause) 1 hints) (propagate-not_memory held (map negated clause) 1 hints) is
+hints_fault-not_memory Rat held clause hints is =
+    rest_fault-not_memory held clause (groups_of 1 hints) (propagate held (map negated clause) 1 (first_hints hints)) (propagate-not_memory held (map negated clause) 1 (first_hints hints)) is
+
+pub lemma_fault-not_memory : (rule : Rule) (vars : ℕ) (held : Held) (clause : List Literal) (hints : List ℤ) → option_or (literal_fault vars [] clause) (hints_fault rule held clause hints) ≡ Some Memory → ⊥
+lemma_fault-not_memory rule vars held clause hints is =
+    after_first (literal_fault vars [] clause) (hints_fault rule held clause hints) (literal_fault-not_memory vars [] clause) (hints_fault-not_memory rule held clause hints) is
 
 -- no fault at all is none of the literals
 pub literals_first : (first second : Option StepFault) → option_or first second ≡ None → first ≡ None

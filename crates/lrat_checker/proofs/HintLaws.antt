@@ -1,6 +1,7 @@
 -- Hints, one after another.
-use Rattle.std.proofs.Common.{◌≡◌, ℕ, ◌+◌, ◌<◌, List, ◌∷◌, sym, ap, ◌∙◌, subst, Some, ℤ, pos, negsuc, length, get_or, drop, add-one}
-use Rattle.std.proofs.Math.Seq.{drop-cons}
+use Rattle.std.proofs.Common.{◌≡◌, ℕ, ◌+◌, ◌<◌, List, ◌∷◌, sym, ap, ◌∙◌, subst, Some, ℤ, pos, negsuc, length, get_or, drop, arith, ◌++◌, append_assoc}
+use Rattle.std.proofs.lemmas.List.{drop_more}
+use Rattle.lrat_checker.specs.Extends.{Extends}
 use Rattle.lrat_model.specs.Literal.{Literal}
 use Rattle.lrat_model.specs.Clauses.{Held, clause_at}
 use Rattle.lrat_model.specs.Propagation.{status, Conflict, Stops, Leaves, after_status, after_finding, take_hint, and_then, propagate}
@@ -34,24 +35,31 @@ leaves_alike held now trues left new place hint alike e left_new =
     (there.0, there.1, λ m. sym (there.2 m) ∙ left_new m)
 
 -- the hint at a place, and those after it
-pub propagate-at : (held : Held) (now : List Literal) (i : ℕ) (hints : List ℤ) → i < length hints → propagate held now (i + 1) (drop i hints) ≡ and_then (take_hint held now (i + 1) (get_or hints i (pos 0))) (λ next. propagate held next (i + 1 + 1) (drop (i + 1) hints))
-propagate-at held now i hints within = rw (add-one, drop-cons hints i (pos 0))
+pub propagate-at : (held : Held) (now : List Literal) (first i : ℕ) (hints : List ℤ) → i < length hints → propagate held now (first + i) (drop i hints) ≡ and_then (take_hint held now (first + i) (get_or hints i (pos 0))) (λ next. propagate held next (first + (i + 1)) (drop (i + 1) hints))
+propagate-at held now first i hints within =
+    let later : first + i + 1 ≡ first + (i + 1) = omega arith in
+    ap (propagate held now (first + i)) (drop_more hints i (pos 0) within)
+    ∙ ap (λ n. and_then (take_hint held now (first + i) (get_or hints i (pos 0))) (λ next. propagate held next n (drop (i + 1) hints))) later
 
-module _ (held : Held) (now trues start : List Literal) (i : ℕ) (hints : List ℤ) (within : i < length hints) (alike : Alike now trues) (so_far : propagate held now (i + 1) (drop i hints) ≡ propagate held start 1 hints) where
-  pub hints_conflict : take_hint held trues (i + 1) (get_or hints i (pos 0)) ≡ Conflict → propagate held start 1 hints ≡ Conflict
+module _ (held : Held) (now trues start : List Literal) (first i : ℕ) (hints : List ℤ) (within : i < length hints) (alike : Alike now trues) (so_far : propagate held now (first + i) (drop i hints) ≡ propagate held start first hints) where
+  pub hints_conflict : take_hint held trues (first + i) (get_or hints i (pos 0)) ≡ Conflict → propagate held start first hints ≡ Conflict
   hints_conflict e =
-      sym so_far ∙ propagate-at held now i hints within
-      ∙ ap (λ end. and_then end (λ next. propagate held next (i + 1 + 1) (drop (i + 1) hints))) (conflict_alike held now trues (i + 1) (get_or hints i (pos 0)) alike e)
+      sym so_far ∙ propagate-at held now first i hints within
+      ∙ ap (λ end. and_then end (λ next. propagate held next (first + (i + 1)) (drop (i + 1) hints))) (conflict_alike held now trues (first + i) (get_or hints i (pos 0)) alike e)
 
-  pub hints_stop : (fault : StepFault) → take_hint held trues (i + 1) (get_or hints i (pos 0)) ≡ Stops fault → propagate held start 1 hints ≡ Stops fault
+  pub hints_stop : (fault : StepFault) → take_hint held trues (first + i) (get_or hints i (pos 0)) ≡ Stops fault → propagate held start first hints ≡ Stops fault
   hints_stop fault e =
-      sym so_far ∙ propagate-at held now i hints within
-      ∙ ap (λ end. and_then end (λ next. propagate held next (i + 1 + 1) (drop (i + 1) hints))) (stops_alike held now trues (i + 1) (get_or hints i (pos 0)) fault alike e)
+      sym so_far ∙ propagate-at held now first i hints within
+      ∙ ap (λ end. and_then end (λ next. propagate held next (first + (i + 1)) (drop (i + 1) hints))) (stops_alike held now trues (first + i) (get_or hints i (pos 0)) fault alike e)
 
-  pub hints_go_on : (new left : List Literal) → take_hint held trues (i + 1) (get_or hints i (pos 0)) ≡ Leaves left → Alike left new → (next : List Literal) × Alike next new × (propagate held next (i + 1 + 1) (drop (i + 1) hints) ≡ propagate held start 1 hints)
+  pub hints_go_on : (new left : List Literal) → take_hint held trues (first + i) (get_or hints i (pos 0)) ≡ Leaves left → Alike left new → (next : List Literal) × Alike next new × (propagate held next (first + (i + 1)) (drop (i + 1) hints) ≡ propagate held start first hints)
   hints_go_on new left e left_new =
-      let there : (next : List Literal) × (take_hint held now (i + 1) (get_or hints i (pos 0)) ≡ Leaves next) × Alike next new = leaves_alike held now trues left new (i + 1) (get_or hints i (pos 0)) alike e left_new in (
+      let there : (next : List Literal) × (take_hint held now (first + i) (get_or hints i (pos 0)) ≡ Leaves next) × Alike next new = leaves_alike held now trues left new (first + i) (get_or hints i (pos 0)) alike e left_new in (
         there.0,
         there.2,
-        sym (ap (λ end. and_then end (λ next. propagate held next (i + 1 + 1) (drop (i + 1) hints))) there.1) ∙ sym (propagate-at held now i hints within) ∙ so_far,
+        sym (ap (λ end. and_then end (λ next. propagate held next (first + (i + 1)) (drop (i + 1) hints))) there.1) ∙ sym (propagate-at held now first i hints within) ∙ so_far,
       )
+
+-- trails that grow one after another
+pub extends_more : (a b c : List Literal) → Extends a b → Extends b c → Extends a c
+extends_more a b c one two = (one.0 ++ two.0, two.1 ∙ ap (λ xs. xs ++ two.0) one.1 ∙ append_assoc a one.0 two.0)

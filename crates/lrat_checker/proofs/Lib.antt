@@ -3,5 +3,8 @@ pub mod RangeLaws
 pub mod HintLaws
 pub mod LemmaLaws
 pub mod FaultLaws
+pub mod GroupLaws
+pub mod TrailLaws
 pub mod AddingLaws
+pub mod CourseLaws
 pub mod SubsetLaws

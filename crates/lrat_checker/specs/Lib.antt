@@ -1,6 +1,9 @@
 pub mod Adding
 pub mod Hints
+pub mod Extends
+pub mod Groups
 pub mod Covers
 pub mod Checking
+pub mod Courses
 pub mod State
 pub mod Subsets

@@ -3,39 +3,35 @@ mod adding;
 
 ghost use Rattle.std.specs.Prelude.{◌≡◌, ◌≢◌, ℕ, ◌<◌, ◌^◌, [], ◌∷◌, Some, None, Err, IsSome, IfSome, IfOk, IfErr, OnErr, OnOk, MatchBool};
 ghost use Rattle.lrat_model.specs.Clauses.{clause_at, with_clause, without};
-ghost use Rattle.lrat_model.specs.Steps.{step_of, step_fault, addition_fault, deletion_fault, after_step, progress_of, progress_at};
+ghost use Rattle.lrat_model.specs.Steps.{step_of, deletion_fault, after_step, progress_of, progress_at};
+ghost use Rattle.lrat_model.specs.Rules.{step_fault_by, addition_fault_by};
 ghost use Rattle.lrat_model.specs.declared.step.StepFault.TheVariants.{Memory};
 ghost use Rattle.lrat_model.specs.Ranges.{IsInRange, AreInRange};
 ghost use Rattle.lrat_checker.specs.Covers.{Covers};
 ghost use Rattle.lrat_checker.specs.Checking.{IsAddition};
 
 use crate::hint::lemma_fault;
+use crate::opened::Opened;
 use crate::subsets::{SubsetIndex, scan, with_clause, without};
 use clause_store::Store;
-use lrat_model::{Lit, Progress, Step, StepFault};
+use lrat_model::{Lit, Progress, Rule, Step, StepFault};
 use partial_assignment::Assignment;
+use rat_candidates::CountedStore;
 use std::alloc::{AllocError, Global};
 use std::marker::Model;
 
-/// What is known of an open addition beside its literals: its id, how many hints were looked at, and whether one of
-/// their clauses was false.
-#[derive(Clone, Copy)]
-pub struct Opened {
-    pub id: u64,
-    pub hints: u64,
-    pub met: bool,
-}
-
-/// A checker of steps: the clauses that are held, by id, the last id, the number of variables, and the addition that is
-/// open, if one is.
+/// A checker of steps under a rule: the clauses that are held, by id, the last id, the number of variables, and the addition
+/// that is open, if one is.
 #[derive(Drop)]
 pub struct Checker {
-    store: Store,
+    rule: Rule,
+    clauses: CountedStore,
     assignment: Assignment,
     subsets: Option<SubsetIndex>,
     opened: Option<Opened>,
-    // The literals of the addition that is open, or of one before it: their room is kept.
+    // The literals and the RAT hints of the addition that is open, or of one before it: their room is kept.
     lits: Vec<Lit>,
+    groups: Vec<i64>,
 }
 
 impl Model for Checker {
@@ -52,24 +48,27 @@ impl Model for Checker {
 
 impl Checker {
     /// A checker that holds the clauses of a store, among this many variables. Takes all the memory that
-    /// it ever needs, other than for the clauses that it adds and for the literals of an addition whose hints come one after
-    /// another: O(vars).
+    /// it ever needs, other than for the clauses that it adds, for the literals and RAT hints of an addition whose hints come
+    /// one after another, and for counts of literals from the first lemma on that no conflict shows: O(vars).
     ///
     /// There are fewer than 2^31 variables since a literal is a signed number of 32 bits, so no clause has a greater one.
-    pub fn start(alloc: Global, store: Store, vars: u64) -> Result<Checker, AllocError>
+    pub fn start(alloc: Global, store: Store, vars: u64, rule: Rule) -> Result<Checker, AllocError>
         requires small { vars < 2 ^ 31 }
         requires range { AreInRange vars store.held }
         ensures database { IfOk result (λ c. c.database ≡ store) }
         ensures vars { IfOk result (λ c. c.vars ≡ vars) }
+        ensures rule { IfOk result (λ c. c.rule ≡ rule) }
         ensures closed { IfOk result (λ c. c.open_addition ≡ None) }
     {
         let assignment = Assignment::new(alloc, vars)?;
         Ok(Checker {
-            store,
+            rule,
+            clauses: CountedStore::new(alloc, store, vars),
             assignment,
             subsets: None,
             opened: None,
             lits: Vec::new(alloc),
+            groups: Vec::new(alloc),
         })
     }
 
@@ -78,23 +77,26 @@ impl Checker {
         ensures value { result ≡ self.now.database.last }
         ensures none_above { (k : ℕ) → self.now.database.last < k → clause_at self.now.database.held k ≡ None }
     {
-        self.store.last()
+        self.clauses.store().last()
     }
 
     /// Takes a step, or answers its first fault: of an addition its id, then its literals in order, then
     /// its hints in order; of a deletion its ids in order. A checker that answered a fault is as it was.
-    /// Only an addition that has no fault takes memory.
+    /// Only an addition that has no fault takes memory, but for the counts that a RAT step makes if it can.
     ///
-    /// O(literals of the step and of the clauses that its hints name), and O(log n) for each id.
+    /// O(literals of the step and of the clauses that its hints name), and O(log n) for each id. A lemma that no conflict shows
+    /// costs more where the ids of its groups do not rise or a clause has none, and where it is the first: O(literals of all
+    /// clauses), and O(hints) for each clause that has the negation of its first literal.
     pub fn step(&mut self, step: &Step) -> Result<Progress, StepFault>
         requires { self.old.open_addition ≡ None }
-        ensures taken { OnOk result (step_fault self.old.vars self.old.database (step_of step.now) ≡ None) }
+        ensures taken { OnOk result (step_fault_by self.old.rule self.old.vars self.old.database (step_of step.now) ≡ None) }
         ensures database { OnOk result (self.new.database ≡ after_step self.old.database (step_of step.now)) }
         ensures progress { IfOk result (λ progress. progress ≡ progress_of (step_of step.now)) }
-        ensures refused { IfErr result (λ fault. fault ≢ Memory → step_fault self.old.vars self.old.database (step_of step.now) ≡ Some fault) }
-        ensures memory { result ≡ Err Memory → IsAddition (step_of step.now) × (step_fault self.old.vars self.old.database (step_of step.now) ≡ None) }
+        ensures refused { IfErr result (λ fault. fault ≢ Memory → step_fault_by self.old.rule self.old.vars self.old.database (step_of step.now) ≡ Some fault) }
+        ensures memory { result ≡ Err Memory → IsAddition (step_of step.now) × (step_fault_by self.old.rule self.old.vars self.old.database (step_of step.now) ≡ None) }
         ensures unchanged { OnErr result (self.new ≡ self.old) }
         ensures vars { self.new.vars ≡ self.old.vars }
+        ensures rule { self.new.rule ≡ self.old.rule }
         ensures closed { self.new.open_addition ≡ None }
     {
         match step {
@@ -113,9 +115,10 @@ impl Checker {
         ensures last { OnOk result (self.new.database.last ≡ id) }
         ensures unchanged { OnErr result (self.new ≡ self.old) }
         ensures vars { self.new.vars ≡ self.old.vars }
+        ensures rule { self.new.rule ≡ self.old.rule }
         ensures closed { self.new.open_addition ≡ None }
     {
-        self.store.push(id, lits)?;
+        self.clauses.push(id, lits)?;
         self.subsets = with_clause(self.subsets.take(), id, lits);
         Ok(())
     }
@@ -126,7 +129,7 @@ impl Checker {
     pub fn expect_covers(&mut self, alloc: Global)
         ensures { self.new ≡ self.old }
     {
-        self.subsets = SubsetIndex::of(alloc, &self.store);
+        self.subsets = SubsetIndex::of(alloc, self.clauses.store());
     }
 
     /// Whether a clause held under a smaller id is a subset of the list.
@@ -135,28 +138,35 @@ impl Checker {
         ensures { MatchBool result (Covers self.now.database.held id lits.now) (¬ Covers self.now.database.held id lits.now) }
     {
         match &self.subsets {
-            Some(index) => index.covers(&self.store, id, lits),
-            None => scan(&self.store, id, lits),
+            Some(index) => index.covers(self.clauses.store(), id, lits),
+            None => scan(self.clauses.store(), id, lits),
         }
     }
 
     fn add(&mut self, id: u64, lits: &[Lit], hints: &[i64]) -> Result<Progress, StepFault>
         requires { self.old.open_addition ≡ None }
-        ensures taken { OnOk result (addition_fault self.old.vars self.old.database id lits.now hints.now ≡ None) }
+        ensures taken { OnOk result (addition_fault_by self.old.rule self.old.vars self.old.database id lits.now hints.now ≡ None) }
         ensures held { OnOk result (self.new.database.held ≡ with_clause self.old.database.held id lits.now) }
         ensures last { OnOk result (self.new.database.last ≡ id) }
         ensures progress { IfOk result (λ progress. progress ≡ progress_at lits.now) }
-        ensures refused { IfErr result (λ fault. fault ≢ Memory → addition_fault self.old.vars self.old.database id lits.now hints.now ≡ Some fault) }
-        ensures memory { result ≡ Err Memory → addition_fault self.old.vars self.old.database id lits.now hints.now ≡ None }
+        ensures refused { IfErr result (λ fault. fault ≢ Memory → addition_fault_by self.old.rule self.old.vars self.old.database id lits.now hints.now ≡ Some fault) }
+        ensures memory { result ≡ Err Memory → addition_fault_by self.old.rule self.old.vars self.old.database id lits.now hints.now ≡ None }
         ensures unchanged { OnErr result (self.new ≡ self.old) }
         ensures vars { self.new.vars ≡ self.old.vars }
+        ensures rule { self.new.rule ≡ self.old.rule }
         ensures closed { self.new.open_addition ≡ None }
     {
-        let last = self.store.last();
+        let last = self.clauses.store().last();
         if id <= last {
             return Err(StepFault::IdOrder(last, id));
         }
-        if let Some(fault) = lemma_fault(&self.store, &mut self.assignment, lits, hints) {
+        if let Some(fault) = lemma_fault(
+            &mut self.clauses,
+            &mut self.assignment,
+            self.rule,
+            lits,
+            hints,
+        ) {
             return Err(fault);
         }
         if self.give(id, lits).is_err() {
@@ -177,11 +187,12 @@ impl Checker {
         ensures no_memory { result ≢ Err Memory }
         ensures unchanged { OnErr result (self.new ≡ self.old) }
         ensures vars { self.new.vars ≡ self.old.vars }
+        ensures rule { self.new.rule ≡ self.old.rule }
         ensures closed { self.new.open_addition ≡ None }
     {
-        match self.store.remove_all(ids) {
+        match self.clauses.remove_all(ids) {
             Ok(()) => {
-                self.subsets = without(self.subsets.take(), &self.store, ids.len());
+                self.subsets = without(self.subsets.take(), self.clauses.store(), ids.len());
                 Ok(Progress::Going)
             }
             Err(id) => Err(StepFault::NoSuchClause(id)),

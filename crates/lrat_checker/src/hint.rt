@@ -1,17 +1,21 @@
 //! Unit propagation over hints.
-ghost use Rattle.std.specs.Prelude.{◌≡◌, ℕ, ◌+◌, ◌≤◌, List, [], ◌∷◌, map, Some, None, OnOk, IfNone};
+ghost use Rattle.std.specs.Prelude.{◌≡◌, ℕ, ◌+◌, ◌≤◌, ◌<◌, ◌^◌, length, take, List, [], ◌∷◌, map, Some, None, false, OnOk, IfNone};
 ghost use Rattle.std.specs.Option.{option_or};
-ghost use Rattle.lrat_model.specs.Literal.{Literal, negated, variable_of};
-ghost use Rattle.lrat_model.specs.Propagation.{status, take_hint, propagate};
+ghost use Rattle.lrat_model.specs.Literal.{Literal, negated, variable_of, has};
+ghost use Rattle.lrat_model.specs.Propagation.{Outcome, status, take_hint, propagate};
 ghost use Rattle.lrat_model.specs.Steps.{literal_fault, outcome_fault};
+ghost use Rattle.lrat_model.specs.Rules.{hints_fault};
 ghost use Rattle.lrat_model.specs.Ranges.{IsInRange, AreInRange};
 ghost use Rattle.lrat_model.specs.Alike.{Alike};
 ghost use Rattle.lrat_checker.specs.Hints.{Took, id_of};
+ghost use Rattle.lrat_checker.specs.Extends.{Extends};
 
+use crate::rat::rat_fault;
 use crate::status::status;
 use clause_store::Store;
-use lrat_model::{Lit, StepFault};
+use lrat_model::{Lit, Rule, StepFault};
 use partial_assignment::{Assignment, ClauseStatus};
+use rat_candidates::CountedStore;
 
 /// Where a hint leads, if it is no fault: on, or to a clause with all literals false.
 #[derive(Clone, Copy)]
@@ -27,6 +31,30 @@ fn id_of(hint: i64) -> Option<u64>
     if hint < 0 { None } else { Some(hint as u64) }
 }
 
+/// Makes a literal true that is not false.
+pub fn force(assignment: &mut Assignment, l: Lit)
+    requires range { variable_of l ≤ assignment.old.vars }
+    requires consistent { has assignment.old.trues (negated l) ≡ false }
+    ensures trues { Alike (l ∷ assignment.old.trues) assignment.new.trues }
+    ensures grows { Extends assignment.old.trues assignment.new.trues }
+    ensures vars { assignment.new.vars ≡ assignment.old.vars }
+{
+    if !assignment.is_true(l) {
+        assignment.make_true(l);
+    }
+}
+
+/// Takes the values of the last literals away, so that this many are left.
+pub fn undo_to(assignment: &mut Assignment, count: usize)
+    requires { count ≤ length assignment.old.trues }
+    ensures trues { assignment.new.trues ≡ take count assignment.old.trues }
+    ensures vars { assignment.new.vars ≡ assignment.old.vars }
+{
+    // That each literal has its place says that no two of them have one variable.
+    assignment.places();
+    assignment.back_to(count);
+}
+
 /// Takes one hint.
 pub fn take_hint(
     store: &Store,
@@ -37,6 +65,7 @@ pub fn take_hint(
     requires { AreInRange assignment.old.vars store.now.held }
     ensures outcome { Took (take_hint store.now.held assignment.old.trues place hint) result assignment.new.trues }
     ensures vars { assignment.new.vars ≡ assignment.old.vars }
+    ensures grows { Extends assignment.old.trues assignment.new.trues }
 {
     let Some(id) = id_of(hint) else {
         return Err(StepFault::RatStep(place));
@@ -47,27 +76,45 @@ pub fn take_hint(
     match status(assignment, clause) {
         ClauseStatus::Falsified => Ok(Hinting::Conflict),
         ClauseStatus::Forces(l) => {
-            assignment.force(l);
+            force(assignment, l);
             Ok(Hinting::More)
         }
         ClauseStatus::Unresolved => Err(StepFault::NotUnit(place)),
     }
 }
 
-/// Why the hints do not lead from what is true to a clause with all literals false, if they do not.
-fn propagate(store: &Store, assignment: &mut Assignment, hints: &[i64]) -> Option<StepFault>
-    requires { AreInRange assignment.old.vars store.now.held }
-    ensures fault { (trues : List Literal) → Alike trues assignment.old.trues → result ≡ outcome_fault (propagate store.now.held trues 1 hints.now) }
+/// Takes hints in order, the first of them at this place, up to a fault or a clause with all literals false.
+pub fn propagate(
+    store: &Store,
+    assignment: &mut Assignment,
+    first: u64,
+    hints: &[i64],
+) -> Result<Hinting, StepFault>
+    requires range { AreInRange assignment.old.vars store.now.held }
+    requires small { first + length hints.now < 2 ^ 64 }
+    ensures outcome { (trues : List Literal) → Alike trues assignment.old.trues → Took (propagate store.now.held trues first hints.now) result assignment.new.trues }
     ensures vars { assignment.new.vars ≡ assignment.old.vars }
+    ensures grows { Extends assignment.old.trues assignment.new.trues }
 {
     for (i, hint) in hints.iter().enumerate() {
-        match take_hint(store, assignment, i as u64 + 1, *hint) {
-            Ok(Hinting::Conflict) => return None,
+        match take_hint(store, assignment, first + i as u64, *hint) {
+            Ok(Hinting::Conflict) => return Ok(Hinting::Conflict),
             Ok(Hinting::More) => {}
-            Err(fault) => return Some(fault),
+            Err(fault) => return Err(fault),
         }
     }
-    Some(StepFault::NoConflict)
+    Ok(Hinting::More)
+}
+
+/// Why hints do not show that a clause follows, if they do not.
+pub fn fault_of(end: Result<Hinting, StepFault>) -> Option<StepFault>
+    ensures { (outcome : Outcome) (now : List Literal) → Took outcome end now → result ≡ outcome_fault outcome }
+{
+    match end {
+        Ok(Hinting::Conflict) => None,
+        Ok(Hinting::More) => Some(StepFault::NoConflict),
+        Err(fault) => Some(fault),
+    }
 }
 
 /// Makes the negations of a lemma's literals true, or gives the first literal that is out of range or
@@ -92,36 +139,43 @@ pub fn assume_negations(assignment: &mut Assignment, lits: &[Lit]) -> Option<Ste
 
 /// The first fault of a lemma's literals, and then of its hints. Leaves literals true.
 fn first_fault(
-    store: &Store,
+    clauses: &mut CountedStore,
     assignment: &mut Assignment,
+    rule: Rule,
     lits: &[Lit],
     hints: &[i64],
 ) -> Option<StepFault>
     requires trues { assignment.old.trues ≡ [] }
-    requires range { AreInRange assignment.old.vars store.now.held }
-    ensures fault { result ≡ option_or (literal_fault assignment.old.vars [] lits.now) (outcome_fault (propagate store.now.held (map negated lits.now) 1 hints.now)) }
+    requires range { AreInRange assignment.old.vars clauses.old.held }
+    ensures fault { result ≡ option_or (literal_fault assignment.old.vars [] lits.now) (hints_fault rule clauses.old.held lits.now hints.now) }
     ensures vars { assignment.new.vars ≡ assignment.old.vars }
+    ensures unchanged { clauses.new ≡ clauses.old }
 {
     if let Some(fault) = assume_negations(assignment, lits) {
         return Some(fault);
     }
-    propagate(store, assignment, hints)
+    match rule {
+        Rule::Rup => fault_of(propagate(clauses.store(), assignment, 1, hints)),
+        Rule::Rat => rat_fault(clauses, assignment, lits, hints),
+    }
 }
 
 /// The first fault of a lemma's literals, and then of its hints.
 /// O(its literals, and those of the clauses that the hints name), and O(log n) for each hint.
 pub fn lemma_fault(
-    store: &Store,
+    clauses: &mut CountedStore,
     assignment: &mut Assignment,
+    rule: Rule,
     lits: &[Lit],
     hints: &[i64],
 ) -> Option<StepFault>
     requires trues { assignment.old.trues ≡ [] }
-    requires range { AreInRange assignment.old.vars store.now.held }
-    ensures fault { result ≡ option_or (literal_fault assignment.old.vars [] lits.now) (outcome_fault (propagate store.now.held (map negated lits.now) 1 hints.now)) }
+    requires range { AreInRange assignment.old.vars clauses.old.held }
+    ensures fault { result ≡ option_or (literal_fault assignment.old.vars [] lits.now) (hints_fault rule clauses.old.held lits.now hints.now) }
     ensures unchanged { assignment.new ≡ assignment.old }
+    ensures clauses { clauses.new ≡ clauses.old }
 {
-    let fault = first_fault(store, assignment, lits, hints);
+    let fault = first_fault(clauses, assignment, rule, lits, hints);
     assignment.clear();
     fault
 }

@@ -1,9 +1,11 @@
-//! A checker of LRAT proofs without RAT, step by step.
+//! A checker of LRAT proofs, step by step, with RAT hints or without.
 #![tactic(auto)]
 
 mod checker;
 mod hint;
 mod idle;
+mod opened;
+mod rat;
 mod status;
 mod subsets;
 
@@ -11,4 +13,4 @@ pub use checker::Checker;
 pub use clause_store::Store;
 pub use hint::Hinting;
 pub use idle::IdleChecker;
-pub use lrat_model::{Lit, Progress, Step, StepFault};
+pub use lrat_model::{Lit, Progress, Rule, Step, StepFault};

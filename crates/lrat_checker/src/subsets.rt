@@ -226,7 +226,7 @@ pub fn scan(store: &Store, id: u64, lits: &[Lit]) -> bool
 }
 
 /// Whether the literal is in the list.
-fn has(literals: &[Lit], l: Lit) -> bool
+pub fn has(literals: &[Lit], l: Lit) -> bool
     ensures { result ≡ has literals.now l }
 {
     literals.iter().any(|m| l.same(*m))

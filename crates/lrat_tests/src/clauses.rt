@@ -1,29 +1,24 @@
 //! Clauses under ids, put in, found and removed.
 
+use crate::shared::{lits, same};
 use clause_store::{ClauseView, LongRef, Store};
 use lrat_model::Lit;
 use std::alloc::{AllocError, Global};
-use std::test::Fail;
 
 const PUSHED: [(u64, &[i32]); 4] = [(2, &[1, -2]), (5, &[]), (9, &[3]), (10, &[-1, -3, 2])];
 
 fn store(alloc: Global) -> Result<Store, AllocError> {
     let mut store = Store::new(alloc);
     for (id, numbers) in PUSHED {
-        let mut lits = Vec::new(alloc);
-        for number in numbers {
-            if *number != 0 && *number != i32::MIN {
-                lits.push(Lit::of(*number))?;
-            }
-        }
+        let clause = lits(alloc, numbers)?;
         if store.last() < id {
-            store.push(id, &lits)?;
+            store.push(id, &clause)?;
         }
     }
     Ok(store)
 }
 
-// What is held, in the order of ids.
+/// What is held, in the order of ids.
 fn shown(alloc: Global, store: &Store) -> Result<String, AllocError> {
     let mut text = format!(in alloc; "last {}", store.last())?;
     let mut above = 0;
@@ -36,40 +31,44 @@ fn shown(alloc: Global, store: &Store) -> Result<String, AllocError> {
     Ok(text)
 }
 
+/// The first of the ids that is missing, or 0, and what is held once they are removed.
+fn left(alloc: Global, ids: &[u64]) -> Result<String, AllocError> {
+    let mut store = store(alloc)?;
+    let missing = store.remove_all(ids).err().unwrap_or(0);
+    let held = shown(alloc, &store)?;
+    format!(in alloc; "{missing} missing, {held}")
+}
+
+const REMOVED: [(&[u64], &str); 7] = [
+    (
+        &[],
+        "0 missing, last 10 2:[Lit(1), Lit(-2)] 5:[] 9:[Lit(3)] 10:[Lit(-1), Lit(-3), Lit(2)]",
+    ),
+    (
+        &[10],
+        "0 missing, last 10 2:[Lit(1), Lit(-2)] 5:[] 9:[Lit(3)]",
+    ),
+    (
+        &[9, 2],
+        "0 missing, last 10 5:[] 10:[Lit(-1), Lit(-3), Lit(2)]",
+    ),
+    (&[10, 2], "0 missing, last 10 5:[] 9:[Lit(3)]"),
+    (&[2, 9, 10, 5], "0 missing, last 10"),
+    (
+        &[9, 3, 2],
+        "3 missing, last 10 2:[Lit(1), Lit(-2)] 5:[] 9:[Lit(3)] 10:[Lit(-1), Lit(-3), Lit(2)]",
+    ),
+    (
+        &[9, 2, 9],
+        "9 missing, last 10 2:[Lit(1), Lit(-2)] 5:[] 9:[Lit(3)] 10:[Lit(-1), Lit(-3), Lit(2)]",
+    ),
+];
+
 #[test]
-fn ids_with_gaps(rt: HostRuntime) -> Result<(), Fail> {
-    let alloc = rt.alloc();
-    let cases: [(&[u64], u64, &str); 7] = [
-        (
-            &[],
-            0,
-            "last 10 2:[Lit(1), Lit(-2)] 5:[] 9:[Lit(3)] 10:[Lit(-1), Lit(-3), Lit(2)]",
-        ),
-        (&[10], 0, "last 10 2:[Lit(1), Lit(-2)] 5:[] 9:[Lit(3)]"),
-        (&[9, 2], 0, "last 10 5:[] 10:[Lit(-1), Lit(-3), Lit(2)]"),
-        (&[10, 2], 0, "last 10 5:[] 9:[Lit(3)]"),
-        (&[2, 9, 10, 5], 0, "last 10"),
-        (
-            &[9, 3, 2],
-            3,
-            "last 10 2:[Lit(1), Lit(-2)] 5:[] 9:[Lit(3)] 10:[Lit(-1), Lit(-3), Lit(2)]",
-        ),
-        (
-            &[9, 2, 9],
-            9,
-            "last 10 2:[Lit(1), Lit(-2)] 5:[] 9:[Lit(3)] 10:[Lit(-1), Lit(-3), Lit(2)]",
-        ),
-    ];
-    for (ids, missing, want) in cases {
-        let mut store = store(alloc)?;
-        assert_eq!(rt;
-            store.remove_all(ids).err().unwrap_or(0),
-            missing,
-            "{ids:?}"
-        );
-        assert_eq!(rt; shown(alloc, &store)?.as_str(), want, "{ids:?}");
+fn ids_with_gaps(rt: HostRuntime) {
+    for (ids, want) in REMOVED {
+        same(&rt, left(rt.alloc(), ids), want);
     }
-    Ok(())
 }
 
 fn numbers<V: ClauseView>(alloc: Global, clause: &V) -> Result<String, AllocError> {
@@ -80,49 +79,69 @@ fn numbers<V: ClauseView>(alloc: Global, clause: &V) -> Result<String, AllocErro
     Ok(text)
 }
 
-fn viewed<const K: usize>(
-    alloc: Global,
-    store: &Store,
-    id: u64,
-) -> Result<Option<String>, AllocError> {
+fn viewed<const K: usize>(alloc: Global, store: &Store, id: u64) -> Result<String, AllocError> {
     match store.view::<K>(id) {
-        Some(clause) => Ok(Some(numbers(alloc, &clause)?)),
-        _ => Ok(None),
+        Some(clause) => numbers(alloc, &clause),
+        None => String::from_str(alloc, "none"),
     }
 }
 
-// The first three clauses of the intersection formula of three nodes of which each needs two.
-#[test]
-fn clauses_of_a_width(rt: HostRuntime) -> Result<(), Fail> {
-    let alloc = rt.alloc();
+/// The first three clauses of the intersection formula of three nodes of which each needs two.
+fn three(alloc: Global) -> Result<Store, AllocError> {
     let mut store = Store::new(alloc);
     store.push(1, &[Lit::of(1), Lit::of(2), Lit::of(3)])?;
     store.push(2, &[Lit::of(4), Lit::of(5), Lit::of(6)])?;
     store.push(3, &[Lit::of(-1), Lit::of(-4)])?;
-    assert_eq!(rt; viewed::<3>(alloc, &store, 1)?.as_deref(), Some(" 1 2 3"));
-    assert_eq!(rt; viewed::<2>(alloc, &store, 1)?.as_deref(), None);
-    assert_eq!(rt; viewed::<2>(alloc, &store, 3)?.as_deref(), Some(" -1 -4"));
-    let lits = [Lit::of(5), Lit::of(-7)];
-    assert_eq!(rt; numbers(alloc, &LongRef::of(&lits))?.as_str(), " 5 -7");
-    assert!(rt; store.remove(3));
-    assert_eq!(rt; viewed::<2>(alloc, &store, 3)?.as_deref(), None);
-    Ok(())
+    Ok(store)
+}
+
+/// The clause under an id as one of that width, 2 or 3, once another is removed.
+fn of_width(alloc: Global, removed: u64, width: u32, id: u64) -> Result<String, AllocError> {
+    let mut store = three(alloc)?;
+    store.remove(removed);
+    if width == 2 {
+        viewed::<2>(alloc, &store, id)
+    } else {
+        viewed::<3>(alloc, &store, id)
+    }
 }
 
 #[test]
-fn one_removed(rt: HostRuntime) -> Result<(), Fail> {
-    let mut store = store(rt.alloc())?;
-    for (id, found, length) in [
-        (4, false, None),
-        (9, true, Some(1)),
-        (9, false, None),
-        (10, true, Some(3)),
-        (11, false, None),
+fn clauses_of_a_width(rt: HostRuntime) {
+    for (removed, width, id, want) in [
+        (0, 3, 1, " 1 2 3"),
+        (0, 2, 1, "none"),
+        (0, 2, 3, " -1 -4"),
+        (3, 2, 3, "none"),
     ] {
-        assert_eq!(rt; store.lits(id).map(|lits| lits.len()), length, "{id}");
-        assert_eq!(rt; store.remove(id), found, "{id}");
-        assert_eq!(rt; store.lits(id).is_none(), true, "{id}");
+        same(&rt, of_width(rt.alloc(), removed, width, id), want);
     }
-    assert_eq!(rt; store.last(), 10);
-    Ok(())
+}
+
+#[test]
+fn a_clause_of_a_list(rt: HostRuntime) {
+    let lits = [Lit::of(5), Lit::of(-7)];
+    same(&rt, numbers(rt.alloc(), &LongRef::of(&lits)), " 5 -7");
+}
+
+/// How long the clause under an id was, whether it was removed, whether it is gone, and the last id.
+fn removed(alloc: Global, store: &mut Store, id: u64) -> Result<String, AllocError> {
+    let length = store.lits(id).map(|lits| lits.len());
+    let found = store.remove(id);
+    let is_gone = store.lits(id).is_none();
+    format!(in alloc; "{length:?} {found} {is_gone} {}", store.last())
+}
+
+#[test]
+fn one_removed(rt: HostRuntime) {
+    let mut store = store(rt.alloc()).expect(&rt, "memory");
+    for (id, want) in [
+        (4, "None false true 10"),
+        (9, "Some(1) true true 10"),
+        (9, "None false true 10"),
+        (10, "Some(3) true true 10"),
+        (11, "None false true 10"),
+    ] {
+        same(&rt, removed(rt.alloc(), &mut store, id), want);
+    }
 }

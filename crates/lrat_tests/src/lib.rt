@@ -1,9 +1,23 @@
-// Logs of the solver, fed to the checker.
+//! Tests of the solver, whose logs are fed to the checker, and of the calls on clauses, steps and step lines.
+//!
+//! A test function may stop the program at each of its comparisons, and what is proved of it grows with its
+//! ways out times its values that are to be dropped. So the steps stand in functions of their own, that return a text, and a
+//! test has no `?`.
 #![tactic(auto)]
 
+#[cfg(test)]
+mod checking;
 #[cfg(test)]
 mod clauses;
 #[cfg(test)]
 mod lines;
+#[cfg(test)]
+mod rat;
+#[cfg(test)]
+mod rules;
+#[cfg(test)]
+mod shared;
+#[cfg(test)]
+mod streaming;
 #[cfg(test)]
 mod tests;

@@ -3,6 +3,7 @@ pub mod ListLaws
 mod WordLaws
 mod WordMixes
 mod WordFinds
+mod WordRests
 mod WordCounts
 mod WordFill
 mod SetOrder

@@ -3,7 +3,7 @@
 ghost use Rattle.std.specs.Prelude.{◌≡◌, ℕ, ◌+◌, ◌*◌, ◌/◌, ◌<◌, ◌≤◌, ◌↔◌, Bool, List, length, IsTrue, MatchBool, MatchOption, nat_lt};
 ghost use Rattle.fbas_model.specs.Nodes.{Nodes, Table, members, ◌∈◌, ◌⊆◌, ∅, only, ◌∪◌, ◌∖◌, ◌∩◌, Meets, IsInhabited, IsLeast, HasNoneFrom, IsLeastFrom, size, listed_from, set_cmp};
 ghost use Rattle.std.specs.Iterator.{YieldsFirst, item_count};
-ghost use Rattle.name_set.specs.Words.{PartAt};
+ghost use Rattle.name_set.specs.Words.{PartAt, IsRest, IsFirst};
 
 use fbas_model::MOST_NODES;
 use std::cmp::Ordering;
@@ -257,11 +257,41 @@ impl<const W: usize> NodeWords<W> {
         }
         self.least_in(i + 1)
     }
+
+    /// The first word, or 0 where the set has room for no number.
+    fn first_word(&self) -> u64
+        ensures { IsRest (members self.now) 0 0 result }
+    {
+        if self.n == 0 {
+            return 0;
+        }
+        self.words[0]
+    }
+
+    /// What is left of a word, or, where that is nothing, the next word that is not 0, with its place.
+    fn first_left(&self, at: usize, rest: u64) -> Option<(usize, u64)>
+        requires { at ≤ MOST_WORDS }
+        ensures { (from : ℕ) → IsRest (members self.now) at from rest → MatchOption result (HasNoneFrom (members self.now) from) (λ p. IsFirst (members self.now) from p.0 p.1) }
+    {
+        if rest != 0 {
+            return Some((at, rest));
+        }
+        let number = self.least_in(at + 1)?;
+        let next = number as usize / 64;
+        let word = self.words[next];
+        Some((next, word))
+    }
+
     /// The numbers of the set, in order: all of them together O(n / 64) and as many steps as there are.
     pub fn iter(&self) -> Members<'_, W>
         ensures { result ≡ listed_from 0 self.now }
     {
-        Members { set: self, from: 0 }
+        Members {
+            set: self,
+            from: 0,
+            at: 0,
+            rest: self.first_word(),
+        }
     }
 }
 
@@ -269,18 +299,23 @@ impl<const W: usize> NodeWords<W> {
 #[derive(Drop)]
 pub struct Members<'a, const W: usize> {
     set: &'a NodeWords<W>,
+    /// The numbers below it were given.
     from: u32,
+    /// The place of a word, and what is left of it: the bits of the numbers that were not given.
+    at: usize,
+    rest: u64,
 }
 
 impl<'a, const W: usize> Model for Members<'a, W> {
     ghost use Rattle.std.specs.Prelude.{ℕ, ◌≤◌, List, length, drop};
-    ghost use Rattle.fbas_model.specs.Nodes.{listed_from};
+    ghost use Rattle.fbas_model.specs.Nodes.{members, listed_from};
+    ghost use Rattle.name_set.specs.Words.{IsRest};
 
     ghost Value = { List ℕ };
 
     ghost view = { λ m. listed_from m.from (drop m.from m.set.now) };
 
-    ghost invariant = { λ m. m.from ≤ length m.set.now };
+    ghost invariant = { λ m. (m.from ≤ length m.set.now) × IsRest (members m.set.now) m.at m.from m.rest };
 }
 
 impl<'a, const W: usize> Iterator for Members<'a, W> {
@@ -293,13 +328,16 @@ impl<'a, const W: usize> Iterator for Members<'a, W> {
     fn next(&mut self) -> Option<u32> {
         let set = self.set;
         let _ = &set.n;
-        match set.least_from(self.from) {
-            Some(number) => {
-                self.from = number + 1;
-                Some(number)
-            }
-            None => None,
-        }
+        let Some((at, rest)) = set.first_left(self.at, self.rest) else {
+            return None;
+        };
+        let bit = rest.trailing_zeros();
+        let number = 64 * at as u32 + bit;
+        self.at = at;
+        // The lowest bit goes: the compiler makes it `rest & (rest - 1)`.
+        self.rest = rest & !(1 << bit);
+        self.from = number + 1;
+        Some(number)
     }
 }
 

@@ -1,7 +1,7 @@
 //! Which literals are true.
 ghost use Rattle.std.specs.Prelude.{◌≡◌, ◌≢◌, ℕ, ◌+◌, ◌≤◌, ◌<◌, ◌^◌, [], ◌∷◌, ◌++◌, true, false, length, take, slice_index_or, All, IfOk};
 ghost use Rattle.lrat_model.specs.Literal.{Literal, has, negated, variable_of};
-ghost use Rattle.partial_assignment.specs.Values.{value_of, true_by, ArePlaces, IsAssignment};
+ghost use Rattle.partial_assignment.specs.Values.{value_of, is_value, true_by, ArePlaces, IsAssignment};
 
 use lrat_model::Lit;
 use std::alloc::{AllocError, Global};
@@ -13,6 +13,16 @@ pub enum Value {
     Unassigned,
     True,
     False,
+}
+
+impl Value {
+    /// Whether both are one. They are compared as numbers: a branch for each kind would hang on a literal's sign, which no
+    /// processor foresees.
+    fn is(self, other: Value) -> bool
+        ensures { result ≡ is_value self other }
+    {
+        self as u8 == other as u8
+    }
 }
 
 /// The values of variables, and the trail: the literals that were made true, in order. A variable's place
@@ -80,11 +90,7 @@ impl Assignment {
         requires { variable_of l ≤ self.now.vars }
         ensures { result ≡ has self.now.trues l }
     {
-        match self.values[l.variable() as usize] {
-            Value::Unassigned => false,
-            Value::True => l.number() > 0,
-            Value::False => l.number() < 0,
-        }
+        self.values[l.variable() as usize].is(value_of(l))
     }
 
     /// Makes a literal true whose variable has no value. O(1).

@@ -6,6 +6,7 @@ mod desks;
 mod failing;
 mod malicious;
 mod questions;
+mod rat;
 mod searches;
 mod systems;
 mod trials;

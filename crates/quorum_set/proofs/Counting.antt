@@ -27,7 +27,7 @@ answer_iff u t n ws qs low e = let entries = entries_of ws qs in (
 )
 
 -- one more of the list counted
-pub count_step : (p : QuorumSet → Bool) (qs : List QuorumSet) (i : ℕ) (q : QuorumSet) (b : Bool) → i < length qs → q ≡ slice_index_or qs i q → b ≡ p q → count_by p (take (i + 1) qs) ≡ count_by p (take i qs) + cond b 1 0
+pub count_step : {X : Type 0} (p : X → Bool) (qs : List X) (i : ℕ) (q : X) (b : Bool) → i < length qs → q ≡ slice_index_or qs i q → b ≡ p q → count_by p (take (i + 1) qs) ≡ count_by p (take i qs) + cond b 1 0
 count_step p qs i q b h e f = elim (cases_Bool b) [
   | inl met ↦ rw met (count_by_more_yes p qs i q h (rw (← e) (sym f ∙ met)))
   | inr unmet ↦ rw unmet (count_by_more_no p qs i q h (rw (← e) (sym f ∙ unmet)) ∙ sym (add-zero (count_by p (take i qs))))

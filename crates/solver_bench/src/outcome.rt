@@ -11,7 +11,7 @@ use clause_store::Store;
 use fbas_core::System;
 use greatest_quorum::greatest;
 use lrat_checker::IdleChecker;
-use lrat_model::Progress;
+use lrat_model::{Progress, Rule};
 use name_set::NodeSet;
 use node_json::read_config;
 use std::alloc::{AllocError, Global};
@@ -43,7 +43,7 @@ fn is_refutation(
     requires small { vars < 2 ^ 31 }
     requires range { AreInRange vars store.held }
 {
-    let mut checker = IdleChecker::start(alloc, store, vars)?;
+    let mut checker = IdleChecker::start(alloc, store, vars, Rule::Rat)?;
     let mut progress = Progress::Going;
     let log = solver.log();
     for place in 0..log.len() {

@@ -1,19 +1,21 @@
 -- What a line says, one word later.
-use Rattle.std.proofs.Common.{◌≡◌, ℕ, List, [], ◌∷◌, true, false, refl, Option, None, Some, rules, subst}
+use Rattle.std.proofs.Common.{◌≡◌, ℕ, ℤ, List, [], ◌∷◌, true, false, refl, Option, None, Some, rules, subst}
 use Rattle.std.specs.Prelude.{is_some, IsSome}
 use Rattle.lrat_model.specs.Literal.{Literal}
+use Rattle.lrat_model.specs.Clauses.{Held}
 use Rattle.lrat_model.specs.Steps.{Database}
+use Rattle.lrat_model.specs.declared.step.Rule.{Rule}
 use Rattle.lrat_model.specs.declared.step.StepFault.{StepFault}
-use Rattle.lrat_checker.specs.Adding.{Adding}
+use Rattle.lrat_checker.specs.Adding.{Adding, StopsAt}
 use Rattle.lrat_text.specs.Words.{Word}
 use Rattle.lrat_text.specs.Lines.{is_mark, after_id}
 use Rattle.step_stream.specs.declared.words.StepWords.{StepWords}
 use Rattle.step_stream.specs.Outline.{outline_in}
-use Rattle.step_stream.specs.Ahead.{ahead, addition_from, IsOpen}
+use Rattle.step_stream.specs.Ahead.{ahead, addition_from, fault_then, IsOpen}
 
 -- the word behind the id, where it begins no deletion
-pub begins_addition : (vars : ℕ) (database : Database) (id : ℕ) (word : Word) (rest : List Word) → is_mark word ≡ false → outline_in vars database (after_id id (word ∷ rest)) ≡ outline_in vars database (addition_from id [] (word ∷ rest))
-begins_addition vars database id word rest mark = rw mark refl
+pub begins_addition : (rule : Rule) (vars : ℕ) (database : Database) (id : ℕ) (word : Word) (rest : List Word) → is_mark word ≡ false → outline_in rule vars database (after_id id (word ∷ rest)) ≡ outline_in rule vars database (addition_from id [] (word ∷ rest))
+begins_addition rule vars database id word rest mark = rw mark refl
 
 -- without a fault the addition is open
 pub opened : (id : ℕ) (lits : List Literal) (fault : Option StepFault) (now : Option Adding) → is_some fault ≡ false → IsOpen id lits fault now → IsSome now
@@ -21,7 +23,15 @@ opened id lits (Some f) now none is = cc
 opened id lits None None none is = absurd is
 opened id lits None (Some a) none is = search rules
 
--- what is so ahead of one checker is so of another with the same variables and clauses
-pub moved : (v w : ℕ) (d e : Database) → w ≡ v → e ≡ d → (s t : StepWords) (now then : Option Adding) (ws us : List Word) → ahead w e s now ws ≡ ahead w e t then us → ahead v d s now ws ≡ ahead v d t then us
-moved v w d e vars database s t now then ws us is =
-    subst (λ (n : ℕ). ahead n d s now ws ≡ ahead n d t then us) vars (subst (λ (b : Database). ahead w b s now ws ≡ ahead w b t then us) database is)
+-- what is so ahead of one checker is so of another with the same rule, variables and clauses
+pub moved : (p q : Rule) (v w : ℕ) (d e : Database) → q ≡ p → w ≡ v → e ≡ d → (s t : StepWords) (now then : Option Adding) (ws us : List Word) → ahead q w e s now ws ≡ ahead q w e t then us → ahead p v d s now ws ≡ ahead p v d t then us
+moved p q v w d e rule vars database s t now then ws us is =
+    subst (λ (r : Rule). ahead r v d s now ws ≡ ahead r v d t then us) rule
+    (subst (λ (n : ℕ). ahead q n d s now ws ≡ ahead q n d t then us) vars (subst (λ (b : Database). ahead q w b s now ws ≡ ahead q w b t then us) database is))
+
+-- a hint at which the addition stops, whatever hints come behind it
+pub stopped : (rule : Rule) (held : Held) (hint : ℤ) (id : ℕ) (lits : List Literal) (kept : Option StepFault) (now : Option Adding) (fault : StepFault) → is_some kept ≡ false → IsOpen id lits kept now → StopsAt rule held hint now fault
+    → (hints : List ℤ) → fault_then rule held kept now (hint ∷ hints) ≡ Some fault
+stopped rule held hint id lits (Some f) now fault none is stops hints = cc
+stopped rule held hint id lits None None fault none is stops hints = absurd is
+stopped rule held hint id lits None (Some a) fault none is stops hints = stops hints

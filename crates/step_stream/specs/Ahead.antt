@@ -4,6 +4,7 @@ use Rattle.std.specs.Global.{Vec}
 use Rattle.lrat_model.specs.Literal.{Literal}
 use Rattle.lrat_model.specs.Clauses.{Held}
 use Rattle.lrat_model.specs.Steps.{Database, ProofStep, Addition, Deletion}
+use Rattle.lrat_model.specs.declared.step.Rule.{Rule}
 use Rattle.lrat_model.specs.declared.step.StepFault.{StepFault}
 use Rattle.lrat_checker.specs.Adding.{Adding, fault_after}
 use Rattle.lrat_text.specs.Words.{Word}
@@ -16,10 +17,10 @@ use Rattle.step_stream.specs.declared.words.Stage.TheVariants.{Start, Numbered, 
 use Rattle.step_stream.specs.declared.words.StepWords.{StepWords}
 
 -- the fault that is kept, or else that of the open addition where these hints come next
-abbrev pub fault_then : Held → Option StepFault → Option Adding → List ℤ → Option StepFault
-fault_then held (Some fault) now hints = Some fault
-fault_then held None None hints = None
-fault_then held None (Some a) hints = fault_after held a hints
+abbrev pub fault_then : Rule → Held → Option StepFault → Option Adding → List ℤ → Option StepFault
+fault_then rule held (Some fault) now hints = Some fault
+fault_then rule held None None hints = None
+fault_then rule held None (Some a) hints = fault_after rule held a hints
 
 -- the outline, if no word is left
 abbrev pub at_end : StepOutline → List Word → Option StepOutline
@@ -40,18 +41,18 @@ abbrev pub deletion_from : ℕ → List ℕ → List Word → Result ProofStep L
 deletion_from id ids words = and_then (closed_list id_in words) (λ l. ended (Deletion id (ids ++ l.0)) l.1)
 
 -- what the line says if these words are left of it
-abbrev pub ahead_at : Stage → ℕ → Database → List Literal → List ℕ → Option StepFault → Option Adding → List Word → Option StepOutline
-ahead_at Start vars database lits ids fault now words = outline_in vars database (step_of_words words)
-ahead_at (Numbered id) vars database lits ids fault now words = outline_in vars database (after_id id words)
-ahead_at (Literals id) vars database lits ids fault now words = outline_in vars database (addition_from id lits words)
-ahead_at (Hints id) vars database lits ids fault now words = added id lits (fault_then database.held fault now) (closed_list hint_in words)
-ahead_at (Added id) vars database lits ids fault now words = at_end (Adds id lits (fault_then database.held fault now [])) words
-ahead_at (Ids id) vars database lits ids fault now words = outline_in vars database (deletion_from id ids words)
-ahead_at (Deleted id) vars database lits ids fault now words = at_end (Deletes id ids) words
-ahead_at Bad vars database lits ids fault now words = None
+abbrev pub ahead_at : Stage → Rule → ℕ → Database → List Literal → List ℕ → Option StepFault → Option Adding → List Word → Option StepOutline
+ahead_at Start rule vars database lits ids fault now words = outline_in rule vars database (step_of_words words)
+ahead_at (Numbered id) rule vars database lits ids fault now words = outline_in rule vars database (after_id id words)
+ahead_at (Literals id) rule vars database lits ids fault now words = outline_in rule vars database (addition_from id lits words)
+ahead_at (Hints id) rule vars database lits ids fault now words = added id lits (fault_then rule database.held fault now) (closed_list hint_in words)
+ahead_at (Added id) rule vars database lits ids fault now words = at_end (Adds id lits (fault_then rule database.held fault now [])) words
+ahead_at (Ids id) rule vars database lits ids fault now words = outline_in rule vars database (deletion_from id ids words)
+ahead_at (Deleted id) rule vars database lits ids fault now words = at_end (Deletes id ids) words
+ahead_at Bad rule vars database lits ids fault now words = None
 
-abbrev pub ahead : ℕ → Database → StepWords → Option Adding → List Word → Option StepOutline
-ahead vars database s now words = ahead_at s.stage vars database s.lits.items s.ids.items s.fault now words
+abbrev pub ahead : Rule → ℕ → Database → StepWords → Option Adding → List Word → Option StepOutline
+ahead rule vars database s now words = ahead_at s.stage rule vars database s.lits.items s.ids.items s.fault now words
 
 -- the addition of this id and these literals is open, unless it has a fault
 abbrev pub IsOpen : ℕ → List Literal → Option StepFault → Option Adding → Type 0

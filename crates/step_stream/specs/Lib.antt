@@ -1,3 +1,4 @@
 pub mod Outline
 pub mod Ahead
 pub mod Solid
+pub mod Said

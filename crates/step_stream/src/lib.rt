@@ -3,6 +3,7 @@
 #![tactic(auto)]
 
 mod reader;
+mod spelled;
 mod words;
 
 pub use lrat_checker::Checker;

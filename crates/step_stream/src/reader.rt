@@ -5,9 +5,10 @@ ghost use Rattle.step_stream.specs.Ahead.{ahead, Fits};
 ghost use Rattle.step_stream.specs.Solid.{IsSolid};
 ghost use Rattle.step_stream.specs.declared.words.Stage.TheVariants.{Start};
 
+use crate::spelled::SpelledWords;
 use crate::words::StepWords;
 use lrat_checker::Checker;
-use lrat_text::{Words, blank_end, word_len};
+use lrat_text::{blank_end, word_len};
 use std::alloc::{AllocError, Global};
 
 /// A step line that is being read: what is kept of its words, and the bytes of a word whose end has not come.
@@ -45,14 +46,15 @@ impl StepReader {
         requires solid { IsSolid self.old.begun.items }
         ensures fits { OnOk result (Fits self.new.words checker.new.open_addition) }
         ensures solid { OnOk result (IsSolid self.new.begun.items) }
-        ensures ahead { OnOk result ((more : List ℕ) → ahead checker.old.vars checker.old.database self.old.words checker.old.open_addition (words_of (self.old.begun.items ++ (part.now ++ more)))
-            ≡ ahead checker.old.vars checker.old.database self.new.words checker.new.open_addition (words_of (self.new.begun.items ++ more))) }
+        ensures ahead { OnOk result ((more : List ℕ) → ahead checker.old.rule checker.old.vars checker.old.database self.old.words checker.old.open_addition (words_of (self.old.begun.items ++ (part.now ++ more)))
+            ≡ ahead checker.old.rule checker.old.vars checker.old.database self.new.words checker.new.open_addition (words_of (self.new.begun.items ++ more))) }
         ensures database { checker.new.database ≡ checker.old.database }
+        ensures rule { checker.new.rule ≡ checker.old.rule }
         ensures vars { checker.new.vars ≡ checker.old.vars }
     {
         let rest = self.join(checker, part)?;
         let (whole, begun) = rest.split_at(blank_end(rest));
-        take_words(&mut self.words, checker, &mut Words::of(whole))?;
+        take_words(&mut self.words, checker, &mut SpelledWords::of(whole))?;
         self.begun.extend_from_slice(begun)
     }
 
@@ -61,14 +63,15 @@ impl StepReader {
         requires fits { Fits self.old.words checker.old.open_addition }
         requires solid { IsSolid self.old.begun.items }
         ensures fits { OnOk result (Fits self.new.words checker.new.open_addition) }
-        ensures ahead { OnOk result (ahead checker.old.vars checker.old.database self.old.words checker.old.open_addition (words_of (self.old.begun.items ++ part.now))
-            ≡ ahead checker.old.vars checker.old.database self.new.words checker.new.open_addition []) }
+        ensures ahead { OnOk result (ahead checker.old.rule checker.old.vars checker.old.database self.old.words checker.old.open_addition (words_of (self.old.begun.items ++ part.now))
+            ≡ ahead checker.old.rule checker.old.vars checker.old.database self.new.words checker.new.open_addition []) }
         ensures database { checker.new.database ≡ checker.old.database }
+        ensures rule { checker.new.rule ≡ checker.old.rule }
         ensures vars { checker.new.vars ≡ checker.old.vars }
     {
         let rest = self.join(checker, part)?;
         self.end_word(checker)?;
-        take_words(&mut self.words, checker, &mut Words::of(rest))
+        take_words(&mut self.words, checker, &mut SpelledWords::of(rest))
     }
 
     /// Puts the end of the word that is begun behind it, if there is one, and takes it where a blank follows. Gives what is
@@ -78,10 +81,11 @@ impl StepReader {
         requires solid { IsSolid self.old.begun.items }
         ensures fits { OnOk result (Fits self.new.words checker.new.open_addition) }
         ensures solid { OnOk result (IsSolid self.new.begun.items) }
-        ensures ahead { IfOk result (λ rest. (more : List ℕ) → ahead checker.old.vars checker.old.database self.old.words checker.old.open_addition (words_of (self.old.begun.items ++ (part.now ++ more)))
-            ≡ ahead checker.old.vars checker.old.database self.new.words checker.new.open_addition (words_of (self.new.begun.items ++ (rest.now ++ more)))) }
+        ensures ahead { IfOk result (λ rest. (more : List ℕ) → ahead checker.old.rule checker.old.vars checker.old.database self.old.words checker.old.open_addition (words_of (self.old.begun.items ++ (part.now ++ more)))
+            ≡ ahead checker.old.rule checker.old.vars checker.old.database self.new.words checker.new.open_addition (words_of (self.new.begun.items ++ (rest.now ++ more)))) }
         ensures one { IfOk result (λ rest. (self.new.begun.items ≡ []) ⊎ (rest.now ≡ [])) }
         ensures database { checker.new.database ≡ checker.old.database }
+        ensures rule { checker.new.rule ≡ checker.old.rule }
         ensures vars { checker.new.vars ≡ checker.old.vars }
     {
         if self.begun.is_empty() {
@@ -101,15 +105,16 @@ impl StepReader {
         requires solid { IsSolid self.old.begun.items }
         ensures fits { OnOk result (Fits self.new.words checker.new.open_addition) }
         ensures begun { OnOk result (self.new.begun.items ≡ []) }
-        ensures ahead { OnOk result ((rest : List Word) → ahead checker.old.vars checker.old.database self.old.words checker.old.open_addition (words_of self.old.begun.items ++ rest)
-            ≡ ahead checker.old.vars checker.old.database self.new.words checker.new.open_addition rest) }
+        ensures ahead { OnOk result ((rest : List Word) → ahead checker.old.rule checker.old.vars checker.old.database self.old.words checker.old.open_addition (words_of self.old.begun.items ++ rest)
+            ≡ ahead checker.old.rule checker.old.vars checker.old.database self.new.words checker.new.open_addition rest) }
         ensures database { checker.new.database ≡ checker.old.database }
+        ensures rule { checker.new.rule ≡ checker.old.rule }
         ensures vars { checker.new.vars ≡ checker.old.vars }
     {
         if self.begun.is_empty() {
             return Ok(());
         }
-        self.words.word(checker, &self.begun)?;
+        take_words(&mut self.words, checker, &mut SpelledWords::of(&self.begun))?;
         self.begun.clear();
         Ok(())
     }
@@ -119,17 +124,18 @@ impl StepReader {
 fn take_words(
     reader: &mut StepWords,
     checker: &mut Checker,
-    words: &mut Words<'_>,
+    words: &mut SpelledWords<'_>,
 ) -> Result<(), AllocError>
     requires { Fits reader.old checker.old.open_addition }
     ensures fits { OnOk result (Fits reader.new checker.new.open_addition) }
-    ensures ahead { OnOk result ((rest : List Word) → ahead checker.old.vars checker.old.database reader.old checker.old.open_addition (words.old ++ rest)
-        ≡ ahead checker.old.vars checker.old.database reader.new checker.new.open_addition rest) }
+    ensures ahead { OnOk result ((rest : List Word) → ahead checker.old.rule checker.old.vars checker.old.database reader.old checker.old.open_addition (words.old ++ rest)
+        ≡ ahead checker.old.rule checker.old.vars checker.old.database reader.new checker.new.open_addition rest) }
     ensures database { checker.new.database ≡ checker.old.database }
+    ensures rule { checker.new.rule ≡ checker.old.rule }
     ensures vars { checker.new.vars ≡ checker.old.vars }
 {
     while let Some(word) = words.next() {
-        reader.word(checker, word)?;
+        reader.word(checker, &word)?;
     }
     Ok(())
 }

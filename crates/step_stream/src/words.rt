@@ -1,7 +1,9 @@
 //! The words of a step line, one after another.
 ghost use Rattle.std.specs.Prelude.{◌≡◌, ◌∷◌, [], ℕ, ℤ, None, Option, List, OnOk};
 ghost use Rattle.lrat_model.specs.Literal.{Literal};
-ghost use Rattle.lrat_model.specs.Steps.{Database, addition_fault};
+ghost use Rattle.lrat_model.specs.Steps.{Database};
+ghost use Rattle.lrat_model.specs.Rules.{addition_fault_by};
+ghost use Rattle.lrat_model.specs.declared.step.Rule.{Rule};
 ghost use Rattle.lrat_model.specs.declared.step.StepFault.{StepFault};
 ghost use Rattle.lrat_checker.specs.Adding.{Adding};
 ghost use Rattle.lrat_text.specs.Words.{Word};
@@ -10,9 +12,9 @@ ghost use Rattle.lrat_text.specs.Numbers.{hint_in};
 ghost use Rattle.step_stream.specs.Outline.{outline_in};
 ghost use Rattle.step_stream.specs.Ahead.{ahead, ahead_at, added, fault_then, addition_from, deletion_from, IsOpen, IsClear, FitsAt, Fits};
 
+use crate::spelled::SpelledWord;
 use lrat_checker::Checker;
 use lrat_model::{Lit, StepFault};
-use lrat_text::{is_mark, is_zero, read_hint, read_id, read_literal};
 use std::alloc::{AllocError, Global};
 
 /// How many hints an addition may have before want of memory is answered: none that was ever written has.
@@ -78,11 +80,12 @@ impl StepWords {
     }
 
     /// Takes a word of the line. O(its bytes), and what the checker does with a hint or with the literals.
-    pub fn word(&mut self, checker: &mut Checker, word: &[u8]) -> Result<(), AllocError>
+    pub fn word(&mut self, checker: &mut Checker, word: &SpelledWord<'_>) -> Result<(), AllocError>
         requires { Fits self.old checker.old.open_addition }
         ensures fits { OnOk result (Fits self.new checker.new.open_addition) }
-        ensures ahead { OnOk result ((rest : List Word) → ahead checker.old.vars checker.old.database self.old checker.old.open_addition (word.now ∷ rest) ≡ ahead checker.old.vars checker.old.database self.new checker.new.open_addition rest) }
+        ensures ahead { OnOk result ((rest : List Word) → ahead checker.old.rule checker.old.vars checker.old.database self.old checker.old.open_addition (word.now ∷ rest) ≡ ahead checker.old.rule checker.old.vars checker.old.database self.new checker.new.open_addition rest) }
         ensures database { checker.new.database ≡ checker.old.database }
+        ensures rule { checker.new.rule ≡ checker.old.rule }
         ensures vars { checker.new.vars ≡ checker.old.vars }
     {
         match self.stage {
@@ -102,16 +105,22 @@ impl StepWords {
     }
 
     /// The word behind the id: `d` begins a deletion.
-    fn numbered(&mut self, checker: &mut Checker, id: u64, word: &[u8]) -> Result<(), AllocError>
+    fn numbered(
+        &mut self,
+        checker: &mut Checker,
+        id: u64,
+        word: &SpelledWord<'_>,
+    ) -> Result<(), AllocError>
         requires clear { IsClear self.old.fault checker.old.open_addition }
         requires lits { self.old.lits.items ≡ [] }
         requires ids { self.old.ids.items ≡ [] }
         ensures fits { OnOk result (Fits self.new checker.new.open_addition) }
-        ensures ahead { OnOk result ((rest : List Word) → outline_in checker.old.vars checker.old.database (after_id id (word.now ∷ rest)) ≡ ahead checker.old.vars checker.old.database self.new checker.new.open_addition rest) }
+        ensures ahead { OnOk result ((rest : List Word) → outline_in checker.old.rule checker.old.vars checker.old.database (after_id id (word.now ∷ rest)) ≡ ahead checker.old.rule checker.old.vars checker.old.database self.new checker.new.open_addition rest) }
         ensures database { checker.new.database ≡ checker.old.database }
+        ensures rule { checker.new.rule ≡ checker.old.rule }
         ensures vars { checker.new.vars ≡ checker.old.vars }
     {
-        if is_mark(word) {
+        if word.is_mark() {
             self.stage = Stage::Ids(id);
             return Ok(());
         }
@@ -119,18 +128,24 @@ impl StepWords {
     }
 
     /// A literal, or the 0 behind the last one, with which the addition begins.
-    fn literal(&mut self, checker: &mut Checker, id: u64, word: &[u8]) -> Result<(), AllocError>
+    fn literal(
+        &mut self,
+        checker: &mut Checker,
+        id: u64,
+        word: &SpelledWord<'_>,
+    ) -> Result<(), AllocError>
         requires { IsClear self.old.fault checker.old.open_addition }
         ensures fits { OnOk result (Fits self.new checker.new.open_addition) }
-        ensures ahead { OnOk result ((rest : List Word) → outline_in checker.old.vars checker.old.database (addition_from id self.old.lits.items (word.now ∷ rest)) ≡ ahead checker.old.vars checker.old.database self.new checker.new.open_addition rest) }
+        ensures ahead { OnOk result ((rest : List Word) → outline_in checker.old.rule checker.old.vars checker.old.database (addition_from id self.old.lits.items (word.now ∷ rest)) ≡ ahead checker.old.rule checker.old.vars checker.old.database self.new checker.new.open_addition rest) }
         ensures database { checker.new.database ≡ checker.old.database }
+        ensures rule { checker.new.rule ≡ checker.old.rule }
         ensures vars { checker.new.vars ≡ checker.old.vars }
     {
-        if is_zero(word) {
+        if word.is_zero() {
             self.stage = Stage::Hints(id);
             return self.begin(checker, id);
         }
-        match read_literal(word) {
+        match word.literal() {
             Some(l) => {
                 self.stage = Stage::Literals(id);
                 self.lits.push(l)?;
@@ -147,11 +162,12 @@ impl StepWords {
     fn begin(&mut self, checker: &mut Checker, id: u64) -> Result<(), AllocError>
         requires { IsClear self.old.fault checker.old.open_addition }
         ensures opened { OnOk result (IsOpen id self.old.lits.items self.new.fault checker.new.open_addition) }
-        ensures fault { OnOk result ((hints : List ℤ) → fault_then checker.old.database.held self.new.fault checker.new.open_addition hints ≡ addition_fault checker.old.vars checker.old.database id self.old.lits.items hints) }
+        ensures fault { OnOk result ((hints : List ℤ) → fault_then checker.old.rule checker.old.database.held self.new.fault checker.new.open_addition hints ≡ addition_fault_by checker.old.rule checker.old.vars checker.old.database id self.old.lits.items hints) }
         ensures stage { self.new.stage ≡ self.old.stage }
         ensures lits { self.new.lits ≡ self.old.lits }
         ensures ids { self.new.ids ≡ self.old.ids }
         ensures database { checker.new.database ≡ checker.old.database }
+        ensures rule { checker.new.rule ≡ checker.old.rule }
         ensures vars { checker.new.vars ≡ checker.old.vars }
     {
         match checker.begin_add(id, &self.lits) {
@@ -165,18 +181,24 @@ impl StepWords {
     }
 
     /// A hint, or the 0 behind the last one.
-    fn hint(&mut self, checker: &mut Checker, id: u64, word: &[u8]) -> Result<(), AllocError>
+    fn hint(
+        &mut self,
+        checker: &mut Checker,
+        id: u64,
+        word: &SpelledWord<'_>,
+    ) -> Result<(), AllocError>
         requires { IsOpen id self.old.lits.items self.old.fault checker.old.open_addition }
         ensures fits { OnOk result (Fits self.new checker.new.open_addition) }
-        ensures ahead { OnOk result ((rest : List Word) → added id self.old.lits.items (fault_then checker.old.database.held self.old.fault checker.old.open_addition) (closed_list hint_in (word.now ∷ rest)) ≡ ahead checker.old.vars checker.old.database self.new checker.new.open_addition rest) }
+        ensures ahead { OnOk result ((rest : List Word) → added id self.old.lits.items (fault_then checker.old.rule checker.old.database.held self.old.fault checker.old.open_addition) (closed_list hint_in (word.now ∷ rest)) ≡ ahead checker.old.rule checker.old.vars checker.old.database self.new checker.new.open_addition rest) }
         ensures database { checker.new.database ≡ checker.old.database }
+        ensures rule { checker.new.rule ≡ checker.old.rule }
         ensures vars { checker.new.vars ≡ checker.old.vars }
     {
-        if is_zero(word) {
+        if word.is_zero() {
             self.stage = Stage::Added(id);
             return Ok(());
         }
-        let Some(hint) = read_hint(word) else {
+        let Some(hint) = word.hint() else {
             self.stage = Stage::Bad;
             return Ok(());
         };
@@ -188,11 +210,12 @@ impl StepWords {
     fn take_hint(&mut self, checker: &mut Checker, hint: i64) -> Result<(), AllocError>
         requires { (id : ℕ) × IsOpen id self.old.lits.items self.old.fault checker.old.open_addition }
         ensures opened { (id : ℕ) → IsOpen id self.old.lits.items self.old.fault checker.old.open_addition → OnOk result (IsOpen id self.new.lits.items self.new.fault checker.new.open_addition) }
-        ensures fault { (id : ℕ) → IsOpen id self.old.lits.items self.old.fault checker.old.open_addition → OnOk result ((hints : List ℤ) → fault_then checker.old.database.held self.old.fault checker.old.open_addition (hint ∷ hints) ≡ fault_then checker.old.database.held self.new.fault checker.new.open_addition hints) }
+        ensures fault { (id : ℕ) → IsOpen id self.old.lits.items self.old.fault checker.old.open_addition → OnOk result ((hints : List ℤ) → fault_then checker.old.rule checker.old.database.held self.old.fault checker.old.open_addition (hint ∷ hints) ≡ fault_then checker.old.rule checker.old.database.held self.new.fault checker.new.open_addition hints) }
         ensures stage { self.new.stage ≡ self.old.stage }
         ensures lits { self.new.lits ≡ self.old.lits }
         ensures ids { self.new.ids ≡ self.old.ids }
         ensures database { checker.new.database ≡ checker.old.database }
+        ensures rule { checker.new.rule ≡ checker.old.rule }
         ensures vars { checker.new.vars ≡ checker.old.vars }
     {
         if self.fault.is_some() {
@@ -201,22 +224,26 @@ impl StepWords {
         if checker.hints() >= MOST_HINTS {
             return Err(AllocError);
         }
-        if let Err(fault) = checker.hint(hint) {
-            self.fault = Some(fault);
+        match checker.hint(hint) {
+            Ok(_) => Ok(()),
+            Err(StepFault::Memory) => Err(AllocError),
+            Err(fault) => {
+                self.fault = Some(fault);
+                Ok(())
+            }
         }
-        Ok(())
     }
 
     /// An id of a deletion, or the 0 behind the last one.
-    fn listed(&mut self, id: u64, word: &[u8]) -> Result<(), AllocError>
-        ensures ahead { (vars : ℕ) (database : Database) (now : Option Adding) → OnOk result ((rest : List Word) → outline_in vars database (deletion_from id self.old.ids.items (word.now ∷ rest)) ≡ ahead vars database self.new now rest) }
+    fn listed(&mut self, id: u64, word: &SpelledWord<'_>) -> Result<(), AllocError>
+        ensures ahead { (rule : Rule) (vars : ℕ) (database : Database) (now : Option Adding) → OnOk result ((rest : List Word) → outline_in rule vars database (deletion_from id self.old.ids.items (word.now ∷ rest)) ≡ ahead rule vars database self.new now rest) }
         ensures fits { (now : Option Adding) → OnOk result (now ≡ None → Fits self.new now) }
     {
-        if is_zero(word) {
+        if word.is_zero() {
             self.stage = Stage::Deleted(id);
             return Ok(());
         }
-        match read_id(word) {
+        match word.id() {
             Some(other) => {
                 self.stage = Stage::Ids(id);
                 self.ids.push(other)?;
@@ -231,11 +258,11 @@ impl StepWords {
 }
 
 /// The stage behind the first word.
-fn after_start(word: &[u8]) -> Stage
+fn after_start(word: &SpelledWord<'_>) -> Stage
     ensures fits { (lits : List Literal) (ids : List ℕ) (fault : Option StepFault) (now : Option Adding) → FitsAt Stage.Start lits ids fault now → FitsAt result lits ids fault now }
-    ensures ahead { (vars : ℕ) (database : Database) (now : Option Adding) (rest : List Word) → outline_in vars database (step_of_words (word.now ∷ rest)) ≡ ahead_at result vars database [] [] None now rest }
+    ensures ahead { (rule : Rule) (vars : ℕ) (database : Database) (now : Option Adding) (rest : List Word) → outline_in rule vars database (step_of_words (word.now ∷ rest)) ≡ ahead_at result rule vars database [] [] None now rest }
 {
-    match read_id(word) {
+    match word.id() {
         Some(id) => Stage::Numbered(id),
         None => Stage::Bad,
     }

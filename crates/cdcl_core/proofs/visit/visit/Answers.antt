@@ -1,12 +1,11 @@
-use Rattle.std.proofs.Common.{◌≡◌, ◌++◌, ◌∷◌, [], ◌∙◌, List, true, ap, subst, sym, arith, refl, length}
+use Rattle.std.proofs.Common.{◌≡◌, ◌++◌, ◌∷◌, [], ◌∙◌, List, ap, subst, sym, arith, refl, length}
 use Rattle.std.specs.Prelude.{slice_set}
-use Rattle.lrat_model.specs.Literal.{Literal}
 use Rattle.lrat_model.specs.Clauses.{clause_at}
 use Rattle.lrat_model.specs.Propagation.{status}
 use Rattle.lrat_model.specs.declared.step.ClauseStatus.TheVariants.{Forces}
 use Rattle.cdcl_core.proofs.States.{state_push}
 use Rattle.cdcl_core.specs.declared.watches.Watch.{Watch}
-use Rattle.cdcl_core.specs.Watches.{IsVisiting, lits_at, id_at, pair_at}
+use Rattle.cdcl_core.specs.Watches.{IsVisiting, lits_at, id_at}
 use Rattle.cdcl_core.proofs.Visits.{visiting_true, visiting_stale, visiting_moved, visiting_push, index_within}
 use Rattle.lrat_model.proofs.Literals.{has-push, has-first}
 use Rattle.cdcl_core.proofs.Forced.{forces_only, falsified_all}

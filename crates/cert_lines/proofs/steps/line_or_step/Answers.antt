@@ -57,8 +57,8 @@ returns-clause-step g c = λ _.
     let old_lines = lines_of (lines.unread ++ left_of Cert (g.D.Desk.state c.args.desk.now)) in
     let now_lines = lines_of (now.unread ++ left_of Cert (g.D.Desk.state c.next_part.new.desk)) in
     let no_other : is_other part ≡ false = ap is_other (sym c.part.ensures) ∙ sym c.is_other.ensures ∙ c.if-is_other.false in
-    let starts : (bytes : List ℕ) → outline_in checker.vars checker.database (step_in bytes) ≡ ahead checker.vars checker.database reader.words checker.open_addition (words_of (reader.begun.items ++ bytes)) =
-    λ bytes. at_start checker.vars checker.database reader checker.open_addition bytes c.restart.ensures.stage c.restart.ensures.begun in
+    let starts : (bytes : List ℕ) → outline_in checker.rule checker.vars checker.database (step_in bytes) ≡ ahead checker.rule checker.vars checker.database reader.words checker.open_addition (words_of (reader.begun.items ++ bytes)) =
+    λ bytes. at_start checker.rule checker.vars checker.database reader checker.open_addition bytes c.restart.ensures.stage c.restart.ensures.begun in
     elim c.if-ends.branch [
       | then-ends+in_ok-last w ↦ rw (w.lines-is, w.desk-is, w.checker-is, w.reader-is) (
         part,
@@ -66,7 +66,7 @@ returns-clause-step g c = λ _.
         λ tells. first_end lines.number lines.taken part old_lines now_lines c.requires.fresh
             (placed true c.in_ok-ends.ends lines.number lines.number lines.taken part old_lines now_lines w.if-ends.true refl (c.in_ok-ends.ensures.part tells)),
         starts part
-            ∙ ap (λ (xs : List ℕ). ahead checker.vars checker.database reader.words checker.open_addition (words_of (reader.begun.items ++ xs))) (sym w.part-then-ends.ensures)
+            ∙ ap (λ (xs : List ℕ). ahead checker.rule checker.vars checker.database reader.words checker.open_addition (words_of (reader.begun.items ++ xs))) (sym w.part-then-ends.ensures)
             ∙ w.in_ok-last.ensures.ahead,
       )
       | else-ends+in_ok-part+in_ok-rest_of_step w ↦
@@ -81,8 +81,8 @@ returns-clause-step g c = λ _.
             λ tells. first_rest lines.number now.number lines.taken now.taken part suffix old_lines now_lines new_lines c.requires.fresh taken number
                 (placed false c.in_ok-ends.ends lines.number lines.number lines.taken part old_lines now_lines w.if-ends.false refl (c.in_ok-ends.ensures.part tells)) (w.in_ok-rest_of_step.ensures.line.1 tells),
             starts (part ++ suffix)
-                ∙ ap (λ (xs : List ℕ). ahead checker.vars checker.database reader.words checker.open_addition (words_of (reader.begun.items ++ (xs ++ suffix)))) (sym w.part-else-ends.ensures)
+                ∙ ap (λ (xs : List ℕ). ahead checker.rule checker.vars checker.database reader.words checker.open_addition (words_of (reader.begun.items ++ (xs ++ suffix)))) (sym w.part-else-ends.ensures)
                 ∙ w.in_ok-part.ensures.ahead suffix
-                ∙ moved checker.vars second.checker.vars checker.database second.checker.database w.part-else-ends-2.ensures.vars w.part-else-ends-2.ensures.database second.self.words w.rest_of_step.new.reader.words second.checker.open_addition w.rest_of_step.new.checker.open_addition (words_of (second.self.begun.items ++ suffix)) [] w.in_ok-rest_of_step.ensures.line.2,
+                ∙ moved checker.rule second.checker.rule checker.vars second.checker.vars checker.database second.checker.database w.part-else-ends-2.ensures.rule w.part-else-ends-2.ensures.vars w.part-else-ends-2.ensures.database second.self.words w.rest_of_step.new.reader.words second.checker.open_addition w.rest_of_step.new.checker.open_addition (words_of (second.self.begun.items ++ suffix)) [] w.in_ok-rest_of_step.ensures.line.2,
           )
     ]

@@ -26,8 +26,8 @@ returns-then-branch-clause-line g c =
           came_end before.number before.taken now.taken suffix part old_lines now_lines new_lines c.parts.invariant.suffix.1 (c.parts.invariant.suffix.2 tells)
           (placed true c.in_ok-next_part.field-0 now.number before.number now.taken part now_lines new_lines c.if-branch.true c.parts.invariant.number (c.in_ok-next_part.ensures.part tells)),
       c.parts.invariant.suffix.3 part
-          ∙ ap (λ (xs : List ℕ). ahead checker.vars checker.database reader.words open_now (words_of (reader.begun.items ++ xs))) (sym c.part.ensures)
-          ∙ moved checker.vars c.parts.checker.vars checker.database c.parts.checker.database c.parts.invariant.vars c.parts.invariant.database reader.words last open_now c.last.new.checker.open_addition (words_of (reader.begun.items ++ c.part.result.now)) [] c.in_ok-last.ensures.ahead,
+          ∙ ap (λ (xs : List ℕ). ahead checker.rule checker.vars checker.database reader.words open_now (words_of (reader.begun.items ++ xs))) (sym c.part.ensures)
+          ∙ moved checker.rule c.parts.checker.rule checker.vars c.parts.checker.vars checker.database c.parts.checker.database c.parts.invariant.rule c.parts.invariant.vars c.parts.invariant.database reader.words last open_now c.last.new.checker.open_addition (words_of (reader.begun.items ++ c.part.result.now)) [] c.in_ok-last.ensures.ahead,
     )
 
 pub parts-preserved : goal.parts-preserved
@@ -54,14 +54,15 @@ parts-preserved g c =
             came_more before.number before.taken now.taken suffix part old_lines now_lines new_lines c.parts.invariant.suffix.1 (c.parts.invariant.suffix.2 tells)
             (placed false c.in_ok-next_part.field-0 now.number before.number now.taken part now_lines new_lines c.if-branch.false c.parts.invariant.number (c.in_ok-next_part.ensures.part tells)),
         λ more.
-            ap (λ (xs : List ℕ). ahead checker.vars checker.database old.words checker.open_addition (words_of (old.begun.items ++ xs))) (append_assoc suffix part more)
+            ap (λ (xs : List ℕ). ahead checker.rule checker.vars checker.database old.words checker.open_addition (words_of (old.begun.items ++ xs))) (append_assoc suffix part more)
             ∙ c.parts.invariant.suffix.3 (part ++ more)
-            ∙ ap (λ (xs : List ℕ). ahead checker.vars checker.database reader.words open_now (words_of (reader.begun.items ++ (xs ++ more)))) (sym c.part-in-parts.ensures)
-            ∙ moved checker.vars c.parts.checker.vars checker.database c.parts.checker.database c.parts.invariant.vars c.parts.invariant.database reader.words later.words open_now c.part-in-parts-2.new.checker.open_addition (words_of (reader.begun.items ++ (c.part-in-parts.result.now ++ more))) (words_of (later.begun.items ++ more)) (c.in_ok-part.ensures.ahead more),
+            ∙ ap (λ (xs : List ℕ). ahead checker.rule checker.vars checker.database reader.words open_now (words_of (reader.begun.items ++ (xs ++ more)))) (sym c.part-in-parts.ensures)
+            ∙ moved checker.rule c.parts.checker.rule checker.vars c.parts.checker.vars checker.database c.parts.checker.database c.parts.invariant.rule c.parts.invariant.vars c.parts.invariant.database reader.words later.words open_now c.part-in-parts-2.new.checker.open_addition (words_of (reader.begun.items ++ (c.part-in-parts.result.now ++ more))) (words_of (later.begun.items ++ more)) (c.in_ok-part.ensures.ahead more),
       );
       fits = c.in_ok-part.ensures.fits;
       solid = c.in_ok-part.ensures.solid;
       database = c.in_ok-part.ensures.database ∙ c.parts.invariant.database;
+      rule = c.in_ok-part.ensures.rule ∙ c.parts.invariant.rule;
       vars = c.in_ok-part.ensures.vars ∙ c.parts.invariant.vars;
       number = number ∙ c.parts.invariant.number;
       rest = search rules;

@@ -14,11 +14,12 @@ invariant-parts g l = record {
   suffix : (suffix : List ℕ) × (l.lines.taken ≡ l.fn.lines.taken + length suffix)
       × (IsTrue g.D.Desk.tells → (front : List ℕ) → length front ≡ l.fn.lines.taken
       → with_front front (lines_of (l.fn.lines.unread ++ left_of Cert (g.D.Desk.state l.fn.desk))) ≡ with_front (front ++ suffix) (lines_of (l.lines.unread ++ left_of Cert (g.D.Desk.state l.desk))))
-      × ((more : List ℕ) → ahead l.fn.checker.vars l.fn.checker.database l.fn.reader.words l.fn.checker.open_addition (words_of (l.fn.reader.begun.items ++ (suffix ++ more)))
-      ≡ ahead l.fn.checker.vars l.fn.checker.database l.reader.words l.checker.open_addition (words_of (l.reader.begun.items ++ more)));
+      × ((more : List ℕ) → ahead l.fn.checker.rule l.fn.checker.vars l.fn.checker.database l.fn.reader.words l.fn.checker.open_addition (words_of (l.fn.reader.begun.items ++ (suffix ++ more)))
+      ≡ ahead l.fn.checker.rule l.fn.checker.vars l.fn.checker.database l.reader.words l.checker.open_addition (words_of (l.reader.begun.items ++ more)));
   fits : Fits l.reader.words l.checker.open_addition;
   solid : IsSolid l.reader.begun.items;
   database : l.checker.database ≡ l.fn.checker.database;
+  rule : l.checker.rule ≡ l.fn.checker.rule;
   vars : l.checker.vars ≡ l.fn.checker.vars;
   number : l.lines.number ≡ l.fn.lines.number;
   rest : IsTrue g.D.Desk.tells → g.D.Desk.state l.desk ≡ with_left Cert (left_of Cert (g.D.Desk.state l.desk)) (g.D.Desk.state l.fn.desk);

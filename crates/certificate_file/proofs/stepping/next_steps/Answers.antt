@@ -11,8 +11,8 @@ take_line-requires g c =
     let f = c.args.system.now in
     let p = c.args.steps.proof in
     let known = rw c.in-Some.is at c.in_ok-line.ensures.known in
-    let first = same_checking (checking_of c.opening-checker.result) c.args.steps.checker c.opening-checker.ensures.vars c.opening-checker.ensures.database in
-    let last = same_checking c.closing.result (checking_of c.take_steps.new.checker) c.closing.ensures.vars c.closing.ensures.database in
+    let first = same_checking (checking_of c.opening-checker.result) c.args.steps.checker c.opening-checker.ensures.rule c.opening-checker.ensures.vars c.opening-checker.ensures.database in
+    let last = same_checking c.closing.result (checking_of c.take_steps.new.checker) c.closing.ensures.rule c.closing.ensures.vars c.closing.ensures.database in
     let begun = subst (λ (x : Checking). IsKnown f (place_of p x c.args.steps.units)) (sym first) c.requires.known in
     subst (λ (x : Place). IsKnown f x) (sym c.place-place.ensures)
     (subst (λ (x : Checking). IsKnown f (place_of p x c.take_steps.new.units)) (sym last) (known f begun))
@@ -24,6 +24,6 @@ pub returns-in-None-clause-known : goal.returns-in-None-clause-known
 returns-in-None-clause-known g c =
     let f = c.args.system.now in
     let p = c.args.steps.proof in
-    let first = same_checking (checking_of c.opening-checker.result) c.args.steps.checker c.opening-checker.ensures.vars c.opening-checker.ensures.database in
+    let first = same_checking (checking_of c.opening-checker.result) c.args.steps.checker c.opening-checker.ensures.rule c.opening-checker.ensures.vars c.opening-checker.ensures.database in
     let begun = subst (λ (x : Checking). IsKnown f (place_of p x c.args.steps.units)) (sym first) c.requires.known in
     subst (λ (x : Place). IsKnown f x) (sym c.end.ensures) (c.in_ok-line.ensures.shown (rw c.in-None.is refl) f begun)

@@ -33,7 +33,7 @@ returns-in_err-take_read-in-None-clause-err g c =
           c.steps.invariant.same tells f d
           ∙ check_lines-refused f d l place ls more told.0 e (told.2 tells)
           (read_line f d p c.is_part-is_part.result c.steps.checker c.line_or_step.new.checker c.steps.units l c.number-line.result c.line_or_step.new.reader.words told.0 (Err e)
-          c.in_ok-text.ensures.vars c.in_ok-text.ensures.database c.number-line.ensures c.is_part-is_part.ensures told.1 told.3 fault)))
+          c.in_ok-text.ensures.rule c.in_ok-text.ensures.vars c.in_ok-text.ensures.database c.number-line.ensures c.is_part-is_part.ensures told.1 told.3 fault)))
     ])
 
 pub steps-preserved : goal.steps-preserved
@@ -48,7 +48,7 @@ steps-preserved g c =
     let came = rw c.in-Going.is at c.in_ok-take_read-in-None.ensures.ok in
     let took = λ (f : System) (d : List ℕ).
     read_line f d p c.is_part-is_part.result c.steps.checker c.line_or_step.new.checker c.steps.units l c.number-line.result c.line_or_step.new.reader.words told.0 _
-    c.in_ok-text.ensures.vars c.in_ok-text.ensures.database c.number-line.ensures c.is_part-is_part.ensures told.1 told.3 came in
+    c.in_ok-text.ensures.rule c.in_ok-text.ensures.vars c.in_ok-text.ensures.database c.number-line.ensures c.is_part-is_part.ensures told.1 told.3 came in
     record {
       closed = c.in_ok-take_read-in-None.ensures.closed;
       taken = c.in_ok-text.ensures.taken;
@@ -71,7 +71,7 @@ returns-in-Refuted-clause-shown g c = λ _ f k.
     let came = rw c.in-Refuted.is at c.in_ok-take_read-in-None.ensures.ok in
     known_after f [] p (checking_of c.steps.checker) c.steps.units l told.0 (Going (end_of p)) (c.steps.invariant.known f k)
     (read_line f [] p c.is_part-is_part.result c.steps.checker c.line_or_step.new.checker c.steps.units l c.number-line.result c.line_or_step.new.reader.words told.0 _
-    c.in_ok-text.ensures.vars c.in_ok-text.ensures.database c.number-line.ensures c.is_part-is_part.ensures told.1 told.3 came)
+    c.in_ok-text.ensures.rule c.in_ok-text.ensures.vars c.in_ok-text.ensures.database c.number-line.ensures c.is_part-is_part.ensures told.1 told.3 came)
 
 pub returns-in-Refuted-clause-end : goal.returns-in-Refuted-clause-end
 returns-in-Refuted-clause-end g c = λ _ tells f d.
@@ -85,5 +85,5 @@ returns-in-Refuted-clause-end g c = λ _ tells f d.
     c.steps.invariant.same tells f d
     ∙ check_lines-taken f d l place ls more told.0 (Going (end_of p)) (told.2 tells)
     (read_line f d p c.is_part-is_part.result c.steps.checker c.line_or_step.new.checker c.steps.units l c.number-line.result c.line_or_step.new.reader.words told.0 _
-    c.in_ok-text.ensures.vars c.in_ok-text.ensures.database c.number-line.ensures c.is_part-is_part.ensures told.1 told.3 came)
+    c.in_ok-text.ensures.rule c.in_ok-text.ensures.vars c.in_ok-text.ensures.database c.number-line.ensures c.is_part-is_part.ensures told.1 told.3 came)
     ∙ ap (λ (x : ℕ). check_lines f d x (Going (end_of p)) more) (sym c.in_ok-text.ensures.number)

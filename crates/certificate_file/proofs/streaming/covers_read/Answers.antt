@@ -8,9 +8,9 @@ use Rattle.certificate_file.proofs.CoverLaws.{is-covered}
 use Rattle.certificate_file.proofs.streaming.covers_read.Goals as goal
 
 pub returns-in-Added : goal.returns-in-Added
-returns-in-Added c = λ vars database now.
+returns-in-Added c = λ rule vars database now.
     let held = c.args.checker.now.database.held in
     let words = c.args.words.now in
     is-covered held c.in-Added.id c.deref.result.now c.covers.result c.covers.ensures
     ∙ ap (λ (ls : List Literal). is_covered held c.in-Added.id ls) c.deref.ensures.value
-    ∙ ap (λ (st : Stage). covers_read held (ahead_at st vars database words.lits.items words.ids.items words.fault now [])) (sym c.in-Added.is)
+    ∙ ap (λ (st : Stage). covers_read held (ahead_at st rule vars database words.lits.items words.ids.items words.fault now [])) (sym c.in-Added.is)

@@ -6,8 +6,9 @@ use Rattle.step_stream.proofs.reader.take_words.Given as goal
 abbrev pub invariant-loop-word : goal.invariant-loop-word
 invariant-loop-word l = record {
   fits : Fits l.reader l.checker.open_addition;
-  ahead : (rest : List Word) → ahead l.fn.checker.vars l.fn.checker.database l.fn.reader l.fn.checker.open_addition (l.fn.words ++ rest) ≡ ahead l.fn.checker.vars l.fn.checker.database l.reader l.checker.open_addition (l.words ++ rest);
+  ahead : (rest : List Word) → ahead l.fn.checker.rule l.fn.checker.vars l.fn.checker.database l.fn.reader l.fn.checker.open_addition (l.fn.words ++ rest) ≡ ahead l.fn.checker.rule l.fn.checker.vars l.fn.checker.database l.reader l.checker.open_addition (l.words ++ rest);
   database : l.checker.database ≡ l.fn.checker.database;
+  rule : l.checker.rule ≡ l.fn.checker.rule;
   vars : l.checker.vars ≡ l.fn.checker.vars;
 }
 

@@ -1,15 +1,7 @@
-use Rattle.std.proofs.Common.{◌∙◌}
-use Rattle.cdcl_core.proofs.Fronts.{state_cut}
 use Rattle.cdcl_core.proofs.search.Search.retreat.Goals as goal
 
-pub returns-then-jump-len-clause-searching : goal.returns-then-jump-len-clause-searching
-returns-then-jump-len-clause-searching c = λ held was.
-    let s = c.args.self.now in
-    record {
-      vars = c.back.ensures.vars ∙ was.vars;
-      guide = c.back.ensures.guide s.vars was.guide;
-      state = rw (c.back.ensures.trues, c.back.ensures.reasons) (state_cut s.vars held s.assignment.trues s.reasons.items was.state c.decision_up_to-jump.result);
-      lists = was.lists;
-      watched = was.watched;
-      queued = c.back.ensures.queued held s.pairs.items was.queued;
-    }
+pub cut-requires : goal.cut-requires
+cut-requires c = record { searching = (c.requires.searching.0, c.favour.ensures.searching c.requires.searching.0 c.requires.searching.1) }
+
+pub returns-clause-searching : goal.returns-clause-searching
+returns-clause-searching c = λ held was. c.cut.ensures.searching held (c.favour.ensures.searching held was)

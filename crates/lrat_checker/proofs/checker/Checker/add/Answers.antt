@@ -11,7 +11,7 @@ use Rattle.lrat_checker.proofs.checker.Checker.add.Goals as goal
 pub returns-in-Some-clause-memory : goal.returns-in-Some-clause-memory
 returns-in-Some-clause-memory c = λ is.
     let inside = c.self.inside in
-    absurd (lemma_fault-not_memory inside.assignment.vars inside.store.held c.args.lits.now (map negated c.args.lits.now) c.args.hints.now (sym c.in-Some.ensures.fault ∙ cc))
+    absurd (lemma_fault-not_memory inside.rule inside.assignment.vars inside.clauses.held c.args.lits.now c.args.hints.now (sym c.in-Some.ensures.fault ∙ cc))
 
 pub give-requires-clause-range : goal.give-requires-clause-range
 give-requires-clause-range c =

@@ -36,7 +36,7 @@ returns-clause-ahead c = λ more.
     let end = c.split_at.result.0.now in
     let rest = c.split_at.result.1.now in
     let begun : c.extend_from_slice.new.self.items ≡ old.begun.items ++ end = c.in_ok-extend_from_slice.ensures.items in
-    let regroup = ap (λ (bytes : List ℕ). ahead checker.vars checker.database old.words checker.open_addition (words_of bytes))
+    let regroup = ap (λ (bytes : List ℕ). ahead checker.rule checker.vars checker.database old.words checker.open_addition (words_of bytes))
     (regrouped old.begun.items part end rest more c.word_len.result c.split_at.ensures.front c.split_at.ensures.back ∙ ap (λ (xs : List ℕ). xs ++ (rest ++ more)) (sym begun)) in
     elim c.if-not-is_empty.branch [
       | then-not-is_empty+in_ok-end_word w ↦
@@ -45,6 +45,6 @@ returns-clause-ahead c = λ more.
           let parts : words_of (c.extend_from_slice.new.self.items ++ (rest ++ more)) ≡ words_of c.extend_from_slice.new.self.items ++ words_of (rest ++ more) =
           subst (λ (xs : List ℕ). words_of (c.extend_from_slice.new.self.items ++ (xs ++ more)) ≡ words_of c.extend_from_slice.new.self.items ++ words_of (xs ++ more)) (sym some.2) (before c.extend_from_slice.new.self.items some.0 (some.1 ++ more) blank) in
           rw (w.self-is, w.checker-is, w.in_ok-end_word.ensures.begun)
-          (regroup ∙ ap (λ (ws : List Word). ahead checker.vars checker.database old.words checker.open_addition ws) parts ∙ w.in_ok-end_word.ensures.ahead (words_of (rest ++ more)))
+          (regroup ∙ ap (λ (ws : List Word). ahead checker.rule checker.vars checker.database old.words checker.open_addition ws) parts ∙ w.in_ok-end_word.ensures.ahead (words_of (rest ++ more)))
       | else-not-is_empty w ↦ rw (w.self-is, w.checker-is) regroup
     ]

@@ -8,10 +8,11 @@ use Rattle.step_stream.proofs.words.StepWords.numbered.Goals as goal
 
 pub returns-clause-ahead : goal.returns-clause-ahead
 returns-clause-ahead c =
+    let rule = c.args.checker.now.rule in
     let vars = c.args.checker.now.vars in
     let database = c.args.checker.now.database in
     let word = c.args.word.now in
     on_ok c.literal.result _ _ c.literal.ensures.ahead (λ is rest.
-    begins_addition vars database c.args.id word rest (sym c.is_mark.ensures ∙ c.if-is_mark.false)
-    ∙ ap (λ (ls : List Literal). outline_in vars database (addition_from c.args.id ls (word ∷ rest))) (sym c.requires.lits)
+    begins_addition rule vars database c.args.id word rest (sym c.is_mark.ensures ∙ c.if-is_mark.false)
+    ∙ ap (λ (ls : List Literal). outline_in rule vars database (addition_from c.args.id ls (word ∷ rest))) (sym c.requires.lits)
     ∙ is rest)

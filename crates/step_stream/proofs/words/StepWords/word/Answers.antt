@@ -21,5 +21,5 @@ pub returns-in-Ids-clause-ahead : goal.returns-in-Ids-clause-ahead
 returns-in-Ids-clause-ahead c =
     let s = c.args.self.now in
     let checker = c.args.checker.now in
-    on_ok c.listed.result _ _ (c.listed.ensures.ahead checker.vars checker.database checker.open_addition) (λ is rest.
-    ap (λ (st : Stage). ahead_at st checker.vars checker.database s.lits.items s.ids.items s.fault checker.open_addition (c.args.word.now ∷ rest)) c.in-Ids.is ∙ is rest)
+    on_ok c.listed.result _ _ (c.listed.ensures.ahead checker.rule checker.vars checker.database checker.open_addition) (λ is rest.
+    ap (λ (st : Stage). ahead_at st checker.rule checker.vars checker.database s.lits.items s.ids.items s.fault checker.open_addition (c.args.word.now ∷ rest)) c.in-Ids.is ∙ is rest)

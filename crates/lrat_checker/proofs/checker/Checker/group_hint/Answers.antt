@@ -1,0 +1,57 @@
+use Rattle.std.proofs.Common.{◌≡◌, ◌<◌, ◌++◌, [], ◌∷◌, ℕ, ℤ, List, Option, sym, ap, ◌∙◌, subst, refl, Some, w64, to_z, of_z, rules}
+use mir.Val.{SFits}
+use Rattle.std.proofs.lemmas.Int.{to_z-of_z}
+use Rattle.std.specs.Prelude.{IfSome}
+use Rattle.lrat_model.specs.Literal.{Literal}
+use Rattle.lrat_model.specs.Steps.{Database}
+use Rattle.lrat_model.specs.Ranges.{IsInRange, AreInRange}
+use Rattle.lrat_model.specs.declared.step.Rule.{Rule}
+use Rattle.lrat_model.specs.declared.step.Rule.TheVariants.{Rat}
+use Rattle.lrat_checker.specs.declared.opened.Opened.{Opened}
+use Rattle.lrat_checker.specs.Adding.{GoesOn}
+use Rattle.lrat_checker.specs.Checking.{Stepping}
+use Rattle.lrat_checker.specs.Courses.{adding, adding_of, Suits}
+use Rattle.lrat_checker.proofs.FaultLaws.{taken}
+use Rattle.lrat_checker.proofs.checker.Checker.group_hint.Goals as goal
+
+pub invariant_of-self-in-Ok : goal.invariant_of-self-in-Ok
+invariant_of-self-in-Ok c =
+    let inside = c.self.inside in
+    let o = c.unwrap-opened.result in
+    let is : inside.opened ≡ Some o = cc (c.unwrap-opened.ensures) in
+    let rat : inside.rule ≡ Rat = ap (λ (s : Stepping). s.rule) c.self.view_is ∙ c.requires.rule in
+    record {
+      nothing_true = tt;
+      above = subst (λ (n : ℕ). inside.clauses.last < n) (sym c.in-Ok.ensures.id) (subst (λ (x : Option Opened). IfSome x (λ k. inside.clauses.last < k.id)) is c.self.invariant.above);
+      literals = subst (λ (n : ℕ). IsInRange n inside.lits.items) (sym c.after_group.ensures.vars) (subst (λ (x : Option Opened). IfSome x (λ _. IsInRange inside.assignment.vars inside.lits.items)) is c.self.invariant.literals);
+      suits = subst (λ (r : Rule). Suits r c.after_group.new.assignment.trues c.push.new.self.items c.in-Ok.next.course) (sym rat) (c.in-Ok.ensures.suits c.push.new.self.items);
+      in_range = subst (λ (n : ℕ). AreInRange n inside.clauses.held) (sym c.after_group.ensures.vars) c.self.invariant.in_range;
+      found = c.self.invariant.found;
+    }
+
+pub returns-in-Ok-clause-taken : goal.returns-in-Ok-clause-taken
+returns-in-Ok-clause-taken c =
+    let inside = c.self.inside in
+    let o = c.unwrap-opened.result in
+    let is : inside.opened ≡ Some o = cc (c.unwrap-opened.ensures) in
+    let rat : inside.rule ≡ Rat = ap (λ (s : Stepping). s.rule) c.self.view_is ∙ c.requires.rule in
+    let lits = inside.lits.items in
+    let trues = inside.assignment.trues in
+    let groups = inside.groups.items in
+    let hint = c.args.hint in
+    let new = c.after_group.new.assignment.trues in
+    let next = c.in-Ok.next in
+    let fits : SFits w64 hint = search rules in
+    let same : to_z w64 (of_z w64 hint) ≡ hint = simp to_z-of_z refl in
+    let pushed : c.push.new.self.items ≡ groups ++ hint ∷ [] =
+    c.push.ensures.items ∙ taken c.push.result (groups ++ to_z w64 (of_z w64 hint) ∷ []) groups (sym c.is_err.ensures.value ∙ c.if-is_err.false) ∙ ap (λ (z : ℤ). groups ++ z ∷ []) same in
+    let suits : Suits Rat trues groups o.course = subst (λ (r : Rule). Suits r trues groups o.course) rat (subst (λ (x : Option Opened). IfSome x (λ k. Suits inside.rule trues groups k.course)) is c.self.invariant.suits) in
+    let told : GoesOn Rat c.store.result.now.held hint (Some (adding_of c.deref.result.now trues groups o)) (Some (adding_of c.deref.result.now new (groups ++ hint ∷ []) next)) = c.in-Ok.ensures.taken hint groups c.requires.names suits in
+    let later = Some (adding_of lits new c.push.new.self.items next) in
+    let took : GoesOn inside.rule inside.clauses.held hint (Some (adding_of lits trues groups o)) later =
+    subst (λ (r : Rule). GoesOn r inside.clauses.held hint (Some (adding_of lits trues groups o)) later) (sym rat)
+    (subst (λ (d : Database). GoesOn Rat d.held hint (Some (adding_of lits trues groups o)) later) c.store.ensures
+    (subst (λ (gs : List ℤ). GoesOn Rat c.store.result.now.held hint (Some (adding_of lits trues groups o)) (Some (adding_of lits new gs next))) (sym pushed)
+    (subst (λ (ls : List Literal). GoesOn Rat c.store.result.now.held hint (Some (adding_of ls trues groups o)) (Some (adding_of ls new (groups ++ hint ∷ []) next))) c.deref.ensures.value told))) in
+    subst (λ (s : Stepping). GoesOn s.rule s.database.held hint s.open_addition later) c.self.view_is
+    (subst (λ (x : Option Opened). GoesOn inside.rule inside.clauses.held hint (adding lits trues groups x) later) (sym is) took)

@@ -1,0 +1,214 @@
+//! RAT steps on the formula of three nodes that each need two of the three, as steps and hint by hint.
+ghost use Rattle.std.specs.Prelude.{◌≡◌, None, IfOk, OnOk};
+
+use crate::shared::{addition, deletion, lits, same};
+use clause_store::Store;
+use lrat_checker::{Checker, IdleChecker, Rule, StepFault};
+use lrat_model::Progress;
+use std::alloc::{AllocError, Global};
+
+// Its 53 clauses, over 36 variables.
+const TWO_OF_THREE: [&[i32]; 53] = [
+    &[1, 2, 3],
+    &[4, 5, 6],
+    &[-1, -4],
+    &[-2, -5],
+    &[-3, -6],
+    &[-7, 1],
+    &[-8, 7, 2],
+    &[-9, 2],
+    &[-9, 7],
+    &[-10, 8, 3],
+    &[-11, 9, 3],
+    &[-11, 9, 8],
+    &[-1, 11],
+    &[-12, 1],
+    &[-13, 12, 2],
+    &[-14, 2],
+    &[-14, 12],
+    &[-15, 13, 3],
+    &[-16, 14, 3],
+    &[-16, 14, 13],
+    &[-2, 16],
+    &[-17, 1],
+    &[-18, 17, 2],
+    &[-19, 2],
+    &[-19, 17],
+    &[-20, 18, 3],
+    &[-21, 19, 3],
+    &[-21, 19, 18],
+    &[-3, 21],
+    &[-22, 4],
+    &[-23, 22, 5],
+    &[-24, 5],
+    &[-24, 22],
+    &[-25, 23, 6],
+    &[-26, 24, 6],
+    &[-26, 24, 23],
+    &[-4, 26],
+    &[-27, 4],
+    &[-28, 27, 5],
+    &[-29, 5],
+    &[-29, 27],
+    &[-30, 28, 6],
+    &[-31, 29, 6],
+    &[-31, 29, 28],
+    &[-5, 31],
+    &[-32, 4],
+    &[-33, 32, 5],
+    &[-34, 5],
+    &[-34, 32],
+    &[-35, 33, 6],
+    &[-36, 34, 6],
+    &[-36, 34, 33],
+    &[-6, 36],
+];
+
+// A checker of the formula.
+fn checker(alloc: Global, rule: Rule) -> Result<IdleChecker, AllocError> {
+    let mut checker = IdleChecker::start(alloc, Store::new(alloc), 36, rule)?;
+    for numbers in TWO_OF_THREE {
+        let clause = lits(alloc, numbers)?;
+        let last = checker.last();
+        if last < 53 && clause.iter().all(|l| l.variable() <= 36) {
+            checker.give(last + 1, &clause)?;
+        }
+    }
+    Ok(checker)
+}
+
+fn shown(alloc: Global, answer: Result<Progress, StepFault>) -> Result<String, AllocError> {
+    match answer {
+        Ok(progress) => format!(in alloc; "{progress:?}"),
+        Err(fault) => format!(in alloc; "{fault}"),
+    }
+}
+
+// What is answered to the addition, as a step.
+fn at_once(
+    alloc: Global,
+    checker: &mut IdleChecker,
+    id: u64,
+    numbers: &[i32],
+    hints: &[i64],
+) -> Result<String, AllocError> {
+    let step = addition(alloc, id, numbers, hints)?;
+    shown(alloc, checker.step(&step))
+}
+
+// What is answered to the addition, hint by hint.
+fn streamed(
+    alloc: Global,
+    checker: &mut Checker,
+    id: u64,
+    numbers: &[i32],
+    hints: &[i64],
+) -> Result<String, AllocError>
+    requires { checker.old.open_addition ≡ None }
+    ensures { OnOk result (checker.new.open_addition ≡ None) }
+{
+    let lits = lits(alloc, numbers)?;
+    if let Err(fault) = checker.begin_add(id, &lits) {
+        return format!(in alloc; "{fault}");
+    }
+    for hint in hints {
+        if checker.hints() < 9 {
+            if let Err(fault) = checker.hint(*hint) {
+                return format!(in alloc; "{fault}");
+            }
+        }
+    }
+    shown(alloc, checker.finish_add())
+}
+
+// What is answered to an addition after the formula, as a step.
+fn whole(alloc: Global, rule: Rule, numbers: &[i32], hints: &[i64]) -> Result<String, AllocError> {
+    let mut checker = checker(alloc, rule)?;
+    at_once(alloc, &mut checker, 54, numbers, hints)
+}
+
+// The same, hint by hint.
+fn in_parts(
+    alloc: Global,
+    rule: Rule,
+    numbers: &[i32],
+    hints: &[i64],
+) -> Result<String, AllocError> {
+    let mut checker = checker(alloc, rule)?.opening();
+    streamed(alloc, &mut checker, 54, numbers, hints)
+}
+
+const ADDITIONS: [(Rule, &[i32], &[i64], &str); 20] = [
+    (Rule::Rat, &[7, -1], &[-6], "Going"),
+    (Rule::Rat, &[7, -1], &[-4], "rat-step 1"),
+    (Rule::Rat, &[9, -2, -7], &[-8, -9], "Going"),
+    (Rule::Rat, &[9, -2, -7], &[-8], "rat-missing 9"),
+    (Rule::Rat, &[9, -2, -7], &[-9], "rat-missing 8"),
+    (Rule::Rat, &[9, -2, -7], &[-9, -8], "Going"),
+    (Rule::Rat, &[9, -2, -7], &[-9, -9], "rat-missing 8"),
+    (Rule::Rup, &[7, -1], &[-6], "rat-step 1"),
+    (Rule::Rup, &[7, -1], &[6, -6], "not-unit 1"),
+    (Rule::Rat, &[-1, 7], &[-6], "rat-missing 1"),
+    (Rule::Rat, &[7], &[-6], "no-conflict"),
+    (Rule::Rat, &[7], &[-6, -60], "no-conflict"),
+    (Rule::Rat, &[7, -1], &[-6, 99, -6], "Going"),
+    (Rule::Rat, &[7, -1], &[-60], "no-such-clause 60"),
+    (Rule::Rat, &[7, -1], &[-6, -60], "no-such-clause 60"),
+    (Rule::Rat, &[], &[-6], "rat-step 1"),
+    (Rule::Rat, &[], &[], "no-conflict"),
+    (Rule::Rat, &[-36, 1], &[], "no-conflict"),
+    (Rule::Rat, &[36, -6], &[-51, 99], "rat-missing 52"),
+    (Rule::Rat, &[7, -1], &[40, -6], "not-unit 1"),
+];
+
+#[test]
+fn additions_with_groups(rt: HostRuntime) {
+    let alloc = rt.alloc();
+    for (rule, numbers, hints, want) in ADDITIONS {
+        same(&rt, whole(alloc, rule, numbers, hints), want);
+        same(&rt, in_parts(alloc, rule, numbers, hints), want);
+    }
+}
+
+// What is answered to the deletion of clauses.
+fn deleted(alloc: Global, checker: &mut IdleChecker, ids: &[u64]) -> Result<String, AllocError> {
+    let step = deletion(alloc, 1, ids)?;
+    shown(alloc, checker.step(&step))
+}
+
+// One checker takes these in turn: an addition has an id, a deletion has none. Clauses that come and go need a group each, or
+// none.
+const STEPS: [(u64, &[i32], &[i64], &[u64], &str); 11] = [
+    (54, &[7, -1], &[-6], &[], "Going"),
+    (55, &[9, -2, -7], &[-8], &[], "rat-missing 9"),
+    (0, &[], &[], &[9], "Going"),
+    (55, &[9, -2, -7], &[-8], &[], "Going"),
+    (56, &[-9, 2], &[8], &[], "Going"),
+    (57, &[9, -2, -7], &[-8], &[], "rat-missing 56"),
+    (57, &[9, -2, -7], &[-8, -56], &[], "Going"),
+    (0, &[], &[], &[8, 8], "no-such-clause 8"),
+    (58, &[9, -2, -7], &[-56], &[], "rat-missing 8"),
+    (0, &[], &[], &[56, 8], "Going"),
+    (58, &[9, -2, -7], &[], &[], "Going"),
+];
+
+fn answers(alloc: Global) -> Result<String, AllocError> {
+    let mut checker = checker(alloc, Rule::Rat)?;
+    let mut differ = String::new(alloc);
+    for (id, numbers, hints, ids, want) in STEPS {
+        let found = if id == 0 {
+            deleted(alloc, &mut checker, ids)?
+        } else {
+            at_once(alloc, &mut checker, id, numbers, hints)?
+        };
+        if found.as_str() != want {
+            differ.push_str(&found)?;
+        }
+    }
+    Ok(differ)
+}
+
+#[test]
+fn clauses_that_come_and_go(rt: HostRuntime) {
+    same(&rt, answers(rt.alloc()), "");
+}

@@ -1,0 +1,76 @@
+//! Which steps the rule takes, by the plain program that computes the definition.
+
+use crate::shared::{TWO_OF_TWO, addition, deletion, lits, same};
+use lrat_model::plain::step_fault;
+use lrat_model::{Lit, Step};
+use std::alloc::{AllocError, Global};
+
+fn formula(alloc: Global) -> Result<Vec<(u64, Vec<Lit>)>, AllocError> {
+    let mut held = Vec::new(alloc);
+    for (i, clause) in TWO_OF_TWO.iter().enumerate() {
+        held.push((i as u64 + 1, lits(alloc, clause)?))?;
+    }
+    Ok(held)
+}
+
+/// What is said of a step over the formula.
+fn said(alloc: Global, held: &[(u64, Vec<Lit>)], step: &Step) -> Result<String, AllocError> {
+    match step_fault(alloc, 8, held, 16, step)? {
+        None => String::from_str(alloc, "taken"),
+        Some(fault) => format!(in alloc; "{fault}"),
+    }
+}
+
+fn added(
+    alloc: Global,
+    held: &[(u64, Vec<Lit>)],
+    id: u64,
+    numbers: &[i32],
+    hints: &[i64],
+) -> Result<String, AllocError> {
+    let step = addition(alloc, id, numbers, hints)?;
+    said(alloc, held, &step)
+}
+
+const LEMMAS: [(u64, &[i32], &[i64], &str); 12] = [
+    (17, &[-1], &[7, 6, 3, 4, 2], "taken"),
+    (19, &[-1, -1], &[7, 5, 7, 6, 3, 4, 2, -9], "taken"),
+    (16, &[-1], &[7, 6, 3, 4, 2], "id-order 16 16"),
+    (17, &[9, -9], &[], "bad-literal 9"),
+    (17, &[-1, 2, 1, 9], &[], "tautology 1"),
+    (17, &[-1], &[6, 7, 3, 4, 2], "not-unit 1"),
+    (17, &[-1], &[7, 1, 6, 3, 4, 2], "not-unit 2"),
+    (17, &[-1], &[7, -6, 3, 4, 2], "rat-step 2"),
+    (17, &[-1], &[7, 40, 3, 4, 2], "no-such-clause 40"),
+    (17, &[-1], &[7, 6, 3, 4], "no-conflict"),
+    (17, &[], &[], "no-conflict"),
+    (17, &[], &[1], "not-unit 1"),
+];
+
+#[test]
+fn lemmas_of_two_of_two(rt: HostRuntime) {
+    let held = formula(rt.alloc()).expect(&rt, "memory");
+    for (id, numbers, hints, want) in LEMMAS {
+        same(&rt, added(rt.alloc(), &held, id, numbers, hints), want);
+    }
+}
+
+fn deleted(alloc: Global, held: &[(u64, Vec<Lit>)], ids: &[u64]) -> Result<String, AllocError> {
+    let step = deletion(alloc, 5, ids)?;
+    said(alloc, held, &step)
+}
+
+const DELETIONS: [(&[u64], &str); 4] = [
+    (&[3, 16], "taken"),
+    (&[], "taken"),
+    (&[3, 17], "no-such-clause 17"),
+    (&[3, 4, 3], "no-such-clause 3"),
+];
+
+#[test]
+fn deletions(rt: HostRuntime) {
+    let held = formula(rt.alloc()).expect(&rt, "memory");
+    for (ids, want) in DELETIONS {
+        same(&rt, deleted(rt.alloc(), &held, ids), want);
+    }
+}

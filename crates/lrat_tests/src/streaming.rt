@@ -1,0 +1,65 @@
+//! Additions to the checker, hint by hint.
+ghost use Rattle.std.specs.Prelude.{◌≡◌, None, IfOk};
+
+use crate::shared::same;
+use clause_store::Store;
+use lrat_checker::{Checker, Rule};
+use lrat_model::Lit;
+use std::alloc::{AllocError, Global};
+
+/// A checker of the clauses 1, -1 2 and -2.
+fn checker(alloc: Global) -> Result<Checker, AllocError>
+    ensures { IfOk result (λ checker. checker.open_addition ≡ None) }
+{
+    let mut checker = Checker::start(alloc, Store::new(alloc), 2, Rule::Rup)?;
+    checker.give(1, &[Lit::of(1)])?;
+    checker.give(2, &[Lit::of(-1), Lit::of(2)])?;
+    checker.give(3, &[Lit::of(-2)])?;
+    Ok(checker)
+}
+
+/// What is answered to the addition of the empty lemma.
+fn streamed(
+    alloc: Global,
+    checker: &mut Checker,
+    id: u64,
+    hints: &[i64],
+) -> Result<String, AllocError>
+    requires { checker.old.open_addition ≡ None }
+    ensures { checker.new.open_addition ≡ None }
+{
+    if let Err(fault) = checker.begin_add(id, &[]) {
+        return format!(in alloc; "{fault}");
+    }
+    for hint in hints {
+        if checker.hints() < 9 {
+            if let Err(fault) = checker.hint(*hint) {
+                return format!(in alloc; "{fault}");
+            }
+        }
+    }
+    match checker.finish_add() {
+        Ok(progress) => format!(in alloc; "{progress:?}"),
+        Err(fault) => format!(in alloc; "{fault}"),
+    }
+}
+
+// One checker takes these in turn: a fault leaves no literal true, and no id behind, and the hints behind a conflict are
+// not looked at.
+const ADDITIONS: [(u64, &[i64], &str); 7] = [
+    (3, &[], "id-order 3 3"),
+    (4, &[2, 1], "not-unit 1"),
+    (4, &[1, -2], "rat-step 2"),
+    (4, &[1, 9], "no-such-clause 9"),
+    (4, &[1, 2], "no-conflict"),
+    (4, &[1, 2, 3, -9, 40], "Refuted"),
+    (4, &[1, 2, 3], "id-order 4 4"),
+];
+
+#[test]
+fn hints_one_by_one(rt: HostRuntime) {
+    let mut checker = checker(rt.alloc()).expect(&rt, "memory");
+    for (id, hints, want) in ADDITIONS {
+        same(&rt, streamed(rt.alloc(), &mut checker, id, hints), want);
+    }
+}

@@ -1,0 +1,5 @@
+pub mod OccurrenceLaws
+pub mod MissingLaws
+pub mod CountLaws
+pub mod CountingLaws
+pub mod NamedLaws

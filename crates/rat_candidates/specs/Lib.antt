@@ -1,0 +1,5 @@
+pub mod Groups
+pub mod Occurrences
+pub mod Rising
+pub mod Counted
+pub mod Named
