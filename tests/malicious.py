@@ -142,7 +142,7 @@ CERTIFICATES = [
     ("the literal -2^31", TWO, seventh(b"17 -2147483648 0 7 6 3 4 2 0"), 5, "refused bad-line 7\n"),
     ("the hint -0", TWO, seventh(b"17 -1 0 -0 6 3 4 2 0"), 5, "refused bad-line 7\n"),
     ("a hint of -2^63", TWO, seventh(b"17 -1 0 -9223372036854775808 6 3 4 2 0"), 5, "refused bad-line 7\n"),
-    ("a hint of 1 - 2^63", TWO, seventh(b"17 -1 0 -9223372036854775807 6 3 4 2 0"), 5, "refused step 7 rat-step 1\n"),
+    ("a hint of 1 - 2^63", TWO, seventh(b"17 -1 0 -9223372036854775807 6 3 4 2 0"), 5, "refused step 7 no-such-clause 9223372036854775807\n"),
     ("a hint of 2^63 - 1", TWO, seventh(b"17 -1 0 9223372036854775807 6 3 4 2 0"), 5, "refused step 7 no-such-clause 9223372036854775807\n"),
     ("no closing 0", TWO, seventh(b"17 -1 0 7 6 3 4 2"), 5, "refused bad-line 7\n"),
     ("two closing 0", TWO, seventh(LEMMA + b" 0"), 5, "refused bad-line 7\n"),

@@ -134,7 +134,7 @@ const ROWS: [(Made, Status, &str); 47] = [
     (
         Made::Lemma("17 -1 0 -9223372036854775807 0\n"),
         REFUSED,
-        "refused step 7 rat-step 1\n",
+        "refused step 7 no-such-clause 9223372036854775807\n",
     ),
     (
         Made::Lemma("17 -1 0 6 7 3 4 2 x\n"),
