@@ -65,6 +65,7 @@ RUNS = [
     ("check config cert", malicious.TWO, malicious.REFUTATION),
     ("check config cert", malicious.TWO, malicious.SHARED),
     ("check config cert", malicious.TWO, malicious.PARTIAL),
+    ("check config cert", malicious.THREE, malicious.RAT),
     ("check config cert", malicious.THREE, malicious.BLOCKING),
     ("check config cert", malicious.THREE, malicious.SOME + b"q 1 a b\nb 2 a b\nend\n"),
     ("check config cert", malicious.THREE, malicious.PAIR[:-1]),

@@ -270,19 +270,34 @@ def fault_of_units(subject, cert):
     return "the clauses close at the end" if made_true(held, set()) is None else None
 
 
-def random_steps(rng, held, variables, last):
-    """Lemmas that follow, and deletions, as far as some were found; last an empty one where propagation shows it."""
+def rat_hints(held, literals):
+    """Hints that show the lemma by its first literal, a group for each clause with its negation, or None."""
+    hints = []
+    for number in sorted(held):
+        if -literals[0] in held[number]:
+            others = held[number] - {-literals[0]}
+            more = [] if any(-it in literals for it in others) else propagated(held, literals + sorted(others))
+            if more is None:
+                return None
+            hints += [-number] + more
+    return hints
+
+
+def random_steps(rng, held, variables, last, takes_rat):
+    """Lemmas that follow, or that keep the clauses satisfiable, and deletions, as far as some were found."""
     lines = []
     for _ in range(rng.randint(0, 6)):
         if variables and rng.random() < 0.85:
             chosen = rng.sample(range(1, variables + 1), rng.randint(1, min(3, variables)))
             literals = [rng.choice([-1, 1]) * it for it in chosen]
             hints = propagated(held, literals)
+            if hints is None and takes_rat:
+                hints = rat_hints(held, literals)
             if hints is None:
                 continue
             last += rng.choice([1, 1, 1, 5])
             held[last] = frozenset(literals)
-            lines.append("%d %s 0 %s 0" % (last, " ".join(map(str, literals)), " ".join(map(str, hints))))
+            lines.append(" ".join(map(str, [last, *literals, 0, *hints, 0])))
         elif held:
             number = rng.choice(sorted(held))
             del held[number]
@@ -304,7 +319,7 @@ def random_body(rng, subject, kind):
     if kind in ("refutation", "partial"):
         formula = plain.Formula(subject.system, subject.faulty, subject.version)
         held = {i: frozenset(it) for i, it in enumerate(formula.clauses, 1)}
-        lines, last = random_steps(rng, held, formula.variables, len(held))
+        lines, last = random_steps(rng, held, formula.variables, len(held), True)
         lines = ["formula %d %d" % (formula.variables, len(formula.clauses))] + lines
     else:
         lines, held, last = [], {}, 0
@@ -316,7 +331,7 @@ def random_body(rng, subject, kind):
                 last += 1
                 held[last] = frozenset((1 if letter == "q" else -1) * (order.index(it) + 1) for it in nodes if it in order)
                 lines.append("%s %d%s" % (letter, last, plain.spelled(nodes)))
-        more, last = random_steps(rng, held, len(order), last)
+        more, last = random_steps(rng, held, len(order), last, rng.random() < 0.05)
         lines += more
     return lines + (empty_lemma(held, last) if kind in ("refutation", "blocking") else [])
 

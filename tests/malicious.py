@@ -54,6 +54,7 @@ REFUTED = "accepted refutation\nfrom\nfaulty\n"
 SHARED = head(TWO, "refutation").replace(b"fbas-cert 1", b"fbas-cert 2") + b"formula 6 12\n13 -1 0 7 6 3 4 2 0\n14 0 13 1 8 5 0\nend\n"
 PAIR = head(THREE, "pair", faulty=" a") + b"first b\nsecond c\nend\n"
 PARTIAL = head(TWO, "partial") + b"formula 8 16\n" + LEMMA + b"\nend\n"
+RAT = head(THREE, "partial") + b"formula 36 53\n54 9 -2 -7 0 -8 -9 0\nend\n"
 
 
 def seventh(line):
@@ -196,6 +197,15 @@ CERTIFICATES = [
     ("a literal of no nodes", EMPTY, head(EMPTY, "refutation") + b"formula 0 2\n3 1 0 1 0\nend\n", 5, "refused step 7 bad-literal 1\n"),
     ("the empty lemma in a partial certificate", TWO, PARTIAL.replace(b"end", b"18 0 17 1 10 8 0\nend"), 5, "refused bad-line 8\n"),
     ("a lemma twice in a partial certificate", TWO, PARTIAL.replace(b"end", b"18 -1 0 17 0\nend"), 5, "refused not-new 8\n"),
+    ("a RAT step", THREE, RAT, 2, "accepted partial 1\nfrom\nfaulty\n"),
+    ("a RAT step without its last clause", THREE, RAT.replace(b" -9 0", b" 0"), 5, "refused step 7 rat-missing 9\n"),
+    ("a RAT step without a clause", THREE, RAT.replace(b" -8 -9 0", b" 0"), 5, "refused step 7 no-conflict\n"),
+    ("a RAT step whose clauses fall", THREE, RAT.replace(b"-8 -9", b"-9 -8"), 2, "accepted partial 1\nfrom\nfaulty\n"),
+    ("a RAT hint of a clause without the literal", THREE, RAT.replace(b"-8 -9", b"-4 -8 -9"), 5, "refused step 7 rat-step 1\n"),
+    ("a RAT hint of a clause that is deleted", THREE, RAT.replace(b"54 9", b"53 d 9 0\n54 9"), 5, "refused step 8 no-such-clause 9\n"),
+    ("a RAT hint in an empty lemma", TWO, seventh(b"17 0 -1 0"), 5, "refused step 7 rat-step 1\n"),
+    ("a million RAT hints of one clause", THREE, lambda: RAT.replace(b" -8 -9", b" -8" * 1000000 + b" -9"), 2, "accepted partial 1\nfrom\nfaulty\n"),
+    ("a million RAT hints of one clause, and one left out", THREE, lambda: RAT.replace(b" -8 -9", b" -9" * 1000000), 5, "refused step 7 rat-missing 8\n"),
     ("a pair", THREE, PAIR, 0, "accepted pair\nfrom\nfaulty a\n"),
     ("a carriage return on line 1", THREE, PAIR.replace(b"cert 1", b"cert 1\r"), 5, "refused bad-line 1\n"),
     ("carriage returns", THREE, PAIR.replace(b"\n", b"\r\n"), 5, "refused bad-line 1\n"),
