@@ -17,6 +17,10 @@ pub const DIGEST_OF_HALF: &str = "d884224eb5c94b56192c3e255562a01521a12c4cab2b78
 /// The lines of a pair of two of three, a being faulty, behind the digest.
 pub const PAIR: &str = "from\nfaulty a\nkind pair\nfirst b\nsecond c\nend\n";
 
+/// A pair of two of three, a being faulty.
+pub const PAIR_OF_THREE: &str =
+    "fbas-cert 1\nconfig f823e204944abcff32c8dadffba2a0178a590a613358f9a6f271b651cd4e6fbb\nfrom\nfaulty a\nkind pair\nfirst b\nsecond c\nend\n";
+
 /// A certificate with this title for the configuration with this digest, with these lines behind it.
 fn titled(alloc: Global, title: &str, digest: &str, lines: &str) -> Result<String, AllocError> {
     let mut cert = String::from_str(alloc, title)?;

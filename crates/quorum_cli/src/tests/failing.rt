@@ -1,8 +1,8 @@
 //! Each call of the desk fails once, in whole runs: what stands then. The desk moves 8 bytes at once.
 use crate::status::Status;
-use crate::tests::certificates::{DIGEST_OF_THREE, PAIR, certificate};
+use crate::tests::certificates::PAIR_OF_THREE;
 use crate::tests::desks::{Files, Left, run_over, wants_checked};
-use crate::tests::systems::{ORG, THREE_OF_FOUR, TWO_OF_THREE};
+use crate::tests::systems::{ORG, THREE_OF_FOUR, TRIAL_OF_ONE, TWO_OF_THREE};
 use desk_io::{Call, To, Which};
 use std::alloc::{AllocError, Global};
 use std::process::Abort;
@@ -13,6 +13,111 @@ const PIECE: usize = 8;
 
 /// More calls of a kind than a run makes.
 const MANY: u64 = 100_000;
+
+/// A run over a configuration, organisations and what stands in the file `cert`.
+#[derive(Clone, Copy)]
+struct Run {
+    line: &'static str,
+    /// A trial reads none: its certificate is checked with this one.
+    config: &'static str,
+    cert: &'static str,
+    /// What is read.
+    reads: &'static [Which],
+    /// How `check` ends over the certificate that is written, and what it says.
+    written: Option<(Status, &'static str)>,
+}
+
+const RUNS: [Run; 10] = [
+    Run {
+        line: "intersect config cert",
+        config: TWO_OF_THREE,
+        cert: "old",
+        reads: &[Which::Config],
+        written: Some((Status::Yes, "accepted refutation\nfrom\nfaulty\n")),
+    },
+    Run {
+        line: "blocking config cert",
+        config: TWO_OF_THREE,
+        cert: "old",
+        reads: &[Which::Config],
+        written: Some((
+            Status::Yes,
+            "accepted blocking 3\nfrom\nfaulty\nset a b\nset a c\nset b c\n",
+        )),
+    },
+    Run {
+        line: "dset config cert --set a",
+        config: THREE_OF_FOUR,
+        cert: "old",
+        reads: &[Which::Config],
+        written: Some((Status::Yes, "accepted refutation\nfrom\nfaulty a\n")),
+    },
+    Run {
+        line: "check config cert",
+        config: TWO_OF_THREE,
+        cert: PAIR_OF_THREE,
+        reads: &[Which::Config, Which::Cert],
+        written: None,
+    },
+    Run {
+        line: "intersect config cert --faulty a",
+        config: TWO_OF_THREE,
+        cert: "old",
+        reads: &[Which::Config],
+        written: Some((Status::Yes, "accepted pair\nfrom\nfaulty a\n")),
+    },
+    Run {
+        line: "intersect config cert --budget 0",
+        config: TWO_OF_THREE,
+        cert: "old",
+        reads: &[Which::Config],
+        written: Some((Status::Unknown, "accepted partial 0\nfrom\nfaulty\n")),
+    },
+    Run {
+        line: "intersect config cert --orgs orgs --faulty-orgs A",
+        config: TWO_OF_THREE,
+        cert: "old",
+        reads: &[Which::Config, Which::Orgs],
+        written: Some((Status::Yes, "accepted pair\nfrom\nfaulty a\n")),
+    },
+    Run {
+        line: "blocking config cert --budget 3",
+        config: TWO_OF_THREE,
+        cert: "old",
+        reads: &[Which::Config],
+        written: Some((
+            Status::Unknown,
+            "accepted partial-blocking 3\nfrom\nfaulty\n",
+        )),
+    },
+    Run {
+        line: "splits config cert --set a",
+        config: TWO_OF_THREE,
+        cert: "old",
+        reads: &[Which::Config],
+        written: Some((Status::Yes, "accepted pair\nfrom\nfaulty a\n")),
+    },
+    Run {
+        line: "trial 1 cert",
+        config: TRIAL_OF_ONE,
+        cert: "old",
+        reads: &[],
+        written: Some((Status::Yes, "accepted refutation\nfrom\nfaulty\n")),
+    },
+];
+
+/// Each kind of call, of each file.
+const CALLS: [Call; 9] = [
+    Call::Begin(Which::Config),
+    Call::Next(Which::Config),
+    Call::Begin(Which::Orgs),
+    Call::Next(Which::Orgs),
+    Call::Begin(Which::Cert),
+    Call::Next(Which::Cert),
+    Call::Create,
+    Call::Put(To::Cert),
+    Call::Put(To::Out),
+];
 
 // What a run leaves where nothing fails.
 fn leaves(alloc: Global, line: &str, held: &Files) -> Result<Left, AllocError> {
@@ -133,123 +238,54 @@ fn reads(bytes: &[u8]) -> u64 {
     pieces(bytes).saturating_add(1)
 }
 
-// Fails unless the run makes so many calls of each kind, and each of them may fail.
-fn wants_calls(
-    rt: &impl Abort,
-    alloc: Global,
-    line: &str,
-    held: &Files,
-    whole: &Left,
-    calls: &[(Call, u64)],
-) -> Result<(), Fail> {
-    for (call, count) in calls {
-        let found = calls_of(rt, alloc, line, held, whole, *call)?;
-        assert_eq!(rt; found, *count, "of {call:?} in {line}");
+fn file<'a>(held: &Files<'a>, which: Which) -> &'a [u8] {
+    match which {
+        Which::Config => held.config,
+        Which::Orgs => held.orgs,
+        Which::Cert => held.cert,
+    }
+}
+
+// How many calls of this kind the run makes where none fails.
+fn count_of(run: &Run, held: &Files, whole: &Left, call: Call) -> u64 {
+    match call {
+        Call::Begin(which) if run.reads.contains(&which) => 1,
+        Call::Next(which) if run.reads.contains(&which) => reads(file(held, which)),
+        Call::Begin(_) | Call::Next(_) => 0,
+        Call::Create => u64::from(run.written.is_some()),
+        Call::Put(To::Cert) if run.written.is_some() => pieces(&whole.cert),
+        Call::Put(To::Cert) => 0,
+        Call::Put(To::Out) => pieces(&whole.out),
+    }
+}
+
+// Each call of the run fails once. The certificate that it writes, if it writes one, is accepted.
+fn wants_run(rt: &impl Abort, alloc: Global, run: &Run) -> Result<(), Fail> {
+    let held = Files {
+        config: run.config.as_bytes(),
+        cert: run.cert.as_bytes(),
+        orgs: ORG.as_bytes(),
+    };
+    let whole = leaves(alloc, run.line, &held)?;
+    if let Some((status, accepted)) = run.written {
+        wants_checked(rt, alloc, held.config, &whole.cert, status, accepted)?;
+    }
+    for call in CALLS {
+        let found = calls_of(rt, alloc, run.line, &held, &whole, call)?;
+        assert_eq!(rt;
+            found,
+            count_of(run, &held, &whole, call),
+            "of {call:?} in {}",
+            run.line
+        );
     }
     Ok(())
 }
 
-// Each call of a search over this configuration fails once; its certificate, of which `check` says this, is put over another file.
-fn wants_search(
-    rt: &impl Abort,
-    alloc: Global,
-    line: &str,
-    config: &str,
-    accepted: &str,
-) -> Result<(), Fail> {
-    let held = Files {
-        config: config.as_bytes(),
-        cert: b"old",
-        orgs: ORG.as_bytes(),
-    };
-    let whole = leaves(alloc, line, &held)?;
-    wants_checked(rt, alloc, held.config, &whole.cert, Status::Yes, accepted)?;
-    let calls = [
-        (Call::Begin(Which::Config), 1),
-        (Call::Next(Which::Config), reads(held.config)),
-        (Call::Begin(Which::Cert), 0),
-        (Call::Next(Which::Cert), 0),
-        (Call::Create, 1),
-        (Call::Put(To::Cert), pieces(&whole.cert)),
-        (Call::Put(To::Out), pieces(&whole.out)),
-    ];
-    wants_calls(rt, alloc, line, &held, &whole, &calls)
-}
-
 #[test]
-fn each_call_of_intersect_fails_once(rt: HostRuntime) -> Result<(), Fail> {
-    let accepted = "accepted refutation\nfrom\nfaulty\n";
-    wants_search(
-        &rt,
-        rt.alloc(),
-        "intersect config cert",
-        TWO_OF_THREE,
-        accepted,
-    )
-}
-
-#[test]
-fn each_call_of_blocking_fails_once(rt: HostRuntime) -> Result<(), Fail> {
-    let accepted = "accepted blocking 3\nfrom\nfaulty\nset a b\nset a c\nset b c\n";
-    wants_search(
-        &rt,
-        rt.alloc(),
-        "blocking config cert",
-        TWO_OF_THREE,
-        accepted,
-    )
-}
-
-#[test]
-fn each_call_of_dset_fails_once(rt: HostRuntime) -> Result<(), Fail> {
-    let accepted = "accepted refutation\nfrom\nfaulty a\n";
-    wants_search(
-        &rt,
-        rt.alloc(),
-        "dset config cert --set a",
-        THREE_OF_FOUR,
-        accepted,
-    )
-}
-
-#[test]
-fn each_call_of_a_search_with_organisations_fails_once(rt: HostRuntime) -> Result<(), Fail> {
-    let line = "intersect config cert --orgs orgs --faulty-orgs A";
-    wants_search(
-        &rt,
-        rt.alloc(),
-        line,
-        TWO_OF_THREE,
-        "accepted pair\nfrom\nfaulty a\n",
-    )?;
-    let held = Files {
-        config: TWO_OF_THREE.as_bytes(),
-        cert: b"old",
-        orgs: ORG.as_bytes(),
-    };
-    let whole = leaves(rt.alloc(), line, &held)?;
-    let calls = [
-        (Call::Begin(Which::Orgs), 1),
-        (Call::Next(Which::Orgs), reads(held.orgs)),
-    ];
-    wants_calls(&rt, rt.alloc(), line, &held, &whole, &calls)
-}
-
-#[test]
-fn each_call_of_check_fails_once(rt: HostRuntime) -> Result<(), Fail> {
-    let cert = certificate(rt.alloc(), DIGEST_OF_THREE, PAIR)?;
-    let held = Files::with_cert(TWO_OF_THREE.as_bytes(), cert.as_bytes());
-    let line = "check config cert";
-    let whole = leaves(rt.alloc(), line, &held)?;
-    assert_eq!(rt; whole.status, Status::Yes);
-    let calls = [
-        (Call::Begin(Which::Config), 1),
-        (Call::Next(Which::Config), reads(held.config)),
-        (Call::Begin(Which::Cert), 1),
-        (Call::Next(Which::Cert), reads(held.cert)),
-        (Call::Create, 0),
-        (Call::Put(To::Cert), 0),
-        (Call::Put(To::Out), pieces(&whole.out)),
-    ];
-    wants_calls(&rt, rt.alloc(), line, &held, &whole, &calls)
+fn each_call_of_a_run_fails_once(rt: HostRuntime) -> Result<(), Fail> {
+    for run in RUNS.iter() {
+        wants_run(&rt, rt.alloc(), run)?;
+    }
+    Ok(())
 }

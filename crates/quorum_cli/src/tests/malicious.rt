@@ -1,10 +1,10 @@
-//! Files that were made to break the program: each has its one exact answer. The great ones (1,000,001 entries, a line of
-//! 134,217,729 spaces) are in `tests/malicious.py`, which has these too.
+//! Files that were made to break the program: each has its one exact answer. `tests/malicious.py` has these and more.
 use crate::status::Status;
 use crate::tests::certificates::{DIGEST_OF_THREE, DIGEST_OF_TWO, certificate, of_kind};
 use crate::tests::desks::{Files, run_over};
 use crate::tests::systems::{TWO_OF_THREE, TWO_OF_TWO};
 use std::alloc::{AllocError, Global};
+use std::process::Abort;
 use std::test::Fail;
 
 /// A file that is handed in.
@@ -14,6 +14,8 @@ enum Made {
     Config(&'static str),
     /// So many arrays in one another as the configuration of `show`.
     Arrays(usize),
+    /// One node, which needs one of itself so many times, as the configuration of `show`.
+    Entries(usize),
     /// What stands between the formula and the last lemma of a refutation of two of two.
     Lemma(&'static str),
     /// That refutation with this much of its end: behind the last lemma.
@@ -22,6 +24,8 @@ enum Made {
     Lines(&'static str),
     /// A whole certificate for two of three.
     Cert(&'static str),
+    /// The head of a certificate for two of three, and so many spaces behind it.
+    Spaces(usize),
 }
 
 const REFUSED: Status = Status::CertRefused;
@@ -130,7 +134,7 @@ const ROWS: [(Made, Status, &str); 47] = [
     (
         Made::Lemma("17 -1 0 -9223372036854775807 0\n"),
         REFUSED,
-        "refused step 7 rat-step 1\n",
+        "refused step 7 no-such-clause 9223372036854775807\n",
     ),
     (
         Made::Lemma("17 -1 0 6 7 3 4 2 x\n"),
@@ -182,40 +186,42 @@ const ROWS: [(Made, Status, &str); 47] = [
     // the header
     (Made::Cert(""), REFUSED, "refused truncated 1\n"),
     (
-        Made::Cert("fbas-cert 1\r\n"),
+        Made::Cert(
+            "fbas-cert 1\r\nconfig f823e204944abcff32c8dadffba2a0178a590a613358f9a6f271b651cd4e6fbb\nfrom\nfaulty a\nkind pair\nfirst b\nsecond c\nend\n",
+        ),
         REFUSED,
         "refused bad-line 1\n",
     ),
     (Made::Cert("fbas-cert 3\n"), REFUSED, "refused bad-line 1\n"),
     (
         Made::Cert(
-            "fbas-cert 1\nconfig F823E204944ABCFF32C8DADFFBA2A0178A590A613358F9A6F271B651CD4E6FBB\n",
+            "fbas-cert 1\nconfig F823E204944ABCFF32C8DADFFBA2A0178A590A613358F9A6F271B651CD4E6FBB\nfrom\nfaulty a\nkind pair\nfirst b\nsecond c\nend\n",
         ),
         REFUSED,
         "refused bad-line 2\n",
     ),
     (
-        Made::Lines("from z\nfaulty\nkind pair\nfirst a b\nsecond b c\nend\n"),
+        Made::Lines("from z\nfaulty a\nkind pair\nfirst b\nsecond c\nend\n"),
         REFUSED,
         "refused unknown-node 3\n",
     ),
     (
-        Made::Lines("from\nfaulty b a\nkind pair\nfirst a b\nsecond b c\nend\n"),
+        Made::Lines("from\nfaulty b a\nkind pair\nfirst b\nsecond c\nend\n"),
         REFUSED,
         "refused bad-line 4\n",
     ),
     (
-        Made::Lines("from\nfaulty a a\nkind pair\nfirst a b\nsecond b c\nend\n"),
+        Made::Lines("from\nfaulty a a\nkind pair\nfirst b\nsecond c\nend\n"),
         REFUSED,
         "refused bad-line 4\n",
     ),
     (
-        Made::Lines("from\nfaulty z\nkind pair\nfirst a b\nsecond b c\nend\n"),
+        Made::Lines("from\nfaulty z\nkind pair\nfirst b\nsecond c\nend\n"),
         REFUSED,
         "refused unknown-node 4\n",
     ),
     (
-        Made::Lines("from\nfaulty z y\nkind pair\nfirst a b\nsecond b c\nend\n"),
+        Made::Lines("from\nfaulty z y\nkind pair\nfirst b\nsecond c\nend\n"),
         REFUSED,
         "refused bad-line 4\n",
     ),
@@ -251,6 +257,26 @@ const ROWS: [(Made, Status, &str); 47] = [
     ),
 ];
 
+/// Great files, for which `rt try` has too little time: the built tests take a few seconds.
+const GREAT: [(Made, Status, &str); 4] = [
+    (
+        Made::Entries(1_000_000),
+        Status::Yes,
+        "nodes 1\nentries 1000000\nunset 0\nrepeated a . a\n",
+    ),
+    (
+        Made::Entries(1_000_001),
+        Status::ConfigRefused,
+        "config too-many-entries 1000001\n",
+    ),
+    (Made::Spaces(134_217_728), REFUSED, "refused truncated 6\n"),
+    (
+        Made::Spaces(134_217_729),
+        REFUSED,
+        "refused line-too-long 6\n",
+    ),
+];
+
 // How the program ends over the files, in great pieces, and what is out then.
 fn ends_on(alloc: Global, line: &str, held: &Files) -> Result<(Status, Vec<u8>), AllocError> {
     let left = run_over(alloc, line, held, 65_536, Vec::new(alloc))?;
@@ -268,10 +294,33 @@ fn shown_arrays(alloc: Global, count: usize) -> Result<(Status, Vec<u8>), AllocE
     shown(alloc, &config)
 }
 
+fn shown_entries(alloc: Global, count: usize) -> Result<(Status, Vec<u8>), AllocError> {
+    let mut config = String::from_str(
+        alloc,
+        r#"[{"publicKey":"a","quorumSet":{"threshold":1,"validators":["a""#,
+    )?;
+    config.push_str(&r#","a""#.repeat(alloc, count.saturating_sub(1))?)?;
+    config.push_str("]}}]")?;
+    shown(alloc, &config)
+}
+
 // How `check` ends over a certificate for two of three.
 fn checked(alloc: Global, cert: &str) -> Result<(Status, Vec<u8>), AllocError> {
     let held = Files::with_cert(TWO_OF_THREE.as_bytes(), cert.as_bytes());
     ends_on(alloc, "check config cert", &held)
+}
+
+// Spaces by the block, since a hundred million one by one take long.
+fn push_spaces(alloc: Global, text: &mut String, count: usize) -> Result<(), AllocError> {
+    let block = " ".repeat(alloc, 65_536)?;
+    text.push_str(&block.repeat(alloc, count / 65_536)?)?;
+    text.push_str(&" ".repeat(alloc, count % 65_536)?)
+}
+
+fn checked_spaces(alloc: Global, count: usize) -> Result<(Status, Vec<u8>), AllocError> {
+    let mut cert = of_kind(alloc, DIGEST_OF_THREE, "pair", "")?;
+    push_spaces(alloc, &mut cert, count)?;
+    checked(alloc, &cert)
 }
 
 // How `check` ends over a refutation of two of two: this behind the formula, the last lemma, and this.
@@ -290,19 +339,31 @@ fn ends_over(alloc: Global, made: &Made) -> Result<(Status, Vec<u8>), AllocError
     match made {
         Made::Config(config) => shown(alloc, config),
         Made::Arrays(count) => shown_arrays(alloc, *count),
+        Made::Entries(count) => shown_entries(alloc, *count),
         Made::Lemma(lemma) => refuted(alloc, lemma, "end\n"),
         Made::End(end) => refuted(alloc, "17 -1 0 7 6 3 4 2 0\n", end),
         Made::Lines(lines) => checked(alloc, &certificate(alloc, DIGEST_OF_THREE, lines)?),
         Made::Cert(cert) => checked(alloc, cert),
+        Made::Spaces(count) => checked_spaces(alloc, *count),
     }
 }
 
-#[test]
-fn a_malicious_file_has_its_one_answer(rt: HostRuntime) -> Result<(), Fail> {
-    for (number, (made, status, text)) in ROWS.iter().enumerate() {
-        let (found, out) = ends_over(rt.alloc(), made)?;
+// Fails unless each file has its answer.
+fn wants_rows(rt: &impl Abort, alloc: Global, rows: &[(Made, Status, &str)]) -> Result<(), Fail> {
+    for (number, (made, status, text)) in rows.iter().enumerate() {
+        let (found, out) = ends_over(alloc, made)?;
         assert_eq!(rt; found, *status, "at row {number}");
         assert_eq!(rt; out.as_slice(), text.as_bytes(), "at row {number}");
     }
     Ok(())
+}
+
+#[test]
+fn a_malicious_file_has_its_one_answer(rt: HostRuntime) -> Result<(), Fail> {
+    wants_rows(&rt, rt.alloc(), &ROWS)
+}
+
+#[test]
+fn a_great_malicious_file_has_its_one_answer(rt: HostRuntime) -> Result<(), Fail> {
+    wants_rows(&rt, rt.alloc(), &GREAT)
 }

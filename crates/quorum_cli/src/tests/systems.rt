@@ -109,19 +109,19 @@ fn half(alloc: Global, is_rotated: bool) -> Result<Vec<u8>, AllocError> {
     Ok(config)
 }
 
+/// The configuration of a trial of one organisation.
+pub const TRIAL_OF_ONE: &str =
+    r#"[{"publicKey":"t000","quorumSet":{"innerQuorumSets":[{"innerQuorumSets":[],"threshold":2,"validators":["t000","t001","t002"]}],"threshold":1,"validators":[]}},{"publicKey":"t001","quorumSet":{"innerQuorumSets":[{"innerQuorumSets":[],"threshold":2,"validators":["t000","t001","t002"]}],"threshold":1,"validators":[]}},{"publicKey":"t002","quorumSet":{"innerQuorumSets":[{"innerQuorumSets":[],"threshold":2,"validators":["t000","t001","t002"]}],"threshold":1,"validators":[]}}]"#;
+
 // The nodes of four organisations of a trial.
 const TRIAL_NODES: [&str; 12] = [
     "t000", "t001", "t002", "t003", "t004", "t005", "t006", "t007", "t008", "t009", "t010", "t011",
 ];
 
-// How many nodes a trial of one, two or four organisations has, and their quorum set: two nodes of each of all organisations,
+// How many nodes a trial of two or four organisations has, and their quorum set: two nodes of each of both organisations,
 // or of three of four.
 fn trial_of(organisations: u32) -> (usize, &'static str) {
     match organisations {
-        1 => (
-            3,
-            r#"{"innerQuorumSets":[{"innerQuorumSets":[],"threshold":2,"validators":["t000","t001","t002"]}],"threshold":1,"validators":[]}"#,
-        ),
         2 => (
             6,
             r#"{"innerQuorumSets":[{"innerQuorumSets":[],"threshold":2,"validators":["t000","t001","t002"]},{"innerQuorumSets":[],"threshold":2,"validators":["t003","t004","t005"]}],"threshold":2,"validators":[]}"#,
@@ -135,6 +135,9 @@ fn trial_of(organisations: u32) -> (usize, &'static str) {
 
 /// The configuration of a trial of one, two or four organisations.
 pub fn trial(alloc: Global, organisations: u32) -> Result<String, AllocError> {
+    if organisations == 1 {
+        return String::from_str(alloc, TRIAL_OF_ONE);
+    }
     let (nodes, quorum_set) = trial_of(organisations);
     let mut names = Vec::new(alloc);
     for name in TRIAL_NODES.iter().take(nodes) {
