@@ -1,21 +1,28 @@
 //! What no clause says: that calls succeed, and rows whose answers come from the rules by hand.
 
+use crate::shared::same;
+use fbas_core::System;
 use name_set::NodeSet;
 use node_json::ConfigFault::{
     BadKey, BadQuorumSet, Duplicate, NotJson, NotNode, NotNodes, TooDeep, TooManyEntries,
     TooManyNodes,
 };
 use node_json::SetFault::{Inner, Shape, Threshold, Validators};
-use node_json::{ConfigFault, read_config};
+use node_json::{ConfigFault, SetFault, read_config};
 use std::alloc::{AllocError, Global};
-use std::test::Fail;
+use std::process::Abort;
 
 // The fault of a text, or none where it is read.
-fn fault_of(alloc: Global, text: &str) -> Option<ConfigFault> {
-    match read_config(alloc, text.as_bytes()) {
+fn fault_of(alloc: Global, text: &[u8]) -> Option<ConfigFault> {
+    match read_config(alloc, text) {
         Ok(_) => None,
         Err(fault) => Some(fault),
     }
+}
+
+// Fails the test where the faults differ.
+fn same_fault(rt: &impl Abort, found: Option<ConfigFault>, want: Option<ConfigFault>, at: &str) {
+    assert_eq!(rt; found, want, "at {at}");
 }
 
 // Node x, whose quorum set is the text.
@@ -23,73 +30,81 @@ fn with_set(alloc: Global, set: &str) -> Result<String, AllocError> {
     format!(in alloc; "[{{\"publicKey\":\"x\",\"quorumSet\":{set}}}]")
 }
 
+const TEXTS: [(&str, Option<ConfigFault>); 14] = [
+    ("", Some(NotJson)),
+    ("[", Some(NotJson)),
+    ("[{\"publicKey\":\"a\",\"latitude\":1e400}]", Some(NotJson)),
+    ("{}", Some(NotNodes)),
+    ("[{\"publicKey\":\"a\"},1,{}]", Some(NotNode(1))),
+    ("[{}]", Some(BadKey(0))),
+    ("[{\"publicKey\":\"a\"},{\"publicKey\":7}]", Some(BadKey(1))),
+    ("[{\"publicKey\":\"\"}]", Some(BadKey(0))),
+    ("[{\"publicKey\":\"a b\"}]", Some(BadKey(0))),
+    ("[{\"publicKey\":\"a,b\",\"quorumSet\":1}]", Some(BadKey(0))),
+    (
+        "[{\"publicKey\":\"a\"},{\"publicKey\":\"a\",\"quorumSet\":1}]",
+        Some(Duplicate(1)),
+    ),
+    ("[]", None),
+    ("[{\"publicKey\":\"a\",\"quorumSet\":null}]", None),
+    ("[{\"publicKey\":\"a,\",\"publicKey\":\"b\"}]", None),
+];
+
 #[test]
-fn finds_the_first_fault(rt: HostRuntime) -> Result<(), Fail> {
-    let texts = [
-        ("", Some(NotJson)),
-        ("[", Some(NotJson)),
-        ("[{\"publicKey\":\"a\",\"latitude\":1e400}]", Some(NotJson)),
-        ("{}", Some(NotNodes)),
-        ("[{\"publicKey\":\"a\"},1,{}]", Some(NotNode(1))),
-        ("[{}]", Some(BadKey(0))),
-        ("[{\"publicKey\":\"a\"},{\"publicKey\":7}]", Some(BadKey(1))),
-        ("[{\"publicKey\":\"\"}]", Some(BadKey(0))),
-        ("[{\"publicKey\":\"a b\"}]", Some(BadKey(0))),
-        ("[{\"publicKey\":\"a,b\",\"quorumSet\":1}]", Some(BadKey(0))),
-        (
-            "[{\"publicKey\":\"a\"},{\"publicKey\":\"a\",\"quorumSet\":1}]",
-            Some(Duplicate(1)),
-        ),
-        ("[]", None),
-        ("[{\"publicKey\":\"a\",\"quorumSet\":null}]", None),
-        ("[{\"publicKey\":\"a,\",\"publicKey\":\"b\"}]", None),
-    ];
-    for (text, fault) in &texts {
-        assert_eq!(rt; fault_of(rt.alloc(), text), *fault, "at {text}");
+fn finds_the_first_fault(rt: HostRuntime) {
+    for (text, fault) in TEXTS {
+        same_fault(&rt, fault_of(rt.alloc(), text.as_bytes()), fault, text);
     }
-    assert_eq!(rt;
-        read_config(rt.alloc(), &[0x5b, 0xff, 0x5d]).err(),
-        Some(NotJson)
-    );
-    Ok(())
+    let found = fault_of(rt.alloc(), &[0x5b, 0xff, 0x5d]);
+    same_fault(&rt, found, Some(NotJson), "bytes that are no text");
+}
+
+const SETS: [(&str, Option<SetFault>); 14] = [
+    ("[]", Some(Shape)),
+    ("{}", Some(Threshold)),
+    ("{\"threshold\":-1}", Some(Threshold)),
+    ("{\"threshold\":1.0}", Some(Threshold)),
+    ("{\"threshold\":18446744073709551616}", Some(Threshold)),
+    ("{\"threshold\":1,\"threshold\":\"1\"}", Some(Threshold)),
+    ("{\"threshold\":null,\"validators\":{}}", Some(Threshold)),
+    (
+        "{\"threshold\":1,\"validators\":{},\"innerQuorumSets\":1}",
+        Some(Validators),
+    ),
+    (
+        "{\"threshold\":1,\"validators\":[\"a\",\"b c\"]}",
+        Some(Validators),
+    ),
+    ("{\"threshold\":1,\"innerQuorumSets\":{}}", Some(Inner)),
+    ("{\"threshold\":1,\"innerQuorumSets\":[null]}", Some(Shape)),
+    (
+        "{\"threshold\":1,\"innerQuorumSets\":[{\"threshold\":1,\"innerQuorumSets\":1},{}]}",
+        Some(Inner),
+    ),
+    (
+        "{\"threshold\":18446744073709551615,\"validators\":null,\"innerQuorumSets\":null}",
+        None,
+    ),
+    ("{\"thres\\u0068old\":0}", None),
+];
+
+// The fault of node x with that quorum set.
+fn set_fault(alloc: Global, set: &str) -> Result<Option<ConfigFault>, AllocError> {
+    let text = with_set(alloc, set)?;
+    Ok(fault_of(alloc, text.as_bytes()))
 }
 
 #[test]
-fn finds_the_first_fault_of_a_quorum_set(rt: HostRuntime) -> Result<(), Fail> {
-    let sets = [
-        ("[]", Some(Shape)),
-        ("{}", Some(Threshold)),
-        ("{\"threshold\":-1}", Some(Threshold)),
-        ("{\"threshold\":1.0}", Some(Threshold)),
-        ("{\"threshold\":18446744073709551616}", Some(Threshold)),
-        ("{\"threshold\":1,\"threshold\":\"1\"}", Some(Threshold)),
-        ("{\"threshold\":null,\"validators\":{}}", Some(Threshold)),
-        (
-            "{\"threshold\":1,\"validators\":{},\"innerQuorumSets\":1}",
-            Some(Validators),
-        ),
-        (
-            "{\"threshold\":1,\"validators\":[\"a\",\"b c\"]}",
-            Some(Validators),
-        ),
-        ("{\"threshold\":1,\"innerQuorumSets\":{}}", Some(Inner)),
-        ("{\"threshold\":1,\"innerQuorumSets\":[null]}", Some(Shape)),
-        (
-            "{\"threshold\":1,\"innerQuorumSets\":[{\"threshold\":1,\"innerQuorumSets\":1},{}]}",
-            Some(Inner),
-        ),
-        (
-            "{\"threshold\":18446744073709551615,\"validators\":null,\"innerQuorumSets\":null}",
-            None,
-        ),
-        ("{\"thres\\u0068old\":0}", None),
-    ];
-    for (set, fault) in &sets {
-        let text = with_set(rt.alloc(), set)?;
-        let found = fault_of(rt.alloc(), &text);
-        assert_eq!(rt; found, fault.map(|f| BadQuorumSet(0, f)), "at {set}");
+fn finds_the_first_fault_of_a_quorum_set(rt: HostRuntime) {
+    for (set, fault) in SETS {
+        let want = fault.map(|f| BadQuorumSet(0, f));
+        same_fault(
+            &rt,
+            set_fault(rt.alloc(), set).expect(&rt, "memory"),
+            want,
+            set,
+        );
     }
-    Ok(())
 }
 
 // A text, so often the one piece, the middle, and as often the other piece.
@@ -111,19 +126,37 @@ fn nested(
     Ok(text)
 }
 
-#[test]
-fn reads_as_deep_as_the_limits(rt: HostRuntime) -> Result<(), Fail> {
+// The fault of a quorum set with so many inside one another.
+fn fault_of_inners(alloc: Global, inners: u64) -> Result<Option<ConfigFault>, AllocError> {
     let open = "{\"threshold\":1,\"innerQuorumSets\":[";
+    let set = nested(alloc, inners, open, "{\"threshold\":1}", "]}")?;
+    set_fault(alloc, &set)
+}
+
+// The fault of so many arrays inside one another.
+fn fault_of_arrays(alloc: Global, arrays: u64) -> Result<Option<ConfigFault>, AllocError> {
+    let text = nested(alloc, arrays, "[", "", "]")?;
+    Ok(fault_of(alloc, text.as_bytes()))
+}
+
+#[test]
+fn reads_as_deep_as_the_limits(rt: HostRuntime) {
     for (inners, fault) in [(15, None), (16, Some(TooDeep(0)))] {
-        let set = nested(rt.alloc(), inners, open, "{\"threshold\":1}", "]}")?;
-        let text = with_set(rt.alloc(), &set)?;
-        assert_eq!(rt; fault_of(rt.alloc(), &text), fault);
+        same_fault(
+            &rt,
+            fault_of_inners(rt.alloc(), inners).expect(&rt, "memory"),
+            fault,
+            "inners",
+        );
     }
     for (arrays, fault) in [(127, NotNode(0)), (128, NotJson)] {
-        let text = nested(rt.alloc(), arrays, "[", "", "]")?;
-        assert_eq!(rt; fault_of(rt.alloc(), &text), Some(fault));
+        same_fault(
+            &rt,
+            fault_of_arrays(rt.alloc(), arrays).expect(&rt, "memory"),
+            Some(fault),
+            "arrays",
+        );
     }
-    Ok(())
 }
 
 // Node x with a quorum set of so many validators: names from n0 on, or the same name each time.
@@ -140,19 +173,26 @@ fn many(alloc: Global, n: u64, distinct: bool) -> Result<String, AllocError> {
     Ok(text)
 }
 
+fn fault_of_many(alloc: Global, n: u64, distinct: bool) -> Result<Option<ConfigFault>, AllocError> {
+    let text = many(alloc, n, distinct)?;
+    Ok(fault_of(alloc, text.as_bytes()))
+}
+
 #[test]
-fn reads_as_many_as_the_limits(rt: HostRuntime) -> Result<(), Fail> {
-    let rows = [
+fn reads_as_many_as_the_limits(rt: HostRuntime) {
+    for (n, distinct, fault) in [
         (4096, true, None),
         (4097, true, Some(TooManyNodes(4097))),
         (1_000_000, false, None),
         (1_000_001, false, Some(TooManyEntries(1_000_001))),
-    ];
-    for (n, distinct, fault) in rows {
-        let text = many(rt.alloc(), n, distinct)?;
-        assert_eq!(rt; fault_of(rt.alloc(), &text), fault, "at {n}");
+    ] {
+        same_fault(
+            &rt,
+            fault_of_many(rt.alloc(), n, distinct).expect(&rt, "memory"),
+            fault,
+            "many",
+        );
     }
-    Ok(())
 }
 
 const NETWORK: &str = "[
@@ -166,42 +206,59 @@ const NETWORK: &str = "[
  {\"publicKey\":\"GD\",\"quorumSet\":{\"threshold\":1,\"validators\":[\"GA\",\"GC\"]}}
 ]";
 
-#[test]
-fn reads_a_network(rt: HostRuntime) -> Result<(), Fail> {
-    let system = read_config(rt.alloc(), NETWORK.as_bytes())?;
-    assert_eq!(rt; system.len(), 4);
-    for (at, name) in ["GA", "GB", "GC", "GD"].iter().enumerate() {
-        assert_eq!(rt; system.find(name.as_bytes()), Some(at as u32));
+// The places of the names.
+fn places(alloc: Global, system: &System) -> Result<String, AllocError> {
+    let (a, b) = (system.find(b"GA"), system.find(b"GB"));
+    let (c, d) = (system.find(b"GC"), system.find(b"GD"));
+    format!(in alloc; "{a:?} {b:?} {c:?} {d:?}")
+}
+
+// Whether the node GA is a quorum, and with GD, and with GC too.
+fn quorums(alloc: Global, system: &System) -> Result<String, AllocError> {
+    if system.len() != 4 {
+        return String::from_str(alloc, "not four nodes");
     }
     let faulty = NodeSet::new(4);
     let mut nodes = NodeSet::new(4);
     nodes.put(0);
-    assert!(rt; !system.is_quorum(&nodes, &faulty));
+    let one = system.is_quorum(&nodes, &faulty);
     nodes.put(3);
-    assert!(rt; system.is_quorum(&nodes, &faulty));
+    let two = system.is_quorum(&nodes, &faulty);
     nodes.put(2);
-    assert!(rt; !system.is_quorum(&nodes, &faulty));
-    Ok(())
+    let three = system.is_quorum(&nodes, &faulty);
+    format!(in alloc; "{one} {two} {three}")
 }
 
 #[test]
-fn prints_each_fault(rt: HostRuntime) -> Result<(), Fail> {
-    let rows = [
-        (NotJson, "not-json"),
-        (NotNodes, "not-nodes"),
-        (NotNode(3), "not-node 3"),
-        (BadKey(0), "bad-key 0"),
-        (Duplicate(12), "duplicate 12"),
-        (TooDeep(1), "too-deep 1"),
-        (BadQuorumSet(0, Shape), "bad-quorum-set 0 shape"),
-        (BadQuorumSet(1, Threshold), "bad-quorum-set 1 threshold"),
-        (BadQuorumSet(2, Validators), "bad-quorum-set 2 validators"),
-        (BadQuorumSet(3, Inner), "bad-quorum-set 3 inner"),
-        (TooManyNodes(4097), "too-many-nodes 4097"),
-        (TooManyEntries(1_000_001), "too-many-entries 1000001"),
-    ];
-    for (fault, text) in &rows {
-        assert_eq!(rt; format!(in rt.alloc(); "{fault}")?.as_str(), *text);
+fn reads_a_network(rt: HostRuntime) {
+    let system = read_config(rt.alloc(), NETWORK.as_bytes()).expect(&rt, "a system");
+    let found = places(rt.alloc(), &system);
+    same(&rt, found, "Some(0) Some(1) Some(2) Some(3)");
+    same(&rt, quorums(rt.alloc(), &system), "false true false");
+}
+
+const PRINTED: [(ConfigFault, &str); 12] = [
+    (NotJson, "not-json"),
+    (NotNodes, "not-nodes"),
+    (NotNode(3), "not-node 3"),
+    (BadKey(0), "bad-key 0"),
+    (Duplicate(12), "duplicate 12"),
+    (TooDeep(1), "too-deep 1"),
+    (BadQuorumSet(0, Shape), "bad-quorum-set 0 shape"),
+    (BadQuorumSet(1, Threshold), "bad-quorum-set 1 threshold"),
+    (BadQuorumSet(2, Validators), "bad-quorum-set 2 validators"),
+    (BadQuorumSet(3, Inner), "bad-quorum-set 3 inner"),
+    (TooManyNodes(4097), "too-many-nodes 4097"),
+    (TooManyEntries(1_000_001), "too-many-entries 1000001"),
+];
+
+fn printed(alloc: Global, fault: ConfigFault) -> Result<String, AllocError> {
+    format!(in alloc; "{fault}")
+}
+
+#[test]
+fn prints_each_fault(rt: HostRuntime) {
+    for (fault, text) in PRINTED {
+        same(&rt, printed(rt.alloc(), fault), text);
     }
-    Ok(())
 }

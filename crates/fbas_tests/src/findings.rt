@@ -3,9 +3,9 @@
 ghost use Rattle.std.specs.Prelude.{◌≡◌, ◌+◌, ◌<◌, ◌^◌, length, sum_by, IfOk};
 ghost use Rattle.fbas_model.specs.QuorumSets.{all_entries};
 
+use crate::shared::same;
 use quorum_set::{Finding, QuorumSet};
 use std::alloc::{AllocError, Global};
-use std::test::Fail;
 
 fn of(
     alloc: Global,
@@ -36,21 +36,17 @@ fn nested(alloc: Global) -> Result<QuorumSet, AllocError>
     of(alloc, 7, &[1, 2, 1], inner)
 }
 
-#[test]
-fn faults_are_found_from_the_outside_in(rt: HostRuntime) -> Result<(), Fail> {
-    let alloc = rt.alloc();
+/// What is found in it, behind what was found before.
+fn found(alloc: Global) -> Result<String, AllocError> {
     let mut found = Vec::new(alloc);
     found.push(Finding::Repeated(vec![in alloc; 4]?, 9))?;
     nested(alloc)?.findings(alloc, &mut found)?;
-    let mut want = Vec::new(alloc);
-    want.push(Finding::Repeated(vec![in alloc; 4]?, 9))?;
-    want.push(Finding::BadThreshold(Vec::new(alloc), 7, 6))?;
-    want.push(Finding::Repeated(Vec::new(alloc), 1))?;
-    want.push(Finding::BadThreshold(vec![in alloc; 1]?, 0, 5))?;
-    want.push(Finding::Repeated(vec![in alloc; 1]?, 3))?;
-    want.push(Finding::Repeated(vec![in alloc; 1]?, 2))?;
-    want.push(Finding::Repeated(vec![in alloc; 1, 0]?, 5))?;
-    want.push(Finding::BadThreshold(vec![in alloc; 2]?, 1, 0))?;
-    assert!(rt; found == want);
-    Ok(())
+    format!(in alloc; "{found:?}")
+}
+
+#[test]
+fn faults_are_found_from_the_outside_in(rt: HostRuntime) {
+    let want =
+        "[Repeated([4], 9), BadThreshold([], 7, 6), Repeated([], 1), BadThreshold([1], 0, 5), Repeated([1], 3), Repeated([1], 2), Repeated([1, 0], 5), BadThreshold([2], 1, 0)]";
+    same(&rt, found(rt.alloc()), want);
 }

@@ -1,4 +1,8 @@
 //! Worked systems, on which the calls of the crates below are tried.
+//!
+//! A test function may stop the program at each of its comparisons, and what is proved of it grows with its
+//! ways out times its values that are to be dropped. So the steps stand in functions of their own, that return what the test
+//! compares, and a test has no `?`.
 #![tactic(auto)]
 
 #[cfg(test)]
@@ -13,5 +17,7 @@ mod node_sets;
 mod organisations;
 #[cfg(test)]
 mod quorum_sets;
+#[cfg(test)]
+mod shared;
 #[cfg(test)]
 mod tests;

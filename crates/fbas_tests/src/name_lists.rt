@@ -1,9 +1,10 @@
 //! Names in the words of a command line.
 
-ghost use Rattle.std.specs.Prelude.{◌≡◌, length};
+ghost use Rattle.std.specs.Prelude.{◌≡◌, length, IfSome};
 
+use crate::shared::same;
 use name_set::{NameFault, Names, read_name, read_names};
-use std::test::Fail;
+use std::alloc::{AllocError, Global};
 
 /// Which of three names a list names.
 fn marks(text: &str, names: &Names) -> Result<(bool, bool, bool), NameFault>
@@ -13,33 +14,50 @@ fn marks(text: &str, names: &Names) -> Result<(bool, bool, bool), NameFault>
     Ok((nodes.has(0), nodes.has(1), nodes.has(2)))
 }
 
-#[test]
-fn lists_name_nodes_or_their_first_fault(rt: HostRuntime) -> Result<(), Fail> {
-    let alloc = rt.alloc();
+/// The names A, B~ and C.
+fn names(alloc: Global) -> Option<Names>
+    ensures { IfSome result (λ names. length names ≡ 3) }
+{
     let mut list = Vec::new(alloc);
     for name in ["C", "A", "B~"] {
-        list.push(Vec::from_slice(alloc, name.as_bytes())?)?;
+        list.push(Vec::from_slice(alloc, name.as_bytes()).ok()?)
+            .ok()?;
     }
-    assert_eq!(rt; list.len(), 3);
-    let names = Names::of(list)?;
-    assert_eq!(rt; names.len(), 3);
-    for (text, read, single) in [
-        ("", Ok((false, false, false)), Err(NameFault::Empty(1))),
-        ("B~", Ok((false, true, false)), Ok(1)),
-        ("C,A", Ok((true, false, true)), Err(NameFault::BadKey(1))),
-        ("A,C,A", Ok((true, false, true)), Err(NameFault::BadKey(1))),
-        ("D", Err(NameFault::Unknown(1)), Err(NameFault::Unknown(1))),
-        ("A,,D", Err(NameFault::Empty(2)), Err(NameFault::BadKey(1))),
-        ("A,B~,", Err(NameFault::Empty(3)), Err(NameFault::BadKey(1))),
-        (
-            "A,D,,",
-            Err(NameFault::Unknown(2)),
-            Err(NameFault::BadKey(1)),
-        ),
-        ("A, C", Err(NameFault::BadKey(2)), Err(NameFault::BadKey(1))),
-    ] {
-        assert_eq!(rt; marks(text, &names), read, "{text}");
-        assert_eq!(rt; read_name(text.as_bytes(), &names), single, "{text}");
+    if list.len() != 3 {
+        return None;
     }
-    Ok(())
+    let names = Names::of(list).ok()?;
+    if names.len() != 3 {
+        return None;
+    }
+    Some(names)
+}
+
+/// What the text is as a list of names, and as a name.
+fn read(alloc: Global, text: &str, names: &Names) -> Result<String, AllocError>
+    requires { length names.now ≡ 3 }
+{
+    let list = marks(text, names);
+    let single = read_name(text.as_bytes(), names);
+    format!(in alloc; "{list:?} {single:?}")
+}
+
+const LISTS: [(&str, &str); 9] = [
+    ("", "Ok((false, false, false)) Err(Empty(1))"),
+    ("B~", "Ok((false, true, false)) Ok(1)"),
+    ("C,A", "Ok((true, false, true)) Err(BadKey(1))"),
+    ("A,C,A", "Ok((true, false, true)) Err(BadKey(1))"),
+    ("D", "Err(Unknown(1)) Err(Unknown(1))"),
+    ("A,,D", "Err(Empty(2)) Err(BadKey(1))"),
+    ("A,B~,", "Err(Empty(3)) Err(BadKey(1))"),
+    ("A,D,,", "Err(Unknown(2)) Err(BadKey(1))"),
+    ("A, C", "Err(BadKey(2)) Err(BadKey(1))"),
+];
+
+#[test]
+fn lists_name_nodes_or_their_first_fault(rt: HostRuntime) {
+    let names = names(rt.alloc()).expect(&rt, "names");
+    for (text, want) in LISTS {
+        same(&rt, read(rt.alloc(), text, &names), want);
+    }
 }

@@ -1,40 +1,102 @@
 //! What no clause says: worked rows, sets that end anywhere in a word, and sets of other widths.
 
-ghost use Rattle.std.specs.Prelude.{◌≡◌, ◌*◌, ◌≤◌, length};
+ghost use Rattle.std.specs.Prelude.{◌≡◌, ◌*◌, ◌≤◌, ◌<◌, length, IfSome};
 
+use crate::shared::same;
 use name_set::{MOST_WORDS, Names, NodeSet, NodeWords, cmp_sets};
+use std::alloc::{AllocError, Global};
 use std::process::Abort;
-use std::test::Fail;
+
+/// Changes a set, by another: the steps come in turn.
+fn change(other: &mut NodeSet, set: &NodeSet, step: u32)
+    requires other { length other.old ≡ 4 }
+    requires set { length set.now ≡ 4 }
+    ensures { length other.new ≡ 4 }
+{
+    match step {
+        0 => {}
+        1 => other.fill(),
+        2 => other.minus(set),
+        3 => other.take(0),
+        4 => other.join(set),
+        5 => other.copy_from(set),
+        6 => other.take(1),
+        7 => other.meet(set),
+        _ => other.clear(),
+    }
+}
+
+/// The nodes of a set, the least and their number, and whether it meets another, is the same, and lies in it.
+fn shown(alloc: Global, other: &NodeSet, set: &NodeSet) -> Result<String, AllocError>
+    requires other { length other.now ≡ 4 }
+    requires set { length set.now ≡ 4 }
+{
+    let has = [other.has(0), other.has(1), other.has(2), other.has(3)];
+    let (least, count) = (other.least(), other.count());
+    let (meets, same, lies_in) = (other.meets(set), other.same(set), other.lies_in(set));
+    format!(in alloc; "{has:?} {least:?} {count} {meets} {same} {lies_in}")
+}
+
+/// The set after a step.
+fn changed(
+    alloc: Global,
+    other: &mut NodeSet,
+    set: &NodeSet,
+    step: u32,
+) -> Result<String, AllocError>
+    requires other { length other.old ≡ 4 }
+    requires set { length set.now ≡ 4 }
+    ensures { length other.new ≡ 4 }
+{
+    change(other, set, step);
+    shown(alloc, other, set)
+}
+
+// With the set of 1 and 3.
+const STEPS: [&str; 9] = [
+    "[false, false, false, false] None 0 false false true",
+    "[true, true, true, true] Some(0) 4 true false false",
+    "[true, false, true, false] Some(0) 2 false false false",
+    "[false, false, true, false] Some(2) 1 false false false",
+    "[false, true, true, true] Some(1) 3 true false false",
+    "[false, true, false, true] Some(1) 2 true true true",
+    "[false, false, false, true] Some(3) 1 true false true",
+    "[false, false, false, true] Some(3) 1 true false true",
+    "[false, false, false, false] None 0 false false true",
+];
 
 #[test]
-fn sets_are_plain_sets(rt: HostRuntime) -> Result<(), Fail> {
+fn sets_are_plain_sets(rt: HostRuntime) {
     let mut set = NodeSet::new(4);
-    let mut other = NodeSet::new(4);
-    assert!(rt; set.is_empty() && set.least().is_none() && set.same(&other));
     set.put(3);
     set.put(1);
-    assert_eq!(rt; (set.has(1), set.has(2), set.has(3)), (true, false, true));
-    assert_eq!(rt; (set.least(), set.count()), (Some(1), 2));
-    other.fill();
-    assert!(rt; other.meets(&set) && other.count() == 4);
-    other.minus(&set);
-    assert!(rt; other.has(0) && !other.has(1) && !other.meets(&set));
-    other.take(0);
-    other.join(&set);
-    assert!(rt; !other.has(0) && other.has(1) && other.has(2) && other.has(3));
-    other.copy_from(&set);
-    assert!(rt; other.same(&set));
-    other.take(1);
-    assert!(rt; !other.same(&set) && other.least() == Some(3));
-    other.meet(&set);
-    assert!(rt; other.count() == 1 && other.lies_in(&set) && !set.lies_in(&other));
-    assert_eq!(rt;
-        (set.least_from(1), set.least_from(2), set.least_from(4)),
-        (Some(1), Some(3), None)
-    );
-    other.clear();
-    assert!(rt; other.is_empty());
-    Ok(())
+    let mut other = NodeSet::new(4);
+    for (step, want) in STEPS.iter().enumerate() {
+        same(
+            &rt,
+            changed(rt.alloc(), &mut other, &set, step as u32),
+            want,
+        );
+    }
+}
+
+/// Whether two empty sets are the same, whether the set of 1 and 3 lies in that of 3, and its least nodes from 1, 2 and 4 on.
+fn one_and_three(alloc: Global) -> Result<String, AllocError> {
+    let mut set = NodeSet::new(4);
+    let mut other = NodeSet::new(4);
+    let same = set.same(&other);
+    set.put(3);
+    set.put(1);
+    other.put(3);
+    let lies_in = set.lies_in(&other);
+    let least = [set.least_from(1), set.least_from(2), set.least_from(4)];
+    format!(in alloc; "{same} {lies_in} {least:?}")
+}
+
+#[test]
+fn a_set_has_its_least_nodes_from_a_number_on(rt: HostRuntime) {
+    let want = "true false [Some(1), Some(3), None]";
+    same(&rt, one_and_three(rt.alloc()), want);
 }
 
 /// The multiples of 3 below `n`, in a set of W words.
@@ -52,31 +114,59 @@ fn thirds<const W: usize>(n: u32) -> NodeWords<W>
     set
 }
 
+/// Whether the members come in order.
+fn are_thirds<const W: usize>(set: &NodeWords<W>, n: u32) -> bool {
+    let mut next = 0;
+    for v in set.iter() {
+        if v as u64 != next {
+            return false;
+        }
+        next = v as u64 + 3;
+    }
+    next >= n as u64
+}
+
+/// Whether the set is one of n nodes with a third of all, and comes before all.
+fn lies_in_all<const W: usize>(set: &NodeWords<W>, all: &NodeWords<W>, n: u32) -> [bool; 5]
+    requires set { length set.now ≡ n }
+    requires all { length all.now ≡ n }
+{
+    [
+        set.count() == n.div_ceil(3),
+        all.count() == n,
+        set.lies_in(all),
+        all.least_from(n).is_none(),
+        cmp_sets(all, set).is_lt() == (n > 1),
+    ]
+}
+
+/// Whether the others are the rest of all, make all with the set, and make the set where they are met with it.
+fn parts_all<const W: usize>(set: &NodeWords<W>, all: &NodeWords<W>, n: u32) -> [bool; 6]
+    requires set { length set.now ≡ n }
+    requires all { length all.now ≡ n }
+{
+    let mut others = all.copy();
+    others.minus(set);
+    let apart = !others.meets(set);
+    let counted = others.count().checked_add(n.div_ceil(3)) == Some(n);
+    let within = others.lies_in(set) == others.is_empty();
+    others.join(set);
+    let (whole, equal) = (others.same(all), cmp_sets(&others, all).is_eq());
+    others.meet(set);
+    [apart, counted, within, whole, equal, others.same(set)]
+}
+
 /// Shows that sets of W words are plain sets of numbers below `n`.
 fn show<const W: usize>(rt: &impl Abort, n: u32)
     requires fits { n ≤ 64 * W }
     requires few { W ≤ MOST_WORDS }
 {
     let set = thirds::<W>(n);
-    assert_eq!(rt; set.count(), n.div_ceil(3));
-    let mut next = 0;
-    for v in set.iter() {
-        assert_eq!(rt; v as u64, next);
-        next = v as u64 + 3;
-    }
-    assert!(rt; next >= n as u64);
     let mut all = set.copy();
     all.fill();
-    assert!(rt; all.count() == n && set.lies_in(&all) && all.least_from(n).is_none());
-    assert_eq!(rt; cmp_sets(&all, &set).is_lt(), n > 1);
-    let mut others = all.copy();
-    others.minus(&set);
-    assert!(rt; !others.meets(&set) && others.count() == n - n.div_ceil(3));
-    assert!(rt; others.lies_in(&set) == others.is_empty());
-    others.join(&set);
-    assert!(rt; others.same(&all) && cmp_sets(&others, &all).is_eq());
-    others.meet(&set);
-    assert!(rt; others.same(&set));
+    assert!(rt; are_thirds(&set, n), "{n}");
+    assert_eq!(rt; lies_in_all(&set, &all, n), [true; 5], "{n}");
+    assert_eq!(rt; parts_all(&set, &all, n), [true; 6], "{n}");
 }
 
 #[test]
@@ -90,34 +180,70 @@ fn sets_end_anywhere_in_a_word(rt: HostRuntime) {
     show::<320>(&rt, 20_480);
 }
 
-#[test]
-fn sets_are_ordered_as_lists(rt: HostRuntime) {
+/// Whether the one set comes before the other, both ways.
+fn is_before(set: &NodeSet, other: &NodeSet) -> (bool, bool)
+    requires { length set.now ≡ length other.now }
+{
+    (cmp_sets(set, other).is_lt(), cmp_sets(other, set).is_gt())
+}
+
+/// Whether each of two sets comes before the other in turn, as nodes are put in.
+fn in_turn() -> [(bool, bool); 4] {
     let mut set = NodeSet::new(200);
     let mut other = NodeSet::new(200);
     set.put(3);
-    assert!(rt; cmp_sets(&other, &set).is_lt() && cmp_sets(&set, &other).is_gt());
+    let first = is_before(&other, &set);
     other.put(3);
     other.put(130);
-    assert!(rt; cmp_sets(&set, &other).is_lt() && cmp_sets(&other, &set).is_gt());
+    let second = is_before(&set, &other);
     set.put(131);
-    assert!(rt; cmp_sets(&other, &set).is_lt() && cmp_sets(&set, &other).is_gt());
+    let third = is_before(&other, &set);
     set.put(2);
-    assert!(rt; cmp_sets(&set, &other).is_lt() && cmp_sets(&other, &set).is_gt());
+    [first, second, third, is_before(&set, &other)]
 }
 
 #[test]
-fn names_are_sorted_and_found(rt: HostRuntime) -> Result<(), Fail> {
-    let mut list = Vec::new(rt.alloc());
+fn sets_are_ordered_as_lists(rt: HostRuntime) {
+    assert_eq!(rt; in_turn(), [(true, true); 4]);
+}
+
+/// The names B, a, ab and b.
+fn names(alloc: Global) -> Option<Names>
+    ensures { IfSome result (λ names. length names ≡ 4) }
+{
+    let mut list = Vec::new(alloc);
     for name in ["b", "ab", "b", "a", "B", "ab"] {
-        list.push(Vec::from_slice(rt.alloc(), name.as_bytes())?)?;
+        list.push(Vec::from_slice(alloc, name.as_bytes()).ok()?)
+            .ok()?;
     }
-    assert_eq!(rt; list.len(), 6);
-    let names = Names::of(list)?;
-    assert_eq!(rt; names.len(), 4);
-    for (at, name) in [(0, "B"), (1, "a"), (2, "ab"), (3, "b")] {
-        assert_eq!(rt; names.name(at), name.as_bytes());
-        assert_eq!(rt; names.find(name.as_bytes()), Some(at));
+    if list.len() != 6 {
+        return None;
     }
-    assert_eq!(rt; names.find(b"aa"), None);
-    Ok(())
+    let names = Names::of(list).ok()?;
+    if names.len() != 4 {
+        return None;
+    }
+    Some(names)
+}
+
+/// The names in order, and the places of some.
+fn placed(alloc: Global, names: &Names) -> Result<String, AllocError>
+    requires { length names.now ≡ 4 }
+{
+    let list = [names.name(0), names.name(1), names.name(2), names.name(3)];
+    let places = [
+        names.find(b"B"),
+        names.find(b"a"),
+        names.find(b"ab"),
+        names.find(b"b"),
+        names.find(b"aa"),
+    ];
+    format!(in alloc; "{list:?} {places:?}")
+}
+
+#[test]
+fn names_are_sorted_and_found(rt: HostRuntime) {
+    let names = names(rt.alloc()).expect(&rt, "names");
+    let want = "[[66], [97], [97, 98], [98]] [Some(0), Some(1), Some(2), Some(3), None]";
+    same(&rt, placed(rt.alloc(), &names), want);
 }

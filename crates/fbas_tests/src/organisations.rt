@@ -2,12 +2,13 @@
 
 ghost use Rattle.std.specs.Prelude.{◌≡◌, All, length};
 
+use crate::shared::same;
 use fbas_core::System;
 use name_set::NameFault;
 use node_json::OrgFault::{BadOrg, DuplicateOrg, NotJson, NotOrgs, TooManyOrgs};
 use node_json::{OrgFault, Orgs, read_config, read_ids, read_orgs};
 use std::alloc::{AllocError, Global};
-use std::test::Fail;
+use std::process::Abort;
 
 const NODES: &str = "[{\"publicKey\":\"a\"},{\"publicKey\":\"b\"},{\"publicKey\":\"c\"}]";
 
@@ -19,39 +20,44 @@ fn fault_of(alloc: Global, text: &str, system: &System) -> Option<OrgFault> {
     }
 }
 
+// Fails the test where the faults differ.
+fn same_fault(rt: &impl Abort, found: Option<OrgFault>, want: Option<OrgFault>, at: &str) {
+    assert_eq!(rt; found, want, "at {at}");
+}
+
+const TEXTS: [(&str, Option<OrgFault>); 12] = [
+    ("[", Some(NotJson)),
+    ("{}", Some(NotOrgs)),
+    ("[1]", Some(BadOrg(0))),
+    ("[{\"id\":\"A\"},{\"validators\":[]}]", Some(BadOrg(1))),
+    ("[{\"id\":\"A B\"}]", Some(BadOrg(0))),
+    ("[{\"id\":\"A\"},{\"id\":\"A\"}]", Some(DuplicateOrg(1))),
+    (
+        "[{\"id\":\"A\"},{\"id\":\"A\",\"validators\":1}]",
+        Some(DuplicateOrg(1)),
+    ),
+    (
+        "[{\"id\":\"A\",\"validators\":{}},{\"id\":\"A\"}]",
+        Some(BadOrg(0)),
+    ),
+    ("[{\"id\":\"A\",\"validators\":[\"a\",1]}]", Some(BadOrg(0))),
+    (
+        "[{\"id\":\"A\",\"validators\":[\"a\",\"z z\"]}]",
+        Some(BadOrg(0)),
+    ),
+    ("[]", None),
+    (
+        "[{\"id\":\"A\",\"validators\":null,\"name\":[]},{\"id\":\"B\"}]",
+        None,
+    ),
+];
+
 #[test]
-fn finds_the_first_fault(rt: HostRuntime) -> Result<(), Fail> {
-    let system = read_config(rt.alloc(), NODES.as_bytes())?;
-    let rows = [
-        ("[", Some(NotJson)),
-        ("{}", Some(NotOrgs)),
-        ("[1]", Some(BadOrg(0))),
-        ("[{\"id\":\"A\"},{\"validators\":[]}]", Some(BadOrg(1))),
-        ("[{\"id\":\"A B\"}]", Some(BadOrg(0))),
-        ("[{\"id\":\"A\"},{\"id\":\"A\"}]", Some(DuplicateOrg(1))),
-        (
-            "[{\"id\":\"A\"},{\"id\":\"A\",\"validators\":1}]",
-            Some(DuplicateOrg(1)),
-        ),
-        (
-            "[{\"id\":\"A\",\"validators\":{}},{\"id\":\"A\"}]",
-            Some(BadOrg(0)),
-        ),
-        ("[{\"id\":\"A\",\"validators\":[\"a\",1]}]", Some(BadOrg(0))),
-        (
-            "[{\"id\":\"A\",\"validators\":[\"a\",\"z z\"]}]",
-            Some(BadOrg(0)),
-        ),
-        ("[]", None),
-        (
-            "[{\"id\":\"A\",\"validators\":null,\"name\":[]},{\"id\":\"B\"}]",
-            None,
-        ),
-    ];
-    for (text, fault) in &rows {
-        assert_eq!(rt; fault_of(rt.alloc(), text, &system), *fault, "at {text}");
+fn finds_the_first_fault(rt: HostRuntime) {
+    let system = read_config(rt.alloc(), NODES.as_bytes()).expect(&rt, "a system");
+    for (text, fault) in TEXTS {
+        same_fault(&rt, fault_of(rt.alloc(), text, &system), fault, text);
     }
-    Ok(())
 }
 
 // Which of three nodes a list of ids stands for.
@@ -62,42 +68,62 @@ fn members(orgs: &Orgs, ids: &str) -> Result<(bool, bool, bool), NameFault>
     Ok((nodes.has(0), nodes.has(1), nodes.has(2)))
 }
 
-#[test]
-fn finds_the_members_of_a_list_or_its_first_fault(rt: HostRuntime) -> Result<(), Fail> {
-    let system = read_config(rt.alloc(), NODES.as_bytes())?;
-    let one = "[{\"id\":\"A\",\"validators\":[\"a\",\"zz\"]}]";
-    let three =
-        "[{\"id\":\"Q\",\"validators\":[\"c\",\"b\"]},{\"id\":\"P\"},{\"id\":\"A\",\"validators\":[\"a\",\"c\",\"a\"]}]";
-    let rows = [
-        (one, "", Ok((false, false, false))),
-        (one, "A", Ok((true, false, false))),
-        (one, "A,A", Ok((true, false, false))),
-        (one, "A,", Err(NameFault::Empty(2))),
-        (one, "B", Err(NameFault::Unknown(1))),
-        (one, "a", Err(NameFault::Unknown(1))),
-        (one, "A,B,A B", Err(NameFault::Unknown(2))),
-        (one, "A,A B,B", Err(NameFault::BadKey(2))),
-        (three, "A", Ok((true, false, true))),
-        (three, "P", Ok((false, false, false))),
-        (three, "P,Q", Ok((false, true, true))),
-        (three, "A,Q", Ok((true, true, true))),
-        ("[]", "A", Err(NameFault::Unknown(1))),
-    ];
-    assert_eq!(rt; system.len(), 3);
-    for (text, ids, found) in &rows {
-        let orgs = read_orgs(rt.alloc(), text.as_bytes(), &system)?;
-        assert_eq!(rt; members(&orgs, ids), *found, "{text} {ids}");
+const ONE: &str = "[{\"id\":\"A\",\"validators\":[\"a\",\"zz\"]}]";
+
+const THREE: &str =
+    "[{\"id\":\"Q\",\"validators\":[\"c\",\"b\"]},{\"id\":\"P\"},{\"id\":\"A\",\"validators\":[\"a\",\"c\",\"a\"]}]";
+
+const LISTS: [(&str, &str, &str); 13] = [
+    (ONE, "", "Ok((false, false, false))"),
+    (ONE, "A", "Ok((true, false, false))"),
+    (ONE, "A,A", "Ok((true, false, false))"),
+    (ONE, "A,", "Err(Empty(2))"),
+    (ONE, "B", "Err(Unknown(1))"),
+    (ONE, "a", "Err(Unknown(1))"),
+    (ONE, "A,B,A B", "Err(Unknown(2))"),
+    (ONE, "A,A B,B", "Err(BadKey(2))"),
+    (THREE, "A", "Ok((true, false, true))"),
+    (THREE, "P", "Ok((false, false, false))"),
+    (THREE, "P,Q", "Ok((false, true, true))"),
+    (THREE, "A,Q", "Ok((true, true, true))"),
+    ("[]", "A", "Err(Unknown(1))"),
+];
+
+// The members that a list of ids has among the organisations of a text.
+fn read(alloc: Global, system: &System, text: &str, ids: &str) -> Result<String, AllocError> {
+    if system.len() != 3 {
+        return String::from_str(alloc, "not three nodes");
     }
-    Ok(())
+    match read_orgs(alloc, text.as_bytes(), system) {
+        Ok(orgs) => format!(in alloc; "{:?}", members(&orgs, ids)),
+        Err(fault) => format!(in alloc; "{fault:?}"),
+    }
 }
 
 #[test]
-fn has_no_organisations_without_a_file(rt: HostRuntime) -> Result<(), Fail> {
-    let orgs = Orgs::none(rt.alloc());
-    assert!(rt; orgs.members(b"A").is_none());
-    assert_eq!(rt; read_ids(b"A", &orgs, 3).err(), Some(NameFault::Unknown(1)));
-    assert_eq!(rt; read_ids(b"", &orgs, 3)?.count(), 0);
-    Ok(())
+fn finds_the_members_of_a_list_or_its_first_fault(rt: HostRuntime) {
+    let system = read_config(rt.alloc(), NODES.as_bytes()).expect(&rt, "a system");
+    for (text, ids, want) in LISTS {
+        same(&rt, read(rt.alloc(), &system, text, ids), want);
+    }
+}
+
+// Whether an organisation has members, and what lists of one and of none give, where there are no organisations.
+fn without_a_file(alloc: Global) -> Result<String, AllocError> {
+    let orgs = Orgs::none(alloc);
+    let is_none = orgs.members(b"A").is_none();
+    let one = read_ids(b"A", &orgs, 3).err();
+    let none = read_ids(b"", &orgs, 3).map(|nodes| nodes.count());
+    format!(in alloc; "{is_none} {one:?} {none:?}")
+}
+
+#[test]
+fn has_no_organisations_without_a_file(rt: HostRuntime) {
+    same(
+        &rt,
+        without_a_file(rt.alloc()),
+        "true Some(Unknown(1)) Ok(0)",
+    );
 }
 
 // So many organisations, each with an id of its own.
@@ -110,27 +136,39 @@ fn many(alloc: Global, n: u64) -> Result<String, AllocError> {
     Ok(text)
 }
 
-#[test]
-fn reads_as_many_as_the_limit(rt: HostRuntime) -> Result<(), Fail> {
-    let system = read_config(rt.alloc(), NODES.as_bytes())?;
-    for (n, fault) in [(4096, None), (4097, Some(TooManyOrgs(4097)))] {
-        let text = many(rt.alloc(), n)?;
-        assert_eq!(rt; fault_of(rt.alloc(), &text, &system), fault, "at {n}");
-    }
-    Ok(())
+fn fault_of_many(alloc: Global, system: &System, n: u64) -> Result<Option<OrgFault>, AllocError> {
+    let text = many(alloc, n)?;
+    Ok(fault_of(alloc, &text, system))
 }
 
 #[test]
-fn prints_each_fault(rt: HostRuntime) -> Result<(), Fail> {
-    let rows = [
-        (NotJson, "not-json"),
-        (NotOrgs, "not-orgs"),
-        (BadOrg(2), "bad-org 2"),
-        (DuplicateOrg(1), "duplicate-org 1"),
-        (TooManyOrgs(4097), "too-many-orgs 4097"),
-    ];
-    for (fault, text) in &rows {
-        assert_eq!(rt; format!(in rt.alloc(); "{fault}")?.as_str(), *text);
+fn reads_as_many_as_the_limit(rt: HostRuntime) {
+    let system = read_config(rt.alloc(), NODES.as_bytes()).expect(&rt, "a system");
+    for (n, fault) in [(4096, None), (4097, Some(TooManyOrgs(4097)))] {
+        same_fault(
+            &rt,
+            fault_of_many(rt.alloc(), &system, n).expect(&rt, "memory"),
+            fault,
+            "many",
+        );
     }
-    Ok(())
+}
+
+const PRINTED: [(OrgFault, &str); 5] = [
+    (NotJson, "not-json"),
+    (NotOrgs, "not-orgs"),
+    (BadOrg(2), "bad-org 2"),
+    (DuplicateOrg(1), "duplicate-org 1"),
+    (TooManyOrgs(4097), "too-many-orgs 4097"),
+];
+
+fn printed(alloc: Global, fault: OrgFault) -> Result<String, AllocError> {
+    format!(in alloc; "{fault}")
+}
+
+#[test]
+fn prints_each_fault(rt: HostRuntime) {
+    for (fault, text) in PRINTED {
+        same(&rt, printed(rt.alloc(), fault), text);
+    }
 }

@@ -6,7 +6,6 @@ ghost use Rattle.fbas_model.specs.QuorumSets.{IsBelow};
 use name_set::NodeSet;
 use quorum_set::QuorumSet;
 use std::alloc::{AllocError, Global};
-use std::test::Fail;
 
 fn of(
     alloc: Global,
@@ -38,55 +37,78 @@ fn set(marks: [bool; 4]) -> NodeSet
     set
 }
 
-#[test]
-fn choices_are_counted_by_places(rt: HostRuntime) -> Result<(), Fail> {
-    let alloc = rt.alloc();
+/// Three of node 0, of node 1 twice, and of three inner quorum sets.
+fn worked(alloc: Global) -> Result<QuorumSet, AllocError>
+    ensures { IfOk result (IsBelow 4) }
+{
     let mut inner = Vec::new(alloc);
     inner.push(of(alloc, 1, &[2, 3], Vec::new(alloc))?)?;
     inner.push(of(alloc, 0, &[0], Vec::new(alloc))?)?;
     inner.push(of(alloc, 3, &[0, 1], Vec::new(alloc))?)?;
-    let quorum_set = of(alloc, 3, &[0, 1, 1], inner)?;
-    for (part, rest, met) in [
-        (
-            [false, false, false, false],
-            [false, false, false, false],
-            false,
-        ),
-        (
-            [false, true, false, false],
-            [false, true, false, false],
-            false,
-        ),
-        (
-            [true, false, false, false],
-            [false, true, false, false],
-            true,
-        ),
-        (
-            [false, true, false, false],
-            [false, false, true, false],
-            true,
-        ),
-        (
-            [true, false, true, false],
-            [false, false, false, true],
-            false,
-        ),
-        ([true, true, true, true], [false, false, false, false], true),
-    ] {
-        let part = set(part);
-        let rest = set(rest);
-        let mut others = set([true; 4]);
-        others.minus(&part);
-        others.minus(&rest);
-        let mut both = set([true; 4]);
-        both.minus(&others);
-        assert_eq!(rt; quorum_set.satisfied_in(&part, &rest), met);
-        assert_eq!(rt; quorum_set.satisfied(&both), met);
-        assert_eq!(rt; quorum_set.avoids(&others), met);
-    }
+    of(alloc, 3, &[0, 1, 1], inner)
+}
+
+/// Whether it is satisfied in the two sets, in their union, and where the others are avoided.
+fn met(quorum_set: &QuorumSet, part: [bool; 4], rest: [bool; 4]) -> (bool, bool, bool)
+    requires { IsBelow 4 quorum_set.now }
+{
+    let part = set(part);
+    let rest = set(rest);
+    let mut others = set([true; 4]);
+    others.minus(&part);
+    others.minus(&rest);
+    let mut both = set([true; 4]);
+    both.minus(&others);
+    (
+        quorum_set.satisfied_in(&part, &rest),
+        quorum_set.satisfied(&both),
+        quorum_set.avoids(&others),
+    )
+}
+
+/// How many nodes it mentions.
+fn mentioned(quorum_set: &QuorumSet) -> u32
+    requires { IsBelow 4 quorum_set.now }
+{
     let mut mentioned = set([false; 4]);
     quorum_set.mentions(&mut mentioned);
-    assert_eq!(rt; mentioned.count(), 4);
-    Ok(())
+    mentioned.count()
+}
+
+const PARTS: [([bool; 4], [bool; 4], bool); 6] = [
+    (
+        [false, false, false, false],
+        [false, false, false, false],
+        false,
+    ),
+    (
+        [false, true, false, false],
+        [false, true, false, false],
+        false,
+    ),
+    (
+        [true, false, false, false],
+        [false, true, false, false],
+        true,
+    ),
+    (
+        [false, true, false, false],
+        [false, false, true, false],
+        true,
+    ),
+    (
+        [true, false, true, false],
+        [false, false, false, true],
+        false,
+    ),
+    ([true, true, true, true], [false, false, false, false], true),
+];
+
+#[test]
+fn choices_are_counted_by_places(rt: HostRuntime) {
+    let quorum_set = worked(rt.alloc()).expect(&rt, "memory");
+    for (part, rest, want) in PARTS {
+        assert_eq!(rt; met(&quorum_set, part, rest), (want, want, want));
+    }
+    assert_eq!(rt; mentioned(&quorum_set), 4);
 }

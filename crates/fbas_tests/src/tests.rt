@@ -1,15 +1,15 @@
 //! The systems are written as configurations, and sets of nodes as lists of names.
 
-ghost use Rattle.std.specs.Prelude.{◌≡◌, length, IfOk};
+ghost use Rattle.std.specs.Prelude.{◌≡◌, length, IfOk, IfSome};
 ghost use Rattle.fbas_model.specs.Nodes.{members};
 ghost use Rattle.fbas_model.specs.Fbas.{IsClosed};
 
+use crate::shared::same;
 use fbas_core::System;
 use greatest_quorum::{blocks, minimal_block, minimal_quorum};
-use name_set::{NodeSet, read_names};
+use name_set::{NameFault, NodeSet, read_names};
 use node_json::read_config;
-use std::alloc::Global;
-use std::test::Fail;
+use std::alloc::{AllocError, Global};
 
 const TWO_OF_THREE: &str =
     r#"[{"publicKey":"a","quorumSet":{"threshold":2,"validators":["a","b","c"]}},{"publicKey":"b","quorumSet":{"threshold":2,"validators":["a","b","c"]}},{"publicKey":"c","quorumSet":{"threshold":2,"validators":["a","b","c"]}}]"#;
@@ -26,115 +26,156 @@ const CHAIN: &str =
     r#"[{"publicKey":"d","quorumSet":{"threshold":1,"validators":["c"]}},{"publicKey":"c","quorumSet":{"threshold":1,"validators":["b"]}},{"publicKey":"b","quorumSet":{"threshold":9,"validators":[],"innerQuorumSets":[{"threshold":0,"validators":["a"]}]}},{"publicKey":"e","quorumSet":{"threshold":1,"validators":["d"]}}]"#;
 
 // The set of the names in a list.
-fn set_of(system: &System, list: &str) -> Result<NodeSet, Fail>
+fn set_of(system: &System, list: &str) -> Result<NodeSet, NameFault>
     ensures { IfOk result (λ set. length set ≡ length system.now.sets) }
 {
-    Ok(read_names(list.as_bytes(), system.names())?)
+    read_names(list.as_bytes(), system.names())
 }
 
-#[test]
-fn a_minimal_quorum_of_a_repeated_entry(rt: HostRuntime) -> Result<(), Fail> {
-    let alloc = rt.alloc();
-    let system = read_config(alloc, REPEATED_ENTRY.as_bytes())?;
-    let mut quorum = set_of(&system, "a,b")?;
-    let faulty = set_of(&system, "")?;
-    let minimal = set_of(&system, "b")?;
-    let mut scratch = set_of(&system, "")?;
+// Whether the node b is the minimal quorum that is found in both.
+fn is_minimal_quorum(system: &System) -> Result<bool, NameFault> {
+    let mut quorum = set_of(system, "a,b")?;
+    let faulty = set_of(system, "")?;
+    let minimal = set_of(system, "b")?;
+    let mut scratch = set_of(system, "")?;
     if !system.is_quorum(&quorum, &faulty) {
-        return Err("it is a quorum".into());
+        return Ok(false);
     }
-    minimal_quorum(&system, &mut quorum, &faulty, &mut scratch);
-    assert!(rt; quorum.same(&minimal));
-    Ok(())
+    minimal_quorum(system, &mut quorum, &faulty, &mut scratch);
+    Ok(quorum.same(&minimal))
 }
 
 #[test]
-fn a_minimal_blocking_set_of_two_of_three(rt: HostRuntime) -> Result<(), Fail> {
-    let alloc = rt.alloc();
-    let system = read_config(alloc, TWO_OF_THREE.as_bytes())?;
-    let mut set = set_of(&system, "b,c")?;
-    let faulty = set_of(&system, "a")?;
-    let minimal = set_of(&system, "b,c")?;
-    let mut scratch = set_of(&system, "")?;
-    if set.meets(&faulty) || !blocks(&system, &set, &faulty, &mut scratch) {
-        return Err("it blocks".into());
+fn a_minimal_quorum_of_a_repeated_entry(rt: HostRuntime) {
+    let system = read_config(rt.alloc(), REPEATED_ENTRY.as_bytes()).expect(&rt, "a system");
+    assert_eq!(rt; is_minimal_quorum(&system), Ok(true));
+}
+
+// Whether b and c are a minimal blocking set without a.
+fn is_minimal_block(system: &System) -> Result<bool, NameFault> {
+    let mut set = set_of(system, "b,c")?;
+    let faulty = set_of(system, "a")?;
+    let minimal = set_of(system, "b,c")?;
+    let mut scratch = set_of(system, "")?;
+    if set.meets(&faulty) || !blocks(system, &set, &faulty, &mut scratch) {
+        return Ok(false);
     }
-    minimal_block(&system, &mut set, &faulty, &mut scratch);
-    assert!(rt; set.same(&minimal));
-    Ok(())
+    minimal_block(system, &mut set, &faulty, &mut scratch);
+    Ok(set.same(&minimal))
+}
+
+#[test]
+fn a_minimal_blocking_set_of_two_of_three(rt: HostRuntime) {
+    let system = read_config(rt.alloc(), TWO_OF_THREE.as_bytes()).expect(&rt, "a system");
+    assert_eq!(rt; is_minimal_block(&system), Ok(true));
 }
 
 // The trust closure of the node that has the name.
-fn closure_of_name(system: &System, name: &str) -> Result<NodeSet, Fail>
+fn closure_of_name(system: &System, name: &str) -> Result<NodeSet, NameFault>
     ensures size { IfOk result (λ set. length set ≡ length system.now.sets) }
     ensures closed { IfOk result (λ set. IsClosed system.now.sets (members set)) }
 {
     match system.find(name.as_bytes()) {
         Some(v) => Ok(system.closure(v)),
-        None => Err("not a node".into()),
+        None => Err(NameFault::Unknown(1)),
     }
 }
 
 // Whether the trust closure of the node is the list.
-fn closure_is(alloc: Global, text: &str, name: &str, members: &str) -> Result<bool, Fail> {
-    let system = read_config(alloc, text.as_bytes())?;
-    let closure = closure_of_name(&system, name)?;
-    let want = set_of(&system, members)?;
+fn closure_is(system: &System, name: &str, members: &str) -> Result<bool, NameFault> {
+    let closure = closure_of_name(system, name)?;
+    let want = set_of(system, members)?;
     Ok(closure.same(&want))
 }
 
 // The system restricted to the trust closure of the node, and the list cut to it.
-fn part_of(alloc: Global, text: &str, name: &str, list: &str) -> Result<(System, NodeSet), Fail>
-    ensures { IfOk result (λ r. length r.1 ≡ length r.0.sets) }
+fn part_of(alloc: Global, system: &System, name: &str, list: &str) -> Option<(System, NodeSet)>
+    ensures { IfSome result (λ r. length r.1 ≡ length r.0.sets) }
 {
-    let system = read_config(alloc, text.as_bytes())?;
-    let kept = closure_of_name(&system, name)?;
-    let set = set_of(&system, list)?;
-    Ok((system.restrict(alloc, &kept)?, system.cut(&set, &kept)))
+    let kept = closure_of_name(system, name).ok()?;
+    let set = set_of(system, list).ok()?;
+    let part = system.restrict(alloc, &kept).ok()?;
+    Some((part, system.cut(&set, &kept)))
 }
 
 // Whether the list is a quorum without the faulty nodes.
-fn is_quorum(system: &System, list: &str, faulty: &NodeSet) -> Result<bool, Fail>
+fn is_quorum(system: &System, list: &str, faulty: &NodeSet) -> Result<bool, NameFault>
     requires { length faulty.now ≡ length system.now.sets }
 {
     Ok(system.is_quorum(&set_of(system, list)?, faulty))
 }
 
 #[test]
-fn a_closure_leaves_out_who_is_not_mentioned(rt: HostRuntime) -> Result<(), Fail> {
-    let alloc = rt.alloc();
-    assert!(rt; closure_is(alloc, TWO_PAIRS, "a", "a,b")?);
-    assert!(rt; closure_is(alloc, TWO_PAIRS, "d", "c,d")?);
-    assert!(rt; closure_is(alloc, TWO_PAIRS, "bb", "bb")?);
-    Ok(())
+fn a_closure_leaves_out_who_is_not_mentioned(rt: HostRuntime) {
+    let system = read_config(rt.alloc(), TWO_PAIRS.as_bytes()).expect(&rt, "a system");
+    for (name, members) in [("a", "a,b"), ("d", "c,d"), ("bb", "bb")] {
+        assert_eq!(rt; closure_is(&system, name, members), Ok(true));
+    }
 }
 
 #[test]
-fn a_closure_goes_through_bad_thresholds(rt: HostRuntime) -> Result<(), Fail> {
-    let alloc = rt.alloc();
-    assert!(rt; closure_is(alloc, CHAIN, "e", "a,b,c,d,e")?);
-    assert!(rt; closure_is(alloc, CHAIN, "b", "a,b")?);
-    assert!(rt; closure_is(alloc, CHAIN, "a", "a")?);
-    Ok(())
+fn a_closure_goes_through_bad_thresholds(rt: HostRuntime) {
+    let system = read_config(rt.alloc(), CHAIN.as_bytes()).expect(&rt, "a system");
+    for (name, members) in [("e", "a,b,c,d,e"), ("b", "a,b"), ("a", "a")] {
+        assert_eq!(rt; closure_is(&system, name, members), Ok(true));
+    }
+}
+
+// Whether the set is the list.
+fn is_list(system: &System, set: &NodeSet, list: &str) -> Result<bool, NameFault>
+    requires { length set.now ≡ length system.now.sets }
+{
+    Ok(set.same(&set_of(system, list)?))
+}
+
+// Whether the faulty nodes of a pair are d, and whether c is a quorum without them and with them.
+fn pair_shown(part: &System, faulty: &NodeSet) -> Result<(bool, bool, bool), NameFault>
+    requires { length faulty.now ≡ length part.now.sets }
+{
+    let none = set_of(part, "")?;
+    let is_cut = is_list(part, faulty, "d")?;
+    let without = is_quorum(part, "c", faulty)?;
+    Ok((is_cut, without, is_quorum(part, "c", &none)?))
+}
+
+// The same of the second pair.
+fn second_pair(alloc: Global, system: &System) -> Option<(bool, bool, bool)> {
+    let (part, faulty) = part_of(alloc, system, "c", "b,d")?;
+    pair_shown(&part, &faulty).ok()
 }
 
 #[test]
-fn a_pair_alone_keeps_its_quorums(rt: HostRuntime) -> Result<(), Fail> {
-    let alloc = rt.alloc();
-    let (part, faulty) = part_of(alloc, TWO_PAIRS, "c", "b,d")?;
-    assert!(rt; faulty.same(&set_of(&part, "d")?));
-    assert!(rt; is_quorum(&part, "c", &faulty)?);
-    assert!(rt; !is_quorum(&part, "c", &set_of(&part, "")?)?);
-    Ok(())
+fn a_pair_alone_keeps_its_quorums(rt: HostRuntime) {
+    let system = read_config(rt.alloc(), TWO_PAIRS.as_bytes()).expect(&rt, "a system");
+    let found = second_pair(rt.alloc(), &system);
+    assert_eq!(rt; found, Some((true, true, false)));
+}
+
+// Whether the faulty nodes of a part of three nodes are b, its entries, its nodes without a quorum set, and its names.
+fn part_shown(alloc: Global, part: &System, faulty: &NodeSet) -> Result<String, AllocError>
+    requires { length faulty.now ≡ length part.now.sets }
+{
+    let names = part.names();
+    if names.len() != 3 {
+        return String::from_str(alloc, "not three nodes");
+    }
+    let list = [names.name(0), names.name(1), names.name(2)];
+    let is_cut = is_list(part, faulty, "b");
+    let (entries, unset) = (part.entries(), part.unset());
+    format!(in alloc; "{is_cut:?} {entries} {unset} {list:?}")
+}
+
+// The same of the part behind c.
+fn behind_c(alloc: Global, system: &System) -> Result<String, AllocError> {
+    match part_of(alloc, system, "c", "b,e") {
+        Some((part, faulty)) => part_shown(alloc, &part, &faulty),
+        None => String::from_str(alloc, "no part"),
+    }
 }
 
 #[test]
-fn a_chain_is_cut_behind_a_node(rt: HostRuntime) -> Result<(), Fail> {
-    let alloc = rt.alloc();
-    let (part, faulty) = part_of(alloc, CHAIN, "c", "b,e")?;
-    assert!(rt; faulty.same(&set_of(&part, "b")?));
-    assert_eq!(rt; (part.entries(), part.unset()), (3, 1));
-    assert_eq!(rt; part.names().len(), 3);
-    assert_eq!(rt; part.names().name(2), "c".as_bytes());
-    Ok(())
+fn a_chain_is_cut_behind_a_node(rt: HostRuntime) {
+    let system = read_config(rt.alloc(), CHAIN.as_bytes()).expect(&rt, "a system");
+    let want = "Ok(true) 3 1 [[97], [98], [99]]";
+    same(&rt, behind_c(rt.alloc(), &system), want);
 }
