@@ -1,9 +1,9 @@
 //! The systems are written as configurations, and nodes are told by their names' places.
-use name_set::read_names;
+use name_set::{NodeSet, read_names};
 use node_json::read_config;
 use quorum_questions::{Answer, MOST_UNITS, dset, intersect, splits};
 use std::alloc::{AllocError, Global};
-use std::test::Fail;
+use std::process::Abort;
 
 const TWO_OF_TWO: &str =
     r#"[{"publicKey":"p","quorumSet":{"threshold":2,"validators":["p","q"]}},{"publicKey":"q","quorumSet":{"threshold":2,"validators":["p","q"]}}]"#;
@@ -31,61 +31,79 @@ fn said(alloc: Global, answer: &Answer) -> Result<String, AllocError> {
     }
 }
 
-/// What `intersect` answers.
-fn asked(alloc: Global, config: &str, faulty: &str, budget: u64) -> Result<String, Fail> {
+/// What `intersect` answers about a configuration.
+fn asked(alloc: Global, config: &str, faulty: &str, budget: u64) -> Option<String> {
+    let system = read_config(alloc, config.as_bytes()).ok()?;
+    let faulty = read_names(faulty.as_bytes(), system.names()).ok()?;
     if budget > MOST_UNITS {
-        return Err("too many units".into());
+        return None;
     }
-    let system = read_config(alloc, config.as_bytes())?;
-    let faulty = read_names(faulty.as_bytes(), system.names())?;
-    let answer = intersect(alloc, &system, &faulty, budget)?;
-    Ok(said(alloc, &answer)?)
+    let answer = intersect(alloc, &system, &faulty, budget).ok()?;
+    said(alloc, &answer).ok()
 }
 
+/// What `splits` answers about a set of two of three.
+fn split(alloc: Global, faulty: &str, set: &str) -> Option<String> {
+    let system = read_config(alloc, TWO_OF_THREE.as_bytes()).ok()?;
+    let faulty = read_names(faulty.as_bytes(), system.names()).ok()?;
+    let set = read_names(set.as_bytes(), system.names()).ok()?;
+    let answer = splits(alloc, &system, &faulty, &set, 1_000_000).ok()?;
+    said(alloc, &answer).ok()
+}
+
+/// Whether the rest is a quorum, the least and the number of nodes that are unmet, and the answer.
+fn parts(
+    alloc: Global,
+    is_available: bool,
+    unmet: &NodeSet,
+    answer: &Answer,
+) -> Result<String, AllocError> {
+    let answer = said(alloc, answer)?;
+    let (least, count) = (unmet.least(), unmet.count());
+    format!(in alloc; "{is_available} {least:?} {count} {answer}")
+}
+
+/// What `dset` answers about a set of three of four.
+fn deleted(alloc: Global, set: &str) -> Option<String> {
+    let system = read_config(alloc, THREE_OF_FOUR.as_bytes()).ok()?;
+    let set = read_names(set.as_bytes(), system.names()).ok()?;
+    let (is_available, unmet, answer) = dset(alloc, &system, &set, 1_000_000).ok()?;
+    parts(alloc, is_available, &unmet, &answer).ok()
+}
+
+/// Fails the test where there is no answer, or another. It stands apart, so that the tests have no branches of it.
+fn same(rt: &impl Abort, found: Option<String>, want: &str) {
+    let found = found.expect(rt, "an answer");
+    assert_eq!(rt; found.as_str(), want);
+}
+
+const ASKED: [(&str, &str, u64, &str); 6] = [
+    (TWO_OF_THREE, "", 1_000_000, "yes 16 25"),
+    (TWO_OF_THREE, "a", 1_000_000, "no Some(1) 1 Some(2) 1"),
+    (TWO_OF_THREE, "", 0, "spent 0 16 25"),
+    (TWO_OF_THREE, "", 1, "spent 1 16 25"),
+    (TWO_OF_TWO, "", 729, "yes 6 12"),
+    ("[]", "", 0, "yes 0 2"),
+];
+
 #[test]
-fn every_two_quorums_share_a_node_or_two_share_none_or_the_budget_is_spent(
-    rt: HostRuntime,
-) -> Result<(), Fail> {
-    let alloc = rt.alloc();
-    for (config, faulty, budget, want) in [
-        (TWO_OF_THREE, "", 1_000_000, "yes 16 25"),
-        (TWO_OF_THREE, "a", 1_000_000, "no Some(1) 1 Some(2) 1"),
-        (TWO_OF_THREE, "", 0, "spent 0 16 25"),
-        (TWO_OF_THREE, "", 1, "spent 1 16 25"),
-        (TWO_OF_TWO, "", 729, "yes 6 12"),
-        ("[]", "", 0, "yes 0 2"),
-    ] {
-        assert_eq!(rt; asked(alloc, config, faulty, budget)?.as_str(), want);
+fn every_two_quorums_share_a_node_or_two_share_none_or_the_budget_is_spent(rt: HostRuntime) {
+    for (config, faulty, budget, want) in ASKED {
+        same(&rt, asked(rt.alloc(), config, faulty, budget), want);
     }
-    Ok(())
 }
 
 #[test]
-fn a_set_splits_what_two_faulty_nodes_would(rt: HostRuntime) -> Result<(), Fail> {
-    let alloc = rt.alloc();
-    let system = read_config(alloc, TWO_OF_THREE.as_bytes())?;
-    let nobody = read_names(b"", system.names())?;
-    let a = read_names(b"a", system.names())?;
-    let answer = splits(alloc, &system, &nobody, &a, 1_000_000)?;
-    assert_eq!(rt; said(alloc, &answer)?.as_str(), "no Some(1) 1 Some(2) 1");
-    let b = read_names(b"b", system.names())?;
-    let answer = splits(alloc, &system, &a, &b, 1_000_000)?;
-    assert!(rt; matches!(answer, Answer::Yes(..)));
-    Ok(())
+fn a_set_splits_what_two_faulty_nodes_would(rt: HostRuntime) {
+    same(&rt, split(rt.alloc(), "", "a"), "no Some(1) 1 Some(2) 1");
+    let found = split(rt.alloc(), "a", "b").expect(&rt, "an answer");
+    assert!(rt; found.starts_with("yes "));
 }
 
 #[test]
-fn one_of_four_is_dispensable_and_two_are_not(rt: HostRuntime) -> Result<(), Fail> {
-    let alloc = rt.alloc();
-    let system = read_config(alloc, THREE_OF_FOUR.as_bytes())?;
-    let a = read_names(b"a", system.names())?;
-    let (is_available, unmet, answer) = dset(alloc, &system, &a, 1_000_000)?;
-    assert!(rt; is_available && unmet.is_empty());
-    assert!(rt; matches!(answer, Answer::Yes(..)));
-    let two = read_names(b"a,b", system.names())?;
-    let (is_available, unmet, answer) = dset(alloc, &system, &two, 1_000_000)?;
-    assert!(rt; !is_available);
-    assert_eq!(rt; (unmet.least(), unmet.count()), (Some(2), 2));
-    assert_eq!(rt; said(alloc, &answer)?.as_str(), "no Some(2) 1 Some(3) 1");
-    Ok(())
+fn one_of_four_is_dispensable_and_two_are_not(rt: HostRuntime) {
+    let found = deleted(rt.alloc(), "a").expect(&rt, "an answer");
+    assert!(rt; found.starts_with("true None 0 yes "));
+    let want = "false Some(2) 2 no Some(2) 1 Some(3) 1";
+    same(&rt, deleted(rt.alloc(), "a,b"), want);
 }
