@@ -11,7 +11,7 @@ mod trial;
 mod words;
 
 use crate::outcome::{Outcome, dimacs, outcome_of, outcome_of_text};
-use crate::words::{Task, organisations_of, task};
+use crate::words::{Task, asked, organisations_of};
 use anyhow::Result;
 use std::fs;
 use std::str::from_utf8;
@@ -20,7 +20,7 @@ use std::str::from_utf8;
 const UNITS: u64 = 4_000_000;
 
 fn main(rt: HostRuntime) -> Result<()> {
-    match task(&rt)? {
+    match asked(&rt)? {
         Task::File(path) => solve_file(&rt, path.as_str()),
         Task::Formula(word) => print_formula(&rt, word.as_str()),
         Task::Trial(word) => solve_trial(&rt, word.as_str()),

@@ -17,7 +17,7 @@ pub enum Task {
 }
 
 /// The task that the words of the command line give.
-pub fn task(rt: &HostRuntime) -> Result<Task> {
+pub fn asked(rt: &HostRuntime) -> Result<Task> {
     let mut words = env::args(rt)?;
     words.next();
     let (first, second) = (words.next(), words.next());
