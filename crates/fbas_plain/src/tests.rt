@@ -12,7 +12,6 @@ use greatest_quorum::blocks;
 use name_set::Names;
 use std::alloc::{AllocError, Global};
 use std::process::Abort;
-use std::test::Fail;
 
 // The nodes 0 to 3, each as a set of one. A set of more is their sum.
 const A: u32 = 1;
@@ -185,29 +184,39 @@ fn system(
     Ok(sets)
 }
 
+const CHOICES: [(Choices, u32, bool); 12] = [
+    (NONE_OF_A, A, false),
+    (TWO_OF_A, A | B, false),
+    (ONE_OF_B, A, false),
+    (ONE_OF_B, B, true),
+    (TWO_OF_B_TWICE, B, true),
+    (TWO_OF_ABC, C, false),
+    (TWO_OF_ABC, A | C, true),
+    (THREE_OF_ABCD, A | D, false),
+    (A_AND_ONE_OF_BC, A | C, true),
+    (A_AND_ONE_OF_BC, A | D, false),
+    (A_AND_ONE_OF_BC, B | C, false),
+    (ONE_OF_NO_CHOICE, A | B, false),
+];
+
+/// Whether a choice lies in the set, by trying all of them and by counting.
+fn met(
+    rt: &impl Abort,
+    alloc: Global,
+    choices: Choices,
+    u: u32,
+) -> Result<(bool, bool), AllocError> {
+    let set = quorum_set(rt, alloc, 4, choices)?;
+    let u = node_set(4, u);
+    Ok((has_choice_within(&set, &u), set.satisfied(&u)))
+}
+
 #[test]
-fn choices_take_entries_at_different_places(rt: HostRuntime) -> Result<(), Fail> {
-    let alloc = rt.alloc();
-    for (choices, u, met) in [
-        (NONE_OF_A, A, false),
-        (TWO_OF_A, A | B, false),
-        (ONE_OF_B, A, false),
-        (ONE_OF_B, B, true),
-        (TWO_OF_B_TWICE, B, true),
-        (TWO_OF_ABC, C, false),
-        (TWO_OF_ABC, A | C, true),
-        (THREE_OF_ABCD, A | D, false),
-        (A_AND_ONE_OF_BC, A | C, true),
-        (A_AND_ONE_OF_BC, A | D, false),
-        (A_AND_ONE_OF_BC, B | C, false),
-        (ONE_OF_NO_CHOICE, A | B, false),
-    ] {
-        let set = quorum_set(&rt, alloc, 4, choices)?;
-        let u = node_set(4, u);
-        assert_eq!(rt; has_choice_within(&set, &u), met);
-        assert_eq!(rt; set.satisfied(&u), met);
+fn choices_take_entries_at_different_places(rt: HostRuntime) {
+    for (choices, u, want) in CHOICES {
+        let found = met(&rt, rt.alloc(), choices, u).expect(&rt, "memory");
+        assert_eq!(rt; found, (want, want));
     }
-    Ok(())
 }
 
 /// Whether the quorums are those that are listed, and each set of nodes meets all of them where it should.
@@ -230,178 +239,179 @@ fn is_as_listed(sets: &[Option<QuorumSet>], faulty: &NodeSet, quorums: &[u32]) -
     true
 }
 
+const EXAMPLES: [Example<'static>; 15] = [
+    // two of two
+    Example {
+        sets: &[Some(TWO_OF_AB), Some(TWO_OF_AB)],
+        faulty: 0,
+        quorums: &[A | B],
+        all_meet: true,
+        rest_is_quorum: true,
+    },
+    // two of two, both faulty
+    Example {
+        sets: &[Some(TWO_OF_AB), Some(TWO_OF_AB)],
+        faulty: A | B,
+        quorums: &[],
+        all_meet: true,
+        rest_is_quorum: true,
+    },
+    // two of three
+    Example {
+        sets: &[Some(TWO_OF_ABC), Some(TWO_OF_ABC), Some(TWO_OF_ABC)],
+        faulty: 0,
+        quorums: &[A | B, A | C, B | C, A | B | C],
+        all_meet: true,
+        rest_is_quorum: true,
+    },
+    // two of three, a faulty
+    Example {
+        sets: &[Some(TWO_OF_ABC), Some(TWO_OF_ABC), Some(TWO_OF_ABC)],
+        faulty: A,
+        quorums: &[B, C, B | C],
+        all_meet: false,
+        rest_is_quorum: true,
+    },
+    // three of four
+    Example {
+        sets: &[
+            Some(THREE_OF_ABCD),
+            Some(THREE_OF_ABCD),
+            Some(THREE_OF_ABCD),
+            Some(THREE_OF_ABCD),
+        ],
+        faulty: 0,
+        quorums: &[A | B | C, A | B | D, A | C | D, B | C | D, A | B | C | D],
+        all_meet: true,
+        rest_is_quorum: true,
+    },
+    // three of four, a faulty
+    Example {
+        sets: &[
+            Some(THREE_OF_ABCD),
+            Some(THREE_OF_ABCD),
+            Some(THREE_OF_ABCD),
+            Some(THREE_OF_ABCD),
+        ],
+        faulty: A,
+        quorums: &[B | C, B | D, C | D, B | C | D],
+        all_meet: true,
+        rest_is_quorum: true,
+    },
+    // three of four, a and b faulty
+    Example {
+        sets: &[
+            Some(THREE_OF_ABCD),
+            Some(THREE_OF_ABCD),
+            Some(THREE_OF_ABCD),
+            Some(THREE_OF_ABCD),
+        ],
+        faulty: A | B,
+        quorums: &[C, D, C | D],
+        all_meet: false,
+        rest_is_quorum: false,
+    },
+    // two pairs
+    Example {
+        sets: &[
+            Some(TWO_OF_AB),
+            Some(TWO_OF_AB),
+            Some(TWO_OF_CD),
+            Some(TWO_OF_CD),
+        ],
+        faulty: 0,
+        quorums: &[A | B, C | D, A | B | C | D],
+        all_meet: false,
+        rest_is_quorum: true,
+    },
+    // b stands twice
+    Example {
+        sets: &[Some(TWO_OF_B_TWICE), Some(ONE_OF_B)],
+        faulty: 0,
+        quorums: &[B, A | B],
+        all_meet: true,
+        rest_is_quorum: true,
+    },
+    // a threshold of 0
+    Example {
+        sets: &[Some(NONE_OF_A), Some(ONE_OF_B)],
+        faulty: 0,
+        quorums: &[B],
+        all_meet: true,
+        rest_is_quorum: false,
+    },
+    // a threshold above its entries
+    Example {
+        sets: &[Some(TWO_OF_A), Some(ONE_OF_B)],
+        faulty: A,
+        quorums: &[B],
+        all_meet: true,
+        rest_is_quorum: true,
+    },
+    // an inner quorum set
+    Example {
+        sets: &[
+            Some(A_AND_ONE_OF_BC),
+            Some(A_AND_ONE_OF_BC),
+            Some(A_AND_ONE_OF_BC),
+        ],
+        faulty: 0,
+        quorums: &[A | B, A | C, A | B | C],
+        all_meet: true,
+        rest_is_quorum: true,
+    },
+    // an inner quorum set, a faulty
+    Example {
+        sets: &[
+            Some(A_AND_ONE_OF_BC),
+            Some(A_AND_ONE_OF_BC),
+            Some(A_AND_ONE_OF_BC),
+        ],
+        faulty: A,
+        quorums: &[B, C, B | C],
+        all_meet: false,
+        rest_is_quorum: false,
+    },
+    // a neighbour with no quorum set
+    Example {
+        sets: &[Some(ONE_OF_B), None],
+        faulty: 0,
+        quorums: &[],
+        all_meet: true,
+        rest_is_quorum: false,
+    },
+    // a faulty neighbour with no quorum set
+    Example {
+        sets: &[Some(ONE_OF_B), None],
+        faulty: B,
+        quorums: &[A],
+        all_meet: true,
+        rest_is_quorum: false,
+    },
+];
+
+/// Whether the quorums are as listed, all meet, and the rest is a quorum.
+fn found(
+    rt: &impl Abort,
+    alloc: Global,
+    example: &Example,
+) -> Result<(bool, bool, bool), AllocError> {
+    let sets = system(rt, alloc, example.sets)?;
+    let faulty = node_set(sets.len() as u32, example.faulty);
+    Ok((
+        is_as_listed(&sets, &faulty, example.quorums),
+        intersects(&sets, &faulty),
+        available(&sets, &faulty),
+    ))
+}
+
 #[test]
-fn definitions_say_what_was_meant(rt: HostRuntime) -> Result<(), Fail> {
-    let alloc = rt.alloc();
-    let examples = [
-        // two of two
-        Example {
-            sets: &[Some(TWO_OF_AB), Some(TWO_OF_AB)],
-            faulty: 0,
-            quorums: &[A | B],
-            all_meet: true,
-            rest_is_quorum: true,
-        },
-        // two of two, both faulty
-        Example {
-            sets: &[Some(TWO_OF_AB), Some(TWO_OF_AB)],
-            faulty: A | B,
-            quorums: &[],
-            all_meet: true,
-            rest_is_quorum: true,
-        },
-        // two of three
-        Example {
-            sets: &[Some(TWO_OF_ABC), Some(TWO_OF_ABC), Some(TWO_OF_ABC)],
-            faulty: 0,
-            quorums: &[A | B, A | C, B | C, A | B | C],
-            all_meet: true,
-            rest_is_quorum: true,
-        },
-        // two of three, a faulty
-        Example {
-            sets: &[Some(TWO_OF_ABC), Some(TWO_OF_ABC), Some(TWO_OF_ABC)],
-            faulty: A,
-            quorums: &[B, C, B | C],
-            all_meet: false,
-            rest_is_quorum: true,
-        },
-        // three of four
-        Example {
-            sets: &[
-                Some(THREE_OF_ABCD),
-                Some(THREE_OF_ABCD),
-                Some(THREE_OF_ABCD),
-                Some(THREE_OF_ABCD),
-            ],
-            faulty: 0,
-            quorums: &[A | B | C, A | B | D, A | C | D, B | C | D, A | B | C | D],
-            all_meet: true,
-            rest_is_quorum: true,
-        },
-        // three of four, a faulty
-        Example {
-            sets: &[
-                Some(THREE_OF_ABCD),
-                Some(THREE_OF_ABCD),
-                Some(THREE_OF_ABCD),
-                Some(THREE_OF_ABCD),
-            ],
-            faulty: A,
-            quorums: &[B | C, B | D, C | D, B | C | D],
-            all_meet: true,
-            rest_is_quorum: true,
-        },
-        // three of four, a and b faulty
-        Example {
-            sets: &[
-                Some(THREE_OF_ABCD),
-                Some(THREE_OF_ABCD),
-                Some(THREE_OF_ABCD),
-                Some(THREE_OF_ABCD),
-            ],
-            faulty: A | B,
-            quorums: &[C, D, C | D],
-            all_meet: false,
-            rest_is_quorum: false,
-        },
-        // two pairs
-        Example {
-            sets: &[
-                Some(TWO_OF_AB),
-                Some(TWO_OF_AB),
-                Some(TWO_OF_CD),
-                Some(TWO_OF_CD),
-            ],
-            faulty: 0,
-            quorums: &[A | B, C | D, A | B | C | D],
-            all_meet: false,
-            rest_is_quorum: true,
-        },
-        // b stands twice
-        Example {
-            sets: &[Some(TWO_OF_B_TWICE), Some(ONE_OF_B)],
-            faulty: 0,
-            quorums: &[B, A | B],
-            all_meet: true,
-            rest_is_quorum: true,
-        },
-        // a threshold of 0
-        Example {
-            sets: &[Some(NONE_OF_A), Some(ONE_OF_B)],
-            faulty: 0,
-            quorums: &[B],
-            all_meet: true,
-            rest_is_quorum: false,
-        },
-        // a threshold above its entries
-        Example {
-            sets: &[Some(TWO_OF_A), Some(ONE_OF_B)],
-            faulty: A,
-            quorums: &[B],
-            all_meet: true,
-            rest_is_quorum: true,
-        },
-        // an inner quorum set
-        Example {
-            sets: &[
-                Some(A_AND_ONE_OF_BC),
-                Some(A_AND_ONE_OF_BC),
-                Some(A_AND_ONE_OF_BC),
-            ],
-            faulty: 0,
-            quorums: &[A | B, A | C, A | B | C],
-            all_meet: true,
-            rest_is_quorum: true,
-        },
-        // an inner quorum set, a faulty
-        Example {
-            sets: &[
-                Some(A_AND_ONE_OF_BC),
-                Some(A_AND_ONE_OF_BC),
-                Some(A_AND_ONE_OF_BC),
-            ],
-            faulty: A,
-            quorums: &[B, C, B | C],
-            all_meet: false,
-            rest_is_quorum: false,
-        },
-        // a neighbour with no quorum set
-        Example {
-            sets: &[Some(ONE_OF_B), None],
-            faulty: 0,
-            quorums: &[],
-            all_meet: true,
-            rest_is_quorum: false,
-        },
-        // a faulty neighbour with no quorum set
-        Example {
-            sets: &[Some(ONE_OF_B), None],
-            faulty: B,
-            quorums: &[A],
-            all_meet: true,
-            rest_is_quorum: false,
-        },
-    ];
-    for (at, example) in examples.iter().enumerate() {
-        let sets = system(&rt, alloc, example.sets)?;
-        let faulty = node_set(sets.len() as u32, example.faulty);
-        assert!(rt;
-            is_as_listed(&sets, &faulty, example.quorums),
-            "example {at}"
-        );
-        assert_eq!(rt;
-            intersects(&sets, &faulty),
-            example.all_meet,
-            "example {at}"
-        );
-        assert_eq!(rt;
-            available(&sets, &faulty),
-            example.rest_is_quorum,
-            "example {at}"
-        );
+fn definitions_say_what_was_meant(rt: HostRuntime) {
+    for (at, example) in EXAMPLES.iter().enumerate() {
+        let found = found(&rt, rt.alloc(), example).expect(&rt, "memory");
+        let want = (true, example.all_meet, example.rest_is_quorum);
+        assert_eq!(rt; found, want, "example {at}");
     }
-    Ok(())
 }
 
 /// A quorum set of nodes 0 to 2, with an inner quorum set.
@@ -456,13 +466,24 @@ fn names(rt: &impl Abort, alloc: Global) -> Result<Names, AllocError>
     Ok(names)
 }
 
-fn agree_on(
-    rt: &impl Abort,
-    system: &System,
-    sets: &[Option<QuorumSet>],
-    u: &NodeSet,
-    faulty: &NodeSet,
-)
+/// Whether the quorum sets are satisfied as choices lie in the two sets.
+fn sets_agree(sets: &[Option<QuorumSet>], u: &NodeSet, faulty: &NodeSet) -> bool
+    requires formed { IsWellFormed sets.now }
+    requires nodes { length sets.now ≡ 3 }
+    requires same_n { length u.now ≡ 3 }
+    requires same_faulty { length faulty.now ≡ 3 }
+{
+    for set in sets {
+        if let Some(set) = set {
+            if set.satisfied_in(u, faulty) != has_choice_within_either(set, u, faulty) {
+                return false;
+            }
+        }
+    }
+    true
+}
+
+fn agree_on(system: &System, sets: &[Option<QuorumSet>], u: &NodeSet, faulty: &NodeSet) -> bool
     requires same_system { length system.now.sets ≡ 3 }
     requires formed { IsWellFormed sets.now }
     requires nodes { length sets.now ≡ 3 }
@@ -471,19 +492,12 @@ fn agree_on(
 {
     let mut scratch = NodeSet::new(3);
     let meets = meets_quorums(sets, u, faulty);
-    assert_eq!(rt; blocks(system, u, faulty, &mut scratch), meets);
-    assert_eq!(rt; system.is_quorum(u, faulty), is_quorum(sets, u, faulty));
-    for set in sets {
-        if let Some(set) = set {
-            assert_eq!(rt;
-                set.satisfied_in(u, faulty),
-                has_choice_within_either(set, u, faulty)
-            );
-        }
-    }
+    blocks(system, u, faulty, &mut scratch) == meets
+        && system.is_quorum(u, faulty) == is_quorum(sets, u, faulty)
+        && sets_agree(sets, u, faulty)
 }
 
-fn agree(rt: &impl Abort, system: &System, sets: &[Option<QuorumSet>])
+fn agree(system: &System, sets: &[Option<QuorumSet>]) -> bool
     requires same_system { length system.now.sets ≡ 3 }
     requires formed { IsWellFormed sets.now }
     requires nodes { length sets.now ≡ 3 }
@@ -491,18 +505,30 @@ fn agree(rt: &impl Abort, system: &System, sets: &[Option<QuorumSet>])
     for pair in 0..64 {
         let u = node_set(3, pair % 8);
         let faulty = node_set(3, pair / 8);
-        agree_on(rt, system, sets, &u, &faulty);
+        if !agree_on(system, sets, &u, &faulty) {
+            return false;
+        }
     }
+    true
+}
+
+/// Whether the fast calls and the plain ones agree on the system with these thresholds.
+fn agree_on_family(
+    rt: &impl Abort,
+    alloc: Global,
+    thresholds: [u64; 3],
+) -> Result<bool, AllocError> {
+    let sets = family(alloc, thresholds)?;
+    let names = names(rt, alloc)?;
+    let system = System::of(alloc, names, family(alloc, thresholds)?)?;
+    Ok(agree(&system, &sets))
 }
 
 #[test]
-fn fast_calls_agree(rt: HostRuntime) -> Result<(), Fail> {
-    let alloc = rt.alloc();
+fn fast_calls_agree(rt: HostRuntime) {
     for code in 0..125 {
         let thresholds = [code % 5, code / 5 % 5, code / 25];
-        let sets = family(alloc, thresholds)?;
-        let system = System::of(alloc, names(&rt, alloc)?, family(alloc, thresholds)?)?;
-        agree(&rt, &system, &sets);
+        let agree = agree_on_family(&rt, rt.alloc(), thresholds).expect(&rt, "memory");
+        assert!(rt; agree, "{thresholds:?}");
     }
-    Ok(())
 }

@@ -7,52 +7,45 @@
 
 mod outcome;
 mod reading;
-#[cfg(test)]
-mod tests;
 mod trial;
+mod words;
 
 use crate::outcome::{Outcome, dimacs, outcome_of, outcome_of_text};
-use crate::trial::MOST;
-use anyhow::{Context, Result, bail};
+use crate::words::{Task, asked, organisations_of};
+use anyhow::Result;
+use std::fs;
 use std::str::from_utf8;
-use std::{env, fs};
 
 /// The units of the solver's budget.
 const UNITS: u64 = 4_000_000;
 
 fn main(rt: HostRuntime) -> Result<()> {
-    let alloc = rt.alloc();
-    let mut words = env::args(&rt)?;
-    words.next();
-    let Some(organisations) = words.next() else {
-        bail!("how many organisations?");
-    };
-    if organisations.as_str() == "file" {
-        let Some(path) = words.next() else {
-            bail!("which file?");
-        };
-        let text = fs::read_to_string(&rt, path.as_str())?;
-        let found = outcome_of_text(alloc, text.as_str(), UNITS)?;
-        tell(&rt, &found)?;
-        return tell_model(&rt, &found.model);
+    match asked(&rt)? {
+        Task::File(path) => solve_file(&rt, path.as_str()),
+        Task::Formula(word) => print_formula(&rt, word.as_str()),
+        Task::Trial(word) => solve_trial(&rt, word.as_str()),
     }
-    let organisations: u32 = organisations
-        .parse()
-        .context("the number of organisations")?;
-    if organisations == 0 || organisations > MOST {
-        bail!("organisations are 1 to 100");
-    }
-    if let Some(word) = words.next() {
-        if word.as_str() != "dimacs" {
-            bail!("the second word is dimacs");
-        }
-        let text = dimacs(alloc, organisations)?;
-        print!(rt; "{}", from_utf8(&text)?)?;
-        return Ok(());
-    }
-    let found = outcome_of(alloc, organisations, UNITS)?;
+}
+
+fn solve_file(rt: &HostRuntime, path: &str) -> Result<()> {
+    let text = fs::read_to_string(rt, path)?;
+    let found = outcome_of_text(rt.alloc(), text.as_str(), UNITS)?;
+    tell(rt, &found)?;
+    tell_model(rt, &found.model)
+}
+
+fn print_formula(rt: &HostRuntime, word: &str) -> Result<()> {
+    let organisations = organisations_of(word)?;
+    let text = dimacs(rt.alloc(), organisations)?;
+    print!(rt; "{}", from_utf8(&text)?)?;
+    Ok(())
+}
+
+fn solve_trial(rt: &HostRuntime, word: &str) -> Result<()> {
+    let organisations = organisations_of(word)?;
+    let found = outcome_of(rt.alloc(), organisations, UNITS)?;
     print!(rt; "organisations {organisations}, ")?;
-    tell(&rt, &found)
+    tell(rt, &found)
 }
 
 /// Prints what was found.
