@@ -1,16 +1,11 @@
 -- A closure grows: what is reached lies in each closed set with the node, until all of it is visited and it is closed itself.
-use Rattle.std.proofs.Common.{◌≡◌, ℕ, ◌-◌, ◌<◌, true, not, ◌&&◌, ◌||◌, ◌==◌, length, refl, sym, ◌∙◌, ap, subst, arith, Option, Some, None, slice_get, slice_index_or, ◌⊎◌, inl, inr}
+use Rattle.std.proofs.Common.{◌≡◌, ℕ, ◌-◌, ◌<◌, true, not, ◌&&◌, ◌||◌, ◌==◌, length, refl, sym, ◌∙◌, ap, subst, arith, Some, None, slice_get, ◌⊎◌, inl, inr}
 use Rattle.std.proofs.lemmas.Bool.{cases_Bool, both_ways, false≢true, or_cases, or_left, or_right, and_parts, and_from, not-true, not_from_false, eq-eqb, eqb-true}
-use Rattle.std.proofs.lemmas.List.{get_or_default}
-use Rattle.std.proofs.Math.Bool.{or-false}
 use Rattle.fbas_model.specs.Nodes.{Nodes, ◌∈◌, ◌⊆◌, Table, members, size, ∅, only, ◌∪◌, ◌∖◌}
 use Rattle.fbas_model.specs.Trees.{QuorumSet}
 use Rattle.fbas_model.specs.QuorumSets.{mentioned}
 use Rattle.fbas_model.specs.Fbas.{Fbas, HasQuorumSet, IsClosed, IsClosure}
-use Rattle.fbas_core.specs.Mentioning.{mentioned_by, stands_in}
 use Rattle.fbas_model.proofs.Sizes.{member_lt, size_put}
-use Rattle.fbas_model.proofs.Slices.{at_place}
-use Rattle.fbas_model.proofs.Tables.{table_ext}
 use Rattle.fbas_model.proofs.Closure.{size_le_length}
 
 pub record Closing (f : Fbas) (v : ℕ) (reached visited : Table) : Type 0 where
@@ -52,7 +47,7 @@ module _ (f : Fbas) (v : ℕ) (reached visited next : Table) (node : ℕ) (c : C
     was w at = elim (or_cases (members visited w) (w == node) (sym (ap (λ (s : Nodes). s w) m) ∙ at)) [ inl e ↦ inl e | inr e ↦ inr (eqb-true w node e) ]
 
     -- one without a quorum set mentions nothing
-    closing_skip : slice_get f node ≡ Some None → Closing f v reached next
+    pub closing_skip : slice_get f node ≡ Some None → Closing f v reached next
     closing_skip none = record {
       same_n = c.same_n;
       same_visited = n ∙ c.same_visited;
@@ -65,7 +60,7 @@ module _ (f : Fbas) (v : ℕ) (reached visited next : Table) (node : ℕ) (c : C
     }
 
     -- what its quorum set mentions is reached
-    closing_next : (d : QuorumSet) (more : Table) → HasQuorumSet f node d → length more ≡ length reached → members more ≡ members reached ∪ mentioned d → Closing f v more next
+    pub closing_next : (d : QuorumSet) (more : Table) → HasQuorumSet f node d → length more ≡ length reached → members more ≡ members reached ∪ mentioned d → Closing f v more next
     closing_next d more has_d k r =
         let now : (x : ℕ) → members more x ≡ (members reached x || mentioned d x) = λ x. ap (λ (s : Nodes). s x) r in
         let kept : members reached ⊆ members more = λ x at. now x ∙ or_left (members reached x) (mentioned d x) at in
@@ -86,17 +81,6 @@ module _ (f : Fbas) (v : ℕ) (reached visited next : Table) (node : ℕ) (c : C
             | inr e ↦ closed node d (c.least other v_in closed node new.0) has_d x e
           ];
         }
-
-    -- whether it has a quorum set or not
-    closing_either : (o : Option QuorumSet) (more : Table) → slice_get f node ≡ Some o → length more ≡ length reached → members more ≡ members reached ∪ (λ x. stands_in x o) → Closing f v more next
-    closing_either None more none k r = subst (λ (t : Table). Closing f v t next) (sym (table_ext more reached k (λ x. ap (λ (s : Nodes). s x) r ∙ or-false (members reached x)))) (closing_skip none)
-    closing_either (Some d) more has k r = closing_next d more has k r
-
-    -- what it mentions is reached
-    pub closing_more : (more : Table) → length more ≡ length reached → members more ≡ members reached ∪ mentioned_by f node → Closing f v more next
-    closing_more more k r =
-        let o = slice_index_or f node None in
-        closing_either o more (at_place f node o node_low (get_or_default f node None o node_low)) k r
 
 -- where all that is reached is visited the closure is reached
 pub closing_last : (f : Fbas) (v : ℕ) (reached visited : Table) → Closing f v reached visited → (members reached ∖ members visited) ≡ ∅ → IsClosure f v (members reached)

@@ -1,18 +1,17 @@
 -- Who mentions whom, gathered node by node.
-use Rattle.std.proofs.Common.{◌≡◌, ℕ, ◌+◌, ◌<◌, ◌&&◌, ◌||◌, ◌==◌, nat_lt, Bool, true, false, List, [], ◌∷◌, ◌++◌, length, take, drop, take_all, refl, sym, ◌∙◌, ap, subst, arith, inl, inr, Some, None, slice_index_or}
+use Rattle.std.proofs.Common.{◌≡◌, ℕ, ◌+◌, ◌<◌, ◌&&◌, ◌||◌, ◌==◌, nat_lt, Bool, true, false, List, [], ◌∷◌, ◌++◌, length, zero, suc, refl, sym, ◌∙◌, ap, arith, inl, inr, Some, None, slice_index_or}
 use Rattle.std.specs.Prelude.{All, set}
 use Rattle.std.proofs.Math.Bool.{or-false, and-true, and-false}
-use Rattle.std.proofs.lemmas.Bool.{cases_Bool, false_from_ne_true, cases_lt, lt-ltb, ltb-true, eqb-true, eq-eqb}
-use Rattle.std.proofs.lemmas.List.{get_or_past, get_or_read, get_or_push, get_or_append_left, get_or-set_same, get_or-set_other, length-set, length_push, drop_all, append-nil}
-use Rattle.std.proofs.lemmas.List.Elements.{All-push, All-set}
+use Rattle.std.proofs.lemmas.Bool.{cases_Bool, false_from_ne_true, cases_lt, lt-ltb, ltb-true, eqb-true, eq-eqb, and_parts, or_right}
+use Rattle.std.proofs.lemmas.List.{get_or_past, get_or-set_same, get_or-set_other, length-set}
 use mathlib.Core.Path.{fun_ext}
-use Rattle.fbas_model.specs.Nodes.{Nodes, Table, members, ∅, only, ◌∪◌, listed_from}
+use Rattle.fbas_model.specs.Nodes.{Nodes, Table, members, ∅, ◌∪◌, listed_from}
 use Rattle.fbas_model.specs.Trees.{QuorumSet}
 use Rattle.fbas_model.specs.QuorumSets.{mentioned}
 use Rattle.fbas_model.specs.Fbas.{Fbas}
 use Rattle.fbas_model.specs.Lists.{among}
 use Rattle.fbas_model.proofs.Listed.{among_more, iterated_all}
-use Rattle.fbas_core.specs.Mentioning.{AreSquare, AreMentioned, AreSwapped, IsAdded, members_at, mentioning, mentioned_by, stands_in}
+use Rattle.fbas_core.specs.Mentioning.{AreMentioning, IsAdded, list_at, mentioning, stands_in}
 
 -- the numbers below i + 1 in a set are those below i, and i
 one_more : (m : Nodes) (w i : ℕ) → (nat_lt w (i + 1) && m w) ≡ ((nat_lt w i && m w) || (m i && (w == i)))
@@ -35,69 +34,57 @@ one_more m w i = elim (cases_Bool (w == i)) [
     both : (w i : ℕ) → (w == i) ≡ false → w ≡ i → ⊥
     both w i e same = absurd (let yes = eq-eqb w i same in cc)
 
--- ---- the nodes that each mentions
-
--- one node more
-pub mentioned_push : (f : Fbas) (i : ℕ) (tables : List Table) (t : Table) → AreMentioned f i tables → length t ≡ length f → members t ≡ (λ w. stands_in w (slice_index_or f i None)) → AreMentioned f (i + 1) (tables ++ t ∷ [])
-mentioned_push f i tables t m size is = record {
-  many = length_push tables t ∙ ap (λ (k : ℕ). k + 1) m.many;
-  each = All-push (λ (r : Table). length r ≡ length f) tables t m.each size;
-  same = λ v w low. elim (cases_lt v i) [
-    | inl lt ↦ ap (λ (r : Table). members r w) (get_or_append_left tables (t ∷ []) [] v (let n = m.many in omega (arith, n, lt))) ∙ m.same v w lt
-    | inr le ↦
-        let here : v ≡ i = omega (arith, le, low) in
-        ap (λ (r : Table). members r w) (get_or_push tables t [] v (m.many ∙ sym here)) ∙ ap (λ (s : Nodes). s w) is ∙ ap (λ (k : ℕ). mentioned_by f k w) (sym here)
-  ];
-}
-
-pub mentioned_whole : (f : Fbas) (tables : List Table) (v : ℕ) (t : Table) → v < length f → t ≡ slice_index_or tables v t → AreMentioned f (length f) tables → members t ≡ mentioned_by f v
-mentioned_whole f tables v t low is m = fun_ext (λ w. ap (λ (u : Table). members u w) (get_or_read tables v t (let n = m.many in omega (arith, low, n)) is []) ∙ m.same v w low)
-
 -- a set with nothing but what a quorum set mentions
 pub mentioned_alone : (d : QuorumSet) (s t : Nodes) → s ≡ ∅ → t ≡ s ∪ mentioned d → t ≡ (λ w. stands_in w (Some d))
 mentioned_alone d s t none m = m ∙ ap (λ (u : Nodes). u ∪ mentioned d) none
 
 -- ---- the nodes that mention each
 
-pub swapped_first : (tables swapped : List Table) → AreSquare (length tables) swapped → ((v w : ℕ) → members_at swapped v w ≡ false) → AreSwapped 0 tables swapped
-swapped_first tables swapped square empty = record {
-  square = square;
+pub mentioning_first : (f : Fbas) (lists : List (List ℕ)) → length lists ≡ length f → ((v : ℕ) → list_at lists v ≡ []) → AreMentioning f 0 lists
+mentioning_first f lists many empty = record {
+  many = many;
   same = λ v w.
       let none : nat_lt w 0 ≡ false = false_from_ne_true (nat_lt w 0) (λ t. absurd (let h = ltb-true w 0 t in omega (arith, h))) in
-      empty v w ∙ sym (ap (λ (b : Bool). b && members_at tables w v) none);
+      ap (λ (ws : List ℕ). among ws w) (empty v) ∙ sym (ap (λ (b : Bool). b && mentioning f v w) none);
 }
 
--- one node is added to the sets of those that it mentions
-pub swapped_more : (tables old new : List Table) (i : ℕ) (t : Table) → i < length tables → t ≡ slice_index_or tables i t → AreSwapped i tables old → IsAdded i (members t) old new → AreSwapped (i + 1) tables new
-swapped_more tables old new i t low is s a = record {
-  square = subst (λ (n : ℕ). AreSquare n new) s.square.many a.square;
+-- one node is added to the lists of those that it mentions
+pub mentioning_more : (f : Fbas) (old new : List (List ℕ)) (i : ℕ) (m : Nodes) → m ≡ (λ v. stands_in v (slice_index_or f i None)) → AreMentioning f i old → IsAdded i m old new → AreMentioning f (i + 1) new
+mentioning_more f old new i m is s a = record {
+  many = a.many ∙ s.many;
   same = λ v w.
-      let here : members t v ≡ members_at tables i v = ap (λ (u : Table). members u v) (get_or_read tables i t low is []) in
       a.same v w
-      ∙ ap (λ (b : Bool). b || (members t v && (w == i))) (s.same v w)
-      ∙ ap (λ (b : Bool). (nat_lt w i && members_at tables w v) || (b && (w == i))) here
-      ∙ sym (one_more (λ x. members_at tables x v) w i);
+      ∙ ap (λ (b : Bool). b || (m v && (w == i))) (s.same v w)
+      ∙ ap (λ (t : Nodes). (nat_lt w i && mentioning f v w) || (t v && (w == i))) is
+      ∙ sym (one_more (mentioning f v) w i);
 }
 
-pub mentioning_whole : (f : Fbas) (tables swapped : List Table) (v : ℕ) (t : Table) → v < length f → t ≡ slice_index_or swapped v t → AreMentioned f (length f) tables → AreSwapped (length tables) tables swapped → members t ≡ mentioning f v
-mentioning_whole f tables swapped v t low is m s = fun_ext (λ w. here w ∙ (s.same v w ∙ all w))
+-- where all nodes were added
+pub mentioning_whole : (f : Fbas) (lists : List (List ℕ)) (v : ℕ) → AreMentioning f (length f) lists → among (list_at lists v) ≡ mentioning f v
+mentioning_whole f lists v m = fun_ext (λ w. m.same v w ∙ all w)
   where
-    here : (w : ℕ) → members t w ≡ members_at swapped v w
-    here w = ap (λ (u : Table). members u w) (get_or_read swapped v t (let n = m.many in let k = s.square.many in omega (arith, low, n, k)) is [])
-
-    all : (w : ℕ) → (nat_lt w (length tables) && members_at tables w v) ≡ mentioning f v w
+    all : (w : ℕ) → (nat_lt w (length f) && mentioning f v w) ≡ mentioning f v w
     all w = elim (cases_lt w (length f)) [
-      | inl lt ↦ ap (λ (b : Bool). b && members_at tables w v) (lt-ltb w (length tables) (let n = m.many in omega (arith, lt, n))) ∙ m.same w v lt
+      | inl lt ↦ ap (λ (b : Bool). b && mentioning f v w) (lt-ltb w (length f) lt)
       | inr past ↦
           let none : mentioning f v w ≡ false = ap (stands_in v) (get_or_past f w None past) in
-          let out : members_at tables w v ≡ false = ap (λ (u : Table). members u v) (get_or_past tables w [] (let n = m.many in omega (arith, past, n))) in
-          ap (λ (b : Bool). nat_lt w (length tables) && b) out ∙ and-false (nat_lt w (length tables)) ∙ sym none
+          ap (λ (b : Bool). nat_lt w (length f) && b) none ∙ and-false (nat_lt w (length f)) ∙ sym none
     ]
 
--- ---- one node is added to several sets
+here_among : (ws : List ℕ) (k d : ℕ) → k < length ws → among ws (slice_index_or ws k d) ≡ true
+here_among [] k d low = absurd (omega (arith, low))
+here_among (w ∷ ws) zero d low = ap (λ (b : Bool). b || among ws w) (eq-eqb w w refl)
+here_among (w ∷ ws) (suc k) d low = or_right (slice_index_or ws k d == w) (among ws (slice_index_or ws k d)) (here_among ws k d (omega (arith, low)))
 
-pub added_first : (w : ℕ) (tables : List Table) → AreSquare (length tables) tables → IsAdded w (among []) tables tables
-added_first w tables square = record { square = square; same = λ v x. sym (or-false (members_at tables v x)) }
+pub mentioning_below : (f : Fbas) (lists : List (List ℕ)) (v : ℕ) → AreMentioning f (length f) lists → All (λ w. w < length f) (list_at lists v)
+mentioning_below f lists v m k d low =
+    let w = slice_index_or (list_at lists v) k d in
+    ltb-true w (length f) (and_parts (nat_lt w (length f)) (mentioning f v w) (sym (m.same v w) ∙ here_among (list_at lists v) k d low)).0
+
+-- ---- one node is added to several lists
+
+pub added_first : (w : ℕ) (lists : List (List ℕ)) → IsAdded w (among []) lists lists
+added_first w lists = record { many = refl; same = λ v x. sym (or-false (among (list_at lists v) x)) }
 
 mixed : (a b e c : Bool) → ((a || (b && c)) || (e && c)) ≡ (a || ((b || e) && c))
 mixed true b e c = refl
@@ -107,57 +94,34 @@ mixed false true false true = refl
 mixed false true false false = refl
 mixed false false e c = refl
 
--- the table at one place gains the node
-module _ (tables : List Table) (v w : ℕ) (t u : Table) (low : v < length tables) (is : t ≡ slice_index_or tables v t) (gains : members u ≡ members t ∪ only w) where
-  changed : (y x : ℕ) → members_at (set tables v u) y x ≡ (members_at tables y x || ((y == v) && (x == w)))
+-- the list at one place gains the node
+module _ (lists : List (List ℕ)) (v w : ℕ) (low : v < length lists) where
+  abbrev gained : List (List ℕ)
+  gained = set lists v (list_at lists v ++ w ∷ [])
+
+  changed : (y x : ℕ) → among (list_at gained y) x ≡ (among (list_at lists y) x || ((y == v) && (x == w)))
   changed y x = elim (cases_Bool (y == v)) [
     | inl e ↦
         let same : y ≡ v = eqb-true y v e in
-        let now : members_at (set tables v u) y x ≡ members u x = ap (λ (k : ℕ). members_at (set tables v u) k x) same ∙ ap (λ (r : Table). members r x) (get_or-set_same tables v u [] low) in
-        let was : members_at tables y x ≡ members t x = ap (λ (k : ℕ). members_at tables k x) same ∙ sym (ap (λ (r : Table). members r x) (get_or_read tables v t low is [])) in
-        now ∙ ap (λ (s : Nodes). s x) gains ∙ sym (ap (λ (b : Bool). b || ((y == v) && (x == w))) was ∙ ap (λ (b : Bool). members t x || (b && (x == w))) e)
+        let now : list_at gained y ≡ list_at lists v ++ w ∷ [] = ap (list_at gained) same ∙ get_or-set_same lists v (list_at lists v ++ w ∷ []) [] low in
+        ap (λ (ws : List ℕ). among ws x) now
+        ∙ among_more (list_at lists v) w x
+        ∙ ap (λ (k : ℕ). among (list_at lists k) x || (x == w)) (sym same)
+        ∙ sym (ap (λ (b : Bool). among (list_at lists y) x || (b && (x == w))) e)
     | inr e ↦
-        let now : members_at (set tables v u) y x ≡ members_at tables y x = ap (λ (r : Table). members r x) (get_or-set_other tables v y u [] (λ same. let yes = eq-eqb y v same in absurd cc)) in
-        now ∙ sym (ap (λ (b : Bool). members_at tables y x || (b && (x == w))) e ∙ or-false (members_at tables y x))
+        let now : list_at gained y ≡ list_at lists y = get_or-set_other lists v y (list_at lists v ++ w ∷ []) [] (λ same. let yes = eq-eqb y v same in absurd cc) in
+        ap (λ (ws : List ℕ). among ws x) now ∙ sym (ap (λ (b : Bool). among (list_at lists y) x || (b && (x == w))) e ∙ or-false (among (list_at lists y) x))
   ]
 
-  pub added_more : (start : List Table) (ws : List ℕ) → length u ≡ length t → IsAdded w (among ws) start tables → IsAdded w (among (ws ++ v ∷ [])) start (set tables v u)
-  added_more start ws n a = record {
-    square = record { many = length-set tables v u ∙ a.square.many; each = All-set (λ (r : Table). length r ≡ length start) tables v u (n ∙ size) a.square.each };
+  pub added_more : (start : List (List ℕ)) (ws : List ℕ) → IsAdded w (among ws) start lists → IsAdded w (among (ws ++ v ∷ [])) start gained
+  added_more start ws a = record {
+    many = length-set lists v (list_at lists v ++ w ∷ []) ∙ a.many;
     same = λ y x.
         changed y x
         ∙ ap (λ (b : Bool). b || ((y == v) && (x == w))) (a.same y x)
-        ∙ mixed (members_at start y x) (among ws y) (y == v) (x == w)
-        ∙ sym (ap (λ (b : Bool). members_at start y x || (b && (x == w))) (among_more ws v y));
+        ∙ mixed (among (list_at start y) x) (among ws y) (y == v) (x == w)
+        ∙ sym (ap (λ (b : Bool). among (list_at start y) x || (b && (x == w))) (among_more ws v y));
   }
-    where
-      size : length t ≡ length start
-      size = subst (λ (r : Table). length r ≡ length start) (sym is) (a.square.each v t low)
 
-pub added_last : (w : ℕ) (start now : List Table) (ws : List ℕ) (places : Table) → ws ≡ listed_from 0 places → IsAdded w (among ws) start now → IsAdded w (members places) start now
-added_last w start now ws places all a = record { square = a.square; same = λ v x. a.same v x ∙ ap (λ (b : Bool). members_at start v x || (b && (x == w))) (iterated_all places ws all v) }
-
--- ---- empty tables
-
--- so many tables of n nodes, all empty
-abbrev pub AreEmpty : ℕ → ℕ → List Table → Type 0
-AreEmpty n many tables = (length tables ≡ many) × All (λ t. (length t ≡ n) × (members t ≡ ∅)) tables
-
-pub empty_push : (n many : ℕ) (tables : List Table) (t : Table) → AreEmpty n many tables → length t ≡ n → members t ≡ ∅ → AreEmpty n (many + 1) (tables ++ t ∷ [])
-empty_push n many tables t e size none = (length_push tables t ∙ ap (λ (k : ℕ). k + 1) e.0, All-push (λ t. (length t ≡ n) × (members t ≡ ∅)) tables t e.1 (size, none))
-
-pub empty_square : (n : ℕ) (tables : List Table) → AreEmpty n n tables → AreSquare n tables
-empty_square n tables e = record { many = e.0; each = λ v d low. (e.1 v d low).0 }
-
-pub empty_none : (n many : ℕ) (tables : List Table) → AreEmpty n many tables → (v w : ℕ) → members_at tables v w ≡ false
-empty_none n many tables e v w = elim (cases_lt v (length tables)) [
-  | inl low ↦ ap (λ (s : Nodes). s w) (e.1 v [] low).1
-  | inr past ↦ ap (λ (t : Table). members t w) (get_or_past tables v [] past)
-]
-
--- a list that was handed out as a slice, and is as long as it was
-pub written_back : (now was : List Table) (n : ℕ) → length now ≡ length was → n ≡ length was → take n (now ++ drop (length now) was) ≡ now
-written_back now was n same size =
-    ap (λ (rest : List Table). take n (now ++ rest)) (drop_all (length now) was (omega (arith, same)))
-    ∙ ap (take n) (append-nil now)
-    ∙ take_all n now (omega (arith, same, size))
+pub added_last : (w : ℕ) (start now : List (List ℕ)) (ws : List ℕ) (places : Table) → ws ≡ listed_from 0 places → IsAdded w (among ws) start now → IsAdded w (members places) start now
+added_last w start now ws places all a = record { many = a.many; same = λ v x. a.same v x ∙ ap (λ (b : Bool). among (list_at start v) x || (b && (x == w))) (iterated_all places ws all v) }

@@ -2,41 +2,41 @@
 #![tactic(auto)]
 
 ghost use Rattle.std.specs.Prelude.{◌≡◌, ℕ, ◌<◌, ◌≤◌, ◌↔◌, length, map, IsTrue, IfOk, IfSome, MatchOption, Contains, slice_get, option_copied, Some, count_by, is_none};
-ghost use Rattle.fbas_model.specs.Nodes.{members, ∅, ◌∖◌};
+ghost use Rattle.fbas_model.specs.Nodes.{members, ∅, ◌∪◌, ◌∖◌};
 ghost use Rattle.std.specs.List.Sorted.{IsStrictlySortedBy};
 ghost use Rattle.fbas_model.specs.Names.{name_cmp, place_of};
 ghost use Rattle.fbas_model.specs.QuorumSets.{all_entries, IsBelow};
 ghost use Rattle.fbas_model.specs.Systems.{System as Whole, IsSystem, entries_in, unset_in};
 ghost use Rattle.fbas_model.specs.Fbas.{HasSliceWithin, Quorum, BlocksNode, all_nodes};
-ghost use Rattle.fbas_core.specs.Mentioning.{mentioning, mentioned_by};
+ghost use Rattle.fbas_core.specs.Mentioning.{mentioning};
 
 mod mentions;
 mod restriction;
 mod trust;
 
+use crate::mentions::NodeLists;
 use fbas_model::{MOST_ENTRIES, MOST_NODES};
 use name_set::{Names, NodeSet};
-use quorum_set::QuorumSet;
+use quorum_set::{QuorumSet, put_all};
 use std::alloc::{AllocError, Global};
 use std::marker::Model;
 
 /// The nodes' names, and for each node its quorum set or none.
 ///
 /// A node is known by its number: the place of its name in byte order, from 0. Each name is a key, each node in a quorum
-/// set has a name, and there are at most 4,096 nodes and 1,000,000 entries of quorum sets, which nest at most 16 deep.
+/// set has a name, and there are at most 16,384 nodes and 1,000,000 entries of quorum sets, which nest at most 32 deep.
 #[derive(Drop)]
 pub struct System {
     names: Names,
     sets: Vec<Option<QuorumSet>>,
-    /// For each node those that its quorum set mentions, and those whose quorum sets mention it.
-    mentioned: Vec<NodeSet>,
-    mentioning: Vec<NodeSet>,
+    /// For each node those whose quorum sets mention it.
+    mentioning: NodeLists,
 }
 
 impl Model for System {
     ghost use Rattle.std.specs.Prelude.{length};
     ghost use Rattle.fbas_model.specs.Systems.{System as Whole, coded_system, IsSystem};
-    ghost use Rattle.fbas_core.specs.Mentioning.{AreMentioned, AreSwapped};
+    ghost use Rattle.fbas_core.specs.Mentioning.{AreMentioning};
 
     ghost Value = { Whole };
 
@@ -44,7 +44,7 @@ impl Model for System {
 
     ghost view = { λ s. record { names = s.names; sets = s.sets.items } };
 
-    ghost invariant = { λ s. IsSystem s.names s.sets.items × AreMentioned s.sets.items (length s.sets.items) s.mentioned.items × AreSwapped (length s.mentioned.items) s.mentioned.items s.mentioning.items };
+    ghost invariant = { λ s. IsSystem s.names s.sets.items × AreMentioning s.sets.items (length s.sets.items) s.mentioning };
 }
 
 /// How many of the nodes have no quorum set.
@@ -55,8 +55,8 @@ fn count_unset(sets: &[Option<QuorumSet>]) -> usize
 }
 
 impl System {
-    /// The system of the names, where the quorum set of each stands at its place. Linear in the entries, and 1,024 bytes a
-    /// node to keep who mentions whom.
+    /// The system of the names, where the quorum set of each stands at its place. Linear in the entries and the
+    /// nodes, n / 64 steps a node, and 4 bytes for each node that a quorum set mentions to keep who mentions whom.
     pub fn of(
         alloc: Global,
         names: Names,
@@ -66,12 +66,10 @@ impl System {
         ensures names { IfOk result (λ system. system.names ≡ names) }
         ensures sets { IfOk result (λ system. system.sets ≡ sets.items) }
     {
-        let mentioned = mentions::mentioned(alloc, &sets)?;
-        let mentioning = mentions::mentioning(alloc, &mentioned)?;
+        let mentioning = mentions::mentioning(alloc, &sets)?;
         Ok(System {
             names,
             sets,
-            mentioned,
             mentioning,
         })
     }
@@ -121,22 +119,14 @@ impl System {
         }
     }
 
-    /// The nodes that the node's quorum set mentions, at any depth: O(1).
-    pub fn mentioned(&self, v: u32) -> &NodeSet
-        requires { v < length self.now.sets }
-        ensures same_n { length result.now ≡ length self.now.sets }
-        ensures nodes { members result.now ≡ mentioned_by self.now.sets v }
+    /// Adds the nodes whose quorum sets mention the node, at any depth: O(1) for each of them.
+    pub fn add_mentioning(&self, v: u32, into: &mut NodeSet)
+        requires node { v < length self.now.sets }
+        requires same_n { length into.old ≡ length self.now.sets }
+        ensures same_n { length into.new ≡ length into.old }
+        ensures added { members into.new ≡ members into.old ∪ mentioning self.now.sets v }
     {
-        &self.mentioned[v as usize]
-    }
-
-    /// The nodes whose quorum sets mention the node, at any depth: O(1).
-    pub fn mentioning(&self, v: u32) -> &NodeSet
-        requires { v < length self.now.sets }
-        ensures same_n { length result.now ≡ length self.now.sets }
-        ensures nodes { members result.now ≡ mentioning self.now.sets v }
-    {
-        &self.mentioning[v as usize]
+        put_all(self.mentioning.list(v), into);
     }
 
     /// How many entries the quorum sets have, at all depths: linear in them.

@@ -22,8 +22,8 @@ impl System {
     /// The trust closure of the node: the least set that holds it and every node that stands in a member's quorum set, at
     /// any depth and whatever the thresholds.
     ///
-    /// Each member is visited once, and what it mentions is reached by whole words: n / 64 steps for each member, whatever
-    /// the entries. Takes no memory.
+    /// Each member is visited once: linear in the entries of the members' quorum sets, and n / 64 steps for each member.
+    /// Takes no memory.
     pub fn closure(&self, v: u32) -> NodeSet
         requires { v < length self.now.sets }
         ensures table { result ≡ closure_of self.now.sets v }
@@ -35,7 +35,9 @@ impl System {
         reached.put(v);
         while let Some(node) = next_node(&reached, &visited) {
             visited.put(node);
-            reached.join(self.mentioned(node));
+            if let Some(quorum_set) = self.quorum_set(node) {
+                quorum_set.mentions(&mut reached);
+            }
         }
         reached
     }

@@ -1,3 +1,2 @@
 pub mod PassedOrTaken
 pub mod Sets
-pub mod Built

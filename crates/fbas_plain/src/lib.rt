@@ -1,5 +1,5 @@
 //! Plain, slow programs beside the definitions: each tries everything and counts nothing, and its contract is a definition.
-//! Tests on worked examples show by them that the definitions say what was meant.
+//! The tests of `fbas_tests` show by them, on worked examples, that the definitions say what was meant.
 #![tactic(auto)]
 
 ghost use Rattle.std.specs.Prelude.{◌≡◌, ℕ, ◌<◌, ◌≤◌, ◌↔◌, length, IsTrue};
@@ -230,6 +230,3 @@ pub fn available(sets: &[Option<QuorumSet>], b: &NodeSet) -> bool
     rest.minus(b);
     rest.is_empty() || is_quorum(sets, &rest, &none)
 }
-
-#[cfg(test)]
-mod tests;

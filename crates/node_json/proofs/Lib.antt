@@ -3,6 +3,7 @@ mod SeenNames
 pub mod NameSets
 pub mod SetReading
 pub mod NodeReading
+mod Gathering
 pub mod Numbering
 pub mod Placing
 pub mod Soundness

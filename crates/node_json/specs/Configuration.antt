@@ -68,7 +68,7 @@ system_by names nodes = record { names = names; sets = map (λ name. option_map 
 abbrev pub within_entries : System → Result System ConfigFault
 within_entries system = if nat_lt MOST_ENTRIES (entries_in system.sets) then Err (TooManyEntries (entries_in system.sets)) else Ok system
 
--- the system of the names, if they are at most 4,096
+-- the system of the names, if they are not too many
 abbrev pub within_nodes : List Name → List NamedNode → Result System ConfigFault
 within_nodes names nodes = if nat_lt MOST_NODES (length names) then Err (TooManyNodes (length names)) else within_entries (system_by names nodes)
 

@@ -41,13 +41,13 @@ pub enum ConfigFault {
     /// An element has the key of an earlier one.
     #[error("duplicate {0}")]
     Duplicate(u64),
-    /// A quorum set of an element lies more than 16 deep.
+    /// A quorum set of an element lies more than 32 deep.
     #[error("too-deep {0}")]
     TooDeep(u64),
     /// A quorum set of an element has this fault.
     #[error("bad-quorum-set {0} {1}")]
     BadQuorumSet(u64, SetFault),
-    /// There are this many nodes, more than 4,096.
+    /// There are this many nodes, more than 16,384.
     #[error("too-many-nodes {0}")]
     TooManyNodes(u64),
     /// The quorum sets have this many entries at all depths, more than 1,000,000.

@@ -25,7 +25,7 @@ pub(crate) fn read_key(value: &Value) -> Option<&str>
 pub(crate) fn read_keys(alloc: Global, items: &[Value]) -> Result<Option<Vec<&str>>, AllocError>
     ensures { IfOk result (λ keys. option_map (λ v. names_view v.items) keys ≡ keys_in (items_view items.now)) }
 {
-    let mut keys = Vec::new(alloc);
+    let mut keys = Vec::with_capacity(alloc, items.len())?;
     for item in items {
         let Some(key) = read_key(item) else {
             return Ok(None);

@@ -3,11 +3,15 @@
 ghost use Rattle.std.specs.Prelude.{◌≡◌, ◌⊎◌, Ok, Err, IfOk, IfErr, codes, option_map};
 ghost use Rattle.serde_json.specs.Find.{get};
 ghost use Rattle.serde_json.specs.View.{view, items_view};
+ghost use Rattle.node_json.specs.Configuration.{names_in_set, names_in_sets};
+ghost use Rattle.node_json.specs.NamesInOrder.{with_names};
 ghost use Rattle.node_json.specs.Reading.{or_missing, threshold_of, validators_of, inner_by, set_of, sets_by};
 ghost use Rattle.node_json.specs.View.{names_view, set_view, sets_view};
 
 use crate::faults::{ConfigFault, SetFault};
 use crate::keys::read_keys;
+use crate::names::add_all;
+use crate::seen_names::SeenNames;
 use serde_json::Value;
 use std::alloc::{AllocError, Global};
 
@@ -46,16 +50,18 @@ pub(crate) fn read_validators(alloc: Global, value: &Value) -> Result<Option<Vec
     }
 }
 
-// The quorum set of element `at`, where `levels` more levels may nest.
+// The quorum set of element `at`, where `levels` more levels may nest. Its names are gathered while they are at hand.
 #[cycle(sets)]
-pub(crate) fn read_set(
+pub(crate) fn read_set<'v>(
     alloc: Global,
-    value: &Value,
+    names: &mut SeenNames<'v>,
+    value: &'v Value,
     at: u64,
     levels: u64,
-) -> Result<NamedSet<'_>, ConfigFault>
+) -> Result<NamedSet<'v>, ConfigFault>
     ensures ok { IfOk result (λ s. set_of at levels (view value.now) ≡ Ok (set_view s)) }
     ensures err { IfErr result (λ e. (e ≡ ConfigFault.Memory) ⊎ (set_of at levels (view value.now) ≡ Err e)) }
+    ensures gathered { IfOk result (λ s. names.new ≡ with_names names.old (names_in_set (set_view s))) }
 {
     if levels == 0 {
         return Err(ConfigFault::TooDeep(at));
@@ -69,7 +75,8 @@ pub(crate) fn read_set(
     let Some(validators) = read_validators(alloc, value)? else {
         return Err(ConfigFault::BadQuorumSet(at, SetFault::Validators));
     };
-    let inner = read_inner(alloc, value, at, levels - 1)?;
+    add_all(names, &validators)?;
+    let inner = read_inner(alloc, names, value, at, levels - 1)?;
     Ok(NamedSet {
         threshold,
         validators,
@@ -79,35 +86,39 @@ pub(crate) fn read_set(
 
 // The sets in a quorum set of element `at`, where `levels` more levels may nest.
 #[cycle(sets)]
-fn read_inner(
+fn read_inner<'v>(
     alloc: Global,
-    value: &Value,
+    names: &mut SeenNames<'v>,
+    value: &'v Value,
     at: u64,
     levels: u64,
-) -> Result<Vec<NamedSet<'_>>, ConfigFault>
+) -> Result<Vec<NamedSet<'v>>, ConfigFault>
     ensures ok { IfOk result (λ v. inner_by (set_of at levels) at (view value.now) ≡ Ok (sets_view v.items)) }
     ensures err { IfErr result (λ e. (e ≡ ConfigFault.Memory) ⊎ (inner_by (set_of at levels) at (view value.now) ≡ Err e)) }
+    ensures gathered { IfOk result (λ v. names.new ≡ with_names names.old (names_in_sets (sets_view v.items))) }
 {
     match member(value, "innerQuorumSets") {
         None => Ok(Vec::new(alloc)),
-        Some(Value::Array(items)) => read_sets(alloc, items, at, levels),
+        Some(Value::Array(items)) => read_sets(alloc, names, items, at, levels),
         Some(_) => Err(ConfigFault::BadQuorumSet(at, SetFault::Inner)),
     }
 }
 
 #[cycle(sets)]
-fn read_sets(
+fn read_sets<'v>(
     alloc: Global,
-    items: &Vec<Value>,
+    names: &mut SeenNames<'v>,
+    items: &'v Vec<Value>,
     at: u64,
     levels: u64,
-) -> Result<Vec<NamedSet<'_>>, ConfigFault>
+) -> Result<Vec<NamedSet<'v>>, ConfigFault>
     ensures ok { IfOk result (λ v. sets_by (set_of at levels) (items_view items.now.items) ≡ Ok (sets_view v.items)) }
     ensures err { IfErr result (λ e. (e ≡ ConfigFault.Memory) ⊎ (sets_by (set_of at levels) (items_view items.now.items) ≡ Err e)) }
+    ensures gathered { IfOk result (λ v. names.new ≡ with_names names.old (names_in_sets (sets_view v.items))) }
 {
-    let mut sets = Vec::new(alloc);
+    let mut sets = Vec::with_capacity(alloc, items.len())?;
     for item in items {
-        sets.push(read_set(alloc, item, at, levels)?)?;
+        sets.push(read_set(alloc, names, item, at, levels)?)?;
     }
     Ok(sets)
 }

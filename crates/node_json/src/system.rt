@@ -5,23 +5,26 @@ ghost use Rattle.std.specs.List.Sorted.{IsStrictlySortedBy};
 ghost use Rattle.fbas_model.specs.Names.{name_cmp};
 ghost use Rattle.fbas_model.specs.QuorumSets.{all_entries};
 ghost use Rattle.fbas_model.specs.Systems.{entries_in};
-ghost use Rattle.node_json.specs.Configuration.{number_of, numbered, set_named, system_with, system_of};
+ghost use Rattle.node_json.specs.Configuration.{all_names, number_of, numbered, set_named, system_with, system_of};
 ghost use Rattle.node_json.specs.Named.{NamedNode as Declared};
+ghost use Rattle.node_json.specs.NamesInOrder.{in_order};
 ghost use Rattle.node_json.specs.Reading.{nodes_of};
 ghost use Rattle.node_json.specs.Sound.{AreSound};
 ghost use Rattle.node_json.specs.SystemOf.{IsSystemOf};
 ghost use Rattle.node_json.specs.View.{names_view, set_view, nodes_view};
 
 use crate::faults::ConfigFault;
-use crate::names::{distinct_names, owned_names};
+use crate::names::owned_names;
 use crate::nodes::{NamedNode, read_nodes, read_tree};
 use crate::quorum_sets::NamedSet;
+use crate::seen_names::SeenNames;
 use crate::slots::Guesses;
 use fbas_core::System;
 use fbas_model::{MOST_ENTRIES, MOST_NODES};
 use name_set::Names;
 use quorum_set::QuorumSet;
 use std::alloc::{AllocError, Global};
+use std::collections::BTreeSet;
 
 // The numbers of the names of the list.
 fn numbers(
@@ -48,7 +51,7 @@ fn numbered_set(
     ensures { IfOk result (λ q. q ≡ numbered names.now (set_view set.now)) }
 {
     let validators = numbers(alloc, names, guesses, &set.validators)?;
-    let mut inner = Vec::new(alloc);
+    let mut inner = Vec::with_capacity(alloc, set.inner.len())?;
     for one in &set.inner {
         inner.push(numbered_set(alloc, names, guesses, one)?)?;
     }
@@ -130,18 +133,18 @@ fn count_entries(sets: &[Option<QuorumSet>]) -> Option<u64>
     Some(n)
 }
 
-// The system of the nodes, within the limits.
-fn system(alloc: Global, nodes: &[NamedNode]) -> Result<System, ConfigFault>
-    requires { AreSound (nodes_view nodes.now) }
+// The system of the nodes, of which these are the names, within the limits.
+fn system(alloc: Global, nodes: &[NamedNode], found: BTreeSet<&str>) -> Result<System, ConfigFault>
+    requires sound { AreSound (nodes_view nodes.now) }
+    requires names { names_view found.keys ≡ in_order (all_names (nodes_view nodes.now)) }
     ensures ok { IfOk result (λ s. system_with (nodes_view nodes.now) ≡ Ok s) }
     ensures err { IfErr result (λ e. (e ≡ ConfigFault.Memory) ⊎ (system_with (nodes_view nodes.now) ≡ Err e)) }
 {
-    let found = distinct_names(alloc, nodes)?;
     let n = found.len();
     if n > MOST_NODES {
         return Err(ConfigFault::TooManyNodes(n as u64));
     }
-    // At most 4,096 names come so far, so that numbers of 32 bits suffice.
+    // At most 16,384 names come so far, so that numbers of 32 bits suffice.
     let names = owned_names(alloc, found)?;
     let sets = placed_sets(alloc, &names, nodes)?;
     let entries = count_entries(&sets).ok_or(ConfigFault::Memory)?;
@@ -172,6 +175,7 @@ pub fn read_config(alloc: Global, bytes: &[u8]) -> Result<System, ConfigFault>
     ensures means { IfOk result (λ s. (nodes : List Declared) × (nodes_of bytes.now ≡ Ok nodes) × IsSystemOf nodes s) }
 {
     let tree = read_tree(alloc, bytes)?;
-    let nodes = read_nodes(alloc, &tree)?;
-    system(alloc, &nodes)
+    let mut names = SeenNames::new(alloc)?;
+    let nodes = read_nodes(alloc, &mut names, &tree)?;
+    system(alloc, &nodes, names.in_order())
 }

@@ -1,6 +1,6 @@
 //! Makes a call of sets or of systems many times, to be timed by `bench/sets.py`.
 //!
-//! `sets_bench CALL ROUNDS` makes a call of sets of 4,096 nodes ROUNDS times, on two thirds of the nodes and the other third. A
+//! `sets_bench CALL ROUNDS` makes a call of sets of 16,384 nodes ROUNDS times, on two thirds of the nodes and the other third. A
 //! node is taken from the first set before each and put back after it, so that no call can be spared. It prints the sum of what
 //! the calls gave. The call `nothing` has the cost of these two. `sets_bench system CALL ROUNDS` makes a call of the system of
 //! the configuration on standard input, and prints how many nodes it gave; the call `nothing` has the cost of reading.
@@ -16,7 +16,7 @@ use name_set::NodeSet;
 use std::env;
 
 /// How many nodes the sets are of.
-const NODES: u32 = 4096;
+const NODES: u32 = 16_384;
 
 /// What is timed.
 #[derive(Clone, Copy)]

@@ -50,4 +50,4 @@ nodes_read set named set_is v (suc k) few =
 
 pub trial_read : (n : ℕ) → n ≤ 100 → nodes_in (trial_tree n) ≡ Ok (named_trial n)
 unfolding nodes_in trial_tree
-trial_read n few = nodes_read (trial_set_tree n) (named_trial_set n) (λ i w. rw (set_read i 14 n few) refl) 0 (3 * n) (omega arith)
+trial_read n few = nodes_read (trial_set_tree n) (named_trial_set n) (λ i w. rw (set_read i 30 n few) refl) 0 (3 * n) (omega arith)

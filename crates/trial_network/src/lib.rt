@@ -5,6 +5,3 @@ mod configuration;
 mod tree;
 
 pub use configuration::{MOST_ORGANISATIONS, Trial};
-
-#[cfg(test)]
-mod tests;

@@ -2,4 +2,4 @@ use Rattle.std.proofs.Common.{◌≡◌, length}
 use Rattle.sets_bench.proofs.run.Given as goal
 
 abbrev pub invariant-loop-round : goal.invariant-loop-round
-invariant-loop-round l = length l.set ≡ 4096
+invariant-loop-round l = length l.set ≡ 16384

@@ -2,4 +2,4 @@ use Rattle.std.proofs.Common.{◌≡◌, length}
 use Rattle.sets_bench.proofs.thirds.Given as goal
 
 abbrev pub invariant-loop-v : goal.invariant-loop-v
-invariant-loop-v l = length l.set ≡ 4096
+invariant-loop-v l = length l.set ≡ 16384

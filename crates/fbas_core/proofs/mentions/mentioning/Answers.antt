@@ -1,13 +1,18 @@
-use Rattle.std.proofs.Common.{◌+◌, List, sym, subst}
-use Rattle.fbas_model.specs.Nodes.{Table, members}
-use Rattle.fbas_core.specs.Mentioning.{AreSwapped, IsAdded}
-use Rattle.fbas_core.proofs.WhoMentions.{swapped_more, written_back}
+use Rattle.std.proofs.Common.{◌≡◌, ◌∙◌, ap, Option, None, slice_index_or}
+use Rattle.std.proofs.lemmas.List.{get_or_read}
+use Rattle.fbas_model.specs.Nodes.{Nodes, members}
+use Rattle.fbas_model.specs.Trees.{QuorumSet}
+use Rattle.fbas_core.specs.Mentioning.{stands_in}
+use Rattle.fbas_core.proofs.WhoMentions.{mentioning_more}
 use Rattle.fbas_core.proofs.mentions.mentioning.Goals as goal
+
+abbrev read : Option QuorumSet → Nodes
+read o w = stands_in w o
 
 pub loop-w-preserved : goal.loop-w-preserved
 loop-w-preserved c =
+    let f = c.args.quorum_sets.now in
     let i = c.loop-w.w in
-    let added = subst (λ (tables : List Table). IsAdded i (members c.index-mentioned-w.result) tables c.add.new.sets) c.deref_mut.ensures.value c.add.ensures in
-    let more = swapped_more c.args.mentioned.now c.loop-w.sets.items c.add.new.sets i c.index-mentioned-w.result c.loop-w-test.true c.index-mentioned-w.is c.loop-w.invariant added in
-    let back = written_back c.add.new.sets c.loop-w.sets.items c.loop-w.sets.len added.square.many c.loop-w.sets.ok.0 in
-    subst (λ (tables : List Table). AreSwapped (i + 1) c.args.mentioned.now tables) (sym back) more
+    let o = c.index-quorum_sets-w.result in
+    let here : o ≡ slice_index_or f i None = get_or_read f i o c.loop-w-test.true c.index-quorum_sets-w.is None in
+    mentioning_more f c.loop-w.lists c.add.new.lists i (members c.mentioned_in-mentioned.result) (c.mentioned_in-mentioned.ensures.nodes ∙ ap read here) c.loop-w.invariant c.in_ok-add.ensures

@@ -6,6 +6,7 @@ use Rattle.node_json.specs.declared.faults.ConfigFault.TheVariants.{Duplicate}
 use Rattle.node_json.specs.Reading.{node_of}
 use Rattle.node_json.specs.View.{names_view, node_view}
 use Rattle.node_json.proofs.NodeReading.{keys_of, nodes_loop, node_of-read, node_of-set_fault, is_new, is_duplicate, nodes_fault, seen_loop}
+use Rattle.node_json.proofs.Gathering.{nodes_gathered}
 use Rattle.node_json.proofs.nodes.read_items.Goals as goal
 
 pub loop-i-preserved : goal.loop-i-preserved
@@ -22,6 +23,7 @@ loop-i-preserved c =
     let read : node_of i (keys_of done) (view v) ≡ Ok (node_view n) = node_of-read i (keys_of done) (view v) k _ c.in_ok-key.ensures new c.in_ok-quorum_set.ensures.ok in (
       nodes_loop _ done c.push.new.self.items n xs i v inside c.index-items-i.is read c.in_ok-push.ensures.items c.loop-i.invariant.0,
       seen_loop _ (names_view c.add_name.new.names.keys) done c.push.new.self.items n c.in_ok-push.ensures.items c.in_ok-add_name.ensures.added c.loop-i.invariant.1,
+      nodes_gathered _ c.loop-i.names c.add.new.self c.node_set.new.names done c.push.new.self.items n c.in_ok-push.ensures.items c.in_ok-add.ensures c.in_ok-quorum_set.ensures.gathered c.loop-i.invariant.2,
     )
 
 pub returns-then-not-branch-clause-err : goal.returns-then-not-branch-clause-err

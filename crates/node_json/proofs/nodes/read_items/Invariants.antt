@@ -1,6 +1,7 @@
 use Rattle.std.proofs.Common.{◌≡◌, [], ◌++◌, drop}
 use Rattle.serde_json.specs.View.{items_view}
-use Rattle.node_json.specs.NamesInOrder.{in_order}
+use Rattle.node_json.specs.Configuration.{all_names}
+use Rattle.node_json.specs.NamesInOrder.{in_order, with_names}
 use Rattle.node_json.specs.Reading.{nodes_from, after}
 use Rattle.node_json.specs.View.{names_view, nodes_view}
 use Rattle.node_json.proofs.NodeReading.{keys_of}
@@ -10,3 +11,4 @@ abbrev pub invariant-loop-i : goal.invariant-loop-i
 invariant-loop-i l =
     (nodes_from 0 [] (items_view l.items) ≡ after (λ more. nodes_view l.nodes.items ++ more) (nodes_from l.i (keys_of l.nodes.items) (items_view (drop l.i l.items))))
     × (names_view l.seen.keys ≡ in_order (keys_of l.nodes.items))
+    × (l.names ≡ with_names l.initial.names (all_names (nodes_view l.nodes.items)))

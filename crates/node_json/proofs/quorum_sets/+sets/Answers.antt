@@ -3,6 +3,8 @@ use Rattle.std.proofs.lemmas.Result.{err_from_is_err_and}
 use Rattle.node_json.specs.Reading.{set_of}
 use Rattle.node_json.proofs.SetReading.{set_of-shape, set_of-threshold, set_of-validators, set_of-inner, sets_loop, sets_end}
 use Rattle.node_json.specs.Named.{named_set}
+use Rattle.node_json.specs.NamesInOrder.{with_names}
+use Rattle.node_json.proofs.Gathering.{sets_gathered, set_gathered}
 use Rattle.node_json.specs.View.{names_view, set_view, sets_view}
 use Rattle.node_json.specs.declared.quorum_sets.NamedSet.{the_lemmas}
 use Rattle.node_json.specs.declared.quorum_sets.NamedSet.TheViews.{roll-NamedSet}
@@ -35,15 +37,23 @@ read_set-returns-clause-ok t c =
     let seen : set_view (roll-NamedSet (record { threshold = c.in-Some.threshold; validators = c.in-Some-2.validators; inner = c.in_ok-inner.inner })) ≡ named_set c.in-Some.threshold (names_view c.in-Some-2.validators.items) (sets_view c.in_ok-inner.inner.items) = search (rules, the_lemmas) in
     set_of-inner c.args.at c.args.levels _ c.in-Some.threshold (names_view c.in-Some-2.validators.items) _ (omega arith) (search rules) (search rules) (search rules) c.in_ok-inner.ensures.ok ∙ ap Ok (sym seen)
 
+pub read_set-returns-clause-gathered : goal.read_set-returns-clause-gathered
+read_set-returns-clause-gathered t c =
+    let seen : set_view (roll-NamedSet (record { threshold = c.in-Some.threshold; validators = c.in-Some-2.validators; inner = c.in_ok-inner.inner })) ≡ named_set c.in-Some.threshold (names_view c.in-Some-2.validators.items) (sets_view c.in_ok-inner.inner.items) = search (rules, the_lemmas) in
+    set_gathered _ c.add_all.new.names _ c.in-Some.threshold (names_view c.in-Some-2.validators.items) (sets_view c.in_ok-inner.inner.items) _ seen
+    (c.in_ok-add_all.ensures ∙ ap (λ vs. with_names c.args.names.now (names_view vs)) c.deref.ensures.value) c.in_ok-inner.ensures.gathered
+
 pub read_sets-loop-item-preserved : goal.read_sets-loop-item-preserved
 read_sets-loop-item-preserved t c =
     let xs = c.args.items.now.items in
     let i = c.loop-item.item-index in
     let v = c.item-item.result in
     let is : v ≡ get_or xs i v = cc in
-    let inside : i < length xs = omega (arith, c.deref-item-items.ensures.len) in
-    sets_loop (set_of c.args.at c.args.levels) _ c.loop-item.sets.items _ c.in_ok-read_set.field-0 xs i v inside is c.in_ok-read_set.ensures.ok c.in_ok-push.ensures.items c.loop-item.invariant
+    let inside : i < length xs = omega (arith, c.deref-item-items.ensures.len) in (
+      sets_loop (set_of c.args.at c.args.levels) _ c.loop-item.sets.items _ c.in_ok-read_set.field-0 xs i v inside is c.in_ok-read_set.ensures.ok c.in_ok-push.ensures.items c.loop-item.invariant.0,
+      sets_gathered _ c.loop-item.names c.read_set.new.names c.loop-item.sets.items _ c.in_ok-read_set.field-0 c.in_ok-push.ensures.items c.in_ok-read_set.ensures.gathered c.loop-item.invariant.1,
+    )
 
 pub read_sets-returns-clause-ok : goal.read_sets-returns-clause-ok
 read_sets-returns-clause-ok t c =
-    sets_end (set_of c.args.at c.args.levels) _ c.loop-item.sets.items c.args.items.now.items c.loop-item.item-index (omega (arith, c.deref-item-items.ensures.len)) c.loop-item.invariant
+    sets_end (set_of c.args.at c.args.levels) _ c.loop-item.sets.items c.args.items.now.items c.loop-item.item-index (omega (arith, c.deref-item-items.ensures.len)) c.loop-item.invariant.0

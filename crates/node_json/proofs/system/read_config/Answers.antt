@@ -1,8 +1,10 @@
 use Rattle.std.proofs.Common.{◌≡◌, List, Ok, Err, inl, inr, rules, ap, sym, ◌∙◌}
 use Rattle.std.proofs.lemmas.Result.{IfOk-weaker}
 use Rattle.serde_json.specs.View.{view}
-use Rattle.node_json.specs.Configuration.{system_of, system_with}
+use Rattle.fbas_model.specs.Names.{Name}
+use Rattle.node_json.specs.Configuration.{all_names, system_of, system_with}
 use Rattle.node_json.specs.Named.{NamedNode}
+use Rattle.node_json.specs.NamesInOrder.{with_names}
 use Rattle.node_json.specs.Reading.{nodes_of}
 use Rattle.node_json.specs.SystemOf.{IsSystemOf}
 use Rattle.node_json.proofs.Laws.{system_with-is}
@@ -28,8 +30,11 @@ returns-in_err-nodes-clause-err c =
       | inr f ↦ inr (system_of-fault _ _ (nodes_of-tree _ _ c.in_ok-tree.ensures.ok ∙ f))
     ])
 
-pub system-requires : goal.system-requires
-system-requires c = rw c.deref.ensures.value (nodes_in-sound (view c.in_ok-tree.tree) (nodes_view c.in_ok-nodes.nodes.items) c.in_ok-nodes.ensures.ok)
+pub system-requires-clause-sound : goal.system-requires-clause-sound
+system-requires-clause-sound c = rw c.deref.ensures.value (nodes_in-sound (view c.in_ok-tree.tree) (nodes_view c.in_ok-nodes.nodes.items) c.in_ok-nodes.ensures.ok)
+
+pub system-requires-clause-names : goal.system-requires-clause-names
+system-requires-clause-names c = rw c.deref.ensures.value (c.in_order.ensures ∙ c.in_ok-nodes.ensures.gathered ∙ ap (λ (ns : List Name). with_names ns (all_names (nodes_view c.in_ok-nodes.nodes.items))) c.in_ok-names.ensures)
 
 pub returns-clause-ok : goal.returns-clause-ok
 returns-clause-ok c =

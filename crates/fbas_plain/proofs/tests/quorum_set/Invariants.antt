@@ -1,6 +1,0 @@
-use Rattle.std.specs.Prelude.{All}
-use Rattle.fbas_model.specs.QuorumSets.{IsBelow}
-use Rattle.fbas_plain.proofs.tests.quorum_set.Given as goal
-
-abbrev pub invariant-loop-threshold : goal.invariant-loop-threshold
-invariant-loop-threshold g l = All (IsBelow l.n) l.inner.items
