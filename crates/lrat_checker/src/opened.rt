@@ -1,5 +1,5 @@
 //! The addition that is open, one hint after another.
-ghost use Rattle.std.specs.Prelude.{◌≡◌, ◌≢◌, ℕ, ◌+◌, ◌<◌, ◌≤◌, ◌^◌, List, [], ◌∷◌, ◌++◌, ℤ, length, take, Some, None, Err, IfOk, IfErr};
+ghost use Rattle.std.specs.Prelude.{◌≡◌, ◌≢◌, ℕ, ◌+◌, ◌<◌, ◌≤◌, ◌^◌, List, [], ◌∷◌, ◌++◌, ℤ, length, take, Some, None, Err, IfOk, IfErr, OnOk};
 ghost use Rattle.lrat_model.specs.Literal.{Literal};
 ghost use Rattle.lrat_model.specs.Ranges.{AreInRange};
 ghost use Rattle.lrat_model.specs.Rat.{pivot_fault};
@@ -38,6 +38,19 @@ impl Course {
             Course::InGroup { before: _, is_done } => is_done,
         }
     }
+
+    /// Where a hint leads whose clause was false.
+    fn ended(self) -> Course
+        ensures { result ≡ onward self Hinting.Conflict }
+    {
+        match self {
+            Course::Propagates | Course::Met => Course::Met,
+            Course::InGroup { before, is_done: _ } => Course::InGroup {
+                before,
+                is_done: true,
+            },
+        }
+    }
 }
 
 /// What is known of an open addition beside its literals and RAT hints: its id, how many hints were looked at, and where they
@@ -64,9 +77,21 @@ impl Opened {
         }
     }
 
+    /// Where a hint leads that was taken by unit propagation, from here.
+    fn lead(&mut self, hinting: Hinting)
+        ensures id { self.new.id ≡ self.old.id }
+        ensures hints { self.new.hints ≡ self.old.hints }
+        ensures course { self.new.course ≡ onward self.old.course hinting }
+    {
+        match hinting {
+            Hinting::More => {}
+            Hinting::Conflict => self.course = self.course.ended(),
+        }
+    }
+
     /// What `hint` answers where the hints led here.
-    pub fn hinting(self) -> Hinting
-        ensures { (trues : List Literal) (groups : List ℤ) → is_met (led trues groups self.course) ≡ has_met result }
+    pub fn hinting(&self) -> Hinting
+        ensures { (trues : List Literal) (groups : List ℤ) → is_met (led trues groups self.now.course) ≡ has_met result }
     {
         match self.course {
             Course::Met => Hinting::Conflict,
@@ -79,46 +104,32 @@ impl Opened {
     }
 }
 
-/// Where a hint leads that was taken by unit propagation, from here.
-fn onward(course: Course, hinting: Hinting) -> Course
-    ensures { result ≡ onward course hinting }
-{
-    match hinting {
-        Hinting::More => course,
-        Hinting::Conflict => match course {
-            Course::Propagates | Course::Met => Course::Met,
-            Course::InGroup { before, is_done: _ } => Course::InGroup {
-                before,
-                is_done: true,
-            },
-        },
-    }
-}
-
 /// Takes a hint that begins no group. The hints of a group that is done are passed over, and those behind a conflict are not
-/// looked at.
+/// looked at. Only what changes is written: a whole `Opened` is slow to read again so soon.
 pub fn after_unit(
     store: &Store,
     assignment: &mut Assignment,
-    opened: Opened,
+    opened: &mut Opened,
     hint: i64,
-) -> Result<Opened, StepFault>
+) -> Result<(), StepFault>
     requires range { AreInRange assignment.old.vars store.now.held }
-    requires few { opened.hints < 2 ^ 63 }
-    ensures taken { IfOk result (λ next. (rule : Rule) (lits : List Literal) (groups : List ℤ) → IsUnitHint rule hint → Suits rule assignment.old.trues groups opened.course
-        → GoesOn rule store.now.held hint (Some (adding_of lits assignment.old.trues groups opened)) (Some (adding_of lits assignment.new.trues groups next))) }
-    ensures suits { IfOk result (λ next. (rule : Rule) (groups : List ℤ) → Suits rule assignment.old.trues groups opened.course → Suits rule assignment.new.trues groups next.course) }
-    ensures refused { IfErr result (λ fault. (rule : Rule) (lits : List Literal) (groups : List ℤ) → IsUnitHint rule hint → Suits rule assignment.old.trues groups opened.course
-        → StopsAt rule store.now.held hint (Some (adding_of lits assignment.old.trues groups opened)) fault) }
+    requires few { opened.old.hints < 2 ^ 63 }
+    ensures taken { OnOk result ((rule : Rule) (lits : List Literal) (groups : List ℤ) → IsUnitHint rule hint → Suits rule assignment.old.trues groups opened.old.course
+        → GoesOn rule store.now.held hint (Some (adding_of lits assignment.old.trues groups opened.old)) (Some (adding_of lits assignment.new.trues groups opened.new))) }
+    ensures suits { OnOk result ((rule : Rule) (groups : List ℤ) → Suits rule assignment.old.trues groups opened.old.course → Suits rule assignment.new.trues groups opened.new.course) }
+    ensures refused { IfErr result (λ fault. (rule : Rule) (lits : List Literal) (groups : List ℤ) → IsUnitHint rule hint → Suits rule assignment.old.trues groups opened.old.course
+        → StopsAt rule store.now.held hint (Some (adding_of lits assignment.old.trues groups opened.old)) fault) }
     ensures no_memory { result ≢ Err Memory }
-    ensures id { IfOk result (λ next. next.id ≡ opened.id) }
+    ensures id { opened.new.id ≡ opened.old.id }
     ensures vars { assignment.new.vars ≡ assignment.old.vars }
 {
+    opened.hints += 1;
     if opened.course.is_over() {
-        return Ok(opened.after(opened.course));
+        return Ok(());
     }
-    let hinting = take_hint(store, assignment, opened.hints + 1, hint)?;
-    Ok(opened.after(onward(opened.course, hinting)))
+    let hinting = take_hint(store, assignment, opened.hints, hint)?;
+    opened.lead(hinting);
+    Ok(())
 }
 
 /// Ends the group, if there is one: what was true before it is true again. Gives how many literals that are.

@@ -154,3 +154,8 @@ first_word line word rest n here some solid front back =
       some_bytes : (xs : List ℕ) → 0 < length xs → is_blank (get_or xs 0 0) ≡ false → 0 < position_or_len is_blank xs
       some_bytes [] some solid = some
       some_bytes (x ∷ xs) some solid = rw solid (omega arith)
+
+-- a blank ends the first word
+pub blank_behind : (line rest : List ℕ) (n : ℕ) → n ≡ position_or_len is_blank line → rest ≡ drop n line → 0 < length rest → is_blank (get_or rest 0 0) ≡ true
+blank_behind line [] n here back some = absurd (omega (arith, some))
+blank_behind line (b ∷ ys) n here back some = at_blank line b ys (ap (λ k. drop k line) (sym here) ∙ sym back)

@@ -168,7 +168,9 @@ fn any_word(text: &[u8]) -> Option<(&[u8], &[u8])>
     if line.is_empty() {
         return None;
     }
-    Some(line.split_at(word_len(line)))
+    let (word, rest) = line.split_at(word_len(line));
+    // Behind the blank, so that the next word is one that `front` reads.
+    Some((word, behind_blank(rest)))
 }
 
 /// The text behind the blanks at its front.

@@ -57,7 +57,7 @@ impl Checker {
         requires { IsSome self.now.open_addition }
         ensures { IfSome self.now.open_addition (λ a. result ≡ a.hints) }
     {
-        self.opened.unwrap().hints
+        self.opened.as_ref().unwrap().hints
     }
 
     /// Takes the next hint of the open addition. Once a hint's clause was false before any group, which is `Conflict`, the hints
@@ -76,7 +76,7 @@ impl Checker {
         ensures vars { self.new.vars ≡ self.old.vars }
         ensures rule { self.new.rule ≡ self.old.rule }
     {
-        let opened = self.opened.unwrap();
+        let opened = self.opened.as_ref().unwrap();
         if matches!(opened.course, Course::Met) {
             return Ok(Hinting::Conflict);
         }
@@ -100,12 +100,9 @@ impl Checker {
         ensures vars { self.new.vars ≡ self.old.vars }
         ensures rule { self.new.rule ≡ self.old.rule }
     {
-        let opened = self.opened.unwrap();
+        let opened = self.opened.as_mut().unwrap();
         match after_unit(self.clauses.store(), &mut self.assignment, opened, hint) {
-            Ok(next) => {
-                self.opened = Some(next);
-                Ok(next.hinting())
-            }
+            Ok(()) => Ok(opened.hinting()),
             Err(fault) => {
                 self.assignment.clear();
                 self.opened = None;

@@ -11,10 +11,10 @@ returns-clause-taken c = λ rule lits groups unit suits.
     let held = c.args.store.now.held in
     let old = c.args.assignment.now.trues in
     let new = c.take_hint.new.assignment.trues in
-    let o = c.args.opened in
+    let o = c.args.opened.now in
     let h = c.in_ok-hinting.hinting in
     let fits : SFits w64 c.args.hint = search rules in
     let same : to_z w64 (of_z w64 c.args.hint) ≡ c.args.hint = simp to_z-of_z refl in
     let told : Took (take_hint held old (o.hints + 1) (to_z w64 (of_z w64 c.args.hint))) (Ok h) new = c.in_ok-hinting.ensures.outcome in
     let took : Took (take_hint held old (o.hints + 1) c.args.hint) (Ok h) new = subst (λ (z : ℤ). Took (take_hint held old (o.hints + 1) z) (Ok h) new) same told in
-    goes_on held lits old new groups o c.after-2.result c.args.hint c.after-2.ensures.id c.after-2.ensures.hints rule h (sym c.is_over.ensures ∙ c.if-is_over.false) (c.after-2.ensures.course ∙ c.onward.ensures) took c.in_ok-hinting.ensures.grows unit suits
+    goes_on held lits old new groups o c.lead.new.self c.args.hint c.lead.ensures.id c.lead.ensures.hints rule h (sym c.is_over.ensures ∙ c.if-is_over.false) c.lead.ensures.course took c.in_ok-hinting.ensures.grows unit suits

@@ -1,4 +1,4 @@
-use Rattle.std.proofs.Common.{◌≡◌, ◌<◌, ℕ, ℤ, Option, sym, ap, ◌∙◌, subst, refl, Some, w64, to_z, of_z, rules}
+use Rattle.std.proofs.Common.{◌≡◌, ◌<◌, ℕ, ℤ, Option, sym, subst, refl, Some, w64, to_z, of_z, rules}
 use mir.Val.{SFits}
 use Rattle.std.specs.Prelude.{IfSome}
 use Rattle.std.proofs.lemmas.Int.{to_z-of_z}
@@ -13,11 +13,11 @@ use Rattle.lrat_checker.proofs.checker.Checker.unit_hint.Goals as goal
 pub invariant_of-self : goal.invariant_of-self
 invariant_of-self c =
     let inside = c.self.inside in
-    let o = c.unwrap-opened.result in
-    let is : inside.opened ≡ Some o = cc (c.unwrap-opened.ensures) in
+    let o = c.unwrap-opened.result.now in
+    let is : inside.opened ≡ Some o = cc (c.as_mut.ensures.value, c.unwrap-opened.ensures) in
     record {
       nothing_true = tt;
-      above = subst (λ (n : ℕ). inside.clauses.last < n) (sym c.in-Ok.ensures.id) (subst (λ (x : Option Opened). IfSome x (λ k. inside.clauses.last < k.id)) is c.self.invariant.above);
+      above = subst (λ (n : ℕ). inside.clauses.last < n) (sym c.after_unit.ensures.id) (subst (λ (x : Option Opened). IfSome x (λ k. inside.clauses.last < k.id)) is c.self.invariant.above);
       literals = subst (λ (n : ℕ). IsInRange n inside.lits.items) (sym c.after_unit.ensures.vars) (subst (λ (x : Option Opened). IfSome x (λ _. IsInRange inside.assignment.vars inside.lits.items)) is c.self.invariant.literals);
       suits = c.in-Ok.ensures.suits inside.rule inside.groups.items (subst (λ (x : Option Opened). IfSome x (λ k. Suits inside.rule inside.assignment.trues inside.groups.items k.course)) is c.self.invariant.suits);
       in_range = subst (λ (n : ℕ). AreInRange n inside.clauses.held) (sym c.after_unit.ensures.vars) c.self.invariant.in_range;
@@ -27,12 +27,12 @@ invariant_of-self c =
 pub returns-in-Ok-clause-taken : goal.returns-in-Ok-clause-taken
 returns-in-Ok-clause-taken c =
     let inside = c.self.inside in
-    let o = c.unwrap-opened.result in
-    let is : inside.opened ≡ Some o = cc (c.unwrap-opened.ensures) in
+    let o = c.unwrap-opened.result.now in
+    let is : inside.opened ≡ Some o = cc (c.as_mut.ensures.value, c.unwrap-opened.ensures) in
     let lits = inside.lits.items in
     let trues = inside.assignment.trues in
     let groups = inside.groups.items in
-    let later = Some (adding_of lits c.after_unit.new.assignment.trues groups c.in-Ok.next) in
+    let later = Some (adding_of lits c.after_unit.new.assignment.trues groups c.after_unit.new.opened) in
     let fits : SFits w64 c.args.hint = search rules in
     let same : to_z w64 (of_z w64 c.args.hint) ≡ c.args.hint = simp to_z-of_z refl in
     let suits : Suits inside.rule trues groups o.course = subst (λ (x : Option Opened). IfSome x (λ k. Suits inside.rule trues groups k.course)) is c.self.invariant.suits in
