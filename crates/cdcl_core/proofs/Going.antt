@@ -1,21 +1,28 @@
 -- A search that goes on by one lemma.
-use Rattle.std.proofs.Common.{◌≡◌, ◌≢◌, ℕ, Option, Some, None, append-nil, ◌+◌, ◌-◌, ◌<◌, ◌≤◌, ◌^◌, [], true, false, List, ℤ, sym, ap, subst, arith, refl, length}
-use Rattle.std.specs.Prelude.{◌==◌, All, AllPairs, IfSome, slice_index}
-use Rattle.cdcl_core.specs.declared.watches.Pair.{Pair}
+use Rattle.std.proofs.Common.{◌≡◌, ℕ, Some, append-nil, ◌+◌, ◌-◌, ◌<◌, ◌≤◌, ◌^◌, [], ◌∷◌, ◌++◌, true, false, List, ℤ, ◌⊎◌, ⊎_elim, inl, inr, sym, ap, ◌∙◌, subst, arith, refl, length, length-append, get_or}
+use Rattle.std.specs.Prelude.{◌==◌, All, AllPairs, slice_index}
+use Rattle.std.proofs.lemmas.Bool.{eq-eqb, eqb-true, or_cases}
+use Rattle.std.proofs.lemmas.List.Folds.{list_any_at}
+use Rattle.std.proofs.lemmas.List.Quantifiers.{all_pairs_push}
 use Rattle.lrat_model.specs.Literal.{Literal}
-use Rattle.lrat_model.specs.Clauses.{Held, IsUnsatisfiable}
+use Rattle.lrat_model.specs.Clauses.{Held, clause_at, has_id, with_clause, IsUnsatisfiable}
 use Rattle.lrat_model.specs.Steps.{ProofStep, Addition}
+use Rattle.lrat_model.proofs.Runs.{clause_at-more}
 use Rattle.lrat_text.specs.Texts.{HasNumbers}
 use Rattle.cdcl_core.specs.declared.search.Search.{Search}
 use Rattle.cdcl_core.specs.Guides.{IsGuide}
-use Rattle.cdcl_core.specs.Log.{EndsEmpty, HasNoEmptyLemma}
+use Rattle.cdcl_core.specs.Log.{EndsEmpty, HasNoEmptyLemma, IsBoundedLog, count_from, live_after, live_in, most_live}
+use Rattle.cdcl_core.specs.Remembering.{IsRemembering}
 use Rattle.cdcl_core.specs.Search.{IsLearntClause, IsState, Searched}
-use Rattle.cdcl_core.specs.Searching.{HasLemma, HasSame, IsHolding, IsSearching, database_in}
+use Rattle.cdcl_core.specs.Searching.{HasLemma, HasLogged, HasSame, IsHolding, IsLogging, IsNoted, IsSearching, IsUndecided, database_in}
 use Rattle.cdcl_core.specs.Trail.{InRange}
-use Rattle.cdcl_core.proofs.Logs.{follows_nothing, run_satisfies}
+use Rattle.cdcl_core.proofs.Lemmas.{clause_at-last}
+use Rattle.cdcl_core.proofs.Lives.{bounded_push, count_from-append, live_from-append}
+use Rattle.cdcl_core.proofs.Logs.{follows_nothing, unsatisfiable_more}
+use Rattle.cdcl_core.proofs.Parts.{has_id-push}
 use Rattle.cdcl_core.proofs.Pushes.{in_range_after, negates_in_range, no_empty-push, refuted_where_empty}
-use Rattle.cdcl_core.proofs.Runs.{below_next, ids_push, numbers_push, rise_push}
-use Rattle.cdcl_core.proofs.Searches.{searched_more}
+use Rattle.cdcl_core.proofs.Runs.{below_next, id_found, ids_push, numbers_push, rise_push}
+use Rattle.cdcl_core.proofs.Searches.{searched_append, searched_more}
 
 -- only the guide is another
 pub same_guide : (s a : Search) → a ≡ record s { guide = a.guide } → HasSame s a
@@ -24,6 +31,8 @@ same_guide s a rest = record {
   last = ap (λ (x : Search). x.last) rest;
   clauses = ap (λ (x : Search). x.clauses) rest;
   log = ap (λ (x : Search). x.log) rest;
+  lemmas = ap (λ (x : Search). x.memory.ids) rest;
+  deletions = ap (λ (x : Search). x.memory.deletions) rest;
 }
 
 pub searching_guide : (s a : Search) → a ≡ record s { guide = a.guide } → IsGuide a.vars a.guide → IsSearching s.clauses s → IsSearching a.clauses a
@@ -39,19 +48,60 @@ searching_guide s a rest guide was =
     } in
     subst (λ (x : Search). IsSearching x.clauses x) (sym rest) made
 
--- how far a search has come, where the same is held and logged
-pub searched_same : (old a b : Search) (taken : ℕ) → HasSame a b → (steps : List ProofStep) × Searched old.vars (database_in old) (database_in a) old.log a.log taken steps → (steps : List ProofStep) × Searched old.vars (database_in old) (database_in b) old.log b.log taken steps
-searched_same old a b taken same before =
-    subst (λ (h : Held). (steps : List ProofStep) × Searched old.vars (database_in old) (record { held = h; last = b.last }) old.log b.log taken steps) (sym same.clauses)
-    (subst (λ n. (steps : List ProofStep) × Searched old.vars (database_in old) (record { held = a.clauses; last = n }) old.log b.log taken steps) (sym same.last)
-    (subst (λ (ls : List ProofStep). (steps : List ProofStep) × Searched old.vars (database_in old) (record { held = a.clauses; last = a.last }) old.log ls taken steps) (sym same.log) before))
+-- where a lemma has a decision to go back to, something is decided
+pub searching_decided : (s a : Search) → a ≡ record s { guide = a.guide } → IsGuide a.vars a.guide → IsSearching s.clauses s ⊎ IsUndecided s → (jump : ℕ) → jump < length a.assignment.trues → slice_index a.reasons.items jump ≡ 0 → IsSearching a.clauses a
+searching_decided s a rest guide (inl was) jump within decided = searching_guide s a rest guide was
+searching_decided s a rest guide (inr undecided) jump within decided = absurd (subst (λ (x : Search). IsUndecided x) (sym rest) undecided jump within decided)
 
-pub searched_from : (a b n : Search) (taken : ℕ) → HasSame a b → (steps : List ProofStep) × Searched b.vars (database_in b) (database_in n) b.log n.log taken steps → (steps : List ProofStep) × Searched a.vars (database_in a) (database_in n) a.log n.log taken steps
+-- a search that goes on from where the same is held and logged
+pub searched_from : (a b n : Search) (taken : ℕ) → HasLogged a b → (steps : List ProofStep) × Searched b.vars (database_in b) (database_in n) b.log n.log taken steps → (steps : List ProofStep) × Searched a.vars (database_in a) (database_in n) a.log n.log taken steps
 searched_from a b n taken same before =
     subst (λ (h : Held). (steps : List ProofStep) × Searched a.vars (record { held = h; last = a.last }) (database_in n) a.log n.log taken steps) same.clauses
     (subst (λ k. (steps : List ProofStep) × Searched a.vars (record { held = b.clauses; last = k }) (database_in n) a.log n.log taken steps) same.last
     (subst (λ (ls : List ProofStep). (steps : List ProofStep) × Searched a.vars (record { held = b.clauses; last = b.last }) (database_in n) ls n.log taken steps) same.log
     (subst (λ k. (steps : List ProofStep) × Searched k (record { held = b.clauses; last = b.last }) (database_in n) b.log n.log taken steps) same.vars before)))
+
+-- nothing is logged where nothing is done
+pub searched_none : (s : Search) (taken : ℕ) → taken ≡ 0 → (steps : List ProofStep) × Searched s.vars (database_in s) (database_in s) s.log s.log taken steps
+searched_none s taken none = (
+  [],
+  record {
+    log_is = sym (append-nil s.log);
+    run = refl;
+    lemmas = tt;
+    units_are = sym none;
+  },
+)
+
+pub searched_to : (a b n : Search) (taken : ℕ) → HasLogged b n → (steps : List ProofStep) × Searched a.vars (database_in a) (database_in b) a.log b.log taken steps → (steps : List ProofStep) × Searched a.vars (database_in a) (database_in n) a.log n.log taken steps
+searched_to a b n taken same before =
+    subst (λ (h : Held). (steps : List ProofStep) × Searched a.vars (database_in a) (record { held = h; last = n.last }) a.log n.log taken steps) (sym same.clauses)
+    (subst (λ k. (steps : List ProofStep) × Searched a.vars (database_in a) (record { held = b.clauses; last = k }) a.log n.log taken steps) (sym same.last)
+    (subst (λ (ls : List ProofStep). (steps : List ProofStep) × Searched a.vars (database_in a) (record { held = b.clauses; last = b.last }) a.log ls taken steps) (sym same.log) before))
+
+pub searched_nothing : (a b : Search) (taken : ℕ) → taken ≡ 0 → HasLogged a b → (steps : List ProofStep) × Searched a.vars (database_in a) (database_in b) a.log b.log taken steps
+searched_nothing a b taken none same = searched_from a b b taken same (searched_none b taken none)
+
+-- from the first search to the loop's, which then goes on
+pub searched_on : (start l n : Search) (taken more all : ℕ) → l.vars ≡ start.vars → all ≡ taken + more
+    → (steps : List ProofStep) × Searched start.vars (database_in start) (database_in l) start.log l.log taken steps → (steps : List ProofStep) × Searched l.vars (database_in l) (database_in n) l.log n.log more steps
+    → (steps : List ProofStep) × Searched start.vars (database_in start) (database_in n) start.log n.log all steps
+searched_on start l n taken more all vars sum first second =
+    subst (λ k. (steps : List ProofStep) × Searched start.vars (database_in start) (database_in n) start.log n.log k steps) (sym sum)
+    (searched_append start.vars (database_in start) (database_in l) (database_in n) start.log l.log n.log taken more first
+    (subst (λ k. (steps : List ProofStep) × Searched k (database_in l) (database_in n) l.log n.log more steps) vars second))
+
+-- one lemma more is live
+live_lemma : (live : List ℕ) (id : ℕ) (lits : List Literal) (hints : List ℤ) → 0 < length lits → live_after live (Addition id lits hints) ≡ live ++ id ∷ []
+live_lemma live id [] hints some = absurd (omega (arith, some))
+live_lemma live id (l ∷ ls) hints some = refl
+
+room_after : (live : List ℕ) (id : ℕ) (lits : List Literal) (hints : List ℤ) (most : ℕ) → length live ≤ most → (0 < length lits → length live < most) → length (live_after live (Addition id lits hints)) ≤ most
+room_after live id [] hints most room bound = room
+room_after live id (l ∷ ls) hints most room bound = omega (arith, bound (omega arith), length-append live (id ∷ []))
+
+is_among : (ids : List ℕ) (k d : ℕ) → k < length ids → has_id ids (get_or ids k d) ≡ true
+is_among ids k d within = list_any_at (λ j. j == get_or ids k d) ids k d within (eq-eqb (get_or ids k d) (get_or ids k d) refl)
 
 module _ (s n : Search) (lits : List Literal) (hints : List ℤ) (made : HasLemma s n lits hints) (holding : IsHolding s) (trues : List Literal) (reasons : List ℕ) (state : IsState s.vars s.clauses trues reasons) (jump : ℕ) (learnt : IsLearntClause s.clauses trues reasons lits hints jump) where
   pub holding_more : IsHolding n
@@ -71,28 +121,49 @@ module _ (s n : Search) (lits : List Literal) (hints : List ℤ) (made : HasLemm
   pub ends_empty : (length lits == 0) ≡ true → HasNoEmptyLemma s.log → EndsEmpty n.log
   ends_empty none still = (s.log, Addition (s.last + 1) lits hints, made.log, refuted_where_empty lits none, still)
 
-  module _ (old : Search) (at_first left : ℕ) (same_vars : s.vars ≡ old.vars) (before : (steps : List ProofStep) × Searched old.vars (database_in old) (database_in s) old.log s.log (at_first - left) steps) where
-    pub searched_lemma : (left_then : ℕ) → ((length lits == 0) ≡ true → left_then ≡ left) → ((length lits == 0) ≡ false → at_first - left_then ≡ at_first - left + 1) → (steps : List ProofStep) × Searched old.vars (database_in old) (database_in n) old.log n.log (at_first - left_then) steps
-    searched_lemma left_then free costs =
-        subst (λ k. (steps : List ProofStep) × Searched old.vars (database_in old) (record { held = n.clauses; last = k }) old.log n.log (at_first - left_then) steps) (sym made.last)
-        (searched_more old.vars (database_in old) old.log s.clauses s.last s.log trues reasons (subst (λ k. IsState k s.clauses trues reasons) same_vars state) lits hints jump learnt at_first left before n.clauses n.log made.clauses made.log left_then free costs)
+  pub searched_lemma : (units_at_first left : ℕ) → ((length lits == 0) ≡ true → left ≡ units_at_first) → ((length lits == 0) ≡ false → units_at_first - left ≡ 1) → (steps : List ProofStep) × Searched s.vars (database_in s) (database_in n) s.log n.log (units_at_first - left) steps
+  searched_lemma units_at_first left free costs =
+      subst (λ k. (steps : List ProofStep) × Searched s.vars (database_in s) (record { held = n.clauses; last = k }) s.log n.log (units_at_first - left) steps) (sym made.last)
+      (searched_more s.vars (database_in s) s.log s.clauses s.last s.log trues reasons state lits hints jump learnt units_at_first units_at_first (searched_none s (units_at_first - units_at_first) (omega arith)) n.clauses n.log made.clauses made.log left free (λ some. omega (arith, costs some)))
 
-    pub refutes : (length lits == 0) ≡ true → IsUnsatisfiable old.clauses
-    refutes none v satisfies = follows_nothing s.clauses lits hints none learnt.follows v (run_satisfies old.vars (database_in old) (database_in s) before.0 before.1.run v satisfies)
+  pub refutes : (length lits == 0) ≡ true → IsUnsatisfiable s.clauses
+  refutes none v satisfies = follows_nothing s.clauses lits hints none learnt.follows v satisfies
 
--- nothing is logged where nothing is done
-pub searched_none : (s : Search) (taken : ℕ) → taken ≡ 0 → (steps : List ProofStep) × Searched s.vars (database_in s) (database_in s) s.log s.log taken steps
-searched_none s taken none = (
-  [],
-  record {
-    log_is = sym (append-nil s.log);
-    run = refl;
-    lemmas = tt;
-    units_are = sym none;
-  },
-)
+  pub refutes_more : (length lits == 0) ≡ true → IsUnsatisfiable n.clauses
+  refutes_more none = subst (λ (h : Held). IsUnsatisfiable h) (sym made.clauses) (unsatisfiable_more s.clauses (with_clause s.clauses (s.last + 1) lits) (clause_at-more s.clauses (s.last + 1) lits) (refutes none))
 
--- where nothing is decided no literal is asserted
-pub no_pair : (trues : List Literal) (reasons : List ℕ) (jump : ℕ) (P : Pair → Type 0) → ((p : ℕ) → p < length trues → slice_index reasons p ≢ 0) → (pair : Option Pair) → IfSome pair (λ p. P p × (jump < length trues) × (slice_index reasons jump ≡ 0)) → pair ≡ None
-no_pair trues reasons jump P undecided None h = refl
-no_pair trues reasons jump P undecided (Some p) h = absurd (undecided jump h.1 h.2)
+  module _ (logging : IsLogging s) (remembering : IsRemembering s) (bound : 0 < length lits → length s.memory.ids.items < most_live s.vars s.memory.deletions) where
+    bounded_more : IsBoundedLog n.vars n.log
+    bounded_more =
+        let room : length (live_after (live_in s.log) (Addition (s.last + 1) lits hints)) ≤ most_live s.vars (count_from 0 s.log) =
+        subst (λ (ls : List ℕ). length (live_after ls (Addition (s.last + 1) lits hints)) ≤ most_live s.vars (count_from 0 s.log)) remembering.live
+        (subst (λ k. length (live_after s.memory.ids.items (Addition (s.last + 1) lits hints)) ≤ most_live s.vars k) remembering.count
+        (room_after s.memory.ids.items (s.last + 1) lits hints (most_live s.vars s.memory.deletions) remembering.room bound)) in
+        subst (λ k. IsBoundedLog k n.log) (sym made.vars) (subst (λ (ls : List ProofStep). IsBoundedLog s.vars ls) (sym made.log) (bounded_push s.vars [] 0 s.log (Addition (s.last + 1) lits hints) logging.bounded room))
+
+    pub logging_more : s.last + 1 < 2 ^ 63 → IsLogging n
+    logging_more small = record {
+      holding = holding_more;
+      numbers = numbers_more small logging.numbers;
+      bounded = bounded_more;
+    }
+
+    among_more : (k : ℕ) → has_id (s.memory.ids.items ++ (s.last + 1) ∷ []) k ≡ true → 0 < length lits → (clause : List Literal) × (clause_at (with_clause s.clauses (s.last + 1) lits) k ≡ Some clause) × (0 < length clause)
+    among_more k among some =
+        ⊎_elim
+        (λ was. let found = remembering.held k was in (found.0, clause_at-more s.clauses (s.last + 1) lits k found.0 found.1, found.2))
+        (λ new. (lits, subst (λ j. clause_at (with_clause s.clauses (s.last + 1) lits) j ≡ Some lits) (eqb-true (s.last + 1) k new) (clause_at-last s.clauses (s.last + 1) lits (below_next s.clauses s.last holding.ids)), some))
+        (or_cases (has_id s.memory.ids.items k) (s.last + 1 == k) (sym (has_id-push s.memory.ids.items (s.last + 1) k) ∙ among))
+
+    pub remembering_more : IsNoted s n → 0 < length lits → IsRemembering n
+    remembering_more noted some = record {
+      live = noted.ids ∙ ap (λ (ls : List ℕ). ls ++ (s.last + 1) ∷ []) remembering.live ∙ sym (live_lemma (live_in s.log) (s.last + 1) lits hints some) ∙ sym (live_from-append [] s.log (Addition (s.last + 1) lits hints ∷ [])) ∙ ap live_in (sym made.log);
+      count = noted.deletions ∙ remembering.count ∙ sym (count_from-append 0 s.log (Addition (s.last + 1) lits hints ∷ [])) ∙ ap (count_from 0) (sym made.log);
+      rise = subst (λ (ls : List ℕ). AllPairs (λ (j k : ℕ). j < k) ls) (sym noted.ids) (all_pairs_push (λ (j k : ℕ). j < k) s.memory.ids.items (s.last + 1) remembering.rise
+          (λ k d within.
+          let found = remembering.held (get_or s.memory.ids.items k d) (is_among s.memory.ids.items k d within) in
+          let low = id_found (λ j. (0 < j) × (j ≤ s.last)) s.clauses holding.ids (get_or s.memory.ids.items k d) found.0 found.1 in
+          omega (arith, low.1)));
+      held = λ k among. subst (λ (h : Held). (clause : List Literal) × (clause_at h k ≡ Some clause) × (0 < length clause)) (sym made.clauses) (among_more k (subst (λ (ls : List ℕ). has_id ls k ≡ true) noted.ids among) some);
+      room = omega (arith, bound some, ap (λ (ls : List ℕ). length ls) noted.ids, length-append s.memory.ids.items ((s.last + 1) ∷ []), made.vars, noted.deletions);
+    }

@@ -3,9 +3,11 @@ use Rattle.std.specs.Prelude.{◌≡◌, ◌≢◌, ℕ, ◌+◌, ◌*◌, ◌<�
 use Rattle.lrat_model.specs.Literal.{Literal}
 use Rattle.lrat_model.specs.Clauses.{Held, with_clause}
 use Rattle.lrat_model.specs.Steps.{Addition, Database}
+use Rattle.lrat_text.specs.Texts.{HasNumbers}
 use Rattle.cdcl_core.specs.declared.search.Search.{Search}
 use Rattle.cdcl_core.specs.Fixpoint.{IsConflict}
 use Rattle.cdcl_core.specs.Guides.{IsGuide}
+use Rattle.cdcl_core.specs.Log.{IsBoundedLog}
 use Rattle.cdcl_core.specs.Search.{IsState}
 use Rattle.cdcl_core.specs.Trail.{InRange}
 use Rattle.cdcl_core.specs.Watches.{IsWatched, IsQueued}
@@ -37,8 +39,17 @@ pub record IsStuck (s : Search) (conflict : ℕ) : Type 0 where
   pub state : IsState s.vars s.clauses s.assignment.trues s.reasons.items
   pub finds : IsConflict s.clauses s.assignment.trues conflict
 
--- the variables, the clauses held and the log are as they were
+-- the variables, the clauses held, the log and the lemmas are as they were
 pub record HasSame (old new : Search) : Type 0 where
+  pub vars : new.vars ≡ old.vars
+  pub last : new.last ≡ old.last
+  pub clauses : new.clauses ≡ old.clauses
+  pub log : new.log ≡ old.log
+  pub lemmas : new.memory.ids ≡ old.memory.ids
+  pub deletions : new.memory.deletions ≡ old.memory.deletions
+
+-- the variables, the clauses held and the log alone are
+pub record HasLogged (old new : Search) : Type 0 where
   pub vars : new.vars ≡ old.vars
   pub last : new.last ≡ old.last
   pub clauses : new.clauses ≡ old.clauses
@@ -50,6 +61,17 @@ pub record HasLemma (old new : Search) (lits : List Literal) (hints : List ℤ) 
   pub last : new.last ≡ old.last + 1
   pub clauses : new.clauses ≡ with_clause old.clauses (old.last + 1) lits
   pub log : new.log ≡ old.log ++ Addition (old.last + 1) lits hints ∷ []
+
+-- and it is remembered
+pub record IsNoted (old new : Search) : Type 0 where
+  pub ids : new.memory.ids.items ≡ old.memory.ids.items ++ (old.last + 1) ∷ []
+  pub deletions : new.memory.deletions ≡ old.memory.deletions
+
+-- the clauses held, and the log: a step line can say its numbers, and it keeps within the bounds
+pub record IsLogging (s : Search) : Type 0 where
+  pub holding : IsHolding s
+  pub numbers : All HasNumbers s.log
+  pub bounded : IsBoundedLog s.vars s.log
 
 -- nothing is decided
 abbrev pub IsUndecided : Search → Type 0

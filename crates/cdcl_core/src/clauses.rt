@@ -1,10 +1,12 @@
 //! Clauses with their ids, the literals in one arena.
-ghost use Rattle.std.specs.Prelude.{◌≡◌, ◌≢◌, ◌⊎◌, ℕ, ◌+◌, ◌<◌, ◌≤◌, ◌++◌, [], ◌∷◌, List, Some, All, AllPairs, OnOk, OnErr, length, slice_index_or};
+ghost use Rattle.std.specs.Prelude.{◌≡◌, ◌≢◌, ◌⊎◌, ℕ, ◌+◌, ◌<◌, ◌≤◌, ◌++◌, [], ◌∷◌, List, Some, All, AllPairs, IfOk, OnOk, OnErr, if◌then◌else◌, length, slice_index_or};
 ghost use Rattle.std.specs.List.{AllWithin};
+ghost use Rattle.std.specs.List.Sorted.{IsNonDecreasingBy};
 ghost use Rattle.lrat_model.specs.Literal.{Literal};
-ghost use Rattle.lrat_model.specs.Clauses.{Held, clause_at};
+ghost use Rattle.lrat_model.specs.Clauses.{Held, clause_at, without};
 ghost use Rattle.cdcl_core.specs.Watches.{id_at, lits_at};
 
+use crate::memory::is_among;
 use lrat_model::Lit;
 use std::alloc::{AllocError, Global};
 use std::marker::Model;
@@ -18,12 +20,14 @@ pub struct Place {
 }
 
 /// Clauses, seen as the list of their ids and literals. The first of them, so many as `dense` says, have the
-/// ids from 1 on: these ids are told without a look at the places.
+/// ids from 1 on: these ids are told without a look at the places. Where ids have gaps, the place of most of
+/// them is guessed by a table.
 #[derive(Drop)]
 pub struct Clauses {
     arena: Vec<Lit>,
     places: Vec<Place>,
     dense: usize,
+    guesses: Vec<u32>,
 }
 
 impl Model for Clauses {
@@ -47,7 +51,20 @@ impl Clauses {
             arena: Vec::new(alloc),
             places: Vec::new(alloc),
             dense: 0,
+            guesses: Vec::new(alloc),
         }
+    }
+
+    /// No clause, with a table of guesses for so many.
+    fn with_guesses(alloc: Global, count: usize) -> Result<Clauses, AllocError>
+        ensures { IfOk result (λ clauses. clauses ≡ []) }
+    {
+        Ok(Clauses {
+            arena: Vec::new(alloc),
+            places: Vec::new(alloc),
+            dense: 0,
+            guesses: vec![in alloc; 0; count.saturating_mul(2)]?,
+        })
     }
 
     /// How many clauses there are.
@@ -78,12 +95,13 @@ impl Clauses {
         &self.arena[place.start..place.end]
     }
 
-    /// The literals of the clause of an id: O(1) where ids count up from 1, else O(log n) of n clauses.
+    /// The literals of the clause of an id: O(1) where ids count up from 1 or the table knows the place, else
+    /// O(log n) of n clauses.
     pub fn under(&self, id: u64) -> &[Lit]
         requires { AllPairs (λ e f. e.0 < f.0) self.now }
         ensures { (clause : List Literal) → clause_at self.now id ≡ Some clause → result.now ≡ clause }
     {
-        let place = place_of(&self.places, id);
+        let place = place_of(&self.places, &self.guesses, id);
         if place < self.places.len() {
             self.lits(place)
         } else {
@@ -101,6 +119,31 @@ impl Clauses {
         self.dense = self.dense.min(left);
     }
 
+    /// A copy of all clauses but those of these ids. Linear in the literals, and O(log n) a clause of n ids.
+    pub fn all_but(&self, alloc: Global, ids: &[u64]) -> Result<Clauses, AllocError>
+        requires { IsNonDecreasingBy (λ k. k) ids.now }
+        ensures { IfOk result (λ clauses. clauses ≡ without self.now ids.now) }
+    {
+        let mut clauses = Clauses::with_guesses(alloc, self.len())?;
+        let mut place = 0;
+        while place < self.len() {
+            let id = self.id(place);
+            clauses.put(id, self.lits(place), !is_among(ids, id))?;
+            place += 1;
+        }
+        Ok(clauses)
+    }
+
+    /// One more clause, if it is one of them.
+    fn put(&mut self, id: u64, lits: &[Lit], is_one: bool) -> Result<(), AllocError>
+        ensures { OnOk result (self.new ≡ self.old ++ (if is_one then (id, lits.now) ∷ [] else [])) }
+    {
+        if is_one {
+            self.push(id, lits)?;
+        }
+        Ok(())
+    }
+
     /// One more clause.
     pub fn push(&mut self, id: u64, lits: &[Lit]) -> Result<(), AllocError>
         ensures pushed { OnOk result (self.new ≡ self.old ++ (id, lits.now) ∷ []) }
@@ -110,6 +153,7 @@ impl Clauses {
         self.arena.extend_from_slice(lits)?;
         let end = self.arena.len();
         self.places.push(Place { id, start, end })?;
+        note(&mut self.guesses, id, self.places.len());
         self.dense = dense_with(self.dense, self.places.len(), id);
         Ok(())
     }
@@ -127,8 +171,27 @@ fn dense_with(dense: usize, count: usize, id: u64) -> usize
     }
 }
 
-/// The place of an id, the number of places where it has none: O(1) where ids count up from 1, else O(log n).
-fn place_of(places: &[Place], id: u64) -> usize
+/// Writes down the place of an id, now that there are so many.
+fn note(guesses: &mut Vec<u32>, id: u64, count: usize) {
+    let room = guesses.len() as u64;
+    if 0 < room && 0 < count && count <= u32::MAX as usize {
+        guesses[(id % room) as usize] = count as u32 - 1;
+    }
+}
+
+/// Where an id may stand.
+fn guess_of(guesses: &[u32], id: u64) -> usize {
+    let room = guesses.len() as u64;
+    if 0 < room {
+        guesses[(id % room) as usize] as usize
+    } else {
+        0
+    }
+}
+
+/// The place of an id, the number of places where it has none: O(1) where ids count up from 1 or the table knows
+/// the place, else O(log n).
+fn place_of(places: &[Place], guesses: &[u32], id: u64) -> usize
     requires { AllPairs (λ p q. p.id < q.id) places.now }
     ensures bound { result ≤ length places.now }
     ensures found { result < length places.now → (d : Place) → (slice_index_or places.now result d).id ≡ id }
@@ -139,6 +202,10 @@ fn place_of(places: &[Place], id: u64) -> usize
         if places[guess].id == id {
             return guess;
         }
+    }
+    let guess = guess_of(guesses, id);
+    if guess < places.len() && places[guess].id == id {
+        return guess;
     }
     let above = place_above(places, id);
     if above > 0 {

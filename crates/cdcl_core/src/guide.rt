@@ -42,7 +42,7 @@ impl Guide {
         ensures order { self.new.order ≡ self.old.order }
         ensures marks { self.new.marks ≡ self.old.marks }
     {
-        self.order.raise(self.marks.listed());
+        self.order.raise(self.marks.listed())?;
         self.minimiser
             .begin(reasons, self.marks.listed(), places, last)
     }
@@ -66,6 +66,30 @@ impl Guide {
         }
         self.minimiser
             .follows(clauses, trail, reasons, places, &self.marks, place)
+    }
+
+    /// How many decision levels the literals of a lemma have, which stand on the trail. Restarts go by them, and the order
+    /// of decisions by how many literals there are.
+    pub fn levels_of(&mut self, lits: &[Lit], places: &[usize]) -> u32
+        ensures order { self.new.order ≡ self.old.order }
+        ensures marks { self.new.marks ≡ self.old.marks }
+    {
+        let levels = self.minimiser.levels_of(lits, places);
+        self.restarts.note(levels);
+        self.order.count(lits.len());
+        levels
+    }
+
+    /// Counts a conflict; says whether a restart is due.
+    pub fn is_restart_due(&mut self) -> bool
+        ensures order { self.new.order ≡ self.old.order }
+        ensures marks { self.new.marks ≡ self.old.marks }
+    {
+        if self.order.has_scores() {
+            self.restarts.is_next()
+        } else {
+            self.restarts.is_due()
+        }
     }
 
     /// Keeps the values of literals that are taken from a trail, from this place on.
@@ -144,6 +168,20 @@ impl Minimiser {
             place += 1;
         }
         Ok(())
+    }
+
+    /// How many levels the places of these literals have.
+    fn levels_of(&mut self, lits: &[Lit], places: &[usize]) -> u32 {
+        self.met.clear();
+        let mut count = 0u32;
+        for m in lits {
+            let level = at_level(&self.levels, at(places, m.variable() as usize));
+            if !self.met.has(level) {
+                self.met.add(level);
+                count = count.saturating_add(1);
+            }
+        }
+        count
     }
 
     /// Whether the literal at a place follows from marked ones, by reasons alone.

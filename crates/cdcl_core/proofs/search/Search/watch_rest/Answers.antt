@@ -71,7 +71,7 @@ loop-place-preserved c =
     let state = subst (λ k. IsState k front s.assignment.trues s.reasons.items) (sym was.vars) was.state in
     let long = (was.watched (Plus 0)).long in
     record {
-      same = record { vars = inv.same.vars; last = inv.same.last; clauses = inv.same.clauses; log = inv.same.log };
+      same = record { vars = inv.same.vars; last = inv.same.last; clauses = inv.same.clauses; log = inv.same.log; lemmas = inv.same.lemmas; deletions = inv.same.deletions };
       at = omega (arith, inv.at, made.pairs yes);
       searching = record {
         vars = made.vars ∙ was.vars;

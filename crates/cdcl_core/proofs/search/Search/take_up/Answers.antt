@@ -1,12 +1,12 @@
 use Rattle.std.proofs.Common.{◌≡◌, ◌∙◌, sym, ap, subst, length, take}
+use Rattle.std.specs.Global.{Vec}
 use Rattle.lrat_model.specs.Clauses.{Held}
 use Rattle.cdcl_core.specs.declared.watches.Pair.{Pair}
 use Rattle.cdcl_core.specs.Searching.{IsSearching}
-use Rattle.std.specs.Global.{Vec}
-use Rattle.cdcl_core.proofs.search.Search.catch_up.Goals as goal
+use Rattle.cdcl_core.proofs.search.Search.take_up.Goals as goal
 
-pub watch_left-requires-clause-searching : goal.watch_left-requires-clause-searching
-watch_left-requires-clause-searching c =
+pub returns-clause-searching : goal.returns-clause-searching
+returns-clause-searching c =
     let s = c.watch_next.new.self in
     let front = take (length s.pairs.items) s.clauses in
     let new = c.go_back.new.self in

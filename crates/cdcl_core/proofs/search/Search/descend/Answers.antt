@@ -1,6 +1,6 @@
 use Rattle.std.proofs.Common.{arith}
 use Rattle.cdcl_core.proofs.Same.{holding_same}
-use Rattle.cdcl_core.proofs.search.Search.settle.Goals as goal
+use Rattle.cdcl_core.proofs.search.Search.descend.Goals as goal
 
 pub propagate-requires-clause-room : goal.propagate-requires-clause-room
 propagate-requires-clause-room c = omega (arith, c.requires.room, c.turns.invariant.same.last)

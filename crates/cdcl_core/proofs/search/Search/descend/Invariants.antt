@@ -1,6 +1,6 @@
 use Rattle.cdcl_core.specs.Searching.{HasSame, IsSearching}
 use Rattle.cdcl_core.specs.Trail.{open_count}
-use Rattle.cdcl_core.proofs.search.Search.settle.Given as goal
+use Rattle.cdcl_core.proofs.search.Search.descend.Given as goal
 
 abbrev pub invariant-turns : goal.invariant-turns
 invariant-turns l = record {

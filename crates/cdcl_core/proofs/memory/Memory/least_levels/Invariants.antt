@@ -1,0 +1,4 @@
+use Rattle.cdcl_core.proofs.memory.Memory.least_levels.Given as goal
+
+abbrev pub decreases-loop-least : goal.decreases-loop-least
+decreases-loop-least l = l.least

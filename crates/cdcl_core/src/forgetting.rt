@@ -1,0 +1,164 @@
+//! What a conflict comes to: a lemma that is learnt, others that are forgotten, or the empty lemma.
+ghost use Rattle.std.specs.Prelude.{◌≡◌, ◌⊎◌, ℕ, ◌^◌, ◌<◌, ◌≤◌, ◌+◌, ◌-◌, ◌*◌, ◌++◌, ◌∷◌, [], false, List, All, OnErr, OnOk, length, slice_index, take};
+ghost use Rattle.std.specs.List.Sorted.{IsNonDecreasingBy};
+ghost use Rattle.lrat_model.specs.Steps.{ProofStep};
+ghost use Rattle.lrat_model.specs.Clauses.{has_id, IsUnsatisfiable};
+ghost use Rattle.lrat_model.specs.Propagation.{Closes};
+ghost use Rattle.cdcl_core.specs.Guides.{IsGuide};
+ghost use Rattle.cdcl_core.specs.Log.{EndsEmpty, HasNoEmptyLemma, least_live, most_live};
+ghost use Rattle.cdcl_core.specs.Remembering.{HasDeletion, IsChosen, IsRemembering};
+ghost use Rattle.cdcl_core.specs.Search.{IsLearntClause, IsState, Searched};
+ghost use Rattle.cdcl_core.specs.Searching.{HasLogged, IsLogging, IsSearching, database_in};
+ghost use Rattle.cdcl_core.specs.Watches.{IsAsserting};
+
+use crate::analysis::LearntClause;
+use crate::growth::record;
+use crate::search::Search;
+use crate::watches::{Pair, WatchLists};
+use std::alloc::AllocError;
+
+/// Holds and logs the empty lemma.
+pub fn refute(search: &mut Search, lemma: &LearntClause) -> Result<(), AllocError>
+    requires room { search.old.last + 1 < 2 ^ 63 }
+    requires logging { IsLogging search.old }
+    requires open { HasNoEmptyLemma search.old.log }
+    requires remembering { IsRemembering search.old }
+    requires state { IsState search.old.vars search.old.clauses search.old.assignment.trues search.old.reasons.items }
+    requires learnt { IsLearntClause search.old.clauses search.old.assignment.trues search.old.reasons.items lemma.now.lits.items lemma.now.hints.items lemma.now.jump }
+    requires empty { lemma.now.lits.items ≡ [] }
+    ensures vars { search.new.vars ≡ search.old.vars }
+    ensures last { search.new.last ≤ search.old.last + 1 }
+    ensures logging { IsLogging search.new }
+    ensures goes_on { (steps : List ProofStep) × Searched search.old.vars (database_in search.old) (database_in search.new) search.old.log search.new.log 0 steps }
+    ensures unchanged { OnErr result (HasLogged search.old search.new) }
+    ensures ends { OnOk result (EndsEmpty search.new.log) }
+    ensures refuted { OnOk result (IsUnsatisfiable search.old.clauses × IsUnsatisfiable search.new.clauses) }
+{
+    record(
+        &mut search.clauses,
+        &mut search.log,
+        &mut search.last,
+        &lemma.lits,
+        &lemma.hints,
+    )?;
+    Ok(())
+}
+
+/// Learns the lemma, which takes a unit; or forgets others where many are live, and this one with them, since the
+/// trail from which it follows goes.
+pub fn go_on(
+    search: &mut Search,
+    left: &mut u64,
+    lemma: &LearntClause,
+    pair: Pair,
+) -> Result<(), AllocError>
+    requires room { search.old.last + left.old < 2 ^ 63 }
+    requires some { 0 < left.old }
+    requires logging { IsLogging search.old }
+    requires open { HasNoEmptyLemma search.old.log }
+    requires remembering { IsRemembering search.old }
+    requires searching { IsSearching search.old.clauses search.old }
+    requires learnt { IsLearntClause search.old.clauses search.old.assignment.trues search.old.reasons.items lemma.now.lits.items lemma.now.hints.items lemma.now.jump }
+    requires asserting { IsAsserting search.old.assignment.trues search.old.reasons.items lemma.now.jump lemma.now.lits.items pair }
+    requires within { lemma.now.jump < length search.old.assignment.trues }
+    requires decision { slice_index search.old.reasons.items lemma.now.jump ≡ 0 }
+    ensures vars { search.new.vars ≡ search.old.vars }
+    ensures left { left.new ≤ left.old }
+    ensures room { search.new.last + left.new ≡ search.old.last + left.old }
+    ensures logging { IsLogging search.new }
+    ensures open { HasNoEmptyLemma search.new.log }
+    ensures goes_on { (steps : List ProofStep) × Searched search.old.vars (database_in search.old) (database_in search.new) search.old.log search.new.log (left.old - left.new) steps }
+    ensures remembering { OnOk result (IsRemembering search.new) }
+    ensures searching { OnOk result (IsSearching (take (length search.new.pairs.items) search.new.clauses) search.new) }
+    ensures smaller { OnOk result (2 * left.new + length search.new.memory.ids.items < 2 * left.old + length search.old.memory.ids.items) }
+{
+    let alloc = *search.reasons.allocator();
+    match search.memory.choose(alloc, search.vars, &search.reasons)? {
+        Some(gone) => forget(search, &gone),
+        None => learn(search, left, lemma, pair),
+    }
+}
+
+/// Learns the lemma.
+fn learn(
+    search: &mut Search,
+    left: &mut u64,
+    lemma: &LearntClause,
+    pair: Pair,
+) -> Result<(), AllocError>
+    requires room { search.old.last + left.old < 2 ^ 63 }
+    requires some { 0 < left.old }
+    requires logging { IsLogging search.old }
+    requires open { HasNoEmptyLemma search.old.log }
+    requires remembering { IsRemembering search.old }
+    requires bound { length search.old.memory.ids.items < most_live search.old.vars search.old.memory.deletions }
+    requires searching { IsSearching search.old.clauses search.old }
+    requires learnt { IsLearntClause search.old.clauses search.old.assignment.trues search.old.reasons.items lemma.now.lits.items lemma.now.hints.items lemma.now.jump }
+    requires asserting { IsAsserting search.old.assignment.trues search.old.reasons.items lemma.now.jump lemma.now.lits.items pair }
+    requires within { lemma.now.jump < length search.old.assignment.trues }
+    requires decision { slice_index search.old.reasons.items lemma.now.jump ≡ 0 }
+    ensures vars { search.new.vars ≡ search.old.vars }
+    ensures left { left.new ≤ left.old }
+    ensures room { search.new.last + left.new ≡ search.old.last + left.old }
+    ensures logging { IsLogging search.new }
+    ensures open { HasNoEmptyLemma search.new.log }
+    ensures goes_on { (steps : List ProofStep) × Searched search.old.vars (database_in search.old) (database_in search.new) search.old.log search.new.log (left.old - left.new) steps }
+    ensures remembering { OnOk result (IsRemembering search.new) }
+    ensures searching { OnOk result (IsSearching (take (length search.new.pairs.items) search.new.clauses) search.new) }
+    ensures smaller { OnOk result (2 * left.new + length search.new.memory.ids.items < 2 * left.old + length search.old.memory.ids.items) }
+{
+    search.learn(&lemma.lits, &lemma.hints, pair, lemma.jump)?;
+    *left -= 1;
+    search.restart();
+    Ok(())
+}
+
+/// Deletes these lemmas. Where memory runs out nothing is deleted.
+fn forget(search: &mut Search, gone: &[u64]) -> Result<(), AllocError>
+    requires room { search.old.last < 2 ^ 63 }
+    requires logging { IsLogging search.old }
+    requires open { HasNoEmptyLemma search.old.log }
+    requires remembering { IsRemembering search.old }
+    requires unclosed { Closes search.old.clauses → ⊥ }
+    requires chosen { IsChosen search.old.memory.ids.items search.old.reasons.items gone.now }
+    requires fewest { 500 ≤ length gone.now }
+    requires earned { least_live search.old.memory.deletions ≤ length search.old.memory.ids.items }
+    requires vars { search.old.assignment.vars ≡ search.old.vars }
+    requires guide { IsGuide search.old.vars search.old.guide }
+    ensures vars { search.new.vars ≡ search.old.vars }
+    ensures last { search.new.last ≡ search.old.last }
+    ensures logging { IsLogging search.new }
+    ensures open { HasNoEmptyLemma search.new.log }
+    ensures goes_on { (steps : List ProofStep) × Searched search.old.vars (database_in search.old) (database_in search.new) search.old.log search.new.log 0 steps }
+    ensures remembering { OnOk result (IsRemembering search.new) }
+    ensures searching { OnOk result (IsSearching (take (length search.new.pairs.items) search.new.clauses) search.new) }
+    ensures fewer { OnOk result (length search.new.memory.ids.items < length search.old.memory.ids.items) }
+{
+    delete(search, gone)?;
+    Ok(())
+}
+
+/// Takes these lemmas away, and logs the deletion. The clauses that stay move to new room, and all of them are to
+/// be watched anew: linear in their literals and in the variables. Where memory runs out nothing is done.
+fn delete(search: &mut Search, gone: &[u64]) -> Result<(), AllocError>
+    requires sorted { IsNonDecreasingBy (λ k. k) gone.now }
+    requires few { search.old.vars < 2 ^ 31 }
+    requires spared { All (λ k. has_id search.old.reasons.items k ≡ false) gone.now }
+    requires earned { least_live search.old.memory.deletions ≤ length search.old.memory.ids.items }
+    requires vars { search.old.assignment.vars ≡ search.old.vars }
+    requires guide { IsGuide search.old.vars search.old.guide }
+    ensures deletion { OnOk result (HasDeletion search.old search.new gone.now) }
+    ensures unwatched { OnOk result (search.new.pairs.items ≡ []) }
+    ensures searching { OnOk result (IsSearching [] search.new) }
+    ensures unchanged { OnErr result (HasLogged search.old search.new) }
+{
+    let alloc = *search.reasons.allocator();
+    let clauses = search.clauses.all_but(alloc, gone)?;
+    let memory = search.memory.all_but(alloc, gone)?;
+    let lists = WatchLists::new(alloc, 2 * (search.vars as usize + 1))?;
+    search.log.push_deletion(search.last, gone)?;
+    search.clauses = clauses;
+    search.memory = memory;
+    search.let_go(lists);
+    Ok(())
+}

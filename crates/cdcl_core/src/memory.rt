@@ -1,0 +1,247 @@
+//! Which lemmas a search holds, and which of them it forgets: those of many decision levels, the oldest first
+//! (after the 'literal block distance' of Audemard and Simon, 'Predicting learnt clauses quality in modern SAT
+//! solvers', 2009), but none that is the reason of a literal on the trail.
+ghost use Rattle.std.specs.Prelude.{◌≡◌, ◌⊎◌, ℕ, ◌+◌, ◌<◌, ◌≤◌, ◌∷◌, ◌++◌, [], not, true, false, None, filter, All, AllPairs, IfOk, IfSome, Ok, OnOk, OnErr, MatchBool, if◌then◌else◌, length, slice_index};
+ghost use Rattle.std.specs.List.{AllWithin};
+ghost use Rattle.std.specs.List.Sorted.{IsNonDecreasingBy};
+ghost use Rattle.lrat_model.specs.Clauses.{has_id};
+ghost use Rattle.cdcl_core.specs.Log.{least_live, most_live};
+ghost use Rattle.cdcl_core.specs.Remembering.{IsChosen};
+
+use std::alloc::{AllocError, Global};
+
+const FEWEST: usize = 500;
+
+const MOST: usize = 1000;
+
+const FEW_LEVELS: u32 = 3;
+
+const MANY_LEVELS: u32 = 7;
+
+/// The ids of the lemmas that are held and have a literal, which rise, and how many decision levels each had
+/// when it was learnt; how many deletions there were; and how many lemmas are to be live before the next is
+/// tried.
+#[derive(Drop)]
+pub struct Memory {
+    pub ids: Vec<u64>,
+    pub levels: Vec<u32>,
+    pub deletions: u64,
+    pub due: usize,
+}
+
+impl Memory {
+    /// No lemma.
+    pub fn new(alloc: Global) -> Memory
+        ensures ids { result.ids.items ≡ [] }
+        ensures deletions { result.deletions ≡ 0 }
+    {
+        Memory {
+            ids: Vec::new(alloc),
+            levels: Vec::new(alloc),
+            deletions: 0,
+            due: 0,
+        }
+    }
+
+    /// One lemma more, of so many levels.
+    pub fn note(&mut self, id: u64, levels: u32) -> Result<(), AllocError>
+        ensures ids { OnOk result (self.new.ids.items ≡ self.old.ids.items ++ id ∷ []) }
+        ensures deletions { self.new.deletions ≡ self.old.deletions }
+        ensures unchanged { OnErr result (self.new.ids.items ≡ self.old.ids.items) }
+    {
+        self.levels.push(levels)?;
+        self.ids.push(id)?;
+        Ok(())
+    }
+
+    /// The lemmas that go where a deletion comes now, none where it does not: those of many levels, where there
+    /// are enough of them; and any, where no more lemma has room. Reasons are passed over.
+    pub fn choose(
+        &mut self,
+        alloc: Global,
+        vars: u32,
+        reasons: &[u64],
+    ) -> Result<Option<Vec<u64>>, AllocError>
+        requires rise { AllPairs (λ j k. j < k) self.old.ids.items }
+        requires few { length reasons.now ≤ vars }
+        ensures ids { self.new.ids ≡ self.old.ids }
+        ensures deletions { self.new.deletions ≡ self.old.deletions }
+        ensures none { result ≡ Ok None → length self.new.ids.items < most_live vars self.new.deletions }
+        ensures chosen { IfOk result (λ found. IfSome found (λ gone. IsChosen self.new.ids.items reasons.now gone.items)) }
+        ensures fewest { IfOk result (λ found. IfSome found (λ gone. 500 ≤ length gone.items)) }
+        ensures earned { IfOk result (λ found. IfSome found (λ gone. least_live self.new.deletions ≤ length self.new.ids.items)) }
+    {
+        if !self.is_due(vars) {
+            return Ok(None);
+        }
+        let needed = sorted(alloc, reasons)?;
+        let gone = self.part(alloc, &needed, self.least_levels())?;
+        if gone.len() >= FEWEST {
+            return Ok(Some(gone));
+        }
+        if self.is_full(vars) {
+            let gone = self.part(alloc, &needed, 0)?;
+            return Ok(Some(gone));
+        }
+        self.due = self.ids.len() + FEWEST;
+        Ok(None)
+    }
+
+    /// Whether a deletion is tried: where so many lemmas are live as it asks, and always where no more has room.
+    fn is_due(&self, vars: u32) -> bool
+        ensures yes { result ≡ true → least_live self.now.deletions ≤ length self.now.ids.items }
+        ensures no { result ≡ false → length self.now.ids.items < most_live vars self.now.deletions }
+    {
+        self.is_earned() && (self.ids.len() >= self.due || self.is_full(vars))
+    }
+
+    /// Whether so many lemmas are live as the next deletion asks.
+    fn is_earned(&self) -> bool
+        ensures { MatchBool result (least_live self.now.deletions ≤ length self.now.ids.items) (length self.now.ids.items < least_live self.now.deletions) }
+    {
+        let live = self.ids.len() as u64;
+        live >= 2000 && (live - 2000) / 500 >= self.deletions
+    }
+
+    /// Whether no more lemma has room.
+    fn is_full(&self, vars: u32) -> bool
+        ensures { MatchBool result (most_live vars self.now.deletions ≤ length self.now.ids.items) (length self.now.ids.items < most_live vars self.now.deletions) }
+    {
+        let live = self.ids.len() as u64;
+        let least = vars as u64 + 8000;
+        live >= least && (live - least) / 500 >= self.deletions
+    }
+
+    /// The levels from which on a lemma goes: many, or fewer where not enough lemmas have many.
+    fn least_levels(&self) -> u32 {
+        let mut least = MANY_LEVELS;
+        while least > FEW_LEVELS && self.count_from(least) < MOST {
+            least -= 1;
+        }
+        least
+    }
+
+    /// How many lemmas have this many levels or more.
+    fn count_from(&self, least: u32) -> usize {
+        let mut count = 0usize;
+        for levels in &self.levels {
+            if *levels >= least {
+                count = count.saturating_add(1);
+            }
+        }
+        count
+    }
+
+    /// The oldest lemmas that have this many levels or more and are not needed, at most 1,000.
+    fn part(&self, alloc: Global, needed: &[u64], least: u32) -> Result<Vec<u64>, AllocError>
+        requires rise { AllPairs (λ j k. j < k) self.now.ids.items }
+        requires sorted { IsNonDecreasingBy (λ k. k) needed.now }
+        ensures chosen { IfOk result (λ gone. IsChosen self.now.ids.items needed.now gone.items) }
+        ensures all { least ≡ 0 → IfOk result (λ gone. length gone.items < 1000 → All (λ k. (has_id gone.items k ≡ true) ⊎ (has_id needed.now k ≡ true)) self.now.ids.items) }
+    {
+        let mut gone = Vec::new(alloc);
+        let mut place = 0;
+        while place < self.ids.len() {
+            let goes = self.goes(place, gone.len(), needed, least);
+            put(&mut gone, self.ids[place], goes)?;
+            place += 1;
+        }
+        Ok(gone)
+    }
+
+    /// Whether the lemma at a place goes, after so many others.
+    fn goes(&self, place: usize, count: usize, needed: &[u64], least: u32) -> bool
+        requires place { place < length self.now.ids.items }
+        requires sorted { IsNonDecreasingBy (λ k. k) needed.now }
+        ensures yes { result ≡ true → (count < 1000) × (has_id needed.now (slice_index self.now.ids.items place) ≡ false) }
+        ensures no { result ≡ false → least ≡ 0 → count < 1000 → has_id needed.now (slice_index self.now.ids.items place) ≡ true }
+    {
+        count < MOST && self.has_from(place, least) && !is_among(needed, self.ids[place])
+    }
+
+    /// Whether the lemma at a place has this many levels or more.
+    fn has_from(&self, place: usize, least: u32) -> bool
+        ensures { least ≡ 0 → result ≡ true }
+    {
+        match self.levels.get(place) {
+            Some(levels) => *levels >= least,
+            None => true,
+        }
+    }
+
+    /// What is left when these lemmas are deleted.
+    pub fn all_but(&self, alloc: Global, gone: &[u64]) -> Result<Memory, AllocError>
+        requires sorted { IsNonDecreasingBy (λ k. k) gone.now }
+        requires earned { least_live self.now.deletions ≤ length self.now.ids.items }
+        ensures ids { IfOk result (λ memory. memory.ids.items ≡ filter (λ k. not (has_id gone.now k)) self.now.ids.items) }
+        ensures deletions { IfOk result (λ memory. memory.deletions ≡ self.now.deletions + 1) }
+    {
+        let mut ids = Vec::new(alloc);
+        let mut levels = Vec::new(alloc);
+        let mut place = 0;
+        while place < self.ids.len() {
+            let id = self.ids[place];
+            let stays = !is_among(gone, id);
+            put(&mut ids, id, stays)?;
+            if stays {
+                levels.push(at(&self.levels, place))?;
+            }
+            place += 1;
+        }
+        Ok(Memory {
+            ids,
+            levels,
+            deletions: self.deletions + 1,
+            due: 0,
+        })
+    }
+}
+
+/// Puts an id behind others, if it is one of them.
+fn put(ids: &mut Vec<u64>, id: u64, is_one: bool) -> Result<(), AllocError>
+    ensures { OnOk result (ids.new.items ≡ ids.old.items ++ (if is_one then id ∷ [] else [])) }
+{
+    if is_one {
+        ids.push(id)?;
+    }
+    Ok(())
+}
+
+/// The entry at a place, 0 where there is none.
+fn at(levels: &[u32], place: usize) -> u32 {
+    match levels.get(place) {
+        Some(count) => *count,
+        None => 0,
+    }
+}
+
+/// A copy in which numbers do not fall.
+fn sorted(alloc: Global, ids: &[u64]) -> Result<Vec<u64>, AllocError>
+    ensures sorted { IfOk result (λ copy. IsNonDecreasingBy (λ k. k) copy.items) }
+    ensures same { IfOk result (λ copy. (k : ℕ) → has_id copy.items k ≡ has_id ids.now k) }
+    ensures len { IfOk result (λ copy. length copy.items ≡ length ids.now) }
+{
+    let mut copy = Vec::new(alloc);
+    copy.extend_from_slice(ids)?;
+    copy.sort_unstable();
+    Ok(copy)
+}
+
+/// Whether an id is among ids that do not fall. O(log n) of n ids.
+pub fn is_among(ids: &[u64], id: u64) -> bool
+    requires { IsNonDecreasingBy (λ k. k) ids.now }
+    ensures { result ≡ has_id ids.now id }
+{
+    let above = first_above(ids, id);
+    above > 0 && ids[above - 1] == id
+}
+
+/// The first place of a greater id.
+fn first_above(ids: &[u64], id: u64) -> usize
+    requires { IsNonDecreasingBy (λ k. k) ids.now }
+    ensures bound { result ≤ length ids.now }
+    ensures below { AllWithin (λ k. k ≤ id) ids.now 0 result }
+    ensures above { AllWithin (λ k. id < k) ids.now result (length ids.now) }
+{
+    ids.partition_point(|k| *k <= id)
+}
