@@ -1,14 +1,17 @@
 -- Listed sets among the steps of a log: a log that goes on, a set more, and what the lines say.
-use Rattle.std.proofs.Common.{◌≡◌, ℕ, zero, suc, ◌+◌, ◌-◌, ◌≤◌, ◌<◌, List, [], ◌∷◌, ◌++◌, take, drop, take_all, length, length-drop, drop-cons, get_or, slice_index_or, add-one, refl, sym, ap, ◌∙◌, arith, append_assoc}
+use Rattle.std.proofs.Common.{◌≡◌, ℕ, zero, suc, ◌+◌, ◌-◌, ◌*◌, ◌≤◌, ◌<◌, List, [], ◌∷◌, ◌++◌, take, drop, take_all, take-append-drop, length, length-drop, drop-cons, get_or, slice_index_or, add-one, refl, sym, ap, ◌∙◌, subst, arith, append_assoc}
 use Rattle.std.specs.Prelude.{All}
 use Rattle.std.proofs.lemmas.List.{map-append, take-append-le, drop-append-le, drop_all, take_more, append-nil}
 use Rattle.std.proofs.lemmas.List.Elements.{All-nil, All-cons, All-head, All-tail}
 use Rattle.fbas_model.specs.Nodes.{Table}
-use Rattle.lrat_model.specs.Steps.{ProofStep}
+use Rattle.lrat_model.specs.Steps.{ProofStep, Addition, Deletion}
 use Rattle.lrat_text.specs.Texts.{IsId, HasNumbers}
 use Rattle.list_journal.specs.Listed.{list_line}
-use Rattle.list_journal.specs.Journals.{JournalLine, StepLine, blocking_sets, quorum_sets}
-use Rattle.blocking_lists.specs.Lines.{step_lines, merged, AreBetween, blocks_in, quorums_in, block_of, quorum_of, HasLineNumbers, IsShortStep, HasFewWords}
+use Rattle.cdcl_core.specs.Log.{IsBoundedLog, units}
+use Rattle.list_journal.specs.Journals.{JournalLine, QuorumLine, BlockingLine, StepLine, blocking_sets, quorum_sets, journal_units}
+use Rattle.blocking_lists.specs.Lines.{step_lines, merged, AreBetween, blocks_in, quorums_in, block_of, quorum_of, HasLineNumbers, IsShortStep, HasFewWords, steps_in}
+use Rattle.blocking_lists.specs.Outcomes.{HasFewSteps}
+use Rattle.blocking_lists.specs.Search.{IsShortLog}
 use Rattle.blocking_lists.specs.declared.journal.ListLine.{ListLine}
 use Rattle.list_journal.specs.declared.kinds.Listed.{Listed}
 use Rattle.list_journal.specs.declared.kinds.Listed.TheVariants as listed
@@ -162,6 +165,45 @@ quorums_merged k (l ∷ lines) steps =
     quorums_behind (take (l.after - k) steps) (list_line l.which l.id l.set ∷ rest)
     ∙ quorum_behind l.which l.id l.set rest
     ∙ ap (λ (xs : List Table). quorum_of l.which l.set ++ xs) (quorums_merged l.after lines (drop (l.after - k) steps))
+
+-- ---- the steps
+
+steps_back : (steps : List ProofStep) → steps_in (step_lines steps) ≡ steps
+steps_back [] = refl
+steps_back (step ∷ steps) = ap (λ (xs : List ProofStep). step ∷ xs) (steps_back steps)
+
+steps_before : (steps : List ProofStep) (lines : List JournalLine) → steps_in (step_lines steps ++ lines) ≡ steps ++ steps_in lines
+steps_before [] lines = refl
+steps_before (step ∷ steps) lines = ap (λ (xs : List ProofStep). step ∷ xs) (steps_before steps lines)
+
+steps_behind : (which : Listed) (id : ℕ) (set : Table) (lines : List JournalLine) → steps_in (list_line which id set ∷ lines) ≡ steps_in lines
+steps_behind listed.Quorum id set lines = refl
+steps_behind listed.Blocking id set lines = refl
+
+steps_merged : (k : ℕ) (lines : List ListLine) (steps : List ProofStep) → steps_in (merged k lines steps) ≡ steps
+steps_merged k [] steps = steps_back steps
+steps_merged k (l ∷ lines) steps =
+    let c : ℕ = l.after - k in
+    let rest : List JournalLine = merged l.after lines (drop c steps) in
+    steps_before (take c steps) (list_line l.which l.id l.set ∷ rest)
+    ∙ ap (λ (xs : List ProofStep). take c steps ++ xs) (steps_behind l.which l.id l.set rest ∙ steps_merged l.after lines (drop c steps))
+    ∙ take-append-drop c steps
+
+-- a listed set is one line and takes a unit
+lines_and_steps : (journal : List JournalLine) → length journal + 2 * units (steps_in journal) ≤ 2 * journal_units journal + length (steps_in journal)
+lines_and_steps [] = omega arith
+lines_and_steps (QuorumLine id u ∷ lines) = omega (arith, lines_and_steps lines)
+lines_and_steps (BlockingLine id s ∷ lines) = omega (arith, lines_and_steps lines)
+lines_and_steps (StepLine (Addition id lits hints) ∷ lines) = omega (arith, lines_and_steps lines)
+lines_and_steps (StepLine (Deletion id ids) ∷ lines) = omega (arith, lines_and_steps lines)
+
+pub few_steps_merged : (vars : ℕ) (lines : List ListLine) (log : List ProofStep) → IsShortLog vars log → HasFewSteps vars (merged 0 lines log)
+few_steps_merged vars lines log short =
+    let is = steps_merged 0 lines log in
+    record {
+      bounded = subst (λ (steps : List ProofStep). IsBoundedLog vars steps) (sym is) short.bounded;
+      short = omega (arith, lines_and_steps (merged 0 lines log), ap (λ (steps : List ProofStep). length steps) is, ap units is, short.few);
+    }
 
 -- ---- what each line says
 

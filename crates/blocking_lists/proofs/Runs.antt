@@ -22,7 +22,8 @@ steps_partial f b g old (Addition id (l ∷ ls) hints ∷ steps) new run lemmas 
   useful_is_new old.held (l ∷ ls) (lemmas.0.useful (omega arith)),
   steps_partial f b g (after_step old (Addition id (l ∷ ls) hints)) steps new run.1 lemmas.1 (All-tail (λ step. progress_of step ≡ Going) (Addition id (l ∷ ls) hints) steps opens),
 )
-steps_partial f b g old (Deletion id ids ∷ steps) new run lemmas opens = absurd lemmas
+steps_partial f b g old (Deletion id ids ∷ steps) new run lemmas opens =
+    (run.0, tt, steps_partial f b g (after_step old (Deletion id ids)) steps new run.1 lemmas.1 (All-tail (λ step. progress_of step ≡ Going) (Deletion id ids) steps opens))
 
 -- and always a whole list's
 pub steps_whole : (f : Fbas) (b : Nodes) (g : Table) (old : Database) (steps : List ProofStep) (new : Database) → Run (size g) old steps new → JournalRun Whole f b g old (step_lines steps) new
@@ -38,7 +39,8 @@ steps_useful vars g old (Addition id (l ∷ ls) hints ∷ steps) lemmas opens = 
   lemmas.0.useful (omega arith),
   steps_useful vars g (after_step old (Addition id (l ∷ ls) hints)) steps lemmas.1 (All-tail (λ step. progress_of step ≡ Going) (Addition id (l ∷ ls) hints) steps opens),
 )
-steps_useful vars g old (Deletion id ids ∷ steps) lemmas opens = absurd lemmas
+steps_useful vars g old (Deletion id ids ∷ steps) lemmas opens =
+    (tt, steps_useful vars g (after_step old (Deletion id ids)) steps lemmas.1 (All-tail (λ step. progress_of step ≡ Going) (Deletion id ids) steps opens))
 
 -- ---- units
 

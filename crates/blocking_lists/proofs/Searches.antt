@@ -1,5 +1,5 @@
 -- A search that goes on: by the steps of a solver, or by a line.
-use Rattle.std.proofs.Common.{◌≡◌, ℕ, zero, suc, ◌+◌, ◌^◌, ◌<◌, ◌≤◌, Bool, true, false, List, [], ◌∷◌, ◌++◌, map, length, refl, sym, ap, ◌∙◌, subst, arith, inl, inr, ◌⊎◌, ⊎_elim, Some}
+use Rattle.std.proofs.Common.{◌≡◌, ℕ, zero, suc, ◌+◌, ◌*◌, ◌^◌, ◌<◌, ◌≤◌, Bool, true, false, List, [], ◌∷◌, ◌++◌, map, length, refl, sym, ap, ◌∙◌, subst, arith, inl, inr, ◌⊎◌, ⊎_elim, Some}
 use Rattle.std.specs.Prelude.{All}
 use Rattle.std.proofs.lemmas.Bool.{both_ways, false≢true}
 use Rattle.std.proofs.lemmas.List.{append-nil, length-append}
@@ -9,25 +9,24 @@ use Rattle.fbas_model.specs.Fbas.{Fbas, BlocksMinimally, IsMinimalQuorum}
 use Rattle.fbas_model.proofs.Sizes.{empty_or_not}
 use Rattle.greatest_quorum.specs.Greatest.{greatest_of}
 use Rattle.lrat_model.specs.Literal.{Literal, Plus, Minus, has, clause_true}
-use Rattle.lrat_model.specs.Clauses.{Held, clause_at, with_clause, Satisfies}
+use Rattle.lrat_model.specs.Clauses.{Held, clause_at, has_id, with_clause, Satisfies}
 use Rattle.lrat_model.specs.Steps.{ProofStep, Database, progress_of}
 use Rattle.lrat_model.specs.Runs.{Run}
 use Rattle.lrat_model.specs.Propagation.{Closes}
 use Rattle.lrat_model.specs.declared.step.Progress.TheVariants.{Going}
 use Rattle.lrat_model.proofs.Literals.{has-first, has-rest}
 use Rattle.lrat_model.proofs.Runs.{clause_at-more}
-use Rattle.cdcl_core.specs.Log.{AreLemmas, units, HasNoEmptyLemma, EndsEmpty}
+use Rattle.cdcl_core.specs.Log.{AreLemmas, IsBoundedLog, live_in, units, HasNoEmptyLemma, EndsEmpty}
 use Rattle.cdcl_core.specs.Solving.{Solving, logged}
-use Rattle.cdcl_core.specs.Trail.{InRange}
 use Rattle.list_journal.specs.Numbering.{variable_in, quorum_clause, blocking_clause}
 use Rattle.list_journal.specs.Journals.{JournalLine, QuorumLine, BlockingLine, nothing_held, JournalRun, line_progress, IsOpen, EndsRefuted, IsWholeJournal, journal_units, AreUseful}
 use Rattle.list_journal.specs.declared.kinds.ListKind.TheVariants.{Whole, Partial}
 use Rattle.lrat_text.specs.Texts.{IsId}
 use Rattle.list_journal.specs.Listed.{list_line, clause_for}
-use Rattle.blocking_lists.specs.Lines.{step_lines, merged, AreBetween, quorum_of, quorums_in, IsShortStep}
+use Rattle.blocking_lists.specs.Lines.{step_lines, merged, AreBetween, quorum_of, quorums_in}
 use Rattle.list_journal.specs.Lists.{IsLeastQuorum}
-use Rattle.blocking_lists.specs.Outcomes.{PartHolds}
-use Rattle.blocking_lists.specs.Search.{HoldsEmpty, IsSearch, IsListing, IsWholeListing}
+use Rattle.blocking_lists.specs.Outcomes.{HasFewSteps, PartHolds}
+use Rattle.blocking_lists.specs.Search.{HoldsEmpty, IsSearch, IsListing, IsShortLog, IsWholeListing}
 use Rattle.blocking_lists.specs.declared.journal.ListLine.{ListLine}
 use Rattle.list_journal.specs.declared.kinds.Listed.{Listed}
 use Rattle.list_journal.specs.declared.kinds.Listed.TheVariants as listed
@@ -36,7 +35,7 @@ use Rattle.list_journal.proofs.Runs.{run_append, whole_from_partial, useful_appe
 use Rattle.blocking_lists.proofs.Runs.{steps_partial, steps_whole, steps_useful, units_steps, open_steps, ends_in_steps, ends_refuted}
 use Rattle.list_journal.proofs.Ids.{AreBelow, below_run, found_new}
 use Rattle.blocking_lists.proofs.Merged.{between_more, between_push, merged_steps, merged_line}
-use Rattle.blocking_lists.proofs.Short.{short_steps}
+use Rattle.blocking_lists.proofs.Short.{short_log}
 use Rattle.list_journal.proofs.Places.{next_place, same_place}
 
 -- ---- steps
@@ -62,7 +61,7 @@ module _ (f : Fbas) (b : Nodes) (g : Table) (total left left_then : ℕ) (journa
 
   -- by steps without the empty lemma
   pub search_steps : new.vars ≡ old.vars → HasNoEmptyLemma new.log → new.database.last + left_then ≡ old.database.last + left
-      → ((id : ℕ) (clause : List Literal) → clause_at old.database.held id ≡ Some clause → clause_at new.database.held id ≡ Some clause) → IsSearch f b g total left_then journal_then new
+      → (HoldsEmpty old.database.held → HoldsEmpty new.database.held) → IsSearch f b g total left_then journal_then new
   search_steps vars opens room kept =
       let steps_open : HasNoEmptyLemma steps = no_empty_later old.log steps (subst (λ (ls : List ProofStep). HasNoEmptyLemma ls) log_is opens) in
       let back = sym journal_is in record {
@@ -70,7 +69,7 @@ module _ (f : Fbas) (b : Nodes) (g : Table) (total left left_then : ℕ) (journa
         run = subst (λ (ls : List JournalLine). JournalRun Partial f b g nothing_held ls new.database) back
             (run_append Partial f b g nothing_held journal (step_lines steps) old.database new.database is.run (steps_partial f b g old.database steps new.database run_is lemmas_are steps_open));
         useful = ⊎_elim
-            (λ (empty : HoldsEmpty old.database.held). inl (empty.0, kept empty.0 [] empty.1))
+            (λ (empty : HoldsEmpty old.database.held). inl (kept empty))
             (λ useful. inr (subst (λ (ls : List JournalLine). AreUseful g nothing_held ls) back
             (useful_append Partial f b g nothing_held journal (step_lines steps) old.database is.run useful (steps_useful old.vars g old.database steps lemmas steps_open))))
             is.useful;
@@ -93,12 +92,13 @@ module _ (f : Fbas) (b : Nodes) (g : Table) (total left left_then : ℕ) (journa
   )
 
 -- a search that spent its units
-pub search_spent : (f : Fbas) (b : Table) (total left : ℕ) (journal : List JournalLine) (solver : Solving) → IsSearch f (members b) (greatest_of f b) total left journal solver → left ≡ 0 → (Closes solver.database.held → ⊥) → PartHolds f b total journal
-search_spent f b total left journal solver is none unclosed = record {
+pub search_spent : (f : Fbas) (b : Table) (total left : ℕ) (journal : List JournalLine) (solver : Solving) → IsSearch f (members b) (greatest_of f b) total left journal solver → HasFewSteps (size (greatest_of f b)) journal → left ≡ 0 → (Closes solver.database.held → ⊥) → PartHolds f b total journal
+search_spent f b total left journal solver is few none unclosed = record {
   after = solver.database;
   journal_is = record { opens = is.opens; run = is.run };
   useful = ⊎_elim (λ empty. absurd (unclosed (empty_closes solver.database.held empty))) (λ useful. useful) is.useful;
   unclosed = unclosed;
+  few_steps = few;
   taken = omega (arith, is.taken);
 }
 
@@ -188,11 +188,17 @@ search_line f b g total left journal journal_then old new which set is a solves 
 
 -- ---- listed sets among the steps
 
+-- no deletion takes the empty clause, which has no literal
+pub empty_stays : (old new : Solving)
+    → ((id : ℕ) (clause : List Literal) → clause_at old.database.held id ≡ Some clause → (clause_at new.database.held id ≡ Some clause) ⊎ ((has_id (live_in old.log) id ≡ true) × (0 < length clause)))
+    → HoldsEmpty old.database.held → HoldsEmpty new.database.held
+empty_stays old new kept empty = (empty.0, ⊎_elim (λ there. there) (λ gone. absurd (omega (arith, gone.1))) (kept empty.0 [] empty.1))
+
 -- a log that goes on
 module _ (f : Fbas) (b : Nodes) (g : Table) (total left left_then : ℕ) (lines : List ListLine) (old new : Solving)
     (is : IsListing f b g total left lines old) (log_is : new.log ≡ old.log ++ logged old new)
     (run : Run old.vars old.database (logged old new) new.database) (lemmas : AreLemmas old.vars old.database (logged old new)) (count : left_then + units (logged old new) ≡ left)
-    (vars : new.vars ≡ old.vars) (range : InRange new.vars new.database.held) where
+    (vars : new.vars ≡ old.vars) (bounds : IsBoundedLog new.vars new.log) (few : length new.log ≤ 2 * units new.log + 1) where
   longer : length old.log ≤ length new.log
   longer = omega (arith, ap (λ (steps : List ProofStep). length steps) log_is, length-append old.log (logged old new))
 
@@ -202,19 +208,13 @@ module _ (f : Fbas) (b : Nodes) (g : Table) (total left left_then : ℕ) (lines 
   journal_goes_on : merged 0 lines new.log ≡ merged 0 lines old.log ++ step_lines (logged old new)
   journal_goes_on = ap (λ (steps : List ProofStep). merged 0 lines steps) log_is ∙ merged_steps 0 (length old.log) lines old.log (logged old new) is.between (omega arith)
 
-  still_short : All (IsShortStep (size g)) new.log
+  still_short : IsShortLog (size g) new.log
   still_short =
       let n_is = is.search.vars in
-      let below = below_run Partial f b g nothing_held (merged 0 lines old.log) old.database is.search.run empty_database in
-      let more = short_steps g old.database new.database (logged old new)
-      (subst (λ (n : ℕ). Run n old.database (logged old new) new.database) n_is run)
-      (subst (λ (n : ℕ). AreLemmas n old.database (logged old new)) n_is lemmas)
-      below
-      (subst (λ (n : ℕ). InRange n new.database.held) (vars ∙ n_is) range) in
-      subst (λ (steps : List ProofStep). All (IsShortStep (size g)) steps) (sym log_is) (All-append (IsShortStep (size g)) old.log (logged old new) is.short more)
+      short_log (size g) old.database old.log (logged old new) new.log log_is (subst (λ (n : ℕ). AreLemmas n old.database (logged old new)) n_is lemmas) is.short (subst (λ (n : ℕ). IsBoundedLog n new.log) (vars ∙ n_is) bounds) few
 
   pub listing_steps : HasNoEmptyLemma new.log → new.database.last + left_then ≡ old.database.last + left
-      → ((id : ℕ) (clause : List Literal) → clause_at old.database.held id ≡ Some clause → clause_at new.database.held id ≡ Some clause) → IsListing f b g total left_then lines new
+      → (HoldsEmpty old.database.held → HoldsEmpty new.database.held) → IsListing f b g total left_then lines new
   listing_steps opens room kept = record {
     between = still_between;
     ids = is.ids;
@@ -264,6 +264,6 @@ listing_line f b g total left small lines lines_then old new which set is a solv
       between = subst (λ (ls : List ListLine). AreBetween 0 (length new.log) ls) back (between_push 0 (length old.log) (length new.log) lines l is.between (omega arith) (omega (arith, ap (λ (steps : List ProofStep). length steps) log_is)));
       ids = subst (λ (ls : List ListLine). All (λ x. IsId x.id) ls) back (All-append (λ (x : ListLine). IsId x.id) lines (l ∷ []) is.ids (All-cons (λ (x : ListLine). IsId x.id) l [] id_is (All-nil (λ (x : ListLine). IsId x.id))));
       quorums = subst (λ (ls : List ListLine). All (IsLeastQuorum f b) (quorums_in ls)) back (quorums_push (IsLeastQuorum f b) lines l is.quorums (least_if_quorum f b which set places stands));
-      short = subst (λ (steps : List ProofStep). All (IsShortStep (size g)) steps) (sym log_is) is.short;
+      short = subst (λ (steps : List ProofStep). IsShortLog (size g) steps) (sym log_is) is.short;
       search = search_line f b g total left (merged 0 lines old.log) (merged 0 lines_then new.log) old new which set is.search a solves places stands out journal_is held_is last_is log_is vars_are;
     }

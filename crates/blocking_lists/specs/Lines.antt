@@ -52,18 +52,25 @@ abbrev pub quorums_in : List ListLine → List Table
 quorums_in [] = []
 quorums_in (l ∷ lines) = quorum_of l.which l.set ++ quorums_in lines
 
+-- the steps of a journal, in their order
+abbrev pub steps_in : List JournalLine → List ProofStep
+steps_in [] = []
+steps_in (QuorumLine id u ∷ lines) = steps_in lines
+steps_in (BlockingLine id s ∷ lines) = steps_in lines
+steps_in (StepLine step ∷ lines) = step ∷ steps_in lines
+
 -- what a line of text can say: ids from 1 to 2^63 - 1, and the numbers of a step
 abbrev pub HasLineNumbers : JournalLine → Type 0
 HasLineNumbers (QuorumLine id u) = IsId id
 HasLineNumbers (BlockingLine id s) = IsId id
 HasLineNumbers (StepLine step) = HasNumbers step
 
--- a lemma over so many variables: each literal's is one of them, none stands twice, and there is at most one hint more than there are variables
+-- a lemma over so many variables: each literal's is one of them, none stands twice, and there is at most one hint more than there are variables; or a deletion of 500 to 1,000 ids
 abbrev pub IsShortStep : ℕ → ProofStep → Type 0
 IsShortStep vars (Addition id lits hints) = All (IsVariable vars) lits × IsDistinct lits × (length hints ≤ vars + 1)
-IsShortStep vars (Deletion id ids) = ⊥
+IsShortStep vars (Deletion id ids) = (500 ≤ length ids) × (length ids ≤ 1000)
 
--- the steps of a journal are such lemmas
+-- the steps of a journal are such steps
 abbrev pub HasFewWords : ℕ → JournalLine → Type 0
 HasFewWords vars (QuorumLine id u) = Unit {0}
 HasFewWords vars (BlockingLine id s) = Unit {0}

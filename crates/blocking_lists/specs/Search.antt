@@ -1,10 +1,10 @@
 -- Where a search for the minimal blocking sets stands.
-use Rattle.std.specs.Prelude.{◌≡◌, ◌⊎◌, ℕ, ◌+◌, Bool, true, List, [], Some, All, length}
+use Rattle.std.specs.Prelude.{◌≡◌, ◌⊎◌, ℕ, ◌+◌, ◌*◌, ◌≤◌, Bool, true, List, [], Some, All, length}
 use Rattle.fbas_model.specs.Nodes.{Nodes, Table, members, size}
 use Rattle.fbas_model.specs.Fbas.{Fbas}
 use Rattle.lrat_model.specs.Clauses.{Held, clause_at}
 use Rattle.lrat_model.specs.Steps.{ProofStep}
-use Rattle.cdcl_core.specs.Log.{HasNoEmptyLemma}
+use Rattle.cdcl_core.specs.Log.{HasNoEmptyLemma, IsBoundedLog, units as units_of}
 use Rattle.cdcl_core.specs.Solving.{Solving}
 use Rattle.list_journal.specs.Numbering.{variable_in}
 use Rattle.lrat_text.specs.Texts.{IsId}
@@ -28,12 +28,18 @@ pub record IsSearch (f : Fbas) (b : Nodes) (g : Table) (units left : ℕ) (journ
   pub taken : journal_units journal + left ≡ units
   pub room : solver.database.last + left ≡ units
 
+-- a solver's log over so many variables: its steps are short, its deletions keep within the bounds, and there is at most one step more than twice its units
+pub record IsShortLog (vars : ℕ) (log : List ProofStep) : Type 0 where
+  pub steps : All (IsShortStep vars) log
+  pub bounded : IsBoundedLog vars log
+  pub few : length log ≤ 2 * units_of log + 1
+
 -- the sets that are listed so far, among the steps of the solver's log
 pub record IsListing (f : Fbas) (b : Nodes) (g : Table) (units left : ℕ) (lines : List ListLine) (solver : Solving) : Type 0 where
   pub between : AreBetween 0 (length solver.log) lines
   pub ids : All (λ l. IsId l.id) lines
   pub quorums : All (IsLeastQuorum f b) (quorums_in lines)
-  pub short : All (IsShortStep (size g)) solver.log
+  pub short : IsShortLog (size g) solver.log
   pub search : IsSearch f b g units left (merged 0 lines solver.log) solver
 
 -- a listing whose solver came to the empty lemma
@@ -41,7 +47,7 @@ pub record IsWholeListing (f : Fbas) (b : Nodes) (g : Table) (units left : ℕ) 
   pub between : AreBetween 0 (length log) lines
   pub ids : All (λ l. IsId l.id) lines
   pub quorums : All (IsLeastQuorum f b) (quorums_in lines)
-  pub short : All (IsShortStep (size g)) log
+  pub short : IsShortLog (size g) log
   pub journal_is : IsWholeJournal f b g (merged 0 lines log)
   pub taken : journal_units (merged 0 lines log) + left ≡ units
 

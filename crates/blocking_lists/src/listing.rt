@@ -34,7 +34,7 @@ pub fn list(
     ensures numbers { IfOk result (λ outcome. All HasLineNumbers (journal_in outcome)) }
     ensures few_words { IfOk result (λ outcome. All (HasFewWords (size (greatest_of system.now.sets faulty.now))) (journal_in outcome)) }
 {
-    // A system has at most 4,096 nodes, so there are as few variables.
+    // A system has at most 16,384 nodes, so there are as few variables.
     let _nodes = system.len();
     let greatest = greatest(system, faulty);
     let mut solver = Solver::start(alloc, &Store::new(alloc), u64::from(greatest.count()))?;

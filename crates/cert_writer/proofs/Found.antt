@@ -1,19 +1,15 @@
 -- From what a search shows to a certificate that is accepted.
-use Rattle.std.proofs.Common.{◌≡◌, ℕ, ◌+◌, ◌<◌, ◌≤◌, List, [], ◌∷◌, ◌++◌, length, Bool, cond, Ok, refl, sym, ◌∙◌, ap, subst, arith, length-append}
-use Rattle.std.specs.List.{AllByRecursion}
+use Rattle.std.proofs.Common.{◌≡◌, ℕ, ◌+◌, ◌<◌, ◌≤◌, List, length, Ok, refl, sym, ◌∙◌, ap, subst, arith}
 use Rattle.std.specs.List.Sorted.{IsStrictlySortedBy}
-use Rattle.std.proofs.lemmas.Bool.{ne_eqb}
-use Rattle.std.proofs.lemmas.List.Elements.{recursion_from_All}
 use Rattle.hex.specs.Hex.{IsBytes}
 use Rattle.fbas_model.specs.Nodes.{Table}
 use Rattle.fbas_model.specs.Names.{name_cmp}
 use Rattle.fbas_model.specs.Fbas.{Fbas}
 use Rattle.fbas_model.specs.Systems.{System, IsSystem}
 use Rattle.fbas_model.specs.Restriction.{restricted_sets}
-use Rattle.lrat_model.specs.Steps.{ProofStep, Addition, Deletion, Database, after_step, progress_of}
-use Rattle.lrat_model.specs.declared.step.Progress.TheVariants.{Going}
+use Rattle.lrat_model.specs.Steps.{ProofStep, Database}
 use Rattle.lrat_model.specs.Runs.{Run, formula_database}
-use Rattle.cdcl_core.specs.Log.{AreLemmas, EndsEmpty, HasNoEmptyLemma, units}
+use Rattle.cdcl_core.specs.Log.{AreLemmas, IsBoundedLog}
 use Rattle.clause_encoder.specs.Formula.{formula, formula_clauses}
 use Rattle.lrat_checker.specs.Checking.{Checking}
 use Rattle.clause_encoder.specs.declared.version.Version.TheVariants.{Two}
@@ -34,36 +30,6 @@ use Rattle.quorum_questions.specs.declared.answers.Answer.{Answer as Found}
 use Rattle.quorum_questions.specs.declared.answers.Answer.TheVariants.{Yes, No, Spent}
 use Rattle.cert_writer.specs.Finding.{Search, part, faulty, cert_of, Finds, CanBeWritten}
 use Rattle.cert_lines.specs.declared.lines.TheConstants.{MAX_LINES}
-
--- ---- the length of a log
-
-going_units : (log : List ProofStep) (vars : ℕ) (old : Database) → AreLemmas vars old log → AllByRecursion (λ (step : ProofStep). progress_of step ≡ Going) log → units log ≡ length log
-going_units [] vars old lemmas on = refl
-going_units (Deletion id ids ∷ log) vars old lemmas on = absurd lemmas
-going_units (Addition id [] hints ∷ log) vars old lemmas on = absurd (let e = on.0 in cc)
-going_units (Addition id (l ∷ lits) hints ∷ log) vars old lemmas on =
-    let rest = going_units log vars (after_step old (Addition id (l ∷ lits) hints)) lemmas.1 on.1 in
-    ap (λ (b : Bool). cond b 0 1 + units log) (ne_eqb (length (l ∷ lits)) 0 (λ k. omega arith)) ∙ (omega (arith, rest))
-
-units-append : (xs ys : List ProofStep) → units (xs ++ ys) ≡ units xs + units ys
-units-append [] ys = omega arith
-units-append (Addition id lits hints ∷ xs) ys = let rest = units-append xs ys in omega (arith, rest)
-units-append (Deletion id ids ∷ xs) ys = units-append xs ys
-
-lemmas_front : (vars : ℕ) (old : Database) (xs ys : List ProofStep) → AreLemmas vars old (xs ++ ys) → AreLemmas vars old xs
-lemmas_front vars old [] ys lemmas = tt
-lemmas_front vars old (Addition id lits hints ∷ xs) ys lemmas = (lemmas.0, lemmas_front vars (after_step old (Addition id lits hints)) xs ys lemmas.1)
-lemmas_front vars old (Deletion id ids ∷ xs) ys lemmas = absurd lemmas
-
-ended_length : (vars : ℕ) (old : Database) (log : List ProofStep) → AreLemmas vars old log → EndsEmpty log → length log ≤ units log + 1
-ended_length vars old log lemmas ends =
-    let before = ends.0 in
-    let front = lemmas_front vars old before (ends.1 ∷ []) (subst (AreLemmas vars old) ends.2 lemmas) in
-    let on = going_units before vars old front (recursion_from_All (λ (step : ProofStep). progress_of step ≡ Going) before ends.4) in
-    omega (arith, on, ap length ends.2, ap units ends.2, length-append before (ends.1 ∷ []), units-append before (ends.1 ∷ []))
-
-open_length : (vars : ℕ) (old : Database) (log : List ProofStep) → AreLemmas vars old log → HasNoEmptyLemma log → units log ≡ length log
-open_length vars old log lemmas open_log = going_units log vars old lemmas (recursion_from_All (λ (step : ProofStep). progress_of step ≡ Going) log open_log)
 
 -- ---- the formula of the part
 
@@ -93,6 +59,7 @@ of_log f h to log size new is sized run few ends =
       new = new;
       run = subst (λ (d : Database). Run size.vars d log new) base (subst (λ (n : ℕ). Run n (formula_database (clauses_of p b)) log new) (sym sized.vars) run.run);
       lemmas = subst (λ (d : Database). AreLemmas size.vars d log) base (subst (λ (n : ℕ). AreLemmas n (formula_database (clauses_of p b)) log) (sym sized.vars) run.lemmas);
+      bounded = subst (λ (n : ℕ). IsBoundedLog n log) (sym sized.vars) run.bounded;
       numbers = run.numbers;
       literals = run.literals;
       few = few;
@@ -101,7 +68,7 @@ of_log f h to log size new is sized run few ends =
 
 pub found : (s : Search) (found : Found) → IsSystem s.whole.names s.whole.sets → IsStrictlySortedBy name_cmp s.whole.names → length s.digest ≡ 32 → IsBytes s.digest → IsHeader s.whole s.header → s.budget ≤ MOST_UNITS → Shows (part s).sets (faulty s) s.budget found → Finds s found (cert_of s found)
 found s (Yes log size) is sorted long bytes head small r =
-    let few : length log + 7 ≤ MAX_LINES = omega (arith, ended_length _ _ log r.run.lemmas r.ends, r.taken) in
+    let few : length log + 7 ≤ MAX_LINES = omega (arith, r.run.short, r.taken, small) in
     record {
       shows = r;
       cert_is = refl;
@@ -113,7 +80,7 @@ found s (No pair) is sorted long bytes head small r = record {
   accepted = pair_of_part_accepted s.whole (part s) s.digest s.header pair is sorted long bytes head refl r.apart;
 }
 found s (Spent log size) is sorted long bytes head small r =
-    let few : length log + 7 ≤ MAX_LINES = omega (arith, open_length _ _ log r.run.lemmas r.unrefuted, r.taken) in
+    let few : length log + 7 ≤ MAX_LINES = omega (arith, r.run.short, r.taken, small) in
     record {
       shows = r;
       cert_is = refl;

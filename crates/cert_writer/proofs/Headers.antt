@@ -24,6 +24,7 @@ use Rattle.cert_writer.specs.Promises.{IsHeader, subject}
 use Rattle.cert_writer.proofs.Joined.{Takes, IsLine, AreLines}
 use Rattle.cert_writer.proofs.Words.{IsWordByte, IsWord, is_word, is_plain, same_text, words_of-worded, names_after-worded, plain-worded, length-spaced_keys}
 use Rattle.fbas_model.proofs.SortedNames.{place-found}
+use Rattle.fbas_model.specs.declared.TheConstants.{MOST_NODES}
 use Rattle.cert_writer.proofs.Names.{AreNames, named-listed, keys-kept, words-keys, short-keys, key}
 
 -- ---- the digest
@@ -80,7 +81,7 @@ takes_header f d h are size bytes is =
 
 -- ---- each is a line
 
-pub line_listed : (word : Text) (names : List Name) (set : Table) → IsWord word → length word ≤ 100 → AreNames names → length names ≤ 4096 → IsLine (listed word names set)
+pub line_listed : (word : Text) (names : List Name) (set : Table) → IsWord word → length word ≤ 100 → AreNames names → length names ≤ MOST_NODES → IsLine (listed word names set)
 line_listed word names set is short are few = record {
   plain = plain-worded word (kept set names) is (words-keys (kept set names) (keys-kept set names are.keys));
   short =
@@ -108,7 +109,7 @@ line_from names (Some v) are low =
       short = omega (arith, length-append (codes "from") (spaced (name ∷ [])), length-append name []);
     }
 
-pub lines_header : (f : System) (d : List ℕ) (h : Header) → AreNames f.names → length f.names ≤ 4096 → length d ≡ 32 → IsHeader f h → AreLines (header_lines f.names d h)
+pub lines_header : (f : System) (d : List ℕ) (h : Header) → AreNames f.names → length f.names ≤ MOST_NODES → length d ≡ 32 → IsHeader f h → AreLines (header_lines f.names d h)
 lines_header f d h are few size is = (
   record { plain = is_plain (codes "fbas-cert 2") refl; short = omega arith },
   (

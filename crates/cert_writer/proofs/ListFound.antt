@@ -1,8 +1,8 @@
 -- From what a search for the minimal blocking sets shows to a certificate that is accepted.
-use Rattle.std.proofs.Common.{◌≡◌, ℕ, ◌+◌, ◌≤◌, List, [], ◌∷◌, ◌++◌, length, map, Bool, cond, IfSome, Ok, refl, sym, ◌∙◌, ap, subst, arith, length-append, ◌<◌}
-use Rattle.std.specs.List.{All, AllByRecursion}
+use Rattle.std.proofs.Common.{◌≡◌, ℕ, ◌+◌, ◌≤◌, List, [], ◌∷◌, length, map, IfSome, Ok, refl, sym, ◌∙◌, ap, subst, arith, ◌<◌}
+use Rattle.std.specs.List.{All}
 use Rattle.std.specs.List.Sorted.{IsStrictlySortedBy}
-use Rattle.std.proofs.lemmas.List.Elements.{All-nil, All-cons, All-head, All-tail, recursion_from_All}
+use Rattle.std.proofs.lemmas.List.Elements.{All-nil, All-cons, All-head, All-tail}
 use Rattle.hex.specs.Hex.{IsBytes}
 use Rattle.fbas_model.specs.Nodes.{Table, members, size, set_cmp}
 use Rattle.fbas_model.specs.Names.{name_cmp}
@@ -12,18 +12,16 @@ use Rattle.fbas_model.specs.Restriction.{restricted_sets}
 use Rattle.fbas_model.proofs.Kept.{length-kept}
 use Rattle.fbas_model.proofs.Renumbered.{length-restricted_sets}
 use Rattle.greatest_quorum.specs.Greatest.{greatest_of}
-use Rattle.lrat_model.specs.Steps.{Addition, Deletion, Database}
-use Rattle.lrat_model.specs.declared.step.Progress.TheVariants.{Going}
-use Rattle.list_journal.specs.Journals.{JournalLine, QuorumLine, BlockingLine, StepLine, JournalRun, IsOpen, EndsRefuted, IsWholeJournal, after_line, line_progress, nothing_held, blocking_sets, journal_units}
+use Rattle.lrat_model.specs.Steps.{Database}
+use Rattle.list_journal.specs.Journals.{JournalLine, QuorumLine, BlockingLine, StepLine, JournalRun, IsWholeJournal, after_line, nothing_held, blocking_sets}
 use Rattle.list_journal.specs.Lists.{IsListOfBlocks}
 use Rattle.list_journal.specs.Order.{ordered}
 use Rattle.list_journal.specs.declared.kinds.ListKind.{ListKind}
 use Rattle.list_journal.specs.declared.kinds.ListKind.TheVariants as kind
 use Rattle.list_journal.proofs.Greatest.{counted_greatest}
 use Rattle.list_journal.proofs.OrderLaws.{HavePlaces, is_ordered}
-use Rattle.list_journal.proofs.Runs.{units_append}
 use Rattle.list_journal.proofs.Whole.{whole_has_each}
-use Rattle.blocking_lists.specs.Lines.{HasLineNumbers, HasFewWords}
+use Rattle.blocking_lists.specs.Lines.{HasLineNumbers}
 use Rattle.blocking_lists.specs.declared.outcome.ListOutcome.{ListOutcome}
 use Rattle.blocking_lists.specs.declared.outcome.ListOutcome.TheVariants.{Whole, Spent}
 use Rattle.certificate_file.specs.Known.{IsPart}
@@ -37,32 +35,9 @@ use Rattle.cert_writer.specs.Promises.{IsHeader}
 use Rattle.cert_writer.specs.Finding.{Search, part, faulty}
 use Rattle.cert_writer.specs.Listing.{list_cert_of, ListShows, FindsList, CanBeLine, CanBeListed}
 use Rattle.cert_writer.proofs.ListLaws.{list_of_accepted}
-use Rattle.cert_writer.proofs.LogLaws.{front_all}
 use Rattle.cert_writer.proofs.Pairs.{part_is_restricted}
 use Rattle.cert_writer.proofs.Raised.{spread, is_raised}
 use Rattle.cert_writer.proofs.RaisedOrder.{same_order, ordered-map}
-use Rattle.cert_writer.proofs.Runs.{going_long}
-
--- ---- the length of a journal
-
-open_units : (vars : ℕ) (lines : List JournalLine) → AllByRecursion (HasFewWords vars) lines → AllByRecursion (λ line. line_progress line ≡ Going) lines → journal_units lines ≡ length lines
-open_units vars [] words on = refl
-open_units vars (QuorumLine id u ∷ lines) words on = let rest = open_units vars lines words.1 on.1 in omega (arith, rest)
-open_units vars (BlockingLine id u ∷ lines) words on = let rest = open_units vars lines words.1 on.1 in omega (arith, rest)
-open_units vars (StepLine (Deletion id ids) ∷ lines) words on = absurd words.0
-open_units vars (StepLine (Addition id lits hints) ∷ lines) words on =
-    let rest = open_units vars lines words.1 on.1 in
-    ap (λ (b : Bool). cond b 0 1 + journal_units lines) (going_long lits on.0).1 ∙ (omega (arith, rest))
-
-whole_length : (vars : ℕ) (journal : List JournalLine) → All (HasFewWords vars) journal → EndsRefuted journal → length journal ≤ journal_units journal + 1
-whole_length vars journal words ends =
-    let before = ends.before in
-    let all = recursion_from_All (HasFewWords vars) journal words in
-    let units = open_units vars before (front_all (HasFewWords vars) before ends.last (subst (λ (ls : List JournalLine). AllByRecursion (HasFewWords vars) ls) ends.is all)).0 (recursion_from_All (λ line. line_progress line ≡ Going) before ends.only) in
-    omega (arith, units, ap length ends.is, ap journal_units ends.is, length-append before (ends.last ∷ []), units_append before (ends.last ∷ []))
-
-part_length : (vars : ℕ) (journal : List JournalLine) → All (HasFewWords vars) journal → IsOpen journal → journal_units journal ≡ length journal
-part_length vars journal words opens = open_units vars journal (recursion_from_All (HasFewWords vars) journal words) (recursion_from_All (λ line. line_progress line ≡ Going) journal opens)
 
 -- ---- the sets
 
@@ -103,7 +78,7 @@ module _ (s : Search) (is : IsSystem s.whole.names s.whole.sets) (sorted : IsStr
   list_found (Whole sets journal) r =
       let holds = r.holds in
       let whole = holds.journal_is in
-      let few : length journal + 6 ≤ MAX_LINES = omega (arith, whole_length (size (greatest_of (part s).sets (faulty s))) journal r.few_words whole.ends, holds.taken, small) in record {
+      let few : length journal + 6 ≤ MAX_LINES = omega (arith, holds.few_steps.short, holds.taken, small) in record {
         shows = r;
         cert_is = refl;
         accepted =
@@ -113,7 +88,7 @@ module _ (s : Search) (is : IsSystem s.whole.names s.whole.sets) (sorted : IsStr
   list_found (Spent journal) r =
       let holds = r.holds.1 in
       let one = holds.journal_is in
-      let few : length journal + 6 ≤ MAX_LINES = omega (arith, part_length (size (greatest_of (part s).sets (faulty s))) journal r.few_words one.opens, holds.taken, small) in record {
+      let few : length journal + 6 ≤ MAX_LINES = omega (arith, holds.few_steps.short, holds.taken, small) in record {
         shows = r;
         cert_is = refl;
         accepted =

@@ -13,6 +13,7 @@ use Rattle.fbas_model.specs.Restriction.{kept, restricted, restricted_sets}
 use Rattle.fbas_model.proofs.Kept.{kept_le, length-kept}
 use Rattle.fbas_model.proofs.Closure.{size_le_length}
 use Rattle.fbas_model.proofs.Renumbered.{length-restricted_sets}
+use Rattle.fbas_model.specs.declared.TheConstants.{MOST_NODES}
 use Rattle.greatest_quorum.specs.Greatest.{greatest_of}
 use Rattle.greatest_quorum.proofs.GreatestLaws.{length-greatest_of}
 use Rattle.lrat_model.specs.Steps.{Addition, Deletion, Database, after_step}
@@ -45,7 +46,7 @@ use Rattle.cert_writer.proofs.Headers.{takes_header, lines_header}
 use Rattle.cert_writer.proofs.Pairs.{part_is_restricted}
 use Rattle.cert_writer.proofs.LogLaws.{literals_of, front_all}
 use Rattle.cert_writer.proofs.SetLines.{line_set}
-use Rattle.cert_writer.proofs.StepLines.{line_addition, few_literals}
+use Rattle.cert_writer.proofs.StepLines.{line_addition, line_deletion, few_literals}
 use Rattle.cert_writer.proofs.ListRuns.{short_literals, takes_journal, takes_refuted, takes_part_end}
 
 -- ---- each is a line
@@ -54,14 +55,15 @@ line_kind : (kind : ListKind) → IsLine (list_kind_of kind)
 line_kind Whole = record { plain = is_plain (codes "kind blocking") refl; short = omega arith }
 line_kind Part = record { plain = is_plain (codes "kind partial-blocking") refl; short = omega arith }
 
-lines_journal : (kind : ListKind) (f : Fbas) (b g : Table) (names : List Name) (old new : Database) (lines : List JournalLine) → AreNames names → length names ≤ 4096 → size g ≤ 4096 → JournalRun kind f (members b) g old lines new
+lines_journal : (kind : ListKind) (f : Fbas) (b g : Table) (names : List Name) (old new : Database) (lines : List JournalLine) → AreNames names → length names ≤ MOST_NODES → size g ≤ MOST_NODES → JournalRun kind f (members b) g old lines new
     → AllByRecursion (λ line. HasLineNumbers line × HasFewWords (size g) line) lines → AreLines (map (journal_line names) lines)
 lines_journal kind f b g names old new [] are few small run fine = tt
 lines_journal kind f b g names old new (QuorumLine id u ∷ lines) are few small run fine =
     (line_set listed.Quorum id names u are few fine.0.0, lines_journal kind f b g names (after_line g old (QuorumLine id u)) new lines are few small run.2 fine.1)
 lines_journal kind f b g names old new (BlockingLine id u ∷ lines) are few small run fine =
     (line_set listed.Blocking id names u are few fine.0.0, lines_journal kind f b g names (after_line g old (BlockingLine id u)) new lines are few small run.2 fine.1)
-lines_journal kind f b g names old new (StepLine (Deletion id ids) ∷ lines) are few small run fine = absurd fine.0.1
+lines_journal kind f b g names old new (StepLine (Deletion id ids) ∷ lines) are few small run fine =
+    (line_deletion id ids fine.0.0.0 fine.0.0.1 fine.0.1.1, lines_journal kind f b g names (after_step old (Deletion id ids)) new lines are few small run.2 fine.1)
 lines_journal kind f b g names old new (StepLine (Addition id lits hints) ∷ lines) are few small run fine =
     let numbers = fine.0.0 in
     let words = fine.0.1 in
@@ -121,7 +123,7 @@ module _ (f : System) (d : List ℕ) (h : Header) (is : IsSystem f.names f.sets)
   same : length gone ≡ length fbas
   same = length-kept nodes h.faulty (part.places ∙ is.places ∙ sym head.faulty) ∙ sym count
 
-  small : size greatest ≤ 4096
+  small : size greatest ≤ MOST_NODES
   small = omega (arith, size_le_length greatest, length-greatest_of fbas gone, count, size_le_length nodes, part.places, is.places, is.few)
 
   abbrev IsFine : JournalLine → Type 0

@@ -19,6 +19,7 @@ use Rattle.lrat_model.specs.declared.step.Progress.{Progress}
 use Rattle.lrat_model.specs.declared.step.Progress.TheVariants.{Going as going, Refuted}
 use Rattle.lrat_text.specs.Texts.{line_of, IsLiteral, HasNumbers}
 use Rattle.lrat_text.specs.declared.faults.LineFault.{LineFault}
+use Rattle.lrat_text.specs.Left.{spaced}
 use Rattle.lrat_text.proofs.BackLaws.{step_back}
 use Rattle.cdcl_core.specs.Trail.{IsVariable}
 use Rattle.lrat_model.specs.Rules.{step_fault_by}
@@ -42,12 +43,12 @@ use Rattle.certificate_file.specs.declared.places.State.TheVariants.{Going, Done
 use Rattle.list_journal.specs.Order.{ordered}
 use Rattle.cert_writer.specs.Texts.{Text, journal_line}
 use Rattle.cert_writer.proofs.Joined.{Takes}
-use Rattle.cert_writer.proofs.Words.{words_of-worded}
+use Rattle.cert_writer.proofs.Words.{AreWords, words_of-worded}
 use Rattle.cert_writer.proofs.Names.{AreNames}
 use Rattle.cert_writer.proofs.Raised.{spread}
 use Rattle.cert_writer.proofs.Runs.{IsRead, not_end, new_uncovered, going_long}
 use Rattle.cert_writer.proofs.SetLines.{set_line_taken}
-use Rattle.cert_writer.proofs.StepLines.{decimal_word, lemma_words, words_lemma, line_words}
+use Rattle.cert_writer.proofs.StepLines.{decimal_word, lemma_words, words_lemma, line_words, deletion_words, words_deletion, deletion_line_words}
 
 -- ---- what a lemma says in text
 
@@ -63,12 +64,17 @@ no_letter [] c all above = refl
 no_letter (x ∷ word) c all above = let digit = digit_from_value x all.0 in rw (ne_eqb x c (λ e. omega (arith, digit, e))) refl
 
 -- the first word of a step is its id, which lists no set
-lists_nothing : (id : ℕ) (lits : List Literal) (hints : List ℤ) → HasNumbers (Addition id lits hints) → AllByRecursion IsLiteral lits → listed_by (words_of (line_of (Addition id lits hints))) ≡ None
-lists_nothing id lits hints has ls =
-    let low : id < 9223372036854775808 = has.0.1 in
-    let words : words_of (line_of (Addition id lits hints)) ≡ decimal id ∷ lemma_words lits hints = ap words_of (line_words id lits hints) ∙ words_of-worded (decimal id) (lemma_words lits hints) (decimal_word id (omega (arith, low))) (words_lemma lits hints has.1 ls) in
+lists_nothing : (id : ℕ) (rest : List Word) (text : Text) → id < 9223372036854775808 → AreWords rest → text ≡ decimal id ++ spaced rest → listed_by (words_of text) ≡ None
+lists_nothing id rest text low are is =
+    let words : words_of text ≡ decimal id ∷ rest = ap words_of is ∙ words_of-worded (decimal id) rest (decimal_word id (omega (arith, low))) are in
     let digits : AllDigits 10 (decimal id) = (decimal_is_IsNumeral id (omega (arith, low))).0.1 in
     ap listed_by words ∙ rw (no_letter (decimal id) 113 digits (omega arith), no_letter (decimal id) 98 digits (omega arith)) refl
+
+lemma_lists_nothing : (id : ℕ) (lits : List Literal) (hints : List ℤ) → HasNumbers (Addition id lits hints) → AllByRecursion IsLiteral lits → listed_by (words_of (line_of (Addition id lits hints))) ≡ None
+lemma_lists_nothing id lits hints has ls = lists_nothing id (lemma_words lits hints) (line_of (Addition id lits hints)) has.0.1 (words_lemma lits hints has.1 ls) (line_words id lits hints)
+
+deletion_lists_nothing : (id : ℕ) (ids : List ℕ) → HasNumbers (Deletion id ids) → listed_by (words_of (line_of (Deletion id ids))) ≡ None
+deletion_lists_nothing id ids has = lists_nothing id (deletion_words ids) (line_of (Deletion id ids)) has.0.1 (words_deletion ids has.1) (deletion_line_words id ids)
 
 -- ---- a step
 
@@ -79,6 +85,11 @@ literal_there Part l step on = rw on refl
 step_is_new : (kind : ListKind) (k : Listing) (id : ℕ) (lits : List Literal) (hints : List ℤ) → k.kind ≡ kind → IsNewStep kind k.checker.database.held (Addition id lits hints) → is_old_step k (Addition id lits hints) ≡ false
 step_is_new Whole k id lits hints same new = ap (λ (x : ListKind). asks_new x listed.Quorum && is_covered k.checker.database.held id lits) same
 step_is_new Part k id lits hints same new = ap (λ (x : ListKind). asks_new x listed.Quorum && is_covered k.checker.database.held id lits) same ∙ new_uncovered k.checker.database.held id lits new
+
+-- a deletion adds nothing that could be old
+never_old : (kind : ListKind) → (asks_new kind listed.Quorum && false) ≡ false
+never_old Whole = refl
+never_old Part = refl
 
 -- a step, however it goes on
 step_taken : (f : System) (d : List ℕ) (s : Subject) (k : Listing) (l : ℕ) (step : ProofStep) → IsRead step → listed_by (words_of (line_of step)) ≡ None → literal_in k.kind l step ≡ Ok step → step_fault_by k.checker.rule k.checker.vars k.checker.database step ≡ None → is_old_step k step ≡ false
@@ -117,7 +128,12 @@ module _ (f : System) (d : List ℕ) (s : Subject) (kind : ListKind) (are : AreN
       → take_line f d (AtList s (at old sets units)) l (line_of (Addition id lits hints)) ≡ Ok (after_list_step s (at (after_step old (Addition id lits hints)) sets (units + 1)) (progress_at lits))
   lemma_taken l id lits hints old sets units fine literal fault new =
       step_taken f d s (at old sets units) l (Addition id lits hints) (reads_back id lits hints fine)
-      (lists_nothing id lits hints fine.0 (short_literals (size (list_part f s).greatest) lits small fine.1.0)) literal fault (step_is_new kind (at old sets units) id lits hints refl new)
+      (lemma_lists_nothing id lits hints fine.0 (short_literals (size (list_part f s).greatest) lits small fine.1.0)) literal fault (step_is_new kind (at old sets units) id lits hints refl new)
+
+  deletion_taken : (l id : ℕ) (ids : List ℕ) (old : Database) (sets : List Table) (units : ℕ) → IsFine (StepLine (Deletion id ids)) → step_fault (size (list_part f s).greatest) old (Deletion id ids) ≡ None
+      → take_line f d (AtList s (at old sets units)) l (line_of (Deletion id ids)) ≡ Ok (Going (AtList s (at (after_step old (Deletion id ids)) sets units)))
+  deletion_taken l id ids old sets units fine fault =
+      step_taken f d s (at old sets units) l (Deletion id ids) (step_back (Deletion id ids) fine.0 tt) (deletion_lists_nothing id ids fine.0) (literal_there kind l (Deletion id ids) refl) fault (never_old kind)
 
   -- the lines before the empty lemma
   pub takes_journal : (l : ℕ) (old new : Database) (sets all : List Table) (units total : ℕ) (lines : List JournalLine) → AllByRecursion IsFine lines → AllByRecursion (λ line. line_progress line ≡ going) lines → Runs old lines new
@@ -140,7 +156,12 @@ module _ (f : System) (d : List ℕ) (s : Subject) (kind : ListKind) (are : AreN
         set_line_taken f s (at old sets units) l listed.Blocking id u places same count run.0 run.1 d are part fine.0.0,
         takes_journal (l + 1) next new now all (units + 1) total lines fine.1 on.1 run.2 (all_is ∙ sym (append_assoc sets (spread s.nodes u ∷ []) (map (spread s.nodes) (blocking_sets lines)))) (omega (arith, total_is)),
       )
-  takes_journal l old new sets all units total (StepLine (Deletion id ids) ∷ lines) fine on run all_is total_is = absurd fine.0.1
+  takes_journal l old new sets all units total (StepLine (Deletion id ids) ∷ lines) fine on run all_is total_is =
+      let next : Database = after_step old (Deletion id ids) in (
+        Going (AtList s (at next sets units)),
+        deletion_taken l id ids old sets units fine.0 run.0,
+        takes_journal (l + 1) next new sets all units total lines fine.1 on.1 run.2 all_is (omega (arith, total_is)),
+      )
   takes_journal l old new sets all units total (StepLine (Addition id lits hints) ∷ lines) fine on run all_is total_is =
       let next : Database = after_step old (Addition id lits hints) in
       let long : (length lits == 0) ≡ false = (going_long lits on.0).1 in
@@ -161,7 +182,7 @@ pub takes_refuted : (f : System) (d : List ℕ) (s : Subject) (are : AreNames f.
 unfolding take_line
 takes_refuted f d s are part places same count small l old new sets units (QuorumLine id u) fine ends run = absurd cc
 takes_refuted f d s are part places same count small l old new sets units (BlockingLine id u) fine ends run = absurd cc
-takes_refuted f d s are part places same count small l old new sets units (StepLine (Deletion id ids)) fine ends run = absurd fine.1
+takes_refuted f d s are part places same count small l old new sets units (StepLine (Deletion id ids)) fine ends run = absurd cc
 takes_refuted f d s are part places same count small l old new sets units (StepLine (Addition id lits hints)) fine ends run = (
   Going (AtEnd (record { header = s.header; answer = Blocking (ordered sets) })),
   lemma_taken f d s Whole are part places same count small l id lits hints old sets units fine refl run.0 run.1

@@ -22,7 +22,7 @@ use Rattle.lrat_text.specs.Texts.{line_of, IsId, HasNumbers, HasLiterals}
 use Rattle.lrat_text.specs.Left.{spaced}
 use Rattle.lrat_text.proofs.TextLaws.{id_back}
 use Rattle.lrat_text.proofs.BackLaws.{step_back}
-use Rattle.cdcl_core.specs.Log.{AreLemmas, units}
+use Rattle.cdcl_core.specs.Log.{AreLemmas, AreBounded, IsBoundedLog, live_after, units}
 use Rattle.certificate_file.specs.Formulas.{formula_of}
 use Rattle.cert_lines.specs.Saying.{number_in, counts_in}
 use Rattle.certificate_file.specs.Acceptance.{take_line, checked, steps_from}
@@ -39,7 +39,7 @@ use Rattle.cert_writer.proofs.Words.{IsWord, is_word, is_plain, words_of-worded,
 use Rattle.cert_writer.proofs.Names.{AreNames, are_keys}
 use Rattle.cert_writer.specs.Promises.{IsHeader, subject, EndsAs, shown_by, IsLogOf}
 use Rattle.cert_writer.proofs.Headers.{takes_header, lines_header}
-use Rattle.cert_writer.proofs.StepLines.{line_addition, few_literals, decimal_word}
+use Rattle.cert_writer.proofs.StepLines.{line_addition, line_deletion, few_literals, decimal_word}
 use Rattle.cert_writer.proofs.Runs.{IsRead, IsGoing, takes_steps, takes_last, run_split, taken_by_rat, takes_lemmas, takes_end}
 use Rattle.cert_lines.specs.declared.lines.TheConstants.{MAX_LINES}
 use Rattle.clause_encoder.specs.declared.limits.TheConstants.{MOST_VARS}
@@ -56,13 +56,16 @@ literals_of vars old id lits hints e = elim (cases_Bool (nat_le id old.last)) [
   | inr above ↦ fine_literals (literal_fault vars [] lits) _ (rw above at e)
 ]
 
-lines_log : (vars : ℕ) (old new : Database) (log : List ProofStep) → vars ≤ MOST_VARS → Run vars old log new → AreLemmas vars old log → AllByRecursion HasNumbers log → AllByRecursion HasLiterals log → AreLines (map line_of log)
-lines_log vars old new [] small run lemmas ns ls = tt
-lines_log vars old new (Deletion id ids ∷ log) small run lemmas ns ls = absurd lemmas
-lines_log vars old new (Addition id lits hints ∷ log) small run lemmas ns ls =
+lines_log : (vars : ℕ) (old new : Database) (live : List ℕ) (count : ℕ) (log : List ProofStep) → vars ≤ MOST_VARS → Run vars old log new → AreLemmas vars old log → AreBounded vars live count log → AllByRecursion HasNumbers log → AllByRecursion HasLiterals log → AreLines (map line_of log)
+lines_log vars old new live count [] small run lemmas bounded ns ls = tt
+lines_log vars old new live count (Deletion id ids ∷ log) small run lemmas bounded ns ls = (
+  line_deletion id ids ns.0.0 ns.0.1 bounded.0.0.most,
+  lines_log vars (after_step old (Deletion id ids)) new (live_after live (Deletion id ids)) (count + 1) log small run.1 lemmas.1 bounded.1 ns.1 ls.1,
+)
+lines_log vars old new live count (Addition id lits hints ∷ log) small run lemmas bounded ns ls =
     let few = few_literals vars lits (literals_of vars old id lits hints run.0) lemmas.0.distinct in (
       line_addition id lits hints ns.0.0 ns.0.1 ls.0 (omega (arith, few)) (omega (arith, lemmas.0.few_hints)),
-      lines_log vars (after_step old (Addition id lits hints)) new log small run.1 lemmas.1 ns.1 ls.1,
+      lines_log vars (after_step old (Addition id lits hints)) new (live_after live (Addition id lits hints)) count log small run.1 lemmas.1 bounded.1 ns.1 ls.1,
     )
 
 reads : (log : List ProofStep) → AllByRecursion HasNumbers log → AllByRecursion HasLiterals log → AllByRecursion IsRead log
@@ -153,9 +156,9 @@ rat_formula f s = refl
 
 pub log_accepted : (f : System) (d : List ℕ) (h : Header) (to : Aim) (vars clauses : ℕ) (log : List ProofStep) (new : Database) → IsSystem f.names f.sets → IsStrictlySortedBy name_cmp f.names → length d ≡ 32 → IsBytes d → IsHeader f h
     → vars ≡ (formula_of f (subject f h)).vars → clauses ≡ (formula_of f (subject f h)).database.last → vars ≤ MOST_VARS → IsId clauses
-    → Run vars (formula_of f (subject f h)).database log new → AreLemmas vars (formula_of f (subject f h)).database log → AllByRecursion HasNumbers log → AllByRecursion HasLiterals log → length log + 7 ≤ MAX_LINES → EndsAs to log
+    → Run vars (formula_of f (subject f h)).database log new → AreLemmas vars (formula_of f (subject f h)).database log → IsBoundedLog vars log → AllByRecursion HasNumbers log → AllByRecursion HasLiterals log → length log + 7 ≤ MAX_LINES → EndsAs to log
     → checked f d (log_text f.names d h to vars clauses log) ≡ Ok (record { header = h; answer = shown_by to log })
-log_accepted f d h to vars clauses log new is sorted size bytes head v k small id run lemmas ns ls few ends =
+log_accepted f d h to vars clauses log new is sorted size bytes head v k small id run lemmas bounded ns ls few ends =
     let s = subject f h in
     let c = formula_of f s in
     let are : AreNames f.names = record { keys = are_keys f.names is.keys; sorted = sorted } in
@@ -168,11 +171,11 @@ log_accepted f d h to vars clauses log new is sorted size bytes head v k small i
     let taken : Takes f d 5 (Going (AtKind s)) body (Done (record { header = h; answer = shown_by to log })) = (Going (AtFormula to s), kind_taken f d s to, (Going (steps_from to h c), formula_taken f d h to vars clauses c refl v k small id, from_formula)) in
     let whole = takes-append f d 1 5 (Going AtTitle) (Going (AtKind s)) (Done (record { header = h; answer = shown_by to log })) head_lines body refl (takes_header f d h are size bytes head) taken in
     let last_line : IsLine (codes "end") = record { plain = is_plain (codes "end") refl; short = omega arith } in
-    let step_lines = lines_log vars c.database new log small run lemmas ns ls in
+    let step_lines = lines_log vars c.database new [] 0 log small run lemmas bounded ns ls in
     let lines : AreLines (head_lines ++ body) = are_lines-append head_lines body (lines_header f d h are is.few size head) (line_kind to, (line_formula vars clauses small id, are_lines-append (map line_of log) (codes "end" ∷ []) step_lines (last_line, tt))) in
     let count : length (head_lines ++ body) ≤ MAX_LINES = omega (arith, length-append (map line_of log) (codes "end" ∷ []), length-map log line_of, few) in
     accepted_text f d (head_lines ++ body) (record { header = h; answer = shown_by to log }) lines count whole
 
 pub log_of_accepted : (f : System) (d : List ℕ) (h : Header) (to : Aim) (vars clauses : ℕ) (log : List ProofStep) → IsSystem f.names f.sets → IsStrictlySortedBy name_cmp f.names → length d ≡ 32 → IsBytes d → IsHeader f h → IsLogOf f h to vars clauses log → checked f d (log_text f.names d h to vars clauses log) ≡ Ok (record { header = h; answer = shown_by to log })
 log_of_accepted f d h to vars clauses log is sorted size bytes head l =
-    log_accepted f d h to vars clauses log l.new is sorted size bytes head l.vars_are l.clauses_are l.small l.some_clause l.run l.lemmas (recursion_from_All HasNumbers log l.numbers) (recursion_from_All HasLiterals log l.literals) l.few l.ends
+    log_accepted f d h to vars clauses log l.new is sorted size bytes head l.vars_are l.clauses_are l.small l.some_clause l.run l.lemmas l.bounded (recursion_from_All HasNumbers log l.numbers) (recursion_from_All HasLiterals log l.literals) l.few l.ends

@@ -35,6 +35,7 @@ use Rattle.cert_writer.proofs.Words.{is_word, is_plain}
 use Rattle.cert_writer.proofs.Names.{AreNames, are_keys, named-listed}
 use Rattle.cert_writer.specs.Promises.{IsHeader, subject, part_of, faulty_in, raised_pair}
 use Rattle.fbas_model.proofs.WholeLaw.{restricted_to_everyone}
+use Rattle.fbas_model.specs.declared.TheConstants.{MOST_NODES}
 use Rattle.cert_writer.proofs.Headers.{takes_header, line_listed, lines_header}
 
 -- a set that a line of a pair may list: a quorum of the part
@@ -141,7 +142,7 @@ in_order part p w n same a c low_a low_c order =
 pair_lines-spread : (names : List Name) (part : Table) (p : Pair) → pair_lines (kept part names) p ≡ pair_lines names (record { first = spread part p.first; second = spread part p.second })
 pair_lines-spread names part p = rw (kept-spread part p.first names, kept-spread part p.second names) refl
 
-lines_pair : (names : List Name) (p : Pair) → AreNames names → length names ≤ 4096 → AreLines (pair_lines names p)
+lines_pair : (names : List Name) (p : Pair) → AreNames names → length names ≤ MOST_NODES → AreLines (pair_lines names p)
 lines_pair names p are few = (
   record { plain = is_plain (codes "kind pair") refl; short = omega arith },
   (

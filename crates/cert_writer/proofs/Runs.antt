@@ -96,6 +96,12 @@ unfolding take_line
 lemma_taken f d h vars old n l id lits hints read on fault new =
     rw (not_end (Addition id lits hints) read, read, on, taken_by_rat vars old (Addition id lits hints) fault, new_uncovered old.held id lits new) refl
 
+-- a deletion, which takes no unit
+deletion_taken : (f : System) (d : List ℕ) (h : Header) (vars : ℕ) (old : Database) (n l id : ℕ) (ids : List ℕ) → IsRead (Deletion id ids) → step_fault vars old (Deletion id ids) ≡ None
+    → take_line f d (AtLemmas h (record { rule = Rat; vars = vars; database = old }) n) l (line_of (Deletion id ids)) ≡ Ok (Going (AtLemmas h (record { rule = Rat; vars = vars; database = after_step old (Deletion id ids) }) n))
+unfolding take_line
+deletion_taken f d h vars old n l id ids read fault = rw (not_end (Deletion id ids) read, read, taken_by_rat vars old (Deletion id ids) fault) refl
+
 pub going_long : (lits : List Literal) → progress_at lits ≡ going → (0 < length lits) × ((length lits == 0) ≡ false)
 going_long [] e = absurd cc
 going_long (l ∷ lits) e = (omega arith, ne_eqb (length (l ∷ lits)) 0 (λ k. omega arith))
@@ -103,7 +109,12 @@ going_long (l ∷ lits) e = (omega arith, ne_eqb (length (l ∷ lits)) 0 (λ k. 
 pub takes_lemmas : (f : System) (d : List ℕ) (h : Header) (vars : ℕ) (old new : Database) (n l : ℕ) (log : List ProofStep) → AllByRecursion IsRead log → AllByRecursion IsGoing log → Run vars old log new → AreLemmas vars old log → Takes f d l (Going (AtLemmas h (record { rule = Rat; vars = vars; database = old }) n)) (map line_of log) (Going (AtLemmas h (record { rule = Rat; vars = vars; database = new }) (n + units log)))
 takes_lemmas f d h vars old new n l [] reads on run lemmas =
     let e : n + 0 ≡ n = omega arith in rw (run, e) refl
-takes_lemmas f d h vars old new n l (Deletion id ids ∷ log) reads on run lemmas = absurd lemmas
+takes_lemmas f d h vars old new n l (Deletion id ids ∷ log) reads on run lemmas =
+    let next = after_step old (Deletion id ids) in (
+      Going (AtLemmas h (record { rule = Rat; vars = vars; database = next }) n),
+      deletion_taken f d h vars old n l id ids reads.0 run.0,
+      takes_lemmas f d h vars next new n (l + 1) log reads.1 on.1 run.1 lemmas.1,
+    )
 takes_lemmas f d h vars old new n l (Addition id lits hints ∷ log) reads on run lemmas =
     let long = going_long lits on.0 in
     let next = after_step old (Addition id lits hints) in

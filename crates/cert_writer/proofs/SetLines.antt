@@ -10,6 +10,7 @@ use Rattle.fbas_model.specs.Systems.{System}
 use Rattle.fbas_model.specs.Restriction.{kept}
 use Rattle.fbas_model.proofs.Kept.{kept_le}
 use Rattle.fbas_model.proofs.QuorumLaw.{quorum-from}
+use Rattle.fbas_model.specs.declared.TheConstants.{MOST_NODES}
 use Rattle.lrat_model.specs.Clauses.{Held}
 use Rattle.lrat_model.specs.declared.step.StepFault.TheVariants.{IdOrder}
 use Rattle.lrat_text.specs.Left.{spaced}
@@ -77,7 +78,7 @@ numbered which id names set are is =
 
 -- ---- it is a line
 
-pub line_set : (which : Listed) (id : ℕ) (names : List Name) (set : Table) → AreNames names → length names ≤ 4096 → IsId id → IsLine (set_line (letter which) id names set)
+pub line_set : (which : Listed) (id : ℕ) (names : List Name) (set : Table) → AreNames names → length names ≤ MOST_NODES → IsId id → IsLine (set_line (letter which) id names set)
 line_set which id names set are few is = record {
   plain = plain-worded (letter which) (decimal id ∷ kept set names) (letter_word which) (decimal_word id (omega (arith, is.1)), words-keys (kept set names) (keys-kept set names are.keys));
   short =

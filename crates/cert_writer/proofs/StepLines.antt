@@ -11,7 +11,7 @@ use Rattle.std.proofs.lemmas.Str.Parse.{digit_from_value}
 use Rattle.std.proofs.lemmas.Fmt.{decimal_is_IsNumeral, length-decimal-le}
 use Rattle.std.proofs.lemmas.Map.Steps.{length-le_from_distinct_below}
 use Rattle.lrat_model.specs.Literal.{Literal, Plus, Minus, variable_of, negated, same, has}
-use Rattle.lrat_model.specs.Steps.{Addition, literal_fault}
+use Rattle.lrat_model.specs.Steps.{Addition, Deletion, literal_fault}
 use Rattle.lrat_model.proofs.Literals.{same-true, has-first, has-rest, has-push}
 use Rattle.lrat_text.specs.Words.{Word}
 use Rattle.lrat_text.specs.Left.{spaced}
@@ -46,6 +46,9 @@ hint_word : (hint : ℤ) → IsHint hint → IsWord (signed_decimal hint) × (le
 hint_word (pos n) is = (decimal_word n (omega (arith, is.1)), let h : length (decimal n) ≤ 19 = length-decimal-le 19 n (omega arith) (omega (arith, is.1)) (omega (arith, is.1)) in omega arith)
 hint_word (negsuc n) is = (minus_word (decimal (suc n)) (decimal_word (suc n) (omega (arith, is))), let h : length (decimal (suc n)) ≤ 19 = length-decimal-le 19 (suc n) (omega arith) (omega (arith, is)) (omega (arith, is)) in omega arith)
 
+id_word : (id : ℕ) → IsId id → IsWord (decimal id) × (length (decimal id) ≤ 20)
+id_word id is = (decimal_word id (omega (arith, is.1)), let h : length (decimal id) ≤ 19 = length-decimal-le 19 id (omega arith) (omega (arith, is.1)) (omega (arith, is.1)) in omega arith)
+
 literal_words : (lits : List Literal) → AllByRecursion IsLiteral lits → AreWords (map literal_text lits) × AllByRecursion (λ (w : Word). length w ≤ 11) (map literal_text lits)
 literal_words [] all = (tt, tt)
 literal_words (l ∷ lits) all =
@@ -58,6 +61,13 @@ hint_words [] all = (tt, tt)
 hint_words (hint ∷ hints) all =
     let first = hint_word hint all.0 in
     let rest = hint_words hints all.1 in
+    ((first.0, rest.0), (first.1, rest.1))
+
+id_words : (ids : List ℕ) → AllByRecursion IsId ids → AreWords (map decimal ids) × AllByRecursion (λ (w : Word). length w ≤ 20) (map decimal ids)
+id_words [] all = (tt, tt)
+id_words (id ∷ ids) all =
+    let first = id_word id all.0 in
+    let rest = id_words ids all.1 in
     ((first.0, rest.0), (first.1, rest.1))
 
 words-append : (xs ys : List Word) → AreWords xs → AreWords ys → AreWords (xs ++ ys)
@@ -96,6 +106,31 @@ line_addition id lits hints is hs ls few_lits few_hints =
     let e = length-spaced-append (map signed_decimal hints) ends in
     let total : length (decimal id ++ spaced rest) ≤ MAX_LINE_BYTES = omega (arith, a, b, c, e, length-append (decimal id) (spaced rest), length-map lits literal_text, length-map hints signed_decimal) in
     subst IsLine (sym (line_words id lits hints)) (record { plain = plain-worded (decimal id) rest first (words_lemma lits hints hs ls); short = total })
+
+delete_word : IsWord (codes "d")
+delete_word = is_word (codes "d") refl
+
+-- the words behind the id of a deletion
+abbrev pub deletion_words : List ℕ → List Word
+deletion_words ids = codes "d" ∷ (map decimal ids ++ codes "0" ∷ [])
+
+pub words_deletion : (ids : List ℕ) → AllByRecursion IsId ids → AreWords (deletion_words ids)
+words_deletion ids all = (delete_word, words-append (map decimal ids) (codes "0" ∷ []) (id_words ids all).0 (zero_word, tt))
+
+pub deletion_line_words : (id : ℕ) (ids : List ℕ) → line_of (Deletion id ids) ≡ decimal id ++ spaced (deletion_words ids)
+deletion_line_words id ids = joined_words (decimal id) (deletion_words ids)
+
+-- the line of a deletion of so few ids
+pub line_deletion : (id : ℕ) (ids : List ℕ) → IsId id → AllByRecursion IsId ids → length ids ≤ 1000 → IsLine (line_of (Deletion id ids))
+line_deletion id ids is all few =
+    let ends : List Word = codes "0" ∷ [] in
+    let rest : List Word = deletion_words ids in
+    let first : IsWord (decimal id) = decimal_word id (omega (arith, is.1)) in
+    let head : length (decimal id) ≤ 19 = length-decimal-le 19 id (omega arith) (omega (arith, is.1)) (omega (arith, is.1)) in
+    let a = length-spaced_long (map decimal ids) (id_words ids all).1 in
+    let e = length-spaced-append (map decimal ids) ends in
+    let total : length (decimal id ++ spaced rest) ≤ MAX_LINE_BYTES = omega (arith, a, e, length-append (decimal id) (spaced rest), length-map ids decimal) in
+    subst IsLine (sym (deletion_line_words id ids)) (record { plain = plain-worded (decimal id) rest first (words_deletion ids all); short = total })
 
 -- ---- few literals: a lemma that is taken has each variable once
 

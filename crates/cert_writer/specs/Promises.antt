@@ -9,7 +9,7 @@ use Rattle.greatest_quorum.specs.Greatest.{greatest_of}
 use Rattle.lrat_model.specs.Steps.{ProofStep, Database}
 use Rattle.lrat_model.specs.Runs.{Run}
 use Rattle.lrat_text.specs.Texts.{IsId, HasNumbers, HasLiterals}
-use Rattle.cdcl_core.specs.Log.{AreLemmas, EndsEmpty, HasNoEmptyLemma, units}
+use Rattle.cdcl_core.specs.Log.{AreLemmas, EndsEmpty, HasNoEmptyLemma, IsBoundedLog, units}
 use Rattle.witness_pair.specs.Making.{shared}
 use Rattle.witness_pair.specs.declared.Pair.{Pair}
 use Rattle.list_journal.specs.Journals.{JournalLine, nothing_held, JournalRun, IsOpen, EndsRefuted, blocking_sets, journal_units}
@@ -71,6 +71,7 @@ pub record IsLogOf (f : System) (h : Header) (to : Aim) (vars clauses : ℕ) (lo
   pub new : Database
   pub run : Run vars (formula_of f (subject f h)).database log new
   pub lemmas : AreLemmas vars (formula_of f (subject f h)).database log
+  pub bounded : IsBoundedLog vars log
   pub numbers : All HasNumbers log
   pub literals : All HasLiterals log
   pub few : length log + 7 ≤ MAX_LINES

@@ -1,5 +1,5 @@
 -- What shows the answer to a question.
-use Rattle.std.specs.Prelude.{◌≡◌, ℕ, ◌≤◌, List, length, All}
+use Rattle.std.specs.Prelude.{◌≡◌, ℕ, ◌+◌, ◌*◌, ◌≤◌, List, length, All}
 use Rattle.fbas_model.specs.Nodes.{Table, members}
 use Rattle.fbas_model.specs.Fbas.{Fbas, Intersects}
 use Rattle.greatest_quorum.specs.Greatest.{greatest_of}
@@ -9,7 +9,7 @@ use Rattle.lrat_model.specs.Runs.{Run, formula_database}
 use Rattle.lrat_model.specs.Propagation.{Closes}
 use Rattle.lrat_model.specs.Lemmas.{IsDue}
 use Rattle.lrat_text.specs.Texts.{HasNumbers, HasLiterals}
-use Rattle.cdcl_core.specs.Log.{AreLemmas, EndsEmpty, HasNoEmptyLemma, units}
+use Rattle.cdcl_core.specs.Log.{AreLemmas, EndsEmpty, HasNoEmptyLemma, IsBoundedLog, units}
 use Rattle.clause_encoder.specs.Formula.{formula_clauses, formula_vars}
 use Rattle.clause_encoder.specs.declared.version.Version.TheVariants.{Two}
 use Rattle.clause_encoder.specs.declared.limits.TheConstants.{MOST_VARS, MOST_CLAUSES}
@@ -33,10 +33,12 @@ pub record IsSize (f : Fbas) (b : Table) (size : Size) : Type 0 where
   pub small : size.vars ≤ MOST_VARS
   pub few : size.clauses ≤ MOST_CLAUSES
 
--- a log over the formula: from its clauses to what is held at the end, each step is taken and is a lemma that is useful where it has a literal, and its line says it
+-- a log over the formula: from its clauses to what is held at the end, each step is taken and is a lemma that is useful where it has a literal, or a deletion of such lemmas within the bounds, and its line says it; there is at most one step more than twice the units
 pub record IsLog (f : Fbas) (b : Table) (log : List ProofStep) (new : Database) : Type 0 where
   pub run : Run (vars_of f b) (formula_database (clauses_of f b)) log new
   pub lemmas : AreLemmas (vars_of f b) (formula_database (clauses_of f b)) log
+  pub bounded : IsBoundedLog (vars_of f b) log
+  pub short : length log ≤ 2 * units log + 1
   pub numbers : All HasNumbers log
   pub literals : All HasLiterals log
 

@@ -28,7 +28,7 @@ returns-then-branch c =
     subst (λ (xs : List Table). (n : ℕ) → All (λ s. length s ≡ n) xs → (s : Table) → Contains c.rising.result.items s ↔ Contains xs s) sets_are c.rising.ensures.same in record {
       outcome = listing_whole f b c.greatest-greatest.result c.args.budget.now c.run.new.budget lines log journal c.rising.result.items c.requires.same_faulty c.greatest-greatest.ensures.counted journal_is c.rising.ensures.rising same whole;
       numbers = subst (λ (ls : List JournalLine). All HasLineNumbers ls) (sym journal_is) (numbers_merged 0 lines log whole.ids (subst (λ (steps : List ProofStep). All HasNumbers steps) c.into_log.ensures.log c.into_log.ensures.numbers));
-      few_words = listing_few f b c.greatest-greatest.result lines log journal c.greatest-greatest.ensures.counted journal_is whole.short;
+      few_words = listing_few f b c.greatest-greatest.result lines log journal c.greatest-greatest.ensures.counted journal_is whole.short.steps;
     }
 
 pub returns-clause-outcome : goal.returns-clause-outcome
@@ -52,4 +52,4 @@ returns-clause-few_words c =
     let lines = c.run.new.listed.items in
     let log = c.run.new.solver.log in
     let journal_is = merged_log lines c.into_log-2.result log c.new-2.result c.new-2.ensures c.into_log-2.ensures.log in
-    listing_few c.args.system.now.sets c.args.faulty.now c.greatest-greatest.result lines log c.new-2.result c.greatest-greatest.ensures.counted journal_is (c.in_ok-run.ensures.part (ap Ok c.if-branch.false)).short
+    listing_few c.args.system.now.sets c.args.faulty.now c.greatest-greatest.result lines log c.new-2.result c.greatest-greatest.ensures.counted journal_is (c.in_ok-run.ensures.part (ap Ok c.if-branch.false)).short.steps

@@ -4,7 +4,7 @@ use Rattle.cdcl_core.specs.Solving.{assignment}
 use Rattle.cdcl_core.specs.declared.run.Verdict.{Verdict}
 use Rattle.blocking_lists.specs.Search.{IsListing}
 use Rattle.blocking_lists.proofs.Models.{satisfied_is_open}
-use Rattle.blocking_lists.proofs.Searches.{listing_steps, listing_refuted}
+use Rattle.blocking_lists.proofs.Searches.{empty_stays, listing_steps, listing_refuted}
 use Rattle.blocking_lists.proofs.search.run.Goals as goal
 
 not_refuted_spent : (v : Verdict) → v ≡ Verdict.Spent → v ≢ Verdict.Unsat
@@ -16,19 +16,19 @@ not_refuted_sat v e h = cc
 pub returns-in-Unsat-clause-whole : goal.returns-in-Unsat-clause-whole
 returns-in-Unsat-clause-whole c = λ _.
     let now = c.in_ok-solve.ensures in
-    listing_refuted c.args.system.now.sets (members c.args.faulty.now) c.args.greatest.now c.args.budget.now c.lines.budget c.solve.new.budget c.lines.listed.items c.lines.solver c.solve.new.self c.lines.invariant now.log now.run now.lemmas now.units now.vars now.range (now.unsat (ap Ok c.in-Unsat.is))
+    listing_refuted c.args.system.now.sets (members c.args.faulty.now) c.args.greatest.now c.args.budget.now c.lines.budget c.solve.new.budget c.lines.listed.items c.lines.solver c.solve.new.self c.lines.invariant now.log now.run now.lemmas now.units now.vars now.bounds now.short (now.unsat (ap Ok c.in-Unsat.is))
 
 pub returns-in-Spent-clause-part : goal.returns-in-Spent-clause-part
 returns-in-Spent-clause-part c = λ _.
     let now = c.in_ok-solve.ensures in
     let other = not_refuted_spent c.in_ok-solve.field-0 c.in-Spent.is in
-    listing_steps c.args.system.now.sets (members c.args.faulty.now) c.args.greatest.now c.args.budget.now c.lines.budget c.solve.new.budget c.lines.listed.items c.lines.solver c.solve.new.self c.lines.invariant now.log now.run now.lemmas now.units now.vars now.range (now.open other) (now.room (λ e. other (cc))) now.kept
+    listing_steps c.args.system.now.sets (members c.args.faulty.now) c.args.greatest.now c.args.budget.now c.lines.budget c.solve.new.budget c.lines.listed.items c.lines.solver c.solve.new.self c.lines.invariant now.log now.run now.lemmas now.units now.vars now.bounds now.short (now.open other) (now.room (λ e. other (cc))) (empty_stays c.lines.solver c.solve.new.self now.kept)
 
 pub returns-then-left-eq0-clause-part : goal.returns-then-left-eq0-clause-part
 returns-then-left-eq0-clause-part c = λ _.
     let now = c.in_ok-solve.ensures in
     let other = not_refuted_sat c.in_ok-solve.field-0 c.in-Sat.is in
-    listing_steps c.args.system.now.sets (members c.args.faulty.now) c.args.greatest.now c.args.budget.now c.lines.budget c.solve.new.budget c.lines.listed.items c.lines.solver c.solve.new.self c.lines.invariant now.log now.run now.lemmas now.units now.vars now.range (now.open other) (now.room (λ e. other (cc))) now.kept
+    listing_steps c.args.system.now.sets (members c.args.faulty.now) c.args.greatest.now c.args.budget.now c.lines.budget c.solve.new.budget c.lines.listed.items c.lines.solver c.solve.new.self c.lines.invariant now.log now.run now.lemmas now.units now.vars now.bounds now.short (now.open other) (now.room (λ e. other (cc))) (empty_stays c.lines.solver c.solve.new.self now.kept)
 
 pub returns-then-left-eq0-clause-unclosed : goal.returns-then-left-eq0-clause-unclosed
 returns-then-left-eq0-clause-unclosed c = λ _. satisfied_is_open (assignment c.solve.new.self) c.solve.new.self.database.held (c.in_ok-solve.ensures.sat (ap Ok c.in-Sat.is))
@@ -41,5 +41,5 @@ lines-preserved c =
     let total = c.args.budget.now in
     let now = c.in_ok-solve.ensures in
     let other = not_refuted_sat c.in_ok-solve.field-0 c.in-Sat.is in
-    let is = listing_steps f b g total c.lines.budget c.solve.new.budget c.lines.listed.items c.lines.solver c.solve.new.self c.lines.invariant now.log now.run now.lemmas now.units now.vars now.range (now.open other) (now.room (λ e. other (cc))) now.kept in
+    let is = listing_steps f b g total c.lines.budget c.solve.new.budget c.lines.listed.items c.lines.solver c.solve.new.self c.lines.invariant now.log now.run now.lemmas now.units now.vars now.bounds now.short (now.open other) (now.room (λ e. other (cc))) (empty_stays c.lines.solver c.solve.new.self now.kept) in
     c.in_ok-turn-in-Sat.ensures.goes_on total c.take.new.self (omega (arith, c.requires.room)) (subst (λ (n : ℕ). IsListing f b g total n c.lines.listed.items c.solve.new.self) (sym c.take.ensures) is)

@@ -1,4 +1,4 @@
-use Rattle.std.proofs.Common.{◌≡◌, ℕ, ◌≤◌, ◌<◌, OnOk, subst}
+use Rattle.std.proofs.Common.{◌≡◌, ◌≤◌, ◌<◌, OnOk, subst}
 use Rattle.fbas_model.specs.Nodes.{Table}
 use Rattle.clause_encoder.specs.declared.limits.TheConstants.{MOST_VARS}
 use Rattle.quorum_questions.specs.Evidence.{vars_of}

@@ -10,10 +10,8 @@ use Rattle.clause_encoder.specs.Formula.{formula_vars, formula_clauses}
 use Rattle.clause_encoder.specs.declared.version.Version.TheVariants.{Two}
 use Rattle.clause_encoder.specs.Variables.{Variables}
 use Rattle.clause_encoder.specs.declared.limits.TheConstants.{MOST_VARS, MOST_CLAUSES}
-use Rattle.clause_encoder.specs.declared.encoder.EncodeError as EncodeError
 use Rattle.clause_encoder.specs.declared.encoder.EncodeError.{EncodeError}
 use Rattle.quorum_questions.specs.Evidence.{vars_of, clauses_of}
-use Rattle.quorum_questions.specs.declared.answers.AskError as AskError
 use Rattle.quorum_questions.specs.declared.answers.AskError.{AskError}
 use Rattle.quorum_questions.proofs.searching.start.Goals as goal
 
