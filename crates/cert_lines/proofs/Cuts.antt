@@ -1,5 +1,5 @@
 -- Lines that are cut, and what passes the limits.
-use Rattle.std.proofs.Common.{◌≡◌, ℕ, ◌+◌, ◌≤◌, List, [], ◌∷◌, ◌++◌, length, ◌==◌, Result, Ok, Err, inl, inr, refl, sym, ◌∙◌, ap, arith, leb, length-append}
+use Rattle.std.proofs.Common.{◌≡◌, ℕ, ◌+◌, ◌≤◌, List, [], ◌∷◌, ◌++◌, length, ◌==◌, Result, Ok, Err, inl, inr, refl, sym, ap, arith, leb, length-append}
 use Rattle.std.proofs.lemmas.Bool.{cases_Bool, leb-true, le-leb}
 use Rattle.cert_lines.specs.Lines.{Lines, tail, line, lines_of, with_byte, feeds}
 use Rattle.cert_lines.specs.Limits.{within_limits}

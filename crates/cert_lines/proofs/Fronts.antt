@@ -1,5 +1,5 @@
 -- A line of what is left, byte by byte.
-use Rattle.std.proofs.Common.{◌≡◌, ◌≢◌, ℕ, suc, ◌+◌, ◌≤◌, ◌<◌, List, [], ◌∷◌, ◌++◌, length, Bool, true, false, ◌==◌, Result, Ok, Err, inl, inr, refl, sym, ◌∙◌, ap, arith, leb, length-append, append_assoc}
+use Rattle.std.proofs.Common.{◌≡◌, ◌≢◌, ℕ, suc, ◌+◌, ◌≤◌, ◌<◌, List, [], ◌∷◌, ◌++◌, length, Bool, true, false, Ok, Err, inl, inr, refl, sym, ◌∙◌, ap, arith, leb, length-append, append_assoc}
 use Rattle.std.proofs.lemmas.Bool.{cases_Bool, leb-true, le-leb, ne_eqb}
 use Rattle.std.proofs.lemmas.List.{append-nil}
 use Rattle.cert_lines.specs.Lines.{Lines, tail, line, lines_of, with_byte}
@@ -28,7 +28,7 @@ front-part front (b ∷ part) bytes feedless =
     ∙ front-part (front ++ b ∷ []) part bytes (λ k within. feedless (suc k) (omega (arith, within)))
     ∙ ap (λ (f : List ℕ). with_front f (lines_of bytes)) (append_assoc front (b ∷ []) part)
 
-limit_false : (n m : ℕ) → m < n → leb n m ≡ false
+pub limit_false : (n m : ℕ) → m < n → leb n m ≡ false
 limit_false n m less = elim (cases_Bool (leb n m)) [
   | inl e ↦ let le = leb-true n m e in absurd (omega arith)
   | inr e ↦ e

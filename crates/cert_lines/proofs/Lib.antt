@@ -1,6 +1,8 @@
 pub mod Fronts
 pub mod PieceCuts
 pub mod PartRuns
+pub mod TextParts
 pub mod Cuts
 pub mod WordLaws
 pub mod StepStarts
+pub mod ProofStarts

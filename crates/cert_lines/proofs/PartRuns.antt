@@ -1,5 +1,5 @@
 -- The parts of one line, one after another.
-use Rattle.std.proofs.Common.{◌≡◌, ℕ, ◌+◌, List, [], ◌++◌, length, Bool, true, false, refl, sym, ap, ◌∙◌, subst, arith, Result, Ok, Err, length-append, append_assoc}
+use Rattle.std.proofs.Common.{◌≡◌, ℕ, ◌+◌, List, [], ◌++◌, length, Bool, true, false, sym, ap, ◌∙◌, subst, arith, Ok, Err, length-append}
 use Rattle.std.proofs.lemmas.List.{append-nil}
 use Rattle.cert_lines.specs.Lines.{Lines}
 use Rattle.cert_lines.specs.Limits.{next_line}
@@ -14,7 +14,7 @@ Came taken suffix old now = (front : List ℕ) → length front ≡ taken → wi
 pub nothing_came : (taken : ℕ) (old : Lines) → Came taken [] old old
 nothing_came taken old front is = ap (λ (f : List ℕ). with_front f old) (sym (append-nil front))
 
-long : (front suffix : List ℕ) (old now : ℕ) → length front ≡ old → now ≡ old + length suffix → length (front ++ suffix) ≡ now
+pub long : (front suffix : List ℕ) (old now : ℕ) → length front ≡ old → now ≡ old + length suffix → length (front ++ suffix) ≡ now
 long front suffix old now is grown = omega (arith, is, grown, length-append front suffix)
 
 -- one part more

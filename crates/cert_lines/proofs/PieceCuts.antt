@@ -1,5 +1,5 @@
 -- What is cut off a piece.
-use Rattle.std.proofs.Common.{◌≡◌, ◌≢◌, ℕ, ◌+◌, ◌-◌, ◌<◌, ◌≤◌, List, [], ◌∷◌, ◌++◌, length, get_or, take, drop, slice_range, length-take, ◌==◌, true, refl, sym, ap, ◌∙◌, subst, arith, suc, take-append-drop, Option, Some, None}
+use Rattle.std.proofs.Common.{◌≡◌, ℕ, ◌+◌, ◌-◌, ◌<◌, ◌≤◌, List, ◌∷◌, ◌++◌, get_or, take, drop, slice_range, length-take, sym, ap, ◌∙◌, arith, suc, take-append-drop, Some, None}
 use Rattle.std.proofs.lemmas.Bool.{eqb-true, eq-eqb}
 use Rattle.std.proofs.Math.Seq.{drop-cons, take-take, drop-drop, get_or-take}
 use Rattle.std.proofs.lemmas.List.{drop-take}

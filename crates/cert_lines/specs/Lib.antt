@@ -1,5 +1,6 @@
 pub mod Lines
 pub mod Limits
+pub mod Texts
 pub mod Parts
 pub mod Steps
 pub mod Words

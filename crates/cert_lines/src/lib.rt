@@ -5,6 +5,7 @@
 mod faults;
 mod lines;
 mod pieces;
+mod proof;
 mod saying;
 mod steps;
 mod words;
@@ -12,6 +13,7 @@ mod words;
 pub use faults::CertError;
 pub use lines::{Lines, MAX_LINE_BYTES, MAX_LINES};
 pub use lrat_model::{Step, StepFault};
+pub use proof::{ProofLine, proof_line};
 pub use saying::{Counts, counts_in, digits_in, step_in};
 pub use steps::line_or_step;
 pub use words::{Words, begins, follows, is_name};

@@ -1,10 +1,11 @@
 //! The lines of a certificate, and the limits on them.
-ghost use Rattle.std.specs.Prelude.{◌≡◌, ◌≢◌, ℕ, List, [], ◌+◌, ◌++◌, ◌<◌, ◌≤◌, ◌⊎◌, length, true, false, IsTrue, IfOk, IfErr, IsErrOf, OnOk, if◌then◌else◌};
+ghost use Rattle.std.specs.Prelude.{◌≡◌, ◌≢◌, ℕ, List, [], ◌+◌, ◌++◌, ◌<◌, ◌≤◌, ◌⊎◌, length, true, false, None, IsTrue, IfSome, IfOk, IfErr, IsErrOf, OnOk, Ok, Err, if◌then◌else◌};
 ghost use Rattle.desk_io.specs.State.{left_of, with_left};
 ghost use Rattle.desk_io.specs.Faults.{ReadFails};
 ghost use Rattle.cert_lines.specs.Lines.{lines_of};
 ghost use Rattle.cert_lines.specs.Limits.{next_line};
 ghost use Rattle.cert_lines.specs.Parts.{with_front, IsPart};
+ghost use Rattle.cert_lines.specs.Texts.{texts_in, texts_of, next_text, IsTextPart, IsTooLong};
 
 use crate::faults::CertError;
 use crate::pieces::Pieces;
@@ -77,6 +78,7 @@ impl Lines {
     pub fn begin(&self) -> Result<(), CertError>
         ensures ok { OnOk result (self.now.number ≤ MAX_LINES) }
         ensures err { IfErr result (λ e. (e ≡ CertError.TooManyLines) × ((bytes : List ℕ) → next_line self.now.number (lines_of bytes) ≡ Err e)) }
+        ensures many { IfErr result (λ _. MAX_LINES < self.now.number) }
     {
         if self.number > MAX_LINES {
             return Err(CertError::TooManyLines);
@@ -126,6 +128,65 @@ impl Lines {
         if !self.bytes.fill(desk)? {
             return Err(CertError::Truncated(self.number));
         }
+        self.cut_part()
+    }
+
+    /// Takes the first part of the next line of a text whose last line may lack its line feed: whether it ends the line, or None
+    /// where no line is left.
+    pub fn first_part<D: Desk>(&mut self, desk: &mut D) -> Result<Option<bool>, CertError>
+        requires { self.old.taken ≡ 0 }
+        ensures none { result ≡ Ok None → IsTrue D.tells → next_text self.old.number (texts_of (self.old.unread ++ left_of Which.Cert (D.state desk.old))) ≡ Ok None }
+        ensures part { IfOk result (λ o. IfSome o (λ ends. IsTrue D.tells → IsTextPart ends self.old.number [] self.new.part (lines_of (self.old.unread ++ left_of Which.Cert (D.state desk.old))) (lines_of (self.new.unread ++ left_of Which.Cert (D.state desk.new))))) }
+        ensures few { IfOk result (λ o. IfSome o (λ _. self.old.number ≤ MAX_LINES)) }
+        ensures number { IfOk result (λ o. IfSome o (λ ends. self.new.number ≡ (if ends then self.old.number + 1 else self.old.number))) }
+        ensures taken { IfOk result (λ o. IfSome o (λ ends. self.new.taken ≡ (if ends then 0 else length self.new.part))) }
+        ensures grows { IfOk result (λ o. IfSome o (λ ends. ends ≡ false → 0 < length self.new.part)) }
+        ensures err { IfErr result (λ e. IsTrue D.tells → (e ≡ CertError.Read) ⊎ (next_text self.old.number (texts_of (self.old.unread ++ left_of Which.Cert (D.state desk.old))) ≡ Err e)) }
+        ensures plain { IsErrOf result CertError.Read → IsTrue D.tells → IsTrue (D.state desk.old).plain → ⊥ }
+        ensures rest { IsTrue D.tells → D.state desk.new ≡ with_left Which.Cert (left_of Which.Cert (D.state desk.new)) (D.state desk.old) }
+        ensures faults { ReadFails (D.faults desk.old) (D.faults desk.new) (IsErrOf result CertError.Read) }
+    {
+        if !self.bytes.fill(desk)? {
+            return Ok(None);
+        }
+        self.begin()?;
+        Ok(Some(self.cut_part()?))
+    }
+
+    /// Takes one more part of such a line: whether it ends the line. Where nothing is left, an empty part does.
+    pub fn more_part<D: Desk>(&mut self, desk: &mut D) -> Result<bool, CertError>
+        requires few { self.old.number ≤ MAX_LINES }
+        requires begun { 0 < self.old.taken }
+        ensures part { IfOk result (λ ends. IsTrue D.tells → (front : List ℕ) → length front ≡ self.old.taken → IsTextPart ends self.old.number front self.new.part (lines_of (self.old.unread ++ left_of Which.Cert (D.state desk.old))) (lines_of (self.new.unread ++ left_of Which.Cert (D.state desk.new)))) }
+        ensures number { IfOk result (λ ends. self.new.number ≡ (if ends then self.old.number + 1 else self.old.number)) }
+        ensures taken { IfOk result (λ ends. self.new.taken ≡ (if ends then 0 else self.old.taken + length self.new.part)) }
+        ensures short { OnOk result (self.old.taken + length self.new.part ≤ MAX_LINE_BYTES) }
+        ensures grows { IfOk result (λ ends. ends ≡ false → 0 < length self.new.part) }
+        ensures err { IfErr result (λ e. IsTrue D.tells → (e ≡ CertError.Read) ⊎ ((front : List ℕ) → length front ≡ self.old.taken → next_text self.old.number (texts_in (with_front front (lines_of (self.old.unread ++ left_of Which.Cert (D.state desk.old))))) ≡ Err e)) }
+        ensures plain { IsErrOf result CertError.Read → IsTrue D.tells → IsTrue (D.state desk.old).plain → ⊥ }
+        ensures rest { IsTrue D.tells → D.state desk.new ≡ with_left Which.Cert (left_of Which.Cert (D.state desk.new)) (D.state desk.old) }
+        ensures faults { ReadFails (D.faults desk.old) (D.faults desk.new) (IsErrOf result CertError.Read) }
+    {
+        if !self.bytes.fill(desk)? {
+            self.number += 1;
+            self.taken = 0;
+            return Ok(true);
+        }
+        self.cut_part()
+    }
+
+    /// Cuts the next part of the line off what is unread: whether it ends the line.
+    fn cut_part(&mut self) -> Result<bool, CertError>
+        requires few { self.old.number ≤ MAX_LINES }
+        requires some { 0 < length self.old.unread }
+        ensures part { IfOk result (λ ends. (left front : List ℕ) → length front ≡ self.old.taken → IsPart ends self.old.number front self.new.part (lines_of (self.old.unread ++ left)) (lines_of (self.new.unread ++ left))) }
+        ensures number { IfOk result (λ ends. self.new.number ≡ (if ends then self.old.number + 1 else self.old.number)) }
+        ensures taken { IfOk result (λ ends. self.new.taken ≡ (if ends then 0 else self.old.taken + length self.new.part)) }
+        ensures short { OnOk result (self.old.taken + length self.new.part ≤ MAX_LINE_BYTES) }
+        ensures grows { IfOk result (λ ends. ends ≡ false → 0 < length self.new.part) }
+        ensures unread { IsErrOf result CertError.Read → ⊥ }
+        ensures long { IfErr result (λ e. (left front : List ℕ) → length front ≡ self.old.taken → IsTooLong self.old.number (with_front front (lines_of (self.old.unread ++ left))) e) }
+    {
         let ends = self.bytes.cut();
         let taken = self.taken + self.bytes.part().len() as u64;
         if taken > MAX_LINE_BYTES {

@@ -52,6 +52,7 @@ impl Pieces {
     fn refill<D: Desk>(&mut self, desk: &mut D) -> Result<(), CertError>
         ensures all { OnOk result (IsTrue D.tells → left_of Which.Cert (D.state desk.old) ≡ self.new.unread ++ left_of Which.Cert (D.state desk.new)) }
         ensures end { OnOk result (IsTrue D.tells → self.new.unread ≡ [] → left_of Which.Cert (D.state desk.old) ≡ []) }
+        ensures part { OnOk result (self.new.part ≡ []) }
         ensures err { IfErr result (λ e. e ≡ CertError.Read) }
         ensures plain { OnErr result (IsTrue D.tells → IsTrue (D.state desk.old).plain → ⊥) }
         ensures rest { IsTrue D.tells → D.state desk.new ≡ with_left Which.Cert (left_of Which.Cert (D.state desk.new)) (D.state desk.old) }
@@ -72,6 +73,7 @@ impl Pieces {
         ensures all { OnOk result (IsTrue D.tells → self.old.unread ++ left_of Which.Cert (D.state desk.old) ≡ self.new.unread ++ left_of Which.Cert (D.state desk.new)) }
         ensures some { IfOk result (λ more. more ≡ true → 0 < length self.new.unread) }
         ensures none { IfOk result (λ more. more ≡ false → IsTrue D.tells → self.old.unread ++ left_of Which.Cert (D.state desk.old) ≡ []) }
+        ensures part { IfOk result (λ more. more ≡ false → self.new.part ≡ []) }
         ensures err { IfErr result (λ e. e ≡ CertError.Read) }
         ensures plain { OnErr result (IsTrue D.tells → IsTrue (D.state desk.old).plain → ⊥) }
         ensures rest { IsTrue D.tells → D.state desk.new ≡ with_left Which.Cert (left_of Which.Cert (D.state desk.new)) (D.state desk.old) }

@@ -12,7 +12,11 @@ use lrat_model::{Progress, StepFault};
 use step_stream::{Stage, StepWords};
 
 /// Ends the step, and gives where it led, or the fault: of the line's words first.
-fn finish(checker: &mut Checker, words: &mut StepWords, line: u64) -> Result<Progress, CertError>
+pub fn finish(
+    checker: &mut Checker,
+    words: &mut StepWords,
+    line: u64,
+) -> Result<Progress, CertError>
     requires { Fits words.old checker.old.open_addition }
     ensures closed { OnOk result (checker.new.open_addition ≡ None) }
     ensures unread { IsErrOf result CertError.Read → ⊥ }

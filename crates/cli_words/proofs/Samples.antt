@@ -5,7 +5,7 @@ use Rattle.cli_words.proofs.OnLiterals.{words_on_literals}
 use Rattle.cli_words.specs.Order.{Ordered}
 use Rattle.cli_words.specs.Words.{order_of}
 use Rattle.cli_words.specs.declared.orders.Command.{Command}
-use Rattle.cli_words.specs.declared.orders.Command.TheVariants.{Query, Search, Check}
+use Rattle.cli_words.specs.declared.orders.Command.TheVariants.{Query, Search, Check, CheckLrat}
 use Rattle.cli_words.specs.declared.orders.Goal.{Goal}
 use Rattle.cli_words.specs.declared.orders.Goal.TheVariants.{Intersect, Dset, Splits, Blocking, Trial}
 use Rattle.cli_words.specs.declared.orders.Query.TheVariants.{Show, Closure, Greatest, Available, Blocks, Vblocks, Export}
@@ -105,6 +105,15 @@ check = refl
 export : typed (codes "export f --from a") ≡ Ok (record (nothing_for (Query Export)) { config = codes "f"; from = Some (codes "a") })
 unfolding words_on_literals
 export = refl
+
+check_lrat : typed (codes "check-lrat f p") ≡ Ok (record (nothing_for CheckLrat) { config = codes "f"; cert = codes "p" })
+unfolding words_on_literals
+check_lrat = refl
+
+check_lrat_common : typed (codes "check-lrat f p --from a --faulty b --orgs o --faulty-orgs c,d")
+    ≡ Ok (record (nothing_for CheckLrat) { config = codes "f"; cert = codes "p"; orgs = Some (codes "o"); from = Some (codes "a"); faulty = Some (codes "b"); faulty_orgs = Some (codes "c,d") })
+unfolding words_on_literals
+check_lrat_common = refl
 
 intersect : typed (codes "intersect f c") ≡ Ok (search_of Intersect 1000000)
 unfolding words_on_literals

@@ -10,7 +10,7 @@ use Rattle.cli_words.specs.Order.{Ordered, has_same_path}
 use Rattle.cli_words.specs.Organisations.{organisations_of}
 use Rattle.cli_words.specs.Words.{app_for, is_taken, order_by, order_in, order_among, path_checked}
 use Rattle.cli_words.specs.declared.orders.Command.{Command}
-use Rattle.cli_words.specs.declared.orders.Command.TheVariants.{Query, Search, Check}
+use Rattle.cli_words.specs.declared.orders.Command.TheVariants.{Query, Search, Check, CheckLrat}
 use Rattle.cli_words.specs.declared.orders.Goal.TheVariants.{Intersect, Dset, Splits, Blocking, Trial}
 use Rattle.cli_words.specs.declared.orders.Query.TheVariants.{Show, Closure, Greatest, Available, Blocks, Vblocks, Export}
 use Rattle.cli_words.specs.declared.orders.OrderFault.TheVariants.{Words, SamePath}
@@ -37,6 +37,7 @@ is_stated (Search Blocking) app e = rw e refl
 is_stated (Search Trial) app e = rw e refl
 is_stated Check app e = rw e refl
 is_stated (Query Export) app e = rw e refl
+is_stated CheckLrat app e = rw e refl
 
 -- the words are taken, and these are their texts
 pub record Taken (k : Command) (words : List Text) (app : App) (rows : List Row) : Type 0 where

@@ -2,7 +2,7 @@
 use Rattle.std.specs.Prelude.{ℕ, List, Bool, true, false, ◌&&◌, ◌||◌, Option, Some, None, option_map, string_bytes}
 use Rattle.std.specs.Str.{bytes_eq}
 use Rattle.cli_words.specs.declared.orders.Command.{Command}
-use Rattle.cli_words.specs.declared.orders.Command.TheVariants.{Search, Check}
+use Rattle.cli_words.specs.declared.orders.Command.TheVariants.{Search, Check, CheckLrat}
 use Rattle.cli_words.specs.declared.orders.Goal.TheVariants.{Trial}
 use Rattle.cli_words.specs.declared.orders.Order.{Order}
 
@@ -36,10 +36,11 @@ order_view o = record {
   trial = o.trial;
 }
 
--- the commands with a certificate
+-- the commands with a certificate, or with another solver's proof in its place
 abbrev pub has_certificate : Command → Bool
 has_certificate (Search goal) = true
 has_certificate Check = true
+has_certificate CheckLrat = true
 has_certificate command = false
 
 -- the commands with a configuration: a trial makes its own

@@ -8,7 +8,7 @@ use Rattle.cli_words.specs.Budget.{budget_of}
 use Rattle.cli_words.specs.Order.{Ordered, has_same_path}
 use Rattle.cli_words.specs.Organisations.{organisations_of}
 use Rattle.cli_words.specs.declared.orders.Command.{Command}
-use Rattle.cli_words.specs.declared.orders.Command.TheVariants.{Query, Search, Check}
+use Rattle.cli_words.specs.declared.orders.Command.TheVariants.{Query, Search, Check, CheckLrat}
 use Rattle.cli_words.specs.declared.orders.Goal.TheVariants.{Intersect, Dset, Splits, Blocking, Trial}
 use Rattle.cli_words.specs.declared.orders.Query.TheVariants.{Show, Closure, Greatest, Available, Blocks, Vblocks, Export}
 use Rattle.cli_words.specs.declared.orders.OrderFault.{OrderFault}
@@ -56,6 +56,7 @@ app_for (Search Blocking) = app_with (codes "blocking") (positional (codes "conf
 app_for (Search Trial) = app_with (codes "trial") (positional (codes "organisations") ∷ positional (codes "cert") ∷ optional (codes "budget") ∷ [])
 app_for Check = app_with (codes "check") (positional (codes "config") ∷ positional (codes "cert") ∷ [])
 app_for (Query Export) = app_with (codes "export") (positional (codes "config") ∷ common_options)
+app_for CheckLrat = app_with (codes "check-lrat") (positional (codes "config") ∷ positional (codes "cert") ∷ common_options)
 
 -- clap takes the words: it has no kind of refusal for them
 unfoldable pub is_taken : App → List Text → Bool
@@ -117,7 +118,8 @@ command_named name = if bytes_eq name (codes "show") then Some (Query Show)
     else (if bytes_eq name (codes "blocking") then Some (Search Blocking)
     else (if bytes_eq name (codes "trial") then Some (Search Trial)
     else (if bytes_eq name (codes "check") then Some Check
-    else (if bytes_eq name (codes "export") then Some (Query Export) else None))))))))))))
+    else (if bytes_eq name (codes "export") then Some (Query Export)
+    else (if bytes_eq name (codes "check-lrat") then Some CheckLrat else None)))))))))))))
 
 -- the order of a command, if there is one
 abbrev pub order_if_any : Option Command → List Text → Result Ordered OrderFault

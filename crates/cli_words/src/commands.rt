@@ -63,6 +63,7 @@ pub fn arguments_of<'a>(alloc: Global, command: Command) -> Result<clap::Command
         Command::Search(Goal::Blocking) => blocking_arguments(alloc),
         Command::Search(Goal::Trial) => trial_arguments(alloc),
         Command::Check => check_arguments(alloc),
+        Command::CheckLrat => check_lrat_arguments(alloc),
     }
 }
 
@@ -185,6 +186,14 @@ fn export_arguments<'a>(alloc: Global) -> Result<clap::Command<'a>, AllocError>
     ensures { IfOk result (λ c. app_of c ≡ app_for (Command.Query Query.Export)) }
 {
     let command = clap::Command::new(alloc, "export").arg(positional(alloc, "config"))?;
+    with_common(alloc, command)
+}
+
+#[tactic(auto, unfolding(crate::specs::Words::app_for))]
+fn check_lrat_arguments<'a>(alloc: Global) -> Result<clap::Command<'a>, AllocError>
+    ensures { IfOk result (λ c. app_of c ≡ app_for Command.CheckLrat) }
+{
+    let command = with_paths(alloc, "check-lrat")?;
     with_common(alloc, command)
 }
 

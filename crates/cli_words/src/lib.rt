@@ -25,7 +25,7 @@ use std::alloc::Global;
 /// request for help is no order. No names are read here: a list of names stays a text.
 ///
 /// `Words` comes where the words are not those of a command, `SamePath` where they are and the path of the
-/// certificate equals that of the configuration or of the organisations as text. O(n) in the total length n of the words.
+/// certificate, or of the proof, equals that of the configuration or of the organisations as text. O(n) in the total length n of the words.
 pub fn order(alloc: Global, words: &[String]) -> Result<Order, OrderFault>
     ensures ok { IfOk result (λ o. order_of (map string_bytes words.now) ≡ Ok (order_view o)) }
     ensures err { IfErr result (λ e. (e ≡ OrderFault.Memory)
@@ -88,6 +88,9 @@ fn command_named(name: &str) -> Option<Command>
     if name == "export" {
         return Some(Command::Query(Query::Export));
     }
+    if name == "check-lrat" {
+        return Some(Command::CheckLrat);
+    }
     None
 }
 
@@ -126,7 +129,10 @@ fn has_same_path(order: &Order) -> bool
 fn has_certificate(command: Command) -> bool
     ensures { result ≡ spec_has_certificate command }
 {
-    matches!(command, Command::Search(_) | Command::Check)
+    matches!(
+        command,
+        Command::Search(_) | Command::Check | Command::CheckLrat
+    )
 }
 
 fn is_path(given: &Option<String>, path: &String) -> bool

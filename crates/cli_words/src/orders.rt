@@ -51,6 +51,8 @@ pub enum Command {
     Search(Goal),
     /// `check CONFIG CERT`
     Check,
+    /// `check-lrat CONFIG LRAT [COMMON]`
+    CheckLrat,
 }
 
 impl Command {
@@ -68,8 +70,8 @@ pub enum OrderFault {
     /// The words are not those of a command.
     #[error("the words are not those of a command")]
     Words,
-    /// The words are taken, and the path of the certificate equals that of the configuration or of the organisations as
-    /// text.
+    /// The words are taken, and the path of the certificate, or of the proof, equals that of the configuration or of the
+    /// organisations as text.
     #[error("the certificate has the path of another file")]
     SamePath,
     /// Memory is wanting.
@@ -83,7 +85,7 @@ pub struct Order {
     pub command: Command,
     /// The path of the configuration, empty where the command has none.
     pub config: String,
-    /// The path of the certificate, empty where the command has none.
+    /// The path of the certificate, or of the proof of `check-lrat`, empty where the command has none.
     pub cert: String,
     /// The path of the organisations, which `--orgs` gives.
     pub orgs: Option<String>,

@@ -34,7 +34,7 @@ use Rattle.quorum_cli.specs.Printing.{part, deleted, request, PrintsFound, Print
 use Rattle.quorum_cli.proofs.Titles.{title_there}
 use Rattle.quorum_cli.specs.Showing.{IsAccepted, WritesAccepted, ShowsPair, PrintsPair, ShowsNone, ShowsUnknown, PrintsUnknown, PrintsUnknownTrial, IsAvailable, IsNoDset, PrintsList, PrintsPartOfList}
 use Rattle.quorum_cli.specs.Answers.{asked_of}
-use Rattle.quorum_cli.specs.Meaning.{IsCheck, NamesAccepted}
+use Rattle.quorum_cli.specs.Meaning.{IsCheck, IsCheckLrat, NamesAccepted, NamesVerified}
 use Rattle.quorum_cli.specs.Headline.{NoShows, YesShows, UnknownShows, Headline}
 
 held_there : (path : List ℕ) (cert : Text) (files now : Files) → now ≡ with_file path cert files → now path ≡ Some cert
@@ -332,11 +332,12 @@ sought_means r s old new status is p = search_means s old new status (subst (λ 
 
 -- the headline, by what was printed and what was accepted
 pub headline_of : (words : List (List ℕ)) (old new : DeskState) (status : Status) → Prints (asked_of words old.files) old new status → (IsCheck (order_of words) → status ≡ Yes → NamesAccepted words old.files)
-    → Headline words old new status
-headline_of words old new status prints accepts = record {
+    → (IsCheckLrat (order_of words) → status ≡ Yes → NamesVerified words old.files) → Headline words old new status
+headline_of words old new status prints accepts verifies = record {
   no = λ s seeks. (sought_means (asked_of words old.files) s old new status seeks prints).no;
   yes = λ s seeks. (sought_means (asked_of words old.files) s old new status seeks prints).yes;
   accepts = accepts;
+  verifies = verifies;
   completed = λ s seeks. (sought_means (asked_of words old.files) s old new status seeks prints).completed;
   finished = λ s seeks. (sought_means (asked_of words old.files) s old new status seeks prints).finished;
   unknown = λ s seeks. (sought_means (asked_of words old.files) s old new status seeks prints).unknown;

@@ -1,5 +1,5 @@
 -- What the program asks or answers, by its words and the files that they name.
-use Rattle.std.specs.Prelude.{ℕ, nat_le, List, [], length, Option, Some, None, Result, Ok, Err, if◌then◌else◌, map, string_bytes, String}
+use Rattle.std.specs.Prelude.{ℕ, nat_le, Bool, true, false, List, [], length, Option, Some, None, Result, Ok, Err, if◌then◌else◌, map, string_bytes, String}
 use Rattle.std.specs.declared.alloc.Global.{Global}
 use Rattle.sha2.specs.Sha256.{sha256}
 use Rattle.desk_io.specs.State.{Files}
@@ -19,12 +19,14 @@ use Rattle.node_json.specs.Organisations.{Org, orgs_of}
 use Rattle.node_json.specs.declared.faults.OrgFault.{OrgFault}
 use Rattle.trial_network.specs.Tree.{trial_text}
 use Rattle.certificate_file.specs.Acceptance.{checked}
+use Rattle.certificate_file.specs.Verification.{verified}
+use Rattle.certificate_file.specs.declared.places.Header.{Header}
 use Rattle.certificate_file.specs.declared.places.Accepted.{Accepted}
 use Rattle.certificate_file.specs.declared.places.Answer.{Answer as Shown}
 use Rattle.certificate_file.specs.declared.places.Answer.TheVariants.{Partial, PartialBlocking}
 use Rattle.cert_lines.specs.declared.faults.CertError.{CertError}
 use Rattle.cert_lines.specs.declared.faults.CertError.TheVariants.{TooLarge as TooManyVariables}
-use Rattle.report.specs.Lines.{Text, usage, same_path, config_too_long, config_refused, orgs_too_long, orgs_refused, cert_refused, accepted}
+use Rattle.report.specs.Lines.{Text, usage, same_path, config_too_long, config_refused, orgs_too_long, orgs_refused, cert_refused, accepted, verified as verified_lines}
 use Rattle.quorum_cli.specs.declared.status.Status.TheVariants.{Yes, Unknown, Usage, ConfigRefused, CertRefused, TooLarge}
 use Rattle.quorum_cli.specs.declared.status.Status.{Status}
 use Rattle.quorum_cli.specs.declared.reply.Reply.{Reply as Answer}
@@ -35,7 +37,7 @@ use Rattle.quorum_cli.specs.declared.reading.Asked.TheVariants as asked
 use Rattle.quorum_cli.specs.declared.question.Inquiry.{Inquiry}
 use Rattle.quorum_cli.specs.Reading.{◌>>=◌}
 use Rattle.quorum_cli.specs.Questions.{question_of, part_of, FitsQuestion}
-use Rattle.quorum_cli.specs.Searches.{search_of, trial_of, FitsSearch}
+use Rattle.quorum_cli.specs.Searches.{header_named, search_of, trial_of, FitsSearch}
 
 abbrev pub words_of : List (String Global) → List (List ℕ)
 words_of words = map string_bytes words
@@ -81,17 +83,47 @@ accepted_status (Partial units) = Unknown
 accepted_status (PartialBlocking units) = Unknown
 accepted_status shown = Yes
 
+-- the first fault of a certificate, or of a proof, is named
+abbrev pub refused_answer : List Name → CertError → Answer
+refused_answer names e = record { status = cert_status e; text = cert_refused names e }
+
 -- a certificate is accepted, or its first fault is named
 abbrev pub checked_answer : List Name → Result Accepted CertError → Answer
 checked_answer names (Ok a) = record { status = accepted_status a.answer; text = accepted names a }
-checked_answer names (Err e) = record { status = cert_status e; text = cert_refused names e }
+checked_answer names (Err e) = refused_answer names e
 
 -- what `check` says of a file
 abbrev pub check_in : System → List ℕ → Option (List ℕ) → Result Answer Early
 check_in f config None = Err Read
 check_in f config (Some cert) = Ok (checked_answer f.names (checked f (sha256 config) cert))
 
+-- ---- a proof of another solver
+
+-- a proof is verified, or its first fault is named
+abbrev pub verified_answer : List Name → Header → Result (Unit {0}) CertError → Answer
+verified_answer names h (Ok done) = record { status = Yes; text = verified_lines names h }
+verified_answer names h (Err e) = refused_answer names e
+
+-- what is said of a file as a proof for a part of the system, without the faulty nodes
+abbrev pub verify_in : System → Header → Option (List ℕ) → Result Answer Early
+verify_in f h None = Err Read
+verify_in f h (Some proof) = Ok (verified_answer f.names h (verified f h proof))
+
+-- what `check-lrat` says over a configuration that was read
+abbrev pub verify_asked : Ordered → System → Files → Result Answer Early
+verify_asked o f files = do
+  orgs ← orgs_given f.names files o.orgs
+  header ← header_named f orgs o
+  verify_in f header (files o.cert)
+
 -- ---- what is asked
+
+-- the commands that are answered before anything is asked
+abbrev pub is_told : Command → Bool
+is_told command.Check = true
+is_told command.CheckLrat = true
+is_told (command.Query q) = false
+is_told (command.Search goal) = false
 
 abbrev pub asked_about : System → Inquiry → Asked
 asked_about f inquiry = asked.Question (part_of f inquiry.closure) inquiry.question
@@ -112,6 +144,9 @@ goal_asked goal o f config orgs = do
 abbrev pub command_asked : Command → Ordered → System → List ℕ → Files → Result Asked Early
 command_asked command.Check o f config files = do
   answer ← check_in f config (files o.cert)
+  Err (Told answer)
+command_asked command.CheckLrat o f config files = do
+  answer ← verify_asked o f files
   Err (Told answer)
 command_asked (command.Query q) o f config files = do
   orgs ← orgs_given f.names files o.orgs

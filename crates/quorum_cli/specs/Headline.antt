@@ -13,7 +13,7 @@ use Rattle.quorum_cli.specs.declared.searches.Search.{Search}
 use Rattle.quorum_cli.specs.declared.status.Status.{Status}
 use Rattle.quorum_cli.specs.declared.status.Status.TheVariants.{Yes, No, Unknown}
 use Rattle.quorum_cli.specs.Answers.{asked_of}
-use Rattle.quorum_cli.specs.Meaning.{IsCheck, NamesAccepted}
+use Rattle.quorum_cli.specs.Meaning.{IsCheck, IsCheckLrat, NamesAccepted, NamesVerified}
 use Rattle.quorum_cli.specs.Showing.{WritesAccepted, PrintsPair, ShowsNone, PrintsUnknown, PrintsUnknownTrial, IsAvailable, IsNoDset, PrintsList, PrintsPartOfList}
 
 -- the words ask for this search over the files
@@ -52,6 +52,8 @@ pub record Headline (words : List (List ℕ)) (old new : DeskState) (status : St
   pub yes : (s : Search) → Seeks words old.files s → YesShows s.goal s new status
   -- a certificate is accepted only where what it shows is so of the system that its header names
   pub accepts : IsCheck (order_of words) → status ≡ Yes → NamesAccepted words old.files
+  -- a proof of another solver is verified only where every two quorums share a node
+  pub verifies : IsCheckLrat (order_of words) → status ≡ Yes → NamesVerified words old.files
   -- a completed list: the printed sets are exactly the minimal blocking sets, each once, in name order, and their number is printed
   pub completed : (s : Search) → Seeks words old.files s → s.goal ≡ Blocking → status ≡ Yes → PrintsList s old new
   -- each finished certificate is accepted, with the node that was asked and the deleted nodes as its header

@@ -1,18 +1,24 @@
--- What an accepted certificate means.
-use Rattle.std.specs.Prelude.{◌≡◌, ℕ, List, Some, Result, Ok, Err}
+-- What an accepted certificate means, and a verified proof.
+use Rattle.std.specs.Prelude.{◌≡◌, ℕ, IsTrue, List, Some, Result, Ok, Err}
 use Rattle.sha2.specs.Sha256.{sha256}
 use Rattle.fbas_model.specs.Systems.{System}
 use Rattle.desk_io.specs.State.{Files}
 use Rattle.cli_words.specs.Order.{Ordered}
-use Rattle.cli_words.specs.declared.orders.Command.TheVariants.{Check}
+use Rattle.cli_words.specs.declared.orders.Command.{Command}
+use Rattle.cli_words.specs.declared.orders.Command.TheVariants.{Query, Search, Check, CheckLrat}
 use Rattle.cli_words.specs.declared.orders.OrderFault.{OrderFault}
 use Rattle.cli_words.specs.Words.{order_of}
 use Rattle.node_json.specs.Configuration.{system_of}
+use Rattle.node_json.specs.Organisations.{Org}
 use Rattle.certificate_file.specs.Acceptance.{checked}
-use Rattle.certificate_file.specs.Meaning.{Holds}
+use Rattle.certificate_file.specs.Meaning.{Holds, PartIntersects, part_from}
+use Rattle.certificate_file.specs.Verification.{verified}
+use Rattle.certificate_file.specs.declared.places.Header.{Header}
 use Rattle.certificate_file.specs.declared.places.Accepted.{Accepted}
 use Rattle.quorum_cli.specs.declared.status.Status.TheVariants.{Yes, Usage}
 use Rattle.quorum_cli.specs.declared.early.Early.{Early}
+use Rattle.quorum_cli.specs.Answers.{orgs_given, is_told}
+use Rattle.quorum_cli.specs.Searches.{header_named}
 use Rattle.quorum_cli.specs.Reading.{TellsStatus}
 
 -- the certificate is accepted for a configuration and its system, and its answer holds for the part that it speaks of, the
@@ -29,25 +35,61 @@ pub record HasCert (system : System) (config : List ℕ) (files : Files) (name :
   pub held : files name ≡ Some cert
   pub shows : Shows system config cert
 
--- the order names such a certificate for the configuration
-pub record HasAccepted (order : Ordered) (config : List ℕ) (files : Files) : Type 0 where
+-- the proof is verified for a part of the system without its faulty nodes, and every two quorums of it share a node
+pub record Verifies (system : System) (header : Header) (proof : List ℕ) : Type 0 where
+  pub verifies : verified system header proof ≡ Ok tt
+  pub meets : PartIntersects system (part_from system header.from) header.faulty
+
+-- the named file is such a proof
+pub record HasProof (system : System) (header : Header) (files : Files) (name : List ℕ) : Type 0 where
+  pub proof : List ℕ
+  pub held : files name ≡ Some proof
+  pub shows : Verifies system header proof
+
+-- the order names such a proof for the part and the faulty nodes that its options name
+pub record HasVerified (order : Ordered) (system : System) (files : Files) : Type 0 where
+  pub orgs : List Org
+  pub given : orgs_given system.names files order.orgs ≡ Ok orgs
+  pub header : Header
+  pub named : header_named system orgs order ≡ Ok header
+  pub proof : HasProof system header files order.cert
+
+-- what a yes means that is told before anything is asked: the certificate is accepted, or the proof is verified
+abbrev pub MeansYes : Command → Ordered → System → List ℕ → Files → Type 0
+MeansYes Check order system config files = HasCert system config files order.cert
+MeansYes CheckLrat order system config files = HasVerified order system files
+MeansYes (Query q) order system config files = ⊥
+MeansYes (Search goal) order system config files = ⊥
+
+-- ---- what is so of a configuration that is read
+
+-- the bytes say a system, and this is so of it
+pub record OfConfig (Means : System → Type 0) (config : List ℕ) : Type 0 where
   pub system : System
   pub read : system_of config ≡ Ok system
-  pub cert : HasCert system config files order.cert
+  pub means : Means system
 
--- the order names a configuration and such a certificate for it
-pub record NamesFiles (order : Ordered) (files : Files) : Type 0 where
+-- the named file is a configuration, and this is so of its system and its bytes
+pub record OfFile (Means : System → List ℕ → Type 0) (files : Files) (name : List ℕ) : Type 0 where
   pub config : List ℕ
-  pub held : files order.config ≡ Some config
-  pub accepted : HasAccepted order config files
+  pub held : files name ≡ Some config
+  pub means : OfConfig (λ system. Means system config) config
 
--- the words are an order that names a configuration and a certificate that is accepted for it
-pub record NamesAccepted (words : List (List ℕ)) (files : Files) : Type 0 where
+-- the words are an order that names a configuration, and this is so of the order, the system and its bytes
+pub record OfWords (Means : Ordered → System → List ℕ → Type 0) (files : Files) (words : List (List ℕ)) : Type 0 where
   pub order : Ordered
   pub taken : order_of words ≡ Ok order
-  pub names : NamesFiles order files
+  pub means : OfFile (Means order) files order.config
 
--- a yes that is told early is that of an accepted certificate, of which this is so
+-- the words are an order that names a configuration and a certificate that is accepted for it
+abbrev pub NamesAccepted : List (List ℕ) → Files → Type 0
+NamesAccepted words files = OfWords (λ order system config. HasCert system config files order.cert) files words
+
+-- the words are an order that names a configuration and a proof that is verified for it
+abbrev pub NamesVerified : List (List ℕ) → Files → Type 0
+NamesVerified words files = OfWords (λ order system config. HasVerified order system files) files words
+
+-- a yes that is told early is one of which this is so
 abbrev pub YesMeans : Type 0 → Early → Type 0
 YesMeans meaning e = TellsStatus (λ status. status ≡ Yes → meaning) e
 
@@ -55,6 +97,16 @@ YesMeans meaning e = TellsStatus (λ status. status ≡ Yes → meaning) e
 abbrev pub IsCheck : Result Ordered OrderFault → Type 0
 IsCheck (Ok order) = order.command ≡ Check
 IsCheck (Err fault) = ⊥
+
+-- the words are an order to check a proof of another solver
+abbrev pub IsCheckLrat : Result Ordered OrderFault → Type 0
+IsCheckLrat (Ok order) = order.command ≡ CheckLrat
+IsCheckLrat (Err fault) = ⊥
+
+-- the words are an order that is answered before anything is asked
+abbrev pub IsTold : Result Ordered OrderFault → Type 0
+IsTold (Ok order) = IsTrue (is_told order.command)
+IsTold (Err fault) = ⊥
 
 -- the words are refused, if an answer is told
 abbrev pub IsUsage : Early → Type 0

@@ -7,6 +7,7 @@ use Rattle.fbas_model.specs.Fbas.{Intersects}
 use Rattle.fbas_model.specs.Systems.{System}
 use Rattle.fbas_model.specs.Restriction.{closure_of, table_from, union}
 use Rattle.cert_writer.specs.Promises.{IsHeader, part_of, faulty_in}
+use Rattle.certificate_file.specs.declared.places.Header.{Header}
 use Rattle.node_json.specs.Organisations.{Org}
 use Rattle.cli_words.specs.Order.{Ordered}
 use Rattle.cli_words.specs.declared.budget.TheConstants.{MOST_BUDGET}
@@ -36,6 +37,13 @@ deleted_by Trial f orgs o = Ok (nobody f)
 abbrev pub cut_within : System → Option ℕ → Table → Table
 cut_within f None set = set
 cut_within f (Some v) set = table_from 0 (length set) (members set ∩ members (closure_of f.sets v))
+
+-- the part of the system that the options name, and the faulty nodes of it
+abbrev pub header_named : System → List Org → Ordered → Result Header Early
+header_named f orgs o = do
+  from ← from_named f o.from
+  faulty ← faulty_named f orgs o
+  Ok (record { from = from; faulty = cut_within f from faulty })
 
 -- what an order with this goal asks of the system of a configuration's bytes
 abbrev pub search_of : Goal → System → List ℕ → List Org → Ordered → Result Search Early

@@ -5,7 +5,7 @@ ghost use Rattle.desk_io.specs.State.{OnlyReads, left_of};
 ghost use Rattle.desk_io.specs.Faults.{ReadFails};
 ghost use Rattle.certificate_file.specs.Acceptance.{checked};
 ghost use Rattle.certificate_file.specs.Meaning.{HasPlaces};
-ghost use Rattle.quorum_cli.specs.Answers.{check_in, checked_answer, cert_status as spec_cert_status, accepted_status as spec_accepted_status};
+ghost use Rattle.quorum_cli.specs.Answers.{check_in, checked_answer, refused_answer, cert_status as spec_cert_status, accepted_status as spec_accepted_status};
 ghost use Rattle.quorum_cli.specs.Meaning.{Shows, HasCert};
 ghost use Rattle.quorum_cli.specs.Reading.{GivesReading};
 ghost use Rattle.quorum_cli.specs.Status.{is_answer};
@@ -30,9 +30,9 @@ fn cert_status(fault: &CertError) -> Status
     }
 }
 
-// The answer to a certificate that is refused.
-fn refuse(alloc: Global, system: &System, fault: &CertError) -> Result<Reply, AllocError>
-    ensures ok { IfOk result (λ a. a ≡ checked_answer system.now.names (Err fault.now)) }
+/// The answer to a certificate, or to a proof, that is refused.
+pub fn refuse(alloc: Global, system: &System, fault: &CertError) -> Result<Reply, AllocError>
+    ensures ok { IfOk result (λ a. a ≡ refused_answer system.now.names fault.now) }
     ensures refused { IfOk result (λ a. (a.status ≡ Status.TooLarge) ⊎ (a.status ≡ Status.CertRefused)) }
 {
     let text = report::cert_refused(alloc, system.names(), fault)?;

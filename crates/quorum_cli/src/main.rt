@@ -19,6 +19,7 @@ mod solving;
 mod status;
 #[cfg(test)]
 mod tests;
+mod verifying;
 mod word;
 
 ghost use Rattle.std.specs.Prelude.{◌≡◌, [], IfOk, IsErr, IsOk};

@@ -8,9 +8,10 @@ ghost use Rattle.cli_words.specs.declared.budget.TheConstants.{MOST_BUDGET};
 ghost use Rattle.cli_words.specs.declared.organisations.TheConstants.{MOST_ORGANISATIONS};
 ghost use Rattle.report.specs.Lines.{config_refused, orgs_refused};
 ghost use Rattle.node_json.specs.Organisations.{orgs_of};
-ghost use Rattle.quorum_cli.specs.Answers.{words_of, asked_of, or_words_refused, order_asked, file_asked, trial_asked, config_asked, command_asked, query_asked, system_in, or_orgs_refused, orgs_given, FitsAsked};
-ghost use Rattle.quorum_cli.specs.Meaning.{HasCert, HasAccepted, NamesFiles, NamesAccepted, YesMeans, IsCheck, IsUsage};
+ghost use Rattle.quorum_cli.specs.Answers.{words_of, asked_of, or_words_refused, order_asked, file_asked, trial_asked, config_asked, command_asked, query_asked, verify_asked, is_told, system_in, or_orgs_refused, orgs_given, FitsAsked};
+ghost use Rattle.quorum_cli.specs.Meaning.{HasVerified, MeansYes, OfConfig, OfFile, OfWords, YesMeans, IsTold, IsUsage};
 ghost use Rattle.quorum_cli.specs.Reading.{Fails, Gives, GivesReading, IsRefusal, IsAnswer};
+ghost use Rattle.quorum_cli.specs.Status.{is_answer};
 
 use crate::checking::check;
 use crate::early::Early;
@@ -20,6 +21,7 @@ use crate::question::{Inquiry, Question, question_asked};
 use crate::reply::{Reply, says};
 use crate::searches::{Search, search_asked, trial_search};
 use crate::status::Status;
+use crate::verifying::{header_named, verify};
 use cli_words::{Command, Goal, Order, OrderFault, Query};
 use desk_io::{Desk, Which};
 use fbas_core::System;
@@ -49,7 +51,7 @@ fn order_in(alloc: Global, words: &[String]) -> Result<Order, Early>
         Err(OrderFault::Words) => Err(Early::Told(says(
             alloc,
             Status::Usage,
-            "usage: quorum_cli COMMAND\nshow CONFIG\nclosure CONFIG --node NAME\ngreatest CONFIG [COMMON]\nintersect CONFIG CERT [COMMON] [--budget UNITS]\navailable CONFIG --set NAMES [--from NAME]\ndset CONFIG CERT --set NAMES [--from NAME] [--budget UNITS]\nblocks CONFIG --set NAMES [COMMON]\nvblocks CONFIG --node NAME --set NAMES\nsplits CONFIG CERT --set NAMES [COMMON] [--budget UNITS]\nblocking CONFIG CERT [COMMON] [--budget UNITS]\ncheck CONFIG CERT\nexport CONFIG [COMMON]\ntrial N CERT [--budget UNITS]\nCOMMON: --from NAME --faulty NAMES --orgs ORGS --faulty-orgs IDS\n",
+            "usage: quorum_cli COMMAND\nshow CONFIG\nclosure CONFIG --node NAME\ngreatest CONFIG [COMMON]\nintersect CONFIG CERT [COMMON] [--budget UNITS]\navailable CONFIG --set NAMES [--from NAME]\ndset CONFIG CERT --set NAMES [--from NAME] [--budget UNITS]\nblocks CONFIG --set NAMES [COMMON]\nvblocks CONFIG --node NAME --set NAMES\nsplits CONFIG CERT --set NAMES [COMMON] [--budget UNITS]\nblocking CONFIG CERT [COMMON] [--budget UNITS]\ncheck CONFIG CERT\nexport CONFIG [COMMON]\ntrial N CERT [--budget UNITS]\ncheck-lrat CONFIG LRAT [COMMON]\nCOMMON: --from NAME --faulty NAMES --orgs ORGS --faulty-orgs IDS\n",
         )?)),
         Err(OrderFault::SamePath) => Err(Early::Told(says(
             alloc,
@@ -184,6 +186,27 @@ fn seek<D: Desk>(
     Ok(Asked::Search(search))
 }
 
+// What `check-lrat` says over a configuration that was read. The organisations and the names are read before the proof.
+fn verify_by<D: Desk>(
+    alloc: Global,
+    order: &Order,
+    system: &System,
+    desk: &mut D,
+) -> Result<Reply, Early>
+    ensures gives { IsTrue D.tells → GivesReading (D.state desk.old).plain result
+        (verify_asked (order_view order.now) system.now (D.state desk.old).files) }
+    ensures answers { IfOk result (λ a. IsTrue (is_answer a.status)) }
+    ensures refused { IfErr result IsRefusal }
+    ensures verified { IfOk result (λ a. IsTrue D.tells → a.status ≡ Status.Yes →
+        HasVerified (order_view order.now) system.now (D.state desk.old).files) }
+    ensures reads { IsTrue D.tells → OnlyReads (D.state desk.old) (D.state desk.new) }
+    ensures faults { ReadFails (D.faults desk.old) (D.faults desk.new) (IsErrOf result Early.Read) }
+{
+    let orgs = orgs_for(alloc, system, desk, &order.orgs)?;
+    let header = header_named(alloc, system, &orgs, order)?;
+    verify(alloc, system, &header, desk, &order.cert)
+}
+
 // What a command asks over a configuration that was read.
 fn command<D: Desk>(
     alloc: Global,
@@ -198,15 +221,19 @@ fn command<D: Desk>(
         (command_asked order.now.command (order_view order.now) system config.now (D.state desk.old).files) }
     ensures answers { IfErr result IsAnswer }
     ensures fits { IfOk result FitsAsked }
-    ensures checked { order.now.command ≡ Command.Check → IsErr result }
+    ensures told { IsTrue (is_told order.now.command) → IsErr result }
     ensures shows { IfErr result (λ e. IsTrue D.tells → YesMeans
-        (HasCert system config.now (D.state desk.old).files (order_view order.now).cert) e) }
+        (MeansYes order.now.command (order_view order.now) system config.now (D.state desk.old).files) e) }
     ensures reads { IsTrue D.tells → OnlyReads (D.state desk.old) (D.state desk.new) }
     ensures faults { ReadFails (D.faults desk.old) (D.faults desk.new) (IsErrOf result Early.Read) }
 {
     match order.command {
         Command::Check => {
             let reply = check(alloc, &system, config, desk, &order.cert)?;
+            Err(Early::Told(reply))
+        }
+        Command::CheckLrat => {
+            let reply = verify_by(alloc, order, &system, desk)?;
             Err(Early::Told(reply))
         }
         Command::Query(query) => ask(alloc, query, order, system, config, desk),
@@ -227,9 +254,9 @@ fn over_config<D: Desk>(
         (config_asked (order_view order.now) (D.state desk.old).files config.now) }
     ensures answers { IfErr result IsAnswer }
     ensures fits { IfOk result FitsAsked }
-    ensures checked { order.now.command ≡ Command.Check → IsErr result }
+    ensures told { IsTrue (is_told order.now.command) → IsErr result }
     ensures shows { IfErr result (λ e. IsTrue D.tells → YesMeans
-        (HasAccepted (order_view order.now) config.now (D.state desk.old).files) e) }
+        (OfConfig (λ system. MeansYes order.now.command (order_view order.now) system config.now (D.state desk.old).files) config.now) e) }
     ensures reads { IsTrue D.tells → OnlyReads (D.state desk.old) (D.state desk.new) }
     ensures faults { ReadFails (D.faults desk.old) (D.faults desk.new) (IsErrOf result Early.Read) }
 {
@@ -244,9 +271,9 @@ fn over_file<D: Desk>(alloc: Global, order: &Order, desk: &mut D) -> Result<Aske
     ensures gives { IsTrue D.tells → GivesReading (D.state desk.old).plain result (file_asked (order_view order.now) (D.state desk.old).files) }
     ensures answers { IfErr result IsAnswer }
     ensures fits { IfOk result FitsAsked }
-    ensures checked { order.now.command ≡ Command.Check → IsErr result }
+    ensures told { IsTrue (is_told order.now.command) → IsErr result }
     ensures shows { IfErr result (λ e. IsTrue D.tells → YesMeans
-        (NamesFiles (order_view order.now) (D.state desk.old).files) e) }
+        (OfFile (λ system config. MeansYes order.now.command (order_view order.now) system config (D.state desk.old).files) (D.state desk.old).files (order_view order.now).config) e) }
     ensures reads { IsTrue D.tells → OnlyReads (D.state desk.old) (D.state desk.new) }
     ensures faults { ReadFails (D.faults desk.old) (D.faults desk.new) (IsErrOf result Early.Read) }
 {
@@ -280,9 +307,9 @@ fn carry_out<D: Desk>(alloc: Global, order: &Order, desk: &mut D) -> Result<Aske
     ensures gives { IsTrue D.tells → GivesReading (D.state desk.old).plain result (order_asked (order_view order.now) (D.state desk.old).files) }
     ensures answers { IfErr result IsAnswer }
     ensures fits { IfOk result FitsAsked }
-    ensures checked { order.now.command ≡ Command.Check → IsErr result }
+    ensures told { IsTrue (is_told order.now.command) → IsErr result }
     ensures shows { IfErr result (λ e. IsTrue D.tells → YesMeans
-        (NamesFiles (order_view order.now) (D.state desk.old).files) e) }
+        (OfFile (λ system config. MeansYes order.now.command (order_view order.now) system config (D.state desk.old).files) (D.state desk.old).files (order_view order.now).config) e) }
     ensures reads { IsTrue D.tells → OnlyReads (D.state desk.old) (D.state desk.new) }
     ensures faults { ReadFails (D.faults desk.old) (D.faults desk.new) (IsErrOf result Early.Read) }
 {
@@ -297,9 +324,9 @@ pub fn ask_by_words<D: Desk>(alloc: Global, words: &[String], desk: &mut D) -> R
     ensures gives { IsTrue D.tells → GivesReading (D.state desk.old).plain result (asked_of (words_of words.now) (D.state desk.old).files) }
     ensures answers { IfErr result IsAnswer }
     ensures fits { IfOk result FitsAsked }
-    ensures checked { IsCheck (order_of (words_of words.now)) → IsErr result }
+    ensures told { IsTold (order_of (words_of words.now)) → IsErr result }
     ensures shows { IfErr result (λ e. IsTrue D.tells → YesMeans
-        (NamesAccepted (words_of words.now) (D.state desk.old).files) e) }
+        (OfWords (λ order system config. MeansYes order.command order system config (D.state desk.old).files) (D.state desk.old).files (words_of words.now)) e) }
     ensures refused { IsErr (order_of (words_of words.now)) → IfErr result IsUsage }
     ensures unasked { IsErr (order_of (words_of words.now)) → IsErr result }
     ensures taken { IsErrOf result Early.Read → IsOk (order_of (words_of words.now)) }

@@ -8,6 +8,7 @@ ghost use Rattle.quorum_cli.specs.Questions.{set_named as set_by_option, faulty_
 ghost use Rattle.quorum_cli.specs.Searches.{deleted_by, nobody as spec_nobody, cut_within as spec_cut_within, search_of, trial_of, FitsSearch};
 ghost use Rattle.hex.specs.Hex.{IsBytes};
 ghost use Rattle.cert_writer.specs.Promises.{IsHeader};
+ghost use Rattle.certificate_file.specs.Known.{FitsHeader};
 ghost use Rattle.quorum_cli.specs.Reading.{Gives, IsRefusal};
 
 use crate::early::Early;
@@ -95,12 +96,13 @@ fn cut_within(system: &System, from: Option<u32>, set: NodeSet) -> NodeSet
     set
 }
 
-// The part that is meant, and the nodes of it that are deleted.
-fn header_of(system: &System, from: Option<u32>, named: NodeSet) -> Header
+/// The part that is meant, and the nodes of it that are deleted.
+pub fn header_of(system: &System, from: Option<u32>, named: NodeSet) -> Header
     requires node { IfSome from (λ v. v < length system.now.sets) }
     requires same_n { length named ≡ length system.now.sets }
     ensures value { result ≡ record { from = from; faulty = spec_cut_within system.now from named } }
     ensures fits { IsHeader system.now result }
+    ensures places { FitsHeader system.now result }
 {
     let _ = system.len();
     let faulty = cut_within(system, from, named);

@@ -5,6 +5,7 @@ mod checks;
 mod desks;
 mod failing;
 mod malicious;
+mod proofs;
 mod questions;
 mod rat;
 mod searches;

@@ -20,6 +20,7 @@ use Rattle.lrat_model.specs.declared.step.StepFault.TheVariants.{IdOrder, BadLit
 use Rattle.cert_lines.specs.declared.faults.CertError.{CertError}
 use Rattle.cert_lines.specs.declared.faults.CertError.TheVariants.{BadLine, LineTooLong, TooManyLines, Digest, UnknownNode, NotQuorum, NotBlocking, NotMinimal, Overlap, Formula, Step, NotNew, NotRefuted, TooLarge, Truncated, Trailing, Read, Memory as NoMemory}
 use Rattle.certificate_file.specs.declared.places.Accepted.{Accepted}
+use Rattle.certificate_file.specs.declared.places.Header.{Header}
 use Rattle.witness_pair.specs.declared.Pair.{Pair}
 use Rattle.certificate_file.specs.declared.places.Answer.{Answer}
 use Rattle.certificate_file.specs.declared.places.Answer.TheVariants.{Pair as pair, Refutation, Partial, Blocking, PartialBlocking}
@@ -61,7 +62,7 @@ name_at names v = unwrap_or (slice_get names v) []
 -- ---- refusals
 
 abbrev pub usage : Text
-usage = codes "usage: quorum_cli COMMAND\nshow CONFIG\nclosure CONFIG --node NAME\ngreatest CONFIG [COMMON]\nintersect CONFIG CERT [COMMON] [--budget UNITS]\navailable CONFIG --set NAMES [--from NAME]\ndset CONFIG CERT --set NAMES [--from NAME] [--budget UNITS]\nblocks CONFIG --set NAMES [COMMON]\nvblocks CONFIG --node NAME --set NAMES\nsplits CONFIG CERT --set NAMES [COMMON] [--budget UNITS]\nblocking CONFIG CERT [COMMON] [--budget UNITS]\ncheck CONFIG CERT\nexport CONFIG [COMMON]\ntrial N CERT [--budget UNITS]\nCOMMON: --from NAME --faulty NAMES --orgs ORGS --faulty-orgs IDS\n"
+usage = codes "usage: quorum_cli COMMAND\nshow CONFIG\nclosure CONFIG --node NAME\ngreatest CONFIG [COMMON]\nintersect CONFIG CERT [COMMON] [--budget UNITS]\navailable CONFIG --set NAMES [--from NAME]\ndset CONFIG CERT --set NAMES [--from NAME] [--budget UNITS]\nblocks CONFIG --set NAMES [COMMON]\nvblocks CONFIG --node NAME --set NAMES\nsplits CONFIG CERT --set NAMES [COMMON] [--budget UNITS]\nblocking CONFIG CERT [COMMON] [--budget UNITS]\ncheck CONFIG CERT\nexport CONFIG [COMMON]\ntrial N CERT [--budget UNITS]\ncheck-lrat CONFIG LRAT [COMMON]\nCOMMON: --from NAME --faulty NAMES --orgs ORGS --faulty-orgs IDS\n"
 
 abbrev pub same_path : Text
 same_path = codes "usage same-path\n"
@@ -190,6 +191,10 @@ word_if_any word names (Some v) = worded word (name_at names v)
 -- the kind, lines 3 and 4 of the certificate, and the sets of a list
 abbrev pub accepted : List Name → Accepted → Text
 accepted names a = accepted_kind a.answer ++ (line (word_if_any (codes "from") names a.header.from) ++ (line (list (codes "faulty") names a.header.faulty) ++ set_lines names (answer_sets a.answer)))
+
+-- a proof from outside is verified: so is it said, and of which part and without which nodes
+abbrev pub verified : List Name → Header → Text
+verified names h = codes "verified\n" ++ (line (word_if_any (codes "from") names h.from) ++ line (list (codes "faulty") names h.faulty))
 
 -- a line of its own, and the list of a set's names behind a word
 abbrev pub with_list : Text → Text → List Name → Table → Text

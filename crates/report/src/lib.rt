@@ -7,4 +7,6 @@ mod words;
 
 pub use findings::shown;
 pub use refusals::{cert_refused, config_refused, names_refused, orgs_refused};
-pub use words::{accepted, counted, export_comments, trial_size, with_list, with_pair, with_sets};
+pub use words::{
+    accepted, counted, export_comments, trial_size, verified, with_list, with_pair, with_sets,
+};

@@ -1,9 +1,9 @@
 //! Words, numbers and names, one behind another.
 ghost use Rattle.std.specs.Prelude.{◌≡◌, ◌<◌, ◌++◌, ◌∷◌, [], length, decimal, codes, option_map, All, OnOk, IfOk};
 ghost use Rattle.certificate_file.specs.Meaning.{HasPlaces, AnswerHasPlaces};
-ghost use Rattle.report.specs.Lines.{numbered, worded, list, listed, line, word_if_any, accepted as spec_accepted, accepted_kind, set_lines, answer_sets, with_list as spec_with_list, counts as spec_counts, export_head as spec_export_head, export_comments as spec_export_comments, with_pair as spec_with_pair, with_sets as spec_with_sets, trial_size as spec_trial_size, counted as spec_counted, name_at as spec_name_at};
+ghost use Rattle.report.specs.Lines.{numbered, worded, list, listed, line, word_if_any, accepted as spec_accepted, accepted_kind, verified as spec_verified, set_lines, answer_sets, with_list as spec_with_list, counts as spec_counts, export_head as spec_export_head, export_comments as spec_export_comments, with_pair as spec_with_pair, with_sets as spec_with_sets, trial_size as spec_trial_size, counted as spec_counted, name_at as spec_name_at};
 
-use certificate_file::{Accepted, Answer, Pair};
+use certificate_file::{Accepted, Answer, Header, Pair};
 use fbas_core::System;
 use itoa::Buffer;
 use name_set::{Names, NodeSet};
@@ -143,6 +143,18 @@ pub fn accepted(alloc: Global, system: &System, accepted: &Accepted) -> Result<V
     push_word_if_any(&mut text, "from", system.names(), accepted.header.from)?;
     push_list(&mut text, "faulty", system, &accepted.header.faulty)?;
     push_answer_sets(&mut text, system, &accepted.answer)?;
+    Ok(text)
+}
+
+/// The lines of a proof from outside that is verified: that it is, and the lines `from` and `faulty` of what it speaks of.
+pub fn verified(alloc: Global, system: &System, header: &Header) -> Result<Vec<u8>, AllocError>
+    requires { length header.now.faulty ≡ length system.now.sets }
+    ensures { IfOk result (λ text. text.items ≡ spec_verified system.now.names header.now) }
+{
+    let mut text = Vec::new(alloc);
+    push_word(&mut text, "verified\n")?;
+    push_word_if_any(&mut text, "from", system.names(), header.from)?;
+    push_list(&mut text, "faulty", system, &header.faulty)?;
     Ok(text)
 }
 

@@ -1,12 +1,15 @@
 //! Lists of minimal blocking sets: what `blocking` prints, that `check` accepts what it wrote, and what `check` says of others.
 use crate::status::Status;
 use crate::tests::certificates::{DIGEST_OF_THREE, of_kind, shared_of_kind};
-use crate::tests::desks::{Files, run_over, wants_checked};
+use crate::tests::desks::{
+    Files, Left, run_over, same, text_of, wants_checked, wants_left, wants_made,
+};
 use crate::tests::systems::{TWO_OF_THREE, TWO_PAIRS};
-use std::test::Fail;
+use std::alloc::{AllocError, Global};
+use std::process::Abort;
 
 // A configuration, a line, how it ends and what is out, and the same of `check` of the certificate.
-const LISTS: [(&str, &str, Status, &str, &str); 7] = [
+static LISTS: [(&str, &str, Status, &str, &str); 7] = [
     (
         TWO_OF_THREE,
         "blocking config cert",
@@ -58,32 +61,51 @@ const LISTS: [(&str, &str, Status, &str, &str); 7] = [
     ),
 ];
 
-#[test]
-fn lists_are_printed_with_certificates_that_are_accepted(rt: HostRuntime) -> Result<(), Fail> {
-    let alloc = rt.alloc();
-    for (config, line, status, text, accepted) in LISTS {
-        let config = config.as_bytes();
-        let left = run_over(alloc, line, &Files::of(config), 7, Vec::new(alloc))?;
-        assert_eq!(rt; left.status, status, "at {line}");
-        assert_eq!(rt; left.out.as_slice(), text.as_bytes(), "at {line}");
-        wants_checked(&rt, alloc, config, &left.cert, status, accepted)?;
-    }
-    Ok(())
+// What a list leaves.
+fn leaves(alloc: Global, config: &[u8], line: &str) -> Result<Left, AllocError> {
+    run_over(alloc, line, &Files::of(config), 7, Vec::new(alloc))
+}
+
+// Fails unless the list ends so, and its certificate is accepted.
+fn wants_listed(
+    rt: &impl Abort,
+    alloc: Global,
+    config: &[u8],
+    line: &str,
+    (status, text, accepted): (Status, &str, &str),
+) {
+    let left = leaves(alloc, config, line).expect(rt, "memory");
+    wants_left(rt, alloc, line, &left, status, text);
+    wants_checked(rt, alloc, config, &left.cert, status, accepted);
 }
 
 #[test]
-fn a_list_without_a_budget_has_an_empty_certificate(rt: HostRuntime) -> Result<(), Fail> {
+fn lists_are_printed_with_certificates_that_are_accepted(rt: HostRuntime) {
+    for (config, line, status, text, accepted) in LISTS.iter() {
+        let want = (*status, *text, *accepted);
+        wants_listed(&rt, rt.alloc(), config.as_bytes(), line, want);
+    }
+}
+
+// The certificate of a list of two of three.
+fn certificate_of(alloc: Global, line: &str) -> Result<String, AllocError> {
+    let left = leaves(alloc, TWO_OF_THREE.as_bytes(), line)?;
+    text_of(alloc, &left.cert)
+}
+
+#[test]
+fn a_list_without_a_budget_has_an_empty_certificate(rt: HostRuntime) {
     let alloc = rt.alloc();
-    let held = Files::of(TWO_OF_THREE.as_bytes());
-    let line = "blocking config cert --budget 0";
-    let left = run_over(alloc, line, &held, 7, Vec::new(alloc))?;
-    let cert = shared_of_kind(alloc, DIGEST_OF_THREE, "partial-blocking", "end\n")?;
-    assert_eq!(rt; left.cert.as_slice(), cert.as_bytes());
-    Ok(())
+    let cert = shared_of_kind(alloc, DIGEST_OF_THREE, "partial-blocking", "end\n");
+    same(
+        &rt,
+        certificate_of(alloc, "blocking config cert --budget 0"),
+        cert,
+    );
 }
 
 // A kind, the lines of a list for two of three, and what is said of it.
-const LIST_CERTIFICATES: [(&str, &str, Status, &str); 9] = [
+static LIST_CERTIFICATES: [(&str, &str, Status, &str); 9] = [
     (
         "blocking",
         "q 1 a b\nq 2 a c\nq 3 b c\nb 4 a b\nb 5 a c\nb 6 b c\n7 -1 0 4 5 3 0\n8 0 7 1 2 6 0\nend\n",
@@ -141,12 +163,10 @@ const LIST_CERTIFICATES: [(&str, &str, Status, &str); 9] = [
 ];
 
 #[test]
-fn check_accepts_a_list_and_names_the_first_fault(rt: HostRuntime) -> Result<(), Fail> {
-    let alloc = rt.alloc();
-    let config = TWO_OF_THREE.as_bytes();
-    for (kind, body, status, text) in LIST_CERTIFICATES {
-        let cert = of_kind(alloc, DIGEST_OF_THREE, kind, body)?;
-        wants_checked(&rt, alloc, config, cert.as_bytes(), status, text)?;
+fn check_accepts_a_list_and_names_the_first_fault(rt: HostRuntime) {
+    let (alloc, config) = (rt.alloc(), TWO_OF_THREE.as_bytes());
+    for (kind, body, status, text) in LIST_CERTIFICATES.iter() {
+        let cert = of_kind(alloc, DIGEST_OF_THREE, kind, body);
+        wants_made(&rt, alloc, config, cert, *status, text);
     }
-    Ok(())
 }

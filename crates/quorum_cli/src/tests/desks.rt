@@ -1,4 +1,7 @@
 //! Desks in memory, and how a command line ends on them.
+//!
+//! What is proved of a function grows with its ways out times its values that are to be dropped. So the steps of a test stand in
+//! functions of their own that return a text, and a test has no `?`.
 ghost use Rattle.std.specs.Prelude.{◌<◌};
 
 use crate::run::run;
@@ -6,7 +9,7 @@ use crate::status::Status;
 use desk_io::{Call, MemDesk};
 use std::alloc::{AllocError, Global};
 use std::process::Abort;
-use std::test::Fail;
+use std::str::from_utf8;
 
 /// The files `config`, `cert` and `orgs`.
 #[derive(Clone, Copy)]
@@ -45,6 +48,16 @@ pub struct Left {
     pub made: Option<Vec<u8>>,
 }
 
+impl Left {
+    /// What the file `c` holds: nothing, if it was not made.
+    pub fn made(&self) -> &[u8] {
+        match &self.made {
+            Some(bytes) => bytes,
+            None => b"",
+        }
+    }
+}
+
 fn push_file(
     alloc: Global,
     files: &mut Vec<(String, Vec<u8>)>,
@@ -59,6 +72,27 @@ fn push_file(
 /// How many bytes may be put in a run: more than the longest text of a test, the formula of half of two hundred.
 const ROOM: usize = 2_000_000;
 
+// The three files.
+fn files_of(alloc: Global, held: &Files) -> Result<Vec<(String, Vec<u8>)>, AllocError> {
+    let mut files = Vec::new(alloc);
+    push_file(alloc, &mut files, "config", held.config)?;
+    push_file(alloc, &mut files, "cert", held.cert)?;
+    push_file(alloc, &mut files, "orgs", held.orgs)?;
+    Ok(files)
+}
+
+fn push_word(alloc: Global, words: &mut Vec<String>, word: &str) -> Result<(), AllocError> {
+    words.push(String::from_str(alloc, word)?)?;
+    Ok(())
+}
+
+// The file that may be created.
+fn creatable(alloc: Global) -> Result<Vec<String>, AllocError> {
+    let mut paths = Vec::new(alloc);
+    push_word(alloc, &mut paths, "c")?;
+    Ok(paths)
+}
+
 // A desk with the three files, which may create the file `c`, moves so many bytes at once and fails these calls.
 fn desk(
     alloc: Global,
@@ -68,22 +102,18 @@ fn desk(
 ) -> Result<MemDesk, AllocError>
     requires { 0 < piece }
 {
-    let mut files = Vec::new(alloc);
-    push_file(alloc, &mut files, "config", held.config)?;
-    push_file(alloc, &mut files, "cert", held.cert)?;
-    push_file(alloc, &mut files, "orgs", held.orgs)?;
-    let mut may_create = Vec::new(alloc);
-    may_create.push(String::from_str(alloc, "c")?)?;
+    let files = files_of(alloc, held)?;
+    let may_create = creatable(alloc)?;
     MemDesk::new(alloc, files, may_create, piece, ROOM, failing)
 }
 
 // The words of a line behind the program's name.
 fn words(alloc: Global, line: &str) -> Result<Vec<String>, AllocError> {
     let mut words = Vec::new(alloc);
-    words.push(String::from_str(alloc, "quorum_cli")?)?;
+    push_word(alloc, &mut words, "quorum_cli")?;
     for word in line.split(' ') {
         if !word.is_empty() {
-            words.push(String::from_str(alloc, word)?)?;
+            push_word(alloc, &mut words, word)?;
         }
     }
     Ok(words)
@@ -110,6 +140,11 @@ fn left_on(alloc: Global, desk: &MemDesk, status: Status) -> Result<Left, AllocE
     })
 }
 
+// It stands apart so that its contract is not carried into what is proved of its caller.
+fn status_of(alloc: Global, words: &[String], desk: &mut MemDesk) -> Status {
+    run(alloc, words, desk)
+}
+
 /// What the words leave on a desk that moves so many bytes at once and fails these calls.
 pub fn run_words(
     alloc: Global,
@@ -121,7 +156,7 @@ pub fn run_words(
     requires { 0 < piece }
 {
     let mut desk = desk(alloc, held, piece, failing)?;
-    let status = run(alloc, words, &mut desk);
+    let status = status_of(alloc, words, &mut desk);
     left_on(alloc, &desk, status)
 }
 
@@ -138,26 +173,59 @@ pub fn run_over(
     run_words(alloc, &words(alloc, line)?, held, piece, failing)
 }
 
-/// How the command line ends over the files, in pieces of 7 bytes, and what is out then.
-pub fn ends(alloc: Global, line: &str, held: &Files) -> Result<(Status, Vec<u8>), AllocError> {
-    let left = run_over(alloc, line, held, 7, Vec::new(alloc))?;
-    Ok((left.status, left.out))
+/// The bytes as a text.
+pub fn text_of(alloc: Global, bytes: &[u8]) -> Result<String, AllocError> {
+    String::from_str(alloc, from_utf8(bytes).unwrap_or("no text"))
 }
 
-/// Fails unless the command line ends with this status and this text.
-pub fn wants(
+/// What is said of a command line that ended so, with these bytes out.
+pub fn said(alloc: Global, line: &str, status: Status, out: &[u8]) -> Result<String, AllocError> {
+    let text = from_utf8(out).unwrap_or("no text");
+    format!(in alloc; "{line}: {status:?}\n{text}")
+}
+
+/// What is said of the command line over the files, on a desk that moves so many bytes at once.
+pub fn told(alloc: Global, line: &str, held: &Files, piece: usize) -> Result<String, AllocError>
+    requires { 0 < piece }
+{
+    let left = run_over(alloc, line, held, piece, Vec::new(alloc))?;
+    said(alloc, line, left.status, &left.out)
+}
+
+/// Fails the test where the texts differ, or memory is wanting.
+pub fn same(rt: &impl Abort, found: Result<String, AllocError>, want: Result<String, AllocError>) {
+    let found = found.expect(rt, "memory");
+    let want = want.expect(rt, "memory");
+    assert_eq!(rt; found, want);
+}
+
+/// Fails unless what is left of the command line is this status and this text.
+pub fn wants_left(
     rt: &impl Abort,
     alloc: Global,
     line: &str,
-    held: &Files,
+    left: &Left,
     status: Status,
     text: &str,
-) -> Result<(), Fail> {
-    let (found, out) = ends(alloc, line, held)?;
-    assert_eq!(rt; found, status, "at {line}");
-    assert_eq!(rt; out.as_slice(), text.as_bytes(), "at {line}");
-    Ok(())
+) {
+    same(
+        rt,
+        said(alloc, line, left.status, &left.out),
+        said(alloc, line, status, text.as_bytes()),
+    );
 }
+
+/// Fails unless the command line ends with this status and this text, in pieces of 7 bytes.
+pub fn wants(rt: &impl Abort, alloc: Global, line: &str, held: &Files, status: Status, text: &str) {
+    same(
+        rt,
+        told(alloc, line, held, 7),
+        said(alloc, line, status, text.as_bytes()),
+    );
+}
+
+/// The line that checks the certificate.
+pub const CHECK: &str = "check config cert";
 
 /// Fails unless `check` of this certificate ends with this status and this text.
 pub fn wants_checked(
@@ -167,7 +235,20 @@ pub fn wants_checked(
     cert: &[u8],
     status: Status,
     text: &str,
-) -> Result<(), Fail> {
+) {
     let held = Files::with_cert(config, cert);
-    wants(rt, alloc, "check config cert", &held, status, text)
+    wants(rt, alloc, CHECK, &held, status, text);
+}
+
+/// The same of a certificate that was made for the test.
+pub fn wants_made(
+    rt: &impl Abort,
+    alloc: Global,
+    config: &[u8],
+    cert: Result<String, AllocError>,
+    status: Status,
+    text: &str,
+) {
+    let cert = cert.expect(rt, "memory");
+    wants_checked(rt, alloc, config, cert.as_bytes(), status, text);
 }

@@ -1,12 +1,11 @@
 //! Each call of the desk fails once, in whole runs: what stands then. The desk moves 8 bytes at once.
 use crate::status::Status;
 use crate::tests::certificates::PAIR_OF_THREE;
-use crate::tests::desks::{Files, Left, run_over, wants_checked};
+use crate::tests::desks::{Files, Left, run_over, same, wants_checked};
 use crate::tests::systems::{ORG, THREE_OF_FOUR, TRIAL_OF_ONE, TWO_OF_THREE};
 use desk_io::{Call, To, Which};
 use std::alloc::{AllocError, Global};
 use std::process::Abort;
-use std::test::Fail;
 
 /// How many bytes the desk moves at once.
 const PIECE: usize = 8;
@@ -27,7 +26,7 @@ struct Run {
     written: Option<(Status, &'static str)>,
 }
 
-const RUNS: [Run; 10] = [
+static RUNS: [Run; 10] = [
     Run {
         line: "intersect config cert",
         config: TWO_OF_THREE,
@@ -107,7 +106,7 @@ const RUNS: [Run; 10] = [
 ];
 
 /// Each kind of call, of each file.
-const CALLS: [Call; 9] = [
+static CALLS: [Call; 9] = [
     Call::Begin(Which::Config),
     Call::Next(Which::Config),
     Call::Begin(Which::Orgs),
@@ -206,26 +205,67 @@ fn stands(
     }
 }
 
-// How many calls of this kind a run makes. Each of them fails once, and what stands then is what has to.
-fn calls_of(
-    rt: &impl Abort,
+// How a run ends in which a call fails.
+enum Ending {
+    /// As where none fails: it makes fewer calls of this kind.
+    Whole,
+    /// With what has to stand then.
+    Stands,
+    Other,
+}
+
+fn ending_of(
+    alloc: Global,
+    held: &Files,
+    whole: &Left,
+    call: Call,
+    left: &Left,
+) -> Result<Ending, AllocError> {
+    if is_same(left, whole) {
+        return Ok(Ending::Whole);
+    }
+    match stands(alloc, held, whole, call, left)? {
+        true => Ok(Ending::Stands),
+        false => Ok(Ending::Other),
+    }
+}
+
+// How a run ends in which this call fails.
+fn ends_failing(
     alloc: Global,
     line: &str,
     held: &Files,
     whole: &Left,
     call: Call,
-) -> Result<u64, Fail> {
+    number: u64,
+) -> Result<Ending, AllocError> {
+    let left = leaves_failing(alloc, line, held, call, number)?;
+    ending_of(alloc, held, whole, call, &left)
+}
+
+// What is said of so many calls of a kind.
+fn counted(alloc: Global, line: &str, call: Call, count: u64) -> Result<String, AllocError> {
+    format!(in alloc; "{line}: {count} of {call:?}")
+}
+
+// How many calls of this kind a run makes. Each of them fails once, and what stands then is what has to.
+fn calls_of(
+    alloc: Global,
+    line: &str,
+    held: &Files,
+    whole: &Left,
+    call: Call,
+) -> Result<String, AllocError> {
     for number in 0..MANY {
-        let left = leaves_failing(alloc, line, held, call, number + 1)?;
-        if is_same(&left, whole) {
-            return Ok(number);
+        match ends_failing(alloc, line, held, whole, call, number + 1)? {
+            Ending::Whole => return counted(alloc, line, call, number),
+            Ending::Stands => {}
+            Ending::Other => {
+                return format!(in alloc; "{line}: another end after {number} of {call:?}");
+            }
         }
-        assert!(rt;
-            stands(alloc, held, whole, call, &left)?,
-            "after {number} of {call:?} in {line}"
-        );
     }
-    Ok(MANY)
+    counted(alloc, line, call, MANY)
 }
 
 // In how many calls so many bytes move.
@@ -260,32 +300,25 @@ fn count_of(run: &Run, held: &Files, whole: &Left, call: Call) -> u64 {
 }
 
 // Each call of the run fails once. The certificate that it writes, if it writes one, is accepted.
-fn wants_run(rt: &impl Abort, alloc: Global, run: &Run) -> Result<(), Fail> {
+fn wants_run(rt: &impl Abort, alloc: Global, run: &Run) {
     let held = Files {
         config: run.config.as_bytes(),
         cert: run.cert.as_bytes(),
         orgs: ORG.as_bytes(),
     };
-    let whole = leaves(alloc, run.line, &held)?;
+    let whole = leaves(alloc, run.line, &held).expect(rt, "memory");
     if let Some((status, accepted)) = run.written {
-        wants_checked(rt, alloc, held.config, &whole.cert, status, accepted)?;
+        wants_checked(rt, alloc, held.config, &whole.cert, status, accepted);
     }
-    for call in CALLS {
-        let found = calls_of(rt, alloc, run.line, &held, &whole, call)?;
-        assert_eq!(rt;
-            found,
-            count_of(run, &held, &whole, call),
-            "of {call:?} in {}",
-            run.line
-        );
+    for call in CALLS.iter() {
+        let want = counted(alloc, run.line, *call, count_of(run, &held, &whole, *call));
+        same(rt, calls_of(alloc, run.line, &held, &whole, *call), want);
     }
-    Ok(())
 }
 
 #[test]
-fn each_call_of_a_run_fails_once(rt: HostRuntime) -> Result<(), Fail> {
+fn each_call_of_a_run_fails_once(rt: HostRuntime) {
     for run in RUNS.iter() {
-        wants_run(&rt, rt.alloc(), run)?;
+        wants_run(&rt, rt.alloc(), run);
     }
-    Ok(())
 }

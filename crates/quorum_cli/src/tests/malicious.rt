@@ -1,11 +1,10 @@
 //! Files that were made to break the program: each has its one exact answer. `tests/malicious.py` has these and more.
 use crate::status::Status;
 use crate::tests::certificates::{DIGEST_OF_THREE, DIGEST_OF_TWO, certificate, of_kind};
-use crate::tests::desks::{Files, run_over};
+use crate::tests::desks::{CHECK, Files, said, same, told};
 use crate::tests::systems::{TWO_OF_THREE, TWO_OF_TWO};
 use std::alloc::{AllocError, Global};
 use std::process::Abort;
-use std::test::Fail;
 
 /// A file that is handed in.
 #[derive(Clone, Copy)]
@@ -28,11 +27,16 @@ enum Made {
     Spaces(usize),
 }
 
+const SHOW: &str = "show config";
+
+/// How many bytes the desk moves at once.
+const PIECE: usize = 65_536;
+
 const REFUSED: Status = Status::CertRefused;
 
 const REFUTED: &str = "accepted refutation\nfrom\nfaulty\n";
 
-const ROWS: [(Made, Status, &str); 47] = [
+static ROWS: [(Made, Status, &str); 47] = [
     (
         Made::Arrays(127),
         Status::ConfigRefused,
@@ -258,7 +262,7 @@ const ROWS: [(Made, Status, &str); 47] = [
 ];
 
 /// Great files, for which `rt try` has too little time: the built tests take a few seconds.
-const GREAT: [(Made, Status, &str); 4] = [
+static GREAT: [(Made, Status, &str); 4] = [
     (
         Made::Entries(1_000_000),
         Status::Yes,
@@ -277,24 +281,18 @@ const GREAT: [(Made, Status, &str); 4] = [
     ),
 ];
 
-// How the program ends over the files, in great pieces, and what is out then.
-fn ends_on(alloc: Global, line: &str, held: &Files) -> Result<(Status, Vec<u8>), AllocError> {
-    let left = run_over(alloc, line, held, 65_536, Vec::new(alloc))?;
-    Ok((left.status, left.out))
+// What is said of `show` of a configuration, in great pieces.
+fn shown(alloc: Global, config: &str) -> Result<String, AllocError> {
+    told(alloc, SHOW, &Files::of(config.as_bytes()), PIECE)
 }
 
-// How `show` ends over a configuration.
-fn shown(alloc: Global, config: &str) -> Result<(Status, Vec<u8>), AllocError> {
-    ends_on(alloc, "show config", &Files::of(config.as_bytes()))
-}
-
-fn shown_arrays(alloc: Global, count: usize) -> Result<(Status, Vec<u8>), AllocError> {
+fn shown_arrays(alloc: Global, count: usize) -> Result<String, AllocError> {
     let mut config = "[".repeat(alloc, count)?;
     config.push_str(&"]".repeat(alloc, count)?)?;
     shown(alloc, &config)
 }
 
-fn shown_entries(alloc: Global, count: usize) -> Result<(Status, Vec<u8>), AllocError> {
+fn shown_entries(alloc: Global, count: usize) -> Result<String, AllocError> {
     let mut config = String::from_str(
         alloc,
         r#"[{"publicKey":"a","quorumSet":{"threshold":1,"validators":["a""#,
@@ -304,10 +302,15 @@ fn shown_entries(alloc: Global, count: usize) -> Result<(Status, Vec<u8>), Alloc
     shown(alloc, &config)
 }
 
-// How `check` ends over a certificate for two of three.
-fn checked(alloc: Global, cert: &str) -> Result<(Status, Vec<u8>), AllocError> {
+// What is said of `check` of a certificate for two of three.
+fn checked(alloc: Global, cert: &str) -> Result<String, AllocError> {
     let held = Files::with_cert(TWO_OF_THREE.as_bytes(), cert.as_bytes());
-    ends_on(alloc, "check config cert", &held)
+    told(alloc, CHECK, &held, PIECE)
+}
+
+fn checked_lines(alloc: Global, lines: &str) -> Result<String, AllocError> {
+    let cert = certificate(alloc, DIGEST_OF_THREE, lines)?;
+    checked(alloc, &cert)
 }
 
 // Spaces by the block, since a hundred million one by one take long.
@@ -317,53 +320,56 @@ fn push_spaces(alloc: Global, text: &mut String, count: usize) -> Result<(), All
     text.push_str(&" ".repeat(alloc, count % 65_536)?)
 }
 
-fn checked_spaces(alloc: Global, count: usize) -> Result<(Status, Vec<u8>), AllocError> {
+fn checked_spaces(alloc: Global, count: usize) -> Result<String, AllocError> {
     let mut cert = of_kind(alloc, DIGEST_OF_THREE, "pair", "")?;
     push_spaces(alloc, &mut cert, count)?;
     checked(alloc, &cert)
 }
 
-// How `check` ends over a refutation of two of two: this behind the formula, the last lemma, and this.
-fn refuted(alloc: Global, lemma: &str, end: &str) -> Result<(Status, Vec<u8>), AllocError> {
-    let mut body = String::from_str(alloc, "formula 8 16\n")?;
-    body.push_str(lemma)?;
-    body.push_str("18 0 17 1 10 8 0\n")?;
-    body.push_str(end)?;
+// What is said of `check` of a refutation of two of two: this behind the formula, the last lemma, and this.
+fn refuted(alloc: Global, lemma: &str, end: &str) -> Result<String, AllocError> {
+    let body = format!(in alloc; "formula 8 16\n{lemma}18 0 17 1 10 8 0\n{end}")?;
     let cert = of_kind(alloc, DIGEST_OF_TWO, "refutation", &body)?;
     let held = Files::with_cert(TWO_OF_TWO.as_bytes(), cert.as_bytes());
-    ends_on(alloc, "check config cert", &held)
+    told(alloc, CHECK, &held, PIECE)
 }
 
-// How the program ends over a file.
-fn ends_over(alloc: Global, made: &Made) -> Result<(Status, Vec<u8>), AllocError> {
+// What is said of a file.
+fn told_of(alloc: Global, made: &Made) -> Result<String, AllocError> {
     match made {
         Made::Config(config) => shown(alloc, config),
         Made::Arrays(count) => shown_arrays(alloc, *count),
         Made::Entries(count) => shown_entries(alloc, *count),
         Made::Lemma(lemma) => refuted(alloc, lemma, "end\n"),
         Made::End(end) => refuted(alloc, "17 -1 0 7 6 3 4 2 0\n", end),
-        Made::Lines(lines) => checked(alloc, &certificate(alloc, DIGEST_OF_THREE, lines)?),
+        Made::Lines(lines) => checked_lines(alloc, lines),
         Made::Cert(cert) => checked(alloc, cert),
         Made::Spaces(count) => checked_spaces(alloc, *count),
     }
 }
 
-// Fails unless each file has its answer.
-fn wants_rows(rt: &impl Abort, alloc: Global, rows: &[(Made, Status, &str)]) -> Result<(), Fail> {
-    for (number, (made, status, text)) in rows.iter().enumerate() {
-        let (found, out) = ends_over(alloc, made)?;
-        assert_eq!(rt; found, *status, "at row {number}");
-        assert_eq!(rt; out.as_slice(), text.as_bytes(), "at row {number}");
+// The line that a file is for.
+fn line_of(made: &Made) -> &'static str {
+    match made {
+        Made::Config(_) | Made::Arrays(_) | Made::Entries(_) => SHOW,
+        _ => CHECK,
     }
-    Ok(())
+}
+
+// Fails unless each file has its answer.
+fn wants_rows(rt: &impl Abort, alloc: Global, rows: &[(Made, Status, &str)]) {
+    for (made, status, text) in rows {
+        let want = said(alloc, line_of(made), *status, text.as_bytes());
+        same(rt, told_of(alloc, made), want);
+    }
 }
 
 #[test]
-fn a_malicious_file_has_its_one_answer(rt: HostRuntime) -> Result<(), Fail> {
-    wants_rows(&rt, rt.alloc(), &ROWS)
+fn a_malicious_file_has_its_one_answer(rt: HostRuntime) {
+    wants_rows(&rt, rt.alloc(), &ROWS);
 }
 
 #[test]
-fn a_great_malicious_file_has_its_one_answer(rt: HostRuntime) -> Result<(), Fail> {
-    wants_rows(&rt, rt.alloc(), &GREAT)
+fn a_great_malicious_file_has_its_one_answer(rt: HostRuntime) {
+    wants_rows(&rt, rt.alloc(), &GREAT);
 }

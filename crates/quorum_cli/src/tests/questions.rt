@@ -1,19 +1,19 @@
 //! What the plain questions and `export` answer, and which words are no order.
 use crate::status::Status;
 use crate::tests::certificates::{DIGEST_OF_PAIRS, certificate};
-use crate::tests::desks::{Files, run_over, run_words, wants, wants_checked};
+use crate::tests::desks::{Files, run_over, run_words, said, same, wants, wants_made};
 use crate::tests::systems::{
     LARGE_THRESHOLD, ORG, REPEATED, TWO_OF_THREE, TWO_OF_TWO, TWO_PAIRS, UNDECLARED, ZERO_INSIDE,
     half_of_two_hundred, organisations, rotated_half_of_two_hundred,
 };
+use std::alloc::{AllocError, Global};
 use std::str::from_utf8;
-use std::test::Fail;
 
 pub const USAGE: &str =
-    "usage: quorum_cli COMMAND\nshow CONFIG\nclosure CONFIG --node NAME\ngreatest CONFIG [COMMON]\nintersect CONFIG CERT [COMMON] [--budget UNITS]\navailable CONFIG --set NAMES [--from NAME]\ndset CONFIG CERT --set NAMES [--from NAME] [--budget UNITS]\nblocks CONFIG --set NAMES [COMMON]\nvblocks CONFIG --node NAME --set NAMES\nsplits CONFIG CERT --set NAMES [COMMON] [--budget UNITS]\nblocking CONFIG CERT [COMMON] [--budget UNITS]\ncheck CONFIG CERT\nexport CONFIG [COMMON]\ntrial N CERT [--budget UNITS]\nCOMMON: --from NAME --faulty NAMES --orgs ORGS --faulty-orgs IDS\n";
+    "usage: quorum_cli COMMAND\nshow CONFIG\nclosure CONFIG --node NAME\ngreatest CONFIG [COMMON]\nintersect CONFIG CERT [COMMON] [--budget UNITS]\navailable CONFIG --set NAMES [--from NAME]\ndset CONFIG CERT --set NAMES [--from NAME] [--budget UNITS]\nblocks CONFIG --set NAMES [COMMON]\nvblocks CONFIG --node NAME --set NAMES\nsplits CONFIG CERT --set NAMES [COMMON] [--budget UNITS]\nblocking CONFIG CERT [COMMON] [--budget UNITS]\ncheck CONFIG CERT\nexport CONFIG [COMMON]\ntrial N CERT [--budget UNITS]\ncheck-lrat CONFIG LRAT [COMMON]\nCOMMON: --from NAME --faulty NAMES --orgs ORGS --faulty-orgs IDS\n";
 
 // Words that are no order, and files that are missing.
-const NO_ORDERS: [(&str, Status, &str); 6] = [
+static NO_ORDERS: [(&str, Status, &str); 6] = [
     ("", Status::Usage, USAGE),
     ("--help", Status::Usage, USAGE),
     ("check config", Status::Usage, USAGE),
@@ -23,31 +23,34 @@ const NO_ORDERS: [(&str, Status, &str); 6] = [
 ];
 
 #[test]
-fn words_that_are_no_order_and_missing_files_end_the_program(rt: HostRuntime) -> Result<(), Fail> {
-    for (line, status, text) in NO_ORDERS {
+fn words_that_are_no_order_and_missing_files_end_the_program(rt: HostRuntime) {
+    for (line, status, text) in NO_ORDERS.iter() {
         wants(
             &rt,
             rt.alloc(),
             line,
             &Files::of(TWO_OF_THREE.as_bytes()),
-            status,
+            *status,
             text,
-        )?;
+        );
     }
-    Ok(())
+}
+
+// What is said of no word at all.
+fn told_of_no_word(alloc: Global) -> Result<String, AllocError> {
+    let left = run_words(alloc, &[], &Files::of(b""), 1, Vec::new(alloc))?;
+    said(alloc, "", left.status, &left.out)
 }
 
 #[test]
-fn no_word_at_all_is_no_order(rt: HostRuntime) -> Result<(), Fail> {
+fn no_word_at_all_is_no_order(rt: HostRuntime) {
     let alloc = rt.alloc();
-    let left = run_words(alloc, &[], &Files::of(b""), 1, Vec::new(alloc))?;
-    assert_eq!(rt; left.status, Status::Usage);
-    assert_eq!(rt; left.out.as_slice(), USAGE.as_bytes());
-    Ok(())
+    let want = said(alloc, "", Status::Usage, USAGE.as_bytes());
+    same(&rt, told_of_no_word(alloc), want);
 }
 
 // Configurations, words, and the answers.
-const PLAIN: [(&str, &str, Status, &str); 9] = [
+static PLAIN: [(&str, &str, Status, &str); 9] = [
     (
         ZERO_INSIDE,
         "show config",
@@ -95,33 +98,32 @@ const PLAIN: [(&str, &str, Status, &str); 9] = [
 ];
 
 #[test]
-fn plain_questions_are_answered(rt: HostRuntime) -> Result<(), Fail> {
-    for (config, line, status, text) in PLAIN {
+fn plain_questions_are_answered(rt: HostRuntime) {
+    for (config, line, status, text) in PLAIN.iter() {
         wants(
             &rt,
             rt.alloc(),
             line,
             &Files::of(config.as_bytes()),
-            status,
+            *status,
             text,
-        )?;
+        );
     }
-    Ok(())
 }
 
 #[test]
-fn a_set_blocks_organisations_or_leaves_a_quorum(rt: HostRuntime) -> Result<(), Fail> {
-    let config = organisations(rt.alloc())?;
+fn a_set_blocks_organisations_or_leaves_a_quorum(rt: HostRuntime) {
+    let config = organisations(rt.alloc()).expect(&rt, "memory");
     let held = Files::of(config.as_bytes());
     let text = "blocks no\nquorum p3 q2 q3 r1 r2 r3\n";
     let line = "blocks config --set p1,p2,q1";
-    wants(&rt, rt.alloc(), line, &held, Status::No, text)?;
+    wants(&rt, rt.alloc(), line, &held, Status::No, text);
     let line = "blocks config --set=p1,p2,q1,q2";
-    wants(&rt, rt.alloc(), line, &held, Status::Yes, "blocks yes\n")
+    wants(&rt, rt.alloc(), line, &held, Status::Yes, "blocks yes\n");
 }
 
 // Words with names, over two of three, and the answers.
-const NAMED: [(&str, Status, &str); 10] = [
+static NAMED: [(&str, Status, &str); 10] = [
     (
         "vblocks config --node a --set b,c",
         Status::Yes,
@@ -171,22 +173,21 @@ const NAMED: [(&str, Status, &str); 10] = [
 ];
 
 #[test]
-fn names_on_the_command_line_are_read_to_their_first_fault(rt: HostRuntime) -> Result<(), Fail> {
-    for (line, status, text) in NAMED {
+fn names_on_the_command_line_are_read_to_their_first_fault(rt: HostRuntime) {
+    for (line, status, text) in NAMED.iter() {
         wants(
             &rt,
             rt.alloc(),
             line,
             &Files::of(TWO_OF_THREE.as_bytes()),
-            status,
+            *status,
             text,
-        )?;
+        );
     }
-    Ok(())
 }
 
 // Words over two pairs that speak of the trust closure of a node, and the answers.
-const CLOSED: [(&str, Status, &str); 6] = [
+static CLOSED: [(&str, Status, &str); 6] = [
     ("greatest config --from a", Status::Yes, "greatest a b\n"),
     ("closure config --node a", Status::Yes, "closure a b\n"),
     (
@@ -212,38 +213,30 @@ const CLOSED: [(&str, Status, &str); 6] = [
 ];
 
 #[test]
-fn questions_are_asked_of_a_trust_closure(rt: HostRuntime) -> Result<(), Fail> {
-    for (line, status, text) in CLOSED {
+fn questions_are_asked_of_a_trust_closure(rt: HostRuntime) {
+    for (line, status, text) in CLOSED.iter() {
         wants(
             &rt,
             rt.alloc(),
             line,
             &Files::of(TWO_PAIRS.as_bytes()),
-            status,
+            *status,
             text,
-        )?;
+        );
     }
-    Ok(())
 }
 
 #[test]
-fn a_certificate_speaks_of_a_trust_closure(rt: HostRuntime) -> Result<(), Fail> {
+fn a_certificate_speaks_of_a_trust_closure(rt: HostRuntime) {
     let lines = "from a\nfaulty\nkind pair\nfirst a b\nsecond c d\nend\n";
-    let cert = certificate(rt.alloc(), DIGEST_OF_PAIRS, lines)?;
+    let cert = certificate(rt.alloc(), DIGEST_OF_PAIRS, lines);
     let text = "refused unknown-node 7\n";
     let config = TWO_PAIRS.as_bytes();
-    wants_checked(
-        &rt,
-        rt.alloc(),
-        config,
-        cert.as_bytes(),
-        Status::CertRefused,
-        text,
-    )
+    wants_made(&rt, rt.alloc(), config, cert, Status::CertRefused, text);
 }
 
 // Words over two of three, organisations, and the answers.
-const ORGANISED: [(&str, &str, Status, &str); 6] = [
+static ORGANISED: [(&str, &str, Status, &str); 6] = [
     (
         "greatest config --orgs orgs --faulty-orgs A",
         ORG,
@@ -283,20 +276,19 @@ const ORGANISED: [(&str, &str, Status, &str); 6] = [
 ];
 
 #[test]
-fn questions_are_asked_of_organisations(rt: HostRuntime) -> Result<(), Fail> {
-    for (line, orgs, status, text) in ORGANISED {
+fn questions_are_asked_of_organisations(rt: HostRuntime) {
+    for (line, orgs, status, text) in ORGANISED.iter() {
         let held = Files {
             config: TWO_OF_THREE.as_bytes(),
             cert: b"",
             orgs: orgs.as_bytes(),
         };
-        wants(&rt, rt.alloc(), line, &held, status, text)?;
+        wants(&rt, rt.alloc(), line, &held, *status, text);
     }
-    Ok(())
 }
 
 // Configurations, words, and the formula that `export` writes.
-const EXPORTED: [(&str, &str, &str); 3] = [
+static EXPORTED: [(&str, &str, &str); 3] = [
     (
         TWO_OF_TWO,
         "export config",
@@ -315,8 +307,8 @@ const EXPORTED: [(&str, &str, &str); 3] = [
 ];
 
 #[test]
-fn export_writes_the_formula(rt: HostRuntime) -> Result<(), Fail> {
-    for (config, line, text) in EXPORTED {
+fn export_writes_the_formula(rt: HostRuntime) {
+    for (config, line, text) in EXPORTED.iter() {
         wants(
             &rt,
             rt.alloc(),
@@ -324,41 +316,29 @@ fn export_writes_the_formula(rt: HostRuntime) -> Result<(), Fail> {
             &Files::of(config.as_bytes()),
             Status::Yes,
             text,
-        )?;
+        );
     }
-    Ok(())
 }
 
-#[test]
-fn export_writes_each_gate_once_on_a_side(rt: HostRuntime) -> Result<(), Fail> {
-    let alloc = rt.alloc();
+// Whether `export` of half of two hundred writes this line.
+fn exports(alloc: Global, wanted: &str) -> Result<bool, AllocError> {
     let config = half_of_two_hundred(alloc)?;
-    let left = run_over(
-        alloc,
-        "export config",
-        &Files::of(&config),
-        65_536,
-        Vec::new(alloc),
-    )?;
-    assert_eq!(rt; left.status, Status::Yes);
-    let text = from_utf8(&left.out)?;
-    assert!(rt; text.lines().any(|line| line == "p cnf 30500 60402"));
-    Ok(())
+    let held = Files::of(&config);
+    let left = run_over(alloc, "export config", &held, 65_536, Vec::new(alloc))?;
+    let text = from_utf8(&left.out).unwrap_or("no text");
+    Ok(left.status == Status::Yes && text.lines().any(|line| line == wanted))
 }
 
 #[test]
-fn export_names_the_number_of_variables_where_they_are_too_many(
-    rt: HostRuntime,
-) -> Result<(), Fail> {
-    let config = rotated_half_of_two_hundred(rt.alloc())?;
+fn export_writes_each_gate_once_on_a_side(rt: HostRuntime) {
+    assert_eq!(rt; exports(rt.alloc(), "p cnf 30500 60402"), Ok(true));
+}
+
+#[test]
+fn export_names_the_number_of_variables_where_they_are_too_many(rt: HostRuntime) {
+    let config = rotated_half_of_two_hundred(rt.alloc()).expect(&rt, "memory");
     let held = Files::of(&config);
     let text = "too-large 6020400\n";
-    wants(
-        &rt,
-        rt.alloc(),
-        "export config",
-        &held,
-        Status::TooLarge,
-        text,
-    )
+    let line = "export config";
+    wants(&rt, rt.alloc(), line, &held, Status::TooLarge, text);
 }

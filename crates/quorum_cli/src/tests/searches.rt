@@ -1,17 +1,16 @@
 //! What the searches answer, and that their certificates are accepted.
 use crate::status::Status;
 use crate::tests::certificates::{DIGEST_OF_THREE, shared_of_kind};
-use crate::tests::desks::{Files, ends, run_over};
+use crate::tests::desks::{CHECK, Files, Left, run_over, same, text_of, wants_left};
 use crate::tests::questions::USAGE;
 use crate::tests::systems::{
     ORG, THREE_OF_FOUR, TWO_OF_THREE, TWO_PAIRS, UNDECLARED, rotated_half_of_two_hundred,
 };
-use std::alloc::Global;
+use std::alloc::{AllocError, Global};
 use std::process::Abort;
-use std::test::Fail;
 
 // Configurations, words, the answers, and what `check` says of the certificates.
-const SEARCHES: [(&str, &str, Status, &str, &str); 14] = [
+static SEARCHES: [(&str, &str, Status, &str, &str); 15] = [
     (
         TWO_OF_THREE,
         "intersect config c",
@@ -57,6 +56,13 @@ const SEARCHES: [(&str, &str, Status, &str, &str); 14] = [
     (
         THREE_OF_FOUR,
         "dset config c --set a,b --budget 0",
+        Status::No,
+        "available no\nunmet c d\nintersects unknown 0\ndset no\n",
+        "accepted partial 0\nfrom\nfaulty a b\n",
+    ),
+    (
+        THREE_OF_FOUR,
+        "dset config c --set a,b --budget 1",
         Status::No,
         "available no\nunmet c d\nintersects no\nfirst c\nsecond d\ndset no\n",
         "accepted pair\nfrom\nfaulty a b\n",
@@ -121,18 +127,16 @@ fn held<'a>(config: &'a [u8]) -> Files<'a> {
     }
 }
 
-// Fails unless `check` says this of the certificate.
-fn wants_said(
-    rt: &impl Abort,
-    alloc: Global,
-    config: &[u8],
-    cert: &[u8],
-    text: &str,
-) -> Result<(), Fail> {
+// What a search leaves.
+fn leaves(alloc: Global, config: &[u8], line: &str) -> Result<Left, AllocError> {
+    run_over(alloc, line, &held(config), 8, Vec::new(alloc))
+}
+
+// The text of `check` of a certificate.
+fn checked(alloc: Global, config: &[u8], cert: &[u8]) -> Result<String, AllocError> {
     let held = Files::with_cert(config, cert);
-    let (_, said) = ends(alloc, "check config cert", &held)?;
-    assert_eq!(rt; said.as_slice(), text.as_bytes());
-    Ok(())
+    let left = run_over(alloc, CHECK, &held, 7, Vec::new(alloc))?;
+    text_of(alloc, &left.out)
 }
 
 // Fails unless the search ends so.
@@ -141,31 +145,24 @@ fn wants_found(
     alloc: Global,
     config: &[u8],
     line: &str,
-    (status, text, checked): (Status, &str, &str),
-) -> Result<(), Fail> {
-    let left = run_over(alloc, line, &held(config), 8, Vec::new(alloc))?;
-    assert_eq!(rt; left.status, status, "at {line}");
-    assert_eq!(rt; left.out.as_slice(), text.as_bytes(), "at {line}");
-    let made = left.made.ok_or("no certificate")?;
-    wants_said(rt, alloc, config, &made, checked)
+    (status, text, accepted): (Status, &str, &str),
+) {
+    let left = leaves(alloc, config, line).expect(rt, "memory");
+    wants_left(rt, alloc, line, &left, status, text);
+    let want = String::from_str(alloc, accepted);
+    same(rt, checked(alloc, config, left.made()), want);
 }
 
 #[test]
-fn searches_are_answered_with_certificates_that_are_accepted(rt: HostRuntime) -> Result<(), Fail> {
-    for (config, line, status, text, checked) in SEARCHES {
-        wants_found(
-            &rt,
-            rt.alloc(),
-            config.as_bytes(),
-            line,
-            (status, text, checked),
-        )?;
+fn searches_are_answered_with_certificates_that_are_accepted(rt: HostRuntime) {
+    for (config, line, status, text, accepted) in SEARCHES.iter() {
+        let want = (*status, *text, *accepted);
+        wants_found(&rt, rt.alloc(), config.as_bytes(), line, want);
     }
-    Ok(())
 }
 
 // Configurations, words, and the refusals.
-const REFUSED: [(&str, &str, Status, &str); 6] = [
+static REFUSED: [(&str, &str, Status, &str); 6] = [
     (
         TWO_OF_THREE,
         "intersect config c --budget 4000000001",
@@ -207,52 +204,40 @@ fn wants_refused(
     line: &str,
     status: Status,
     text: &str,
-) -> Result<(), Fail> {
-    let left = run_over(alloc, line, &held(config), 8, Vec::new(alloc))?;
-    assert_eq!(rt; left.status, status, "at {line}");
-    assert_eq!(rt; left.out.as_slice(), text.as_bytes(), "at {line}");
+) {
+    let left = leaves(alloc, config, line).expect(rt, "memory");
+    wants_left(rt, alloc, line, &left, status, text);
     assert!(rt; left.made.is_none(), "at {line}");
-    Ok(())
 }
 
 #[test]
-fn a_search_that_is_refused_makes_no_certificate(rt: HostRuntime) -> Result<(), Fail> {
-    for (config, line, status, text) in REFUSED {
-        wants_refused(&rt, rt.alloc(), config.as_bytes(), line, status, text)?;
+fn a_search_that_is_refused_makes_no_certificate(rt: HostRuntime) {
+    for (config, line, status, text) in REFUSED.iter() {
+        wants_refused(&rt, rt.alloc(), config.as_bytes(), line, *status, text);
     }
-    Ok(())
 }
 
 #[test]
-fn a_search_whose_formula_is_too_large_makes_no_certificate(rt: HostRuntime) -> Result<(), Fail> {
-    let config = rotated_half_of_two_hundred(rt.alloc())?;
+fn a_search_whose_formula_is_too_large_makes_no_certificate(rt: HostRuntime) {
+    let config = rotated_half_of_two_hundred(rt.alloc()).expect(&rt, "memory");
     let text = "too-large 6020400\n";
-    wants_refused(
-        &rt,
-        rt.alloc(),
-        &config,
-        "intersect config c",
-        Status::TooLarge,
-        text,
-    )
+    let line = "intersect config c";
+    wants_refused(&rt, rt.alloc(), &config, line, Status::TooLarge, text);
+}
+
+// The certificate of a search of two of three.
+fn certificate_of(alloc: Global, line: &str) -> Result<String, AllocError> {
+    let left = leaves(alloc, TWO_OF_THREE.as_bytes(), line)?;
+    text_of(alloc, left.made())
 }
 
 #[test]
-fn an_unknown_answer_has_the_formula_in_its_certificate(rt: HostRuntime) -> Result<(), Fail> {
+fn an_unknown_answer_has_the_formula_in_its_certificate(rt: HostRuntime) {
     let alloc = rt.alloc();
-    let line = "intersect config c --budget 0";
-    let left = run_over(
-        alloc,
-        line,
-        &held(TWO_OF_THREE.as_bytes()),
-        8,
-        Vec::new(alloc),
-    )?;
-    assert_eq!(rt; left.status, Status::Unknown);
-    let cert = shared_of_kind(alloc, DIGEST_OF_THREE, "partial", "formula 16 25\nend\n")?;
-    assert_eq!(rt;
-        left.made.ok_or("no certificate")?.as_slice(),
-        cert.as_bytes()
+    let cert = shared_of_kind(alloc, DIGEST_OF_THREE, "partial", "formula 16 25\nend\n");
+    same(
+        &rt,
+        certificate_of(alloc, "intersect config c --budget 0"),
+        cert,
     );
-    Ok(())
 }

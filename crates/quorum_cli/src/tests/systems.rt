@@ -114,7 +114,7 @@ pub const TRIAL_OF_ONE: &str =
     r#"[{"publicKey":"t000","quorumSet":{"innerQuorumSets":[{"innerQuorumSets":[],"threshold":2,"validators":["t000","t001","t002"]}],"threshold":1,"validators":[]}},{"publicKey":"t001","quorumSet":{"innerQuorumSets":[{"innerQuorumSets":[],"threshold":2,"validators":["t000","t001","t002"]}],"threshold":1,"validators":[]}},{"publicKey":"t002","quorumSet":{"innerQuorumSets":[{"innerQuorumSets":[],"threshold":2,"validators":["t000","t001","t002"]}],"threshold":1,"validators":[]}}]"#;
 
 // The nodes of four organisations of a trial.
-const TRIAL_NODES: [&str; 12] = [
+static TRIAL_NODES: [&str; 12] = [
     "t000", "t001", "t002", "t003", "t004", "t005", "t006", "t007", "t008", "t009", "t010", "t011",
 ];
 

@@ -1,12 +1,13 @@
 //! What the trial answers, and that its certificates are accepted for the configuration that it stands for.
 use crate::status::Status;
-use crate::tests::desks::{Files, run_over, wants, wants_checked};
+use crate::tests::desks::{Files, run_over, wants, wants_checked, wants_left};
 use crate::tests::questions::USAGE;
 use crate::tests::systems::trial;
-use std::test::Fail;
+use std::alloc::Global;
+use std::process::Abort;
 
 // Organisations, words, the answers, and what `check` says of the certificates.
-const TRIALS: [(u32, &str, Status, &str, &str); 4] = [
+static TRIALS: [(u32, &str, Status, &str, &str); 4] = [
     (
         1,
         "trial 1 c",
@@ -37,22 +38,31 @@ const TRIALS: [(u32, &str, Status, &str, &str); 4] = [
     ),
 ];
 
+// Fails unless the trial ends so, and its certificate is accepted.
+fn wants_trial(
+    rt: &impl Abort,
+    alloc: Global,
+    organisations: u32,
+    line: &str,
+    (status, text, accepted): (Status, &str, &str),
+) {
+    let left = run_over(alloc, line, &Files::of(b""), 8, Vec::new(alloc)).expect(rt, "memory");
+    wants_left(rt, alloc, line, &left, status, text);
+    let config = trial(alloc, organisations).expect(rt, "memory");
+    let config = config.as_bytes();
+    wants_checked(rt, alloc, config, left.made(), status, accepted);
+}
+
 #[test]
-fn trials_are_answered_and_their_certificates_are_accepted(rt: HostRuntime) -> Result<(), Fail> {
-    let alloc = rt.alloc();
-    for (organisations, line, status, text, checked) in TRIALS {
-        let left = run_over(alloc, line, &Files::of(b""), 8, Vec::new(alloc))?;
-        assert_eq!(rt; left.status, status, "at {line}");
-        assert_eq!(rt; left.out.as_slice(), text.as_bytes(), "at {line}");
-        let made = left.made.ok_or("no certificate")?;
-        let config = trial(alloc, organisations)?;
-        wants_checked(&rt, alloc, config.as_bytes(), &made, status, checked)?;
+fn trials_are_answered_and_their_certificates_are_accepted(rt: HostRuntime) {
+    for (organisations, line, status, text, accepted) in TRIALS.iter() {
+        let want = (*status, *text, *accepted);
+        wants_trial(&rt, rt.alloc(), *organisations, line, want);
     }
-    Ok(())
 }
 
 // Words, the statuses, and the texts.
-const REFUSED: [(&str, Status, &str); 4] = [
+static REFUSED: [(&str, Status, &str); 4] = [
     ("trial 0 c", Status::Usage, USAGE),
     ("trial 101 c", Status::Usage, USAGE),
     ("trial 1 c --faulty a", Status::Usage, USAGE),
@@ -60,9 +70,8 @@ const REFUSED: [(&str, Status, &str); 4] = [
 ];
 
 #[test]
-fn trials_of_none_and_of_too_many_organisations_are_refused(rt: HostRuntime) -> Result<(), Fail> {
-    for (line, status, text) in REFUSED {
-        wants(&rt, rt.alloc(), line, &Files::of(b""), status, text)?;
+fn trials_of_none_and_of_too_many_organisations_are_refused(rt: HostRuntime) {
+    for (line, status, text) in REFUSED.iter() {
+        wants(&rt, rt.alloc(), line, &Files::of(b""), *status, text);
     }
-    Ok(())
 }

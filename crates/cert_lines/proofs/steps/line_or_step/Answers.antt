@@ -1,9 +1,8 @@
-use Rattle.std.proofs.Common.{rules, ◌≡◌, ◌+◌, ◌++◌, [], ℕ, List, length, true, false, Bool, if◌then◌else◌, Ok, Err, inl, inr, refl, ap, sym, ◌∙◌, subst, arith}
+use Rattle.std.proofs.Common.{rules, ◌≡◌, ◌+◌, ◌++◌, [], ℕ, List, length, true, false, Bool, if◌then◌else◌, Err, inl, inr, refl, ap, sym, ◌∙◌}
 use Rattle.desk_io.specs.State.{left_of}
 use Rattle.desk_io.specs.declared.Which.TheVariants.{Cert}
 use Rattle.cert_lines.specs.Lines.{lines_of}
 use Rattle.cert_lines.specs.Limits.{next_line}
-use Rattle.cert_lines.specs.Parts.{with_front, IsPart}
 use Rattle.cert_lines.proofs.Fronts.{with_front-nothing}
 use Rattle.cert_lines.proofs.PartRuns.{placed, first_fault, first_end, first_rest}
 use Rattle.lrat_text.specs.Words.{words_of}

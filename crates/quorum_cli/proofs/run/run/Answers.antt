@@ -1,12 +1,14 @@
 use Rattle.std.proofs.Common.{Result, sym, ◌∙◌, subst}
 use Rattle.quorum_cli.specs.Answers.{words_of, asked_of}
-use Rattle.quorum_cli.specs.Meaning.{NamesAccepted, YesMeans}
+use Rattle.cli_words.specs.Words.{order_of}
+use Rattle.quorum_cli.specs.Meaning.{YesMeans}
 use Rattle.quorum_cli.specs.Reading.{FailsReading}
 use Rattle.quorum_cli.specs.Printing.{PrintsAnswer}
 use Rattle.quorum_cli.specs.declared.early.Early.{Early}
 use Rattle.quorum_cli.specs.declared.reading.Asked.{Asked}
 use Rattle.quorum_cli.proofs.After.{prints_ok, prints_told, part_ok, lacks_ok, plain_kept, files_ok}
 use Rattle.quorum_cli.proofs.Headlines.{headline_of}
+use Rattle.quorum_cli.proofs.Told.{WordsMean, check_is_told, check_lrat_is_told, accepted_by, verified_by}
 use Rattle.quorum_cli.proofs.run.run.Goals as goal
 
 pub returns-in-Ok-clause-answered : goal.returns-in-Ok-clause-answered
@@ -17,7 +19,9 @@ pub returns-in-Ok-clause-headline : goal.returns-in-Ok-clause-headline
 returns-in-Ok-clause-headline g c = λ tell is.
     let old = g.D.Desk.state c.args.desk.now in
     let new = g.D.Desk.state c.answer.new.desk in
-    headline_of (words_of c.args.words.now) old new _ (prints_ok _ c.in-Ok.asked old (g.D.Desk.state c.ask_by_words.new.desk) new _ (c.in-Ok.ensures.gives tell) (c.in-Ok.ensures.reads tell) (c.answer.ensures.answered tell is)) (λ check yes. absurd (let k = c.in-Ok.ensures.checked check in cc))
+    headline_of (words_of c.args.words.now) old new _ (prints_ok _ c.in-Ok.asked old (g.D.Desk.state c.ask_by_words.new.desk) new _ (c.in-Ok.ensures.gives tell) (c.in-Ok.ensures.reads tell) (c.answer.ensures.answered tell is))
+    (λ check yes. absurd (let k = c.in-Ok.ensures.told (check_is_told (order_of (words_of c.args.words.now)) check) in cc))
+    (λ check yes. absurd (let k = c.in-Ok.ensures.told (check_lrat_is_told (order_of (words_of c.args.words.now)) check) in cc))
 
 pub returns-in-Err-Told-clause-headline : goal.returns-in-Err-Told-clause-headline
 returns-in-Err-Told-clause-headline g c = λ tell is.
@@ -28,8 +32,10 @@ returns-in-Err-Told-clause-headline g c = λ tell is.
     let middle = g.D.Desk.state c.ask_by_words.new.desk in
     let printed : PrintsAnswer c.in-Err-Told.reply middle new c.print.result = rw c.in-Err-Told.field-0-is at (c.print.ensures.printed tell is) in
     let gives = subst (λ (e : Early). FailsReading old.plain e asked) c.in-Err-Told.field-0-is (c.in-Err-Told.ensures.gives tell) in
-    let shows = subst (λ (e : Early). YesMeans (NamesAccepted words old.files) e) c.in-Err-Told.field-0-is (c.in-Err-Told.ensures.shows tell) in
-    headline_of words old new c.print.result (prints_told asked c.in-Err-Told.reply old middle new c.print.result gives (c.in-Err-Told.ensures.reads tell) printed) (λ check yes. shows (sym printed.status_is ∙ yes))
+    let shows = subst (λ (e : Early). YesMeans (WordsMean words old.files) e) c.in-Err-Told.field-0-is (c.in-Err-Told.ensures.shows tell) in
+    headline_of words old new c.print.result (prints_told asked c.in-Err-Told.reply old middle new c.print.result gives (c.in-Err-Told.ensures.reads tell) printed)
+    (λ check yes. accepted_by words old.files check (shows (sym printed.status_is ∙ yes)))
+    (λ check yes. verified_by words old.files check (shows (sym printed.status_is ∙ yes)))
 
 pub returns-in-Ok-clause-part : goal.returns-in-Ok-clause-part
 returns-in-Ok-clause-part g c = λ tell failed.

@@ -1,4 +1,4 @@
-use Rattle.std.proofs.Common.{◌≡◌, ◌++◌, List, ℕ, refl, ap, sym, ◌∙◌, inr}
+use Rattle.std.proofs.Common.{◌++◌, refl, ap, sym, ◌∙◌, inr}
 use Rattle.desk_io.specs.State.{left_of}
 use Rattle.desk_io.specs.declared.Which.TheVariants.{Cert}
 use Rattle.cert_lines.specs.Limits.{Unread}

@@ -1,8 +1,7 @@
-use Rattle.std.proofs.Common.{rules, ◌≡◌, ◌+◌, ◌++◌, ℕ, List, length, true, false, Bool, if◌then◌else◌, ap, sym, ◌∙◌, subst, arith, append_assoc, length-append}
+use Rattle.std.proofs.Common.{rules, ◌≡◌, ◌+◌, ◌++◌, ℕ, List, length, true, false, Bool, if◌then◌else◌, ap, ◌∙◌, arith, append_assoc, length-append}
 use Rattle.desk_io.specs.State.{left_of}
 use Rattle.desk_io.specs.declared.Which.TheVariants.{Cert}
 use Rattle.cert_lines.specs.Lines.{lines_of}
-use Rattle.cert_lines.specs.Parts.{IsPart}
 use Rattle.cert_lines.proofs.PartRuns.{came_more, came_end, placed}
 use Rattle.cert_lines.proofs.lines.Lines.rest_of_line.Goals as goal
 

@@ -1,4 +1,4 @@
-use Rattle.std.proofs.Common.{◌≡◌, ℕ, ◌+◌, ◌-◌, ◌≤◌, List, ◌∷◌, ◌++◌, Some, take, drop, slice_range, length-take, ap, sym, ◌∙◌, subst, arith}
+use Rattle.std.proofs.Common.{◌≡◌, ℕ, ◌+◌, ◌-◌, ◌≤◌, List, ◌∷◌, ◌++◌, Some, drop, slice_range, length-take, ap, sym, ◌∙◌, subst, arith}
 use Rattle.memchr.specs.Find.{IsFirstByte, is_byte}
 use Rattle.cert_lines.specs.Parts.{Piece, IsFeedless}
 use Rattle.cert_lines.proofs.PieceCuts.{part_is, rest_is, feed_at, feedless_before}

@@ -1,0 +1,26 @@
+use Rattle.std.proofs.Common.{◌≡◌, ℕ, ◌++◌, List, length, IsTrue, ap, sym, ◌∙◌}
+use Rattle.desk_io.specs.State.{left_of}
+use Rattle.desk_io.specs.declared.Which.TheVariants.{Cert}
+use Rattle.cert_lines.specs.Limits.{Unread}
+use Rattle.cert_lines.specs.Lines.{lines_of}
+use Rattle.cert_lines.specs.Parts.{IsPart}
+use Rattle.cert_lines.specs.Texts.{IsTextPart}
+use Rattle.cert_lines.proofs.TextParts.{part_placed, if_ok}
+use Rattle.cert_lines.proofs.lines.Lines.more_part.Goals as goal
+
+pub returns-clause-part : goal.returns-clause-part
+returns-clause-part g c =
+    let now = c.args.self.now in
+    let left = left_of Cert (g.D.Desk.state c.args.desk.now) in
+    let later = left_of Cert (g.D.Desk.state c.fill.new.desk) in
+    let part = c.cut_part.new.self.part in
+    let new_lines = lines_of (c.cut_part.new.self.unread ++ later) in
+    let number : c.self.inside.number ≡ now.number = ap (λ (u : Unread). u.number) c.self.view_is in
+    let taken : c.self.inside.taken ≡ now.taken = ap (λ (u : Unread). u.taken) c.self.view_is in
+    if_ok (λ ends. (left front : List ℕ) → length front ≡ c.self.inside.taken → IsPart ends c.self.inside.number front part (lines_of (c.fill.new.self.unread ++ left)) (lines_of (c.cut_part.new.self.unread ++ left)))
+    (λ ends. IsTrue g.D.Desk.tells → (front : List ℕ) → length front ≡ now.taken → IsTextPart ends now.number front part (lines_of (now.unread ++ left)) new_lines)
+    c.cut_part.result
+    (λ ends told tells front size.
+    part_placed ends c.self.inside.number now.number front part (now.unread ++ left) (c.fill.new.self.unread ++ later) new_lines number
+    (sym (ap (λ (u : Unread). u.unread ++ left) c.self.view_is) ∙ c.in_ok-fill.ensures.all tells) (told later front (size ∙ sym taken)))
+    c.cut_part.ensures.part
