@@ -90,7 +90,7 @@ fn three_calls(alloc: Global, call: Call) -> Result<String, AllocError> {
     format!(in alloc; "{call:?} {first} {second} {third}")
 }
 
-const CALLS: [(Call, &str); 9] = [
+static CALLS: [(Call, &str); 9] = [
     (Call::Begin(Which::Config), "Begin(Config) false true false"),
     (Call::Begin(Which::Orgs), "Begin(Orgs) false true false"),
     (Call::Begin(Which::Cert), "Begin(Cert) false true false"),
@@ -104,8 +104,8 @@ const CALLS: [(Call, &str); 9] = [
 
 #[test]
 fn the_listed_call_fails(rt: HostRuntime) {
-    for (call, want) in CALLS {
-        same(&rt, three_calls(rt.alloc(), call), want);
+    for (call, want) in CALLS.iter() {
+        same(&rt, three_calls(rt.alloc(), *call), want);
     }
 }
 

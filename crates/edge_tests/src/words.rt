@@ -34,7 +34,7 @@ fn read(alloc: Global, line: &str) -> Result<String, AllocError> {
     }
 }
 
-const ORDERS: [(&str, &str); 11] = [
+static ORDERS: [(&str, &str); 12] = [
     ("show f", r#"Query(Show) ("f", "") None None None"#),
     (
         "closure f --node v",
@@ -73,11 +73,15 @@ const ORDERS: [(&str, &str); 11] = [
         "export f --faulty a",
         r#"Query(Export) ("f", "") None Some("a") None"#,
     ),
+    (
+        "check-lrat f p --faulty a",
+        r#"CheckLrat ("f", "p") None Some("a") None"#,
+    ),
 ];
 
 #[test]
 fn takes_each_command(rt: HostRuntime) {
-    for (line, want) in ORDERS {
+    for (line, want) in ORDERS.iter() {
         same(&rt, read(rt.alloc(), line), want);
     }
 }
@@ -101,7 +105,7 @@ fn common(alloc: Global, line: &str) -> Result<String, AllocError> {
     }
 }
 
-const COMMON: [(&str, &str); 4] = [
+static COMMON: [(&str, &str); 4] = [
     ("greatest f", "None None None"),
     (
         "greatest f --from a --orgs o --faulty-orgs c,d",
@@ -116,12 +120,12 @@ const COMMON: [(&str, &str); 4] = [
 
 #[test]
 fn takes_the_common_options(rt: HostRuntime) {
-    for (line, want) in COMMON {
+    for (line, want) in COMMON.iter() {
         same(&rt, common(rt.alloc(), line), want);
     }
 }
 
-const REFUSED: [(&str, &str); 12] = [
+static REFUSED: [(&str, &str); 12] = [
     ("", "Words"),
     ("--help", "Words"),
     ("check f", "Words"),
@@ -138,7 +142,7 @@ const REFUSED: [(&str, &str); 12] = [
 
 #[test]
 fn refuses_other_words(rt: HostRuntime) {
-    for (line, want) in REFUSED {
+    for (line, want) in REFUSED.iter() {
         same(&rt, read(rt.alloc(), line), want);
     }
 }

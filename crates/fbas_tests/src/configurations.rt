@@ -30,7 +30,7 @@ fn with_set(alloc: Global, set: &str) -> Result<String, AllocError> {
     format!(in alloc; "[{{\"publicKey\":\"x\",\"quorumSet\":{set}}}]")
 }
 
-const TEXTS: [(&str, Option<ConfigFault>); 14] = [
+static TEXTS: [(&str, Option<ConfigFault>); 14] = [
     ("", Some(NotJson)),
     ("[", Some(NotJson)),
     ("[{\"publicKey\":\"a\",\"latitude\":1e400}]", Some(NotJson)),
@@ -52,14 +52,14 @@ const TEXTS: [(&str, Option<ConfigFault>); 14] = [
 
 #[test]
 fn finds_the_first_fault(rt: HostRuntime) {
-    for (text, fault) in TEXTS {
-        same_fault(&rt, fault_of(rt.alloc(), text.as_bytes()), fault, text);
+    for (text, fault) in TEXTS.iter() {
+        same_fault(&rt, fault_of(rt.alloc(), text.as_bytes()), *fault, text);
     }
     let found = fault_of(rt.alloc(), &[0x5b, 0xff, 0x5d]);
     same_fault(&rt, found, Some(NotJson), "bytes that are no text");
 }
 
-const SETS: [(&str, Option<SetFault>); 14] = [
+static SETS: [(&str, Option<SetFault>); 14] = [
     ("[]", Some(Shape)),
     ("{}", Some(Threshold)),
     ("{\"threshold\":-1}", Some(Threshold)),
@@ -96,7 +96,7 @@ fn set_fault(alloc: Global, set: &str) -> Result<Option<ConfigFault>, AllocError
 
 #[test]
 fn finds_the_first_fault_of_a_quorum_set(rt: HostRuntime) {
-    for (set, fault) in SETS {
+    for (set, fault) in SETS.iter() {
         let want = fault.map(|f| BadQuorumSet(0, f));
         same_fault(
             &rt,
@@ -141,7 +141,7 @@ fn fault_of_arrays(alloc: Global, arrays: u64) -> Result<Option<ConfigFault>, Al
 
 #[test]
 fn reads_as_deep_as_the_limits(rt: HostRuntime) {
-    for (inners, fault) in [(15, None), (16, Some(TooDeep(0)))] {
+    for (inners, fault) in [(31, None), (32, Some(TooDeep(0)))] {
         same_fault(
             &rt,
             fault_of_inners(rt.alloc(), inners).expect(&rt, "memory"),
@@ -181,8 +181,8 @@ fn fault_of_many(alloc: Global, n: u64, distinct: bool) -> Result<Option<ConfigF
 #[test]
 fn reads_as_many_as_the_limits(rt: HostRuntime) {
     for (n, distinct, fault) in [
-        (4096, true, None),
-        (4097, true, Some(TooManyNodes(4097))),
+        (16_384, true, None),
+        (16_385, true, Some(TooManyNodes(16_385))),
         (1_000_000, false, None),
         (1_000_001, false, Some(TooManyEntries(1_000_001))),
     ] {
@@ -237,7 +237,7 @@ fn reads_a_network(rt: HostRuntime) {
     same(&rt, quorums(rt.alloc(), &system), "false true false");
 }
 
-const PRINTED: [(ConfigFault, &str); 12] = [
+static PRINTED: [(ConfigFault, &str); 12] = [
     (NotJson, "not-json"),
     (NotNodes, "not-nodes"),
     (NotNode(3), "not-node 3"),
@@ -248,7 +248,7 @@ const PRINTED: [(ConfigFault, &str); 12] = [
     (BadQuorumSet(1, Threshold), "bad-quorum-set 1 threshold"),
     (BadQuorumSet(2, Validators), "bad-quorum-set 2 validators"),
     (BadQuorumSet(3, Inner), "bad-quorum-set 3 inner"),
-    (TooManyNodes(4097), "too-many-nodes 4097"),
+    (TooManyNodes(16_385), "too-many-nodes 16385"),
     (TooManyEntries(1_000_001), "too-many-entries 1000001"),
 ];
 
@@ -258,7 +258,7 @@ fn printed(alloc: Global, fault: ConfigFault) -> Result<String, AllocError> {
 
 #[test]
 fn prints_each_fault(rt: HostRuntime) {
-    for (fault, text) in PRINTED {
-        same(&rt, printed(rt.alloc(), fault), text);
+    for (fault, text) in PRINTED.iter() {
+        same(&rt, printed(rt.alloc(), *fault), text);
     }
 }

@@ -16,6 +16,8 @@ mod node_sets;
 #[cfg(test)]
 mod organisations;
 #[cfg(test)]
+mod plain;
+#[cfg(test)]
 mod quorum_sets;
 #[cfg(test)]
 mod shared;

@@ -42,7 +42,7 @@ fn read(alloc: Global, text: &str, names: &Names) -> Result<String, AllocError>
     format!(in alloc; "{list:?} {single:?}")
 }
 
-const LISTS: [(&str, &str); 9] = [
+static LISTS: [(&str, &str); 9] = [
     ("", "Ok((false, false, false)) Err(Empty(1))"),
     ("B~", "Ok((false, true, false)) Ok(1)"),
     ("C,A", "Ok((true, false, true)) Err(BadKey(1))"),
@@ -57,7 +57,7 @@ const LISTS: [(&str, &str); 9] = [
 #[test]
 fn lists_name_nodes_or_their_first_fault(rt: HostRuntime) {
     let names = names(rt.alloc()).expect(&rt, "names");
-    for (text, want) in LISTS {
+    for (text, want) in LISTS.iter() {
         same(&rt, read(rt.alloc(), text, &names), want);
     }
 }

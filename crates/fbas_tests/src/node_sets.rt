@@ -53,7 +53,7 @@ fn changed(
 }
 
 // With the set of 1 and 3.
-const STEPS: [&str; 9] = [
+static STEPS: [&str; 9] = [
     "[false, false, false, false] None 0 false false true",
     "[true, true, true, true] Some(0) 4 true false false",
     "[true, false, true, false] Some(0) 2 false false false",
@@ -171,8 +171,8 @@ fn show<const W: usize>(rt: &impl Abort, n: u32)
 
 #[test]
 fn sets_end_anywhere_in_a_word(rt: HostRuntime) {
-    for n in [0, 1, 63, 64, 65, 127, 128, 4095, 4096] {
-        show::<64>(&rt, n);
+    for n in [0, 1, 63, 64, 65, 127, 128, 16_383, 16_384] {
+        show::<256>(&rt, n);
     }
     show::<1>(&rt, 64);
     show::<2>(&rt, 65);

@@ -25,7 +25,7 @@ fn same_fault(rt: &impl Abort, found: Option<OrgFault>, want: Option<OrgFault>, 
     assert_eq!(rt; found, want, "at {at}");
 }
 
-const TEXTS: [(&str, Option<OrgFault>); 12] = [
+static TEXTS: [(&str, Option<OrgFault>); 12] = [
     ("[", Some(NotJson)),
     ("{}", Some(NotOrgs)),
     ("[1]", Some(BadOrg(0))),
@@ -55,8 +55,8 @@ const TEXTS: [(&str, Option<OrgFault>); 12] = [
 #[test]
 fn finds_the_first_fault(rt: HostRuntime) {
     let system = read_config(rt.alloc(), NODES.as_bytes()).expect(&rt, "a system");
-    for (text, fault) in TEXTS {
-        same_fault(&rt, fault_of(rt.alloc(), text, &system), fault, text);
+    for (text, fault) in TEXTS.iter() {
+        same_fault(&rt, fault_of(rt.alloc(), text, &system), *fault, text);
     }
 }
 
@@ -73,7 +73,7 @@ const ONE: &str = "[{\"id\":\"A\",\"validators\":[\"a\",\"zz\"]}]";
 const THREE: &str =
     "[{\"id\":\"Q\",\"validators\":[\"c\",\"b\"]},{\"id\":\"P\"},{\"id\":\"A\",\"validators\":[\"a\",\"c\",\"a\"]}]";
 
-const LISTS: [(&str, &str, &str); 13] = [
+static LISTS: [(&str, &str, &str); 13] = [
     (ONE, "", "Ok((false, false, false))"),
     (ONE, "A", "Ok((true, false, false))"),
     (ONE, "A,A", "Ok((true, false, false))"),
@@ -103,7 +103,7 @@ fn read(alloc: Global, system: &System, text: &str, ids: &str) -> Result<String,
 #[test]
 fn finds_the_members_of_a_list_or_its_first_fault(rt: HostRuntime) {
     let system = read_config(rt.alloc(), NODES.as_bytes()).expect(&rt, "a system");
-    for (text, ids, want) in LISTS {
+    for (text, ids, want) in LISTS.iter() {
         same(&rt, read(rt.alloc(), &system, text, ids), want);
     }
 }
@@ -154,7 +154,7 @@ fn reads_as_many_as_the_limit(rt: HostRuntime) {
     }
 }
 
-const PRINTED: [(OrgFault, &str); 5] = [
+static PRINTED: [(OrgFault, &str); 5] = [
     (NotJson, "not-json"),
     (NotOrgs, "not-orgs"),
     (BadOrg(2), "bad-org 2"),
@@ -168,7 +168,7 @@ fn printed(alloc: Global, fault: OrgFault) -> Result<String, AllocError> {
 
 #[test]
 fn prints_each_fault(rt: HostRuntime) {
-    for (fault, text) in PRINTED {
-        same(&rt, printed(rt.alloc(), fault), text);
+    for (fault, text) in PRINTED.iter() {
+        same(&rt, printed(rt.alloc(), *fault), text);
     }
 }

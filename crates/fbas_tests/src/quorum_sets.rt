@@ -75,7 +75,7 @@ fn mentioned(quorum_set: &QuorumSet) -> u32
     mentioned.count()
 }
 
-const PARTS: [([bool; 4], [bool; 4], bool); 6] = [
+static PARTS: [([bool; 4], [bool; 4], bool); 6] = [
     (
         [false, false, false, false],
         [false, false, false, false],
@@ -107,8 +107,8 @@ const PARTS: [([bool; 4], [bool; 4], bool); 6] = [
 #[test]
 fn choices_are_counted_by_places(rt: HostRuntime) {
     let quorum_set = worked(rt.alloc()).expect(&rt, "memory");
-    for (part, rest, want) in PARTS {
-        assert_eq!(rt; met(&quorum_set, part, rest), (want, want, want));
+    for (part, rest, want) in PARTS.iter() {
+        assert_eq!(rt; met(&quorum_set, *part, *rest), (*want, *want, *want));
     }
     assert_eq!(rt; mentioned(&quorum_set), 4);
 }

@@ -8,7 +8,7 @@ use std::alloc::{AllocError, Global};
 
 fn checker(alloc: Global) -> Result<IdleChecker, AllocError> {
     let mut checker = IdleChecker::start(alloc, Store::new(alloc), 8, Rule::Rup)?;
-    for numbers in TWO_OF_TWO {
+    for numbers in TWO_OF_TWO.iter() {
         let clause = lits(alloc, numbers)?;
         let last = checker.last();
         if last < 16 && clause.iter().all(|l| l.variable() <= 8) {
@@ -44,7 +44,7 @@ fn deleted(alloc: Global, checker: &mut IdleChecker, ids: &[u64]) -> Result<Stri
 }
 
 // One checker takes these in turn: a fault leaves no literal true, and no id behind.
-const STEPS: [(u64, &[i32], &[i64], &str); 12] = [
+static STEPS: [(u64, &[i32], &[i64], &str); 12] = [
     (16, &[-1], &[7, 6, 3, 4, 2], "id-order 16 16"),
     (17, &[9, -9], &[], "bad-literal 9"),
     (17, &[-1, 2, 1, 9], &[], "tautology 1"),
@@ -62,10 +62,10 @@ const STEPS: [(u64, &[i32], &[i64], &str); 12] = [
 #[test]
 fn steps_of_two_of_two(rt: HostRuntime) {
     let mut checker = checker(rt.alloc()).expect(&rt, "memory");
-    for (id, numbers, hints, want) in STEPS {
+    for (id, numbers, hints, want) in STEPS.iter() {
         same(
             &rt,
-            added(rt.alloc(), &mut checker, id, numbers, hints),
+            added(rt.alloc(), &mut checker, *id, numbers, hints),
             want,
         );
     }
@@ -191,7 +191,7 @@ fn a_thousand_steps(rt: HostRuntime) {
     same(&rt, shown, "true true Refuted");
 }
 
-const DELETIONS: [([u64; 2], &str); 4] = [
+static DELETIONS: [([u64; 2], &str); 4] = [
     ([3, 17], "no-such-clause 17"),
     ([7, 7], "no-such-clause 7"),
     ([7, 3], "Going"),
@@ -211,8 +211,8 @@ fn covered(alloc: Global, checker: &IdleChecker) -> Result<String, AllocError> {
 fn deleted_and_covered(rt: HostRuntime) {
     let alloc = rt.alloc();
     let mut checker = checker(alloc).expect(&rt, "memory");
-    for (ids, want) in DELETIONS {
-        same(&rt, deleted(alloc, &mut checker, &ids), want);
+    for (ids, want) in DELETIONS.iter() {
+        same(&rt, deleted(alloc, &mut checker, ids), want);
     }
     let shown = added(alloc, &mut checker, 17, &[-1], &[7, 6, 3, 4, 2]);
     same(&rt, shown, "no-such-clause 7");

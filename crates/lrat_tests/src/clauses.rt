@@ -5,14 +5,14 @@ use clause_store::{ClauseView, LongRef, Store};
 use lrat_model::Lit;
 use std::alloc::{AllocError, Global};
 
-const PUSHED: [(u64, &[i32]); 4] = [(2, &[1, -2]), (5, &[]), (9, &[3]), (10, &[-1, -3, 2])];
+static PUSHED: [(u64, &[i32]); 4] = [(2, &[1, -2]), (5, &[]), (9, &[3]), (10, &[-1, -3, 2])];
 
 fn store(alloc: Global) -> Result<Store, AllocError> {
     let mut store = Store::new(alloc);
-    for (id, numbers) in PUSHED {
+    for (id, numbers) in PUSHED.iter() {
         let clause = lits(alloc, numbers)?;
-        if store.last() < id {
-            store.push(id, &clause)?;
+        if store.last() < *id {
+            store.push(*id, &clause)?;
         }
     }
     Ok(store)
@@ -39,7 +39,7 @@ fn left(alloc: Global, ids: &[u64]) -> Result<String, AllocError> {
     format!(in alloc; "{missing} missing, {held}")
 }
 
-const REMOVED: [(&[u64], &str); 7] = [
+static REMOVED: [(&[u64], &str); 7] = [
     (
         &[],
         "0 missing, last 10 2:[Lit(1), Lit(-2)] 5:[] 9:[Lit(3)] 10:[Lit(-1), Lit(-3), Lit(2)]",
@@ -66,7 +66,7 @@ const REMOVED: [(&[u64], &str); 7] = [
 
 #[test]
 fn ids_with_gaps(rt: HostRuntime) {
-    for (ids, want) in REMOVED {
+    for (ids, want) in REMOVED.iter() {
         same(&rt, left(rt.alloc(), ids), want);
     }
 }

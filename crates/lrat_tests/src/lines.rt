@@ -16,7 +16,7 @@ fn shown(alloc: Global, line: &str) -> Result<String, AllocError> {
     }
 }
 
-const LINES: [(&str, &str); 25] = [
+static LINES: [(&str, &str); 25] = [
     ("17 -1 0 7 6 3 4 2 0", "17 + [Lit(-1)] [7, 6, 3, 4, 2]"),
     ("3 0 1 0", "3 + [] [1]"),
     (" \t8\t0  0 ", "8 + [] []"),
@@ -52,7 +52,7 @@ const LINES: [(&str, &str); 25] = [
 
 #[test]
 fn lines_are_read_to_a_step_or_to_the_first_fault(rt: HostRuntime) {
-    for (line, want) in LINES {
+    for (line, want) in LINES.iter() {
         same(&rt, shown(rt.alloc(), line), want);
     }
 }
@@ -137,14 +137,14 @@ fn lent(alloc: Global, log: &Log, place: usize) -> Result<String, AllocError> {
     }
 }
 
-const LOGGED: [&str; 4] = [
+static LOGGED: [&str; 4] = [
     "3 2 -1 0 4294967295 1 0",
     "4 0 3 4294967296 0",
     "4 d 1 3 0",
     "5 0 0",
 ];
 
-const LENT: [&str; 5] = [
+static LENT: [&str; 5] = [
     "Add { id: 3, lits: [Lit(2), Lit(-1)], hints: [4294967295, 1] }",
     "Add { id: 4, lits: [], hints: [3, 4294967296] }",
     "Delete { id: 4, ids: [1, 3] }",

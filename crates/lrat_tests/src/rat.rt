@@ -8,7 +8,7 @@ use lrat_model::Progress;
 use std::alloc::{AllocError, Global};
 
 // Its 53 clauses, over 36 variables.
-const TWO_OF_THREE: [&[i32]; 53] = [
+static TWO_OF_THREE: [&[i32]; 53] = [
     &[1, 2, 3],
     &[4, 5, 6],
     &[-1, -4],
@@ -67,7 +67,7 @@ const TWO_OF_THREE: [&[i32]; 53] = [
 // A checker of the formula.
 fn checker(alloc: Global, rule: Rule) -> Result<IdleChecker, AllocError> {
     let mut checker = IdleChecker::start(alloc, Store::new(alloc), 36, rule)?;
-    for numbers in TWO_OF_THREE {
+    for numbers in TWO_OF_THREE.iter() {
         let clause = lits(alloc, numbers)?;
         let last = checker.last();
         if last < 53 && clause.iter().all(|l| l.variable() <= 36) {
@@ -138,7 +138,7 @@ fn in_parts(
     streamed(alloc, &mut checker, 54, numbers, hints)
 }
 
-const ADDITIONS: [(Rule, &[i32], &[i64], &str); 20] = [
+static ADDITIONS: [(Rule, &[i32], &[i64], &str); 20] = [
     (Rule::Rat, &[7, -1], &[-6], "Going"),
     (Rule::Rat, &[7, -1], &[-4], "rat-step 1"),
     (Rule::Rat, &[9, -2, -7], &[-8, -9], "Going"),
@@ -164,9 +164,9 @@ const ADDITIONS: [(Rule, &[i32], &[i64], &str); 20] = [
 #[test]
 fn additions_with_groups(rt: HostRuntime) {
     let alloc = rt.alloc();
-    for (rule, numbers, hints, want) in ADDITIONS {
-        same(&rt, whole(alloc, rule, numbers, hints), want);
-        same(&rt, in_parts(alloc, rule, numbers, hints), want);
+    for (rule, numbers, hints, want) in ADDITIONS.iter() {
+        same(&rt, whole(alloc, *rule, numbers, hints), want);
+        same(&rt, in_parts(alloc, *rule, numbers, hints), want);
     }
 }
 
@@ -178,7 +178,7 @@ fn deleted(alloc: Global, checker: &mut IdleChecker, ids: &[u64]) -> Result<Stri
 
 // One checker takes these in turn: an addition has an id, a deletion has none. Clauses that come and go need a group each, or
 // none.
-const STEPS: [(u64, &[i32], &[i64], &[u64], &str); 11] = [
+static STEPS: [(u64, &[i32], &[i64], &[u64], &str); 11] = [
     (54, &[7, -1], &[-6], &[], "Going"),
     (55, &[9, -2, -7], &[-8], &[], "rat-missing 9"),
     (0, &[], &[], &[9], "Going"),
@@ -195,13 +195,13 @@ const STEPS: [(u64, &[i32], &[i64], &[u64], &str); 11] = [
 fn answers(alloc: Global) -> Result<String, AllocError> {
     let mut checker = checker(alloc, Rule::Rat)?;
     let mut differ = String::new(alloc);
-    for (id, numbers, hints, ids, want) in STEPS {
-        let found = if id == 0 {
+    for (id, numbers, hints, ids, want) in STEPS.iter() {
+        let found = if *id == 0 {
             deleted(alloc, &mut checker, ids)?
         } else {
-            at_once(alloc, &mut checker, id, numbers, hints)?
+            at_once(alloc, &mut checker, *id, numbers, hints)?
         };
-        if found.as_str() != want {
+        if found.as_str() != *want {
             differ.push_str(&found)?;
         }
     }

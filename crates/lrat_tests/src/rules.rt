@@ -32,7 +32,7 @@ fn added(
     said(alloc, held, &step)
 }
 
-const LEMMAS: [(u64, &[i32], &[i64], &str); 12] = [
+static LEMMAS: [(u64, &[i32], &[i64], &str); 12] = [
     (17, &[-1], &[7, 6, 3, 4, 2], "taken"),
     (19, &[-1, -1], &[7, 5, 7, 6, 3, 4, 2, -9], "taken"),
     (16, &[-1], &[7, 6, 3, 4, 2], "id-order 16 16"),
@@ -50,8 +50,8 @@ const LEMMAS: [(u64, &[i32], &[i64], &str); 12] = [
 #[test]
 fn lemmas_of_two_of_two(rt: HostRuntime) {
     let held = formula(rt.alloc()).expect(&rt, "memory");
-    for (id, numbers, hints, want) in LEMMAS {
-        same(&rt, added(rt.alloc(), &held, id, numbers, hints), want);
+    for (id, numbers, hints, want) in LEMMAS.iter() {
+        same(&rt, added(rt.alloc(), &held, *id, numbers, hints), want);
     }
 }
 
@@ -60,7 +60,7 @@ fn deleted(alloc: Global, held: &[(u64, Vec<Lit>)], ids: &[u64]) -> Result<Strin
     said(alloc, held, &step)
 }
 
-const DELETIONS: [(&[u64], &str); 4] = [
+static DELETIONS: [(&[u64], &str); 4] = [
     (&[3, 16], "taken"),
     (&[], "taken"),
     (&[3, 17], "no-such-clause 17"),
@@ -70,7 +70,7 @@ const DELETIONS: [(&[u64], &str); 4] = [
 #[test]
 fn deletions(rt: HostRuntime) {
     let held = formula(rt.alloc()).expect(&rt, "memory");
-    for (ids, want) in DELETIONS {
+    for (ids, want) in DELETIONS.iter() {
         same(&rt, deleted(rt.alloc(), &held, ids), want);
     }
 }

@@ -5,7 +5,7 @@ use std::alloc::{AllocError, Global};
 use std::process::Abort;
 
 /// The formula of two nodes that each need both: its 16 clauses, over 8 variables.
-pub const TWO_OF_TWO: [&[i32]; 16] = [
+pub static TWO_OF_TWO: [&[i32]; 16] = [
     &[1, 2],
     &[3, 4],
     &[-1, -3],

@@ -46,7 +46,7 @@ fn streamed(
 
 // One checker takes these in turn: a fault leaves no literal true, and no id behind, and the hints behind a conflict are
 // not looked at.
-const ADDITIONS: [(u64, &[i64], &str); 7] = [
+static ADDITIONS: [(u64, &[i64], &str); 7] = [
     (3, &[], "id-order 3 3"),
     (4, &[2, 1], "not-unit 1"),
     (4, &[1, -2], "rat-step 2"),
@@ -59,7 +59,7 @@ const ADDITIONS: [(u64, &[i64], &str); 7] = [
 #[test]
 fn hints_one_by_one(rt: HostRuntime) {
     let mut checker = checker(rt.alloc()).expect(&rt, "memory");
-    for (id, hints, want) in ADDITIONS {
-        same(&rt, streamed(rt.alloc(), &mut checker, id, hints), want);
+    for (id, hints, want) in ADDITIONS.iter() {
+        same(&rt, streamed(rt.alloc(), &mut checker, *id, hints), want);
     }
 }

@@ -1,9 +1,9 @@
 //! The systems are written as configurations, and nodes are told by their names' places.
+use crate::shared::same;
 use name_set::{NodeSet, read_names};
 use node_json::read_config;
 use quorum_questions::{Answer, MOST_UNITS, dset, intersect, splits};
 use std::alloc::{AllocError, Global};
-use std::process::Abort;
 
 const TWO_OF_TWO: &str =
     r#"[{"publicKey":"p","quorumSet":{"threshold":2,"validators":["p","q"]}},{"publicKey":"q","quorumSet":{"threshold":2,"validators":["p","q"]}}]"#;
@@ -71,13 +71,7 @@ fn deleted(alloc: Global, set: &str) -> Option<String> {
     parts(alloc, is_available, &unmet, &answer).ok()
 }
 
-/// Fails the test where there is no answer, or another. It stands apart, so that the tests have no branches of it.
-fn same(rt: &impl Abort, found: Option<String>, want: &str) {
-    let found = found.expect(rt, "an answer");
-    assert_eq!(rt; found.as_str(), want);
-}
-
-const ASKED: [(&str, &str, u64, &str); 6] = [
+static ASKED: [(&str, &str, u64, &str); 6] = [
     (TWO_OF_THREE, "", 1_000_000, "yes 16 25"),
     (TWO_OF_THREE, "a", 1_000_000, "no Some(1) 1 Some(2) 1"),
     (TWO_OF_THREE, "", 0, "spent 0 16 25"),
@@ -88,8 +82,8 @@ const ASKED: [(&str, &str, u64, &str); 6] = [
 
 #[test]
 fn every_two_quorums_share_a_node_or_two_share_none_or_the_budget_is_spent(rt: HostRuntime) {
-    for (config, faulty, budget, want) in ASKED {
-        same(&rt, asked(rt.alloc(), config, faulty, budget), want);
+    for (config, faulty, budget, want) in ASKED.iter() {
+        same(&rt, asked(rt.alloc(), config, faulty, *budget), want);
     }
 }
 

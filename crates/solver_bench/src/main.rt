@@ -1,20 +1,17 @@
 //! Solves the formula of a trial configuration and checks the log, to be timed by `bench/solver.py`.
 //!
 //! `solver_bench N` takes the trial configuration of N organisations, 1 to 100, and prints what was found.
-//! `solver_bench N dimacs` prints the formula instead. `solver_bench file PATH` takes a formula in DIMACS form,
-//! and prints the model too where there is one.
+//! `solver_bench file PATH` takes a formula in DIMACS form, and prints the model too where there is one.
 #![tactic(auto)]
 
 mod outcome;
 mod reading;
-mod trial;
 mod words;
 
-use crate::outcome::{Outcome, dimacs, outcome_of, outcome_of_text};
+use crate::outcome::{Outcome, outcome_of, outcome_of_text};
 use crate::words::{Task, asked, organisations_of};
 use anyhow::Result;
 use std::fs;
-use std::str::from_utf8;
 
 /// The units of the solver's budget.
 const UNITS: u64 = 4_000_000;
@@ -22,7 +19,6 @@ const UNITS: u64 = 4_000_000;
 fn main(rt: HostRuntime) -> Result<()> {
     match asked(&rt)? {
         Task::File(path) => solve_file(&rt, path.as_str()),
-        Task::Formula(word) => print_formula(&rt, word.as_str()),
         Task::Trial(word) => solve_trial(&rt, word.as_str()),
     }
 }
@@ -32,13 +28,6 @@ fn solve_file(rt: &HostRuntime, path: &str) -> Result<()> {
     let found = outcome_of_text(rt.alloc(), text.as_str(), UNITS)?;
     tell(rt, &found)?;
     tell_model(rt, &found.model)
-}
-
-fn print_formula(rt: &HostRuntime, word: &str) -> Result<()> {
-    let organisations = organisations_of(word)?;
-    let text = dimacs(rt.alloc(), organisations)?;
-    print!(rt; "{}", from_utf8(&text)?)?;
-    Ok(())
 }
 
 fn solve_trial(rt: &HostRuntime, word: &str) -> Result<()> {

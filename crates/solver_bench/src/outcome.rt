@@ -1,20 +1,19 @@
 //! What the solver and the checker say of a trial configuration.
-ghost use Rattle.std.specs.Prelude.{◌≡◌, ◌≤◌, ◌<◌, ◌^◌, IfOk, length};
+ghost use Rattle.std.specs.Prelude.{◌≡◌, ◌+◌, ◌≤◌, ◌<◌, ◌^◌, IfOk};
 ghost use Rattle.lrat_model.specs.Ranges.{AreInRange};
 
 use crate::reading::read_dimacs;
-use crate::trial::configuration;
 use anyhow::{Result, bail};
 use cdcl_core::{Budget, Solver, Verdict};
-use clause_encoder::{VarMap, Version, encode, write_dimacs};
+use clause_encoder::{Version, encode};
 use clause_store::Store;
 use fbas_core::System;
 use greatest_quorum::greatest;
 use lrat_checker::IdleChecker;
 use lrat_model::{Progress, Rule};
 use name_set::NodeSet;
-use node_json::read_config;
 use std::alloc::{AllocError, Global};
+use trial_network::Trial;
 
 /// The most clauses of a formula that the solver is given.
 const MOST_CLAUSES: u64 = 1_000_000_000;
@@ -56,29 +55,55 @@ fn is_refutation(
     Ok(progress == Progress::Refuted)
 }
 
+/// Searches within a budget, and gives the verdict and how many lemmas with a literal there are. Of the contract of `solve` it
+/// keeps what its caller wants.
+fn search(solver: &mut Solver, units: u64) -> Result<(Verdict, u64), AllocError>
+    requires room { solver.old.database.last + units + 1 < 2 ^ 63 }
+    ensures vars { solver.new.vars ≡ solver.old.vars }
+{
+    let mut budget = Budget::of(units);
+    let verdict = solver.solve(&mut budget)?;
+    Ok((verdict, units - budget.left()))
+}
+
+/// Searches within a budget, and checks the log.
+fn searched(
+    alloc: Global,
+    store: Store,
+    vars: u64,
+    solver: &mut Solver,
+    units: u64,
+) -> Result<Outcome, AllocError>
+    requires small { vars < 2 ^ 31 }
+    requires range { AreInRange vars store.held }
+    requires room { solver.old.database.last + units + 1 < 2 ^ 63 }
+    requires vars { solver.old.vars ≡ vars }
+{
+    let clauses = store.last();
+    let (verdict, lemmas) = search(solver, units)?;
+    let is_refuted = is_refutation(alloc, store, vars, solver)?;
+    let model = model_of(alloc, solver, vars, verdict)?;
+    Ok(Outcome {
+        variables: vars,
+        clauses,
+        verdict,
+        lemmas,
+        is_refuted,
+        model,
+    })
+}
+
 /// Solves a formula within a budget, and checks the log.
 fn solve(alloc: Global, store: Store, vars: u64, units: u64) -> Result<Outcome>
     requires small { vars < 2 ^ 31 }
     requires range { AreInRange vars store.held }
     requires few { units ≤ 4000000 }
 {
-    let clauses = store.last();
-    if clauses > MOST_CLAUSES {
+    if store.last() > MOST_CLAUSES {
         bail!("too many clauses");
     }
     let mut solver = Solver::start(alloc, &store, vars)?;
-    let mut budget = Budget::of(units);
-    let verdict = solver.solve(&mut budget)?;
-    let is_refuted = is_refutation(alloc, store, vars, &solver)?;
-    let model = model_of(alloc, &solver, vars, verdict)?;
-    Ok(Outcome {
-        variables: vars,
-        clauses,
-        verdict,
-        lemmas: units - budget.left(),
-        is_refuted,
-        model,
-    })
+    Ok(searched(alloc, store, vars, &mut solver, units)?)
 }
 
 /// The value of each variable after `Sat`, else none.
@@ -109,34 +134,24 @@ pub fn outcome_of_text(alloc: Global, text: &str, units: u64) -> Result<Outcome>
     solve(alloc, store, vars, units)
 }
 
-/// The intersection formula of a system in version 2, no node deleted.
-fn formula(alloc: Global, system: &System) -> Result<(Store, VarMap)>
-    ensures small { IfOk result (λ r. r.1.count < 2 ^ 31) }
-    ensures range { IfOk result (λ r. AreInRange r.1.count r.0.held) }
-    ensures same_n { IfOk result (λ r. length r.1.greatest ≡ length system.now.names) }
+/// The intersection formula of a system in version 2, no node deleted, and how many variables it has.
+fn formula(alloc: Global, system: &System) -> Result<(Store, u64)>
+    ensures small { IfOk result (λ r. r.1 < 2 ^ 31) }
+    ensures range { IfOk result (λ r. AreInRange r.1 r.0.held) }
 {
     let faulty = NodeSet::new(system.len());
     let greatest = greatest(system, &faulty);
-    Ok(encode(alloc, Version::Two, system, &faulty, &greatest)?)
+    let (store, map) = encode(alloc, Version::Two, system, &faulty, &greatest)?;
+    Ok((store, map.vars()))
 }
 
 /// Solves the formula of a trial configuration within a budget, and checks the log.
 pub fn outcome_of(alloc: Global, organisations: u32, units: u64) -> Result<Outcome>
+    requires some { 1 ≤ organisations }
     requires organisations { organisations ≤ 100 }
     requires few { units ≤ 4000000 }
 {
-    let text = configuration(alloc, organisations)?;
-    let system = read_config(alloc, text.as_bytes())?;
-    let (store, map) = formula(alloc, &system)?;
-    solve(alloc, store, map.vars(), units)
-}
-
-/// The DIMACS text of the formula of a trial configuration.
-pub fn dimacs(alloc: Global, organisations: u32) -> Result<Vec<u8>>
-    requires { organisations ≤ 100 }
-{
-    let text = configuration(alloc, organisations)?;
-    let system = read_config(alloc, text.as_bytes())?;
-    let (store, map) = formula(alloc, &system)?;
-    Ok(write_dimacs(alloc, &store, &map, &system)?)
+    let trial = Trial::of(alloc, organisations)?;
+    let (store, vars) = formula(alloc, &trial.system)?;
+    solve(alloc, store, vars, units)
 }

@@ -1,18 +1,16 @@
 //! What the words ask for.
 ghost use Rattle.std.specs.Prelude.{◌≤◌, IfOk};
 
-use crate::trial::MOST;
 use anyhow::{Context, Result, bail};
 use std::env;
+use trial_network::MOST_ORGANISATIONS;
 
 /// What is to be done, by the word for it.
 #[derive(Drop)]
 pub enum Task {
     /// The formula of a file is solved.
     File(String),
-    /// That of a trial configuration is printed.
-    Formula(String),
-    /// It is solved.
+    /// That of a trial configuration is solved.
     Trial(String),
 }
 
@@ -26,24 +24,19 @@ pub fn asked(rt: &HostRuntime) -> Result<Task> {
 
 fn task_of(first: Option<String>, second: Option<String>) -> Result<Task> {
     let first = first.context("how many organisations?")?;
-    if first.as_str() == "file" {
-        return Ok(Task::File(second.context("which file?")?));
-    }
-    let Some(word) = second else {
+    if first.as_str() != "file" {
         return Ok(Task::Trial(first));
-    };
-    if word.as_str() != "dimacs" {
-        bail!("the second word is dimacs");
     }
-    Ok(Task::Formula(first))
+    Ok(Task::File(second.context("which file?")?))
 }
 
 /// The number of organisations.
 pub fn organisations_of(word: &str) -> Result<u32>
-    ensures { IfOk result (λ organisations. organisations ≤ 100) }
+    ensures some { IfOk result (λ organisations. 1 ≤ organisations) }
+    ensures few { IfOk result (λ organisations. organisations ≤ 100) }
 {
     let organisations: u32 = word.parse().context("the number of organisations")?;
-    if organisations == 0 || organisations > MOST {
+    if organisations == 0 || organisations > MOST_ORGANISATIONS {
         bail!("organisations are 1 to 100");
     }
     Ok(organisations)
