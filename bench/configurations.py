@@ -113,6 +113,11 @@ def main():
     write(os.path.join(folder, "zigzag-large.json"), zigzag(4096, lambda i: 995_900 if i == 4095 else 1))
     write(os.path.join(folder, "zigzag-even.json"), zigzag(4096, lambda i: 244))
     write(os.path.join(folder, "behind.json"), behind(4096, 244))
+    # As many nodes as there may be: with ten entries each, with a million in all, in a chain, and looked at again in vain.
+    write(os.path.join(folder, "most-few.json"), dense(16384, 163_840, short_key))
+    write(os.path.join(folder, "most-whole.json"), dense(16384, 1_000_000, short_key))
+    write(os.path.join(folder, "most-chain.json"), chain(16384, ordered_key, 1))
+    write(os.path.join(folder, "most-behind.json"), behind(16384, 61))
 
 
 main()

@@ -1,7 +1,7 @@
 #!/usr/bin/env python3
 """Times the calls of sets and of systems: bench/sets.py [FOLDER].
 
-Builds crates/sets_bench (with its proofs, some minutes the first time), and prints for each call of sets of 4,096 nodes, and
+Builds crates/sets_bench (with its proofs, some minutes the first time), and prints for each call of sets of 16,384 nodes, and
 for each call of the systems of `bench/configurations.py` that are written into FOLDER, the least processor time of three runs
 of many calls, of which what the rounds themselves cost, or the reading, is taken off.
 """
@@ -13,7 +13,7 @@ import sys
 TOP = os.path.dirname(os.path.dirname(os.path.abspath(__file__)))
 CRATE = os.path.join(TOP, "crates", "sets_bench")
 PROGRAM = os.path.join(CRATE, "out", "sets_bench")
-FILES = ["whole", "chain-up", "chain-down", "zigzag-large", "zigzag-even", "behind"]
+FILES = ["whole", "chain-up", "chain-down", "zigzag-large", "zigzag-even", "behind", "most-few", "most-whole", "most-chain", "most-behind"]
 CALLS = ["has", "least", "count", "meets", "minus", "join", "copy", "copy_from", "members"]
 ROUNDS = 1_000_000
 SYSTEM_ROUNDS = 10

@@ -141,4 +141,5 @@ def main():
     row("random 3-SAT", [random_formula(folder, seed) for seed in range(RANDOM_FORMULAS)])
 
 
-main()
+if __name__ == "__main__":
+    main()

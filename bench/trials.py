@@ -1,14 +1,17 @@
 #!/usr/bin/env python3
-"""Times `trial` beside minisat and cadical on the same formulas: bench/trials.py PROGRAM [N ..].
+"""Times searches beside minisat, cadical and cryptominisat on the same formulas: bench/trials.py PROGRAM [SYSTEM ..].
 
-PROGRAM is the built program, N the numbers of organisations (24, 50, 75 and 100 where none is given). For each it makes the
-configuration that `trial` speaks of, writes its formula by `export`, and prints the processor time of one run each: of `trial`
-with its certificate on a file in memory, of the same search by `intersect` with the certificate thrown away, of `check` of the
-certificate, of `export`, and of minisat and cadical (Debian's packages, with their own settings) on the exported formula. A run
-ends after LIMIT seconds of processor time. Any answer but that every two quorums share a node ends the script with status 1.
+PROGRAM is the built program. A SYSTEM is a number of organisations, whose configuration is the one that `trial` speaks of; the
+path of a configuration; or random:NODES:SIZE:THRESHOLD:SEED, in which each node wants so many of SIZE nodes, itself and others
+drawn at random (16, 24, 50, 75 and 100 organisations where none is given). For each it prints the answer, the lemmas learnt, the
+processor time and the greatest memory of one run each: of the search (`trial`, or `intersect`) with its certificate on a file in
+memory, and of `check` of the certificate; then the conflicts, time and memory of minisat, cadical and cryptominisat (Debian's
+packages, with their own settings) on the formula that `export` writes. A run ends after LIMIT seconds of processor time. Answers
+that differ end the script with status 1.
 """
 import json
 import os
+import random
 import re
 import resource
 import subprocess
@@ -17,9 +20,14 @@ import tempfile
 
 LIMIT = 900
 MEMORY = "/dev/shm"
+OTHERS = {
+    "minisat": (["minisat", "{}", "/dev/null"], r"conflicts +: (\d+)"),
+    "cadical": (["cadical", "{}"], r"conflicts: +(\d+)"),
+    "cryptominisat": (["cryptominisat5", "--verb", "1", "{}"], r"c conflicts *: (\d+)"),
+}
 
 
-def configuration(count):
+def trial(count):
     """The trial configuration of so many organisations of three nodes, as the program's text."""
     names = ["t%03d" % i for i in range(3 * count)]
     inner = [{"innerQuorumSets": [], "threshold": 2, "validators": names[i : i + 3]} for i in range(0, 3 * count, 3)]
@@ -27,50 +35,81 @@ def configuration(count):
     return json.dumps([{"publicKey": name, "quorumSet": common} for name in names], separators=(",", ":"))
 
 
+def drawn(nodes, size, threshold, seed):
+    """A configuration in which each node wants `threshold` of itself and `size - 1` others, drawn at random."""
+    choice = random.Random(seed)
+    names = ["n%03d" % i for i in range(nodes)]
+    quorum_set = lambda name: {"threshold": threshold, "validators": sorted([name] + choice.sample([it for it in names if it != name], size - 1)), "innerQuorumSets": []}
+    return json.dumps([{"publicKey": name, "quorumSet": quorum_set(name)} for name in names])
+
+
+def configuration(system):
+    if system.isdigit():
+        return trial(int(system))
+    if system.startswith("random:"):
+        return drawn(*map(int, system.split(":")[1:]))
+    with open(system, encoding="utf-8") as it:
+        return it.read()
+
+
 def timed(words, out=subprocess.PIPE):
-    """The text that a run puts out, and its processor time; no text where it was cut off."""
-    before = resource.getrusage(resource.RUSAGE_CHILDREN)
-    done = subprocess.run(words, stdout=out, stderr=subprocess.DEVNULL, preexec_fn=lambda: resource.setrlimit(resource.RLIMIT_CPU, (LIMIT, LIMIT)))
-    after = resource.getrusage(resource.RUSAGE_CHILDREN)
-    text = done.stdout.decode() if done.stdout is not None else ""
-    return "" if done.returncode < 0 else text, after.ru_utime + after.ru_stime - before.ru_utime - before.ru_stime
+    """The text that a run puts out, its processor time and its greatest memory in MB; no text where it was cut off."""
+    done = subprocess.Popen(words, stdout=out, stderr=subprocess.DEVNULL, preexec_fn=lambda: resource.setrlimit(resource.RLIMIT_CPU, (LIMIT, LIMIT)))
+    text = done.stdout.read().decode() if done.stdout is not None else ""
+    _, status, used = os.wait4(done.pid, 0)
+    return "" if os.WIFSIGNALED(status) else text, used.ru_utime + used.ru_stime, used.ru_maxrss // 1024
 
 
-def wanted(text, word):
-    if word not in text:
-        raise SystemExit("%r is not in %r" % (word, text[-300:]))
+def told(seconds, memory):
+    return ["%.2f s" % seconds, "%d MB" % memory]
 
 
-def row(program, count, folder):
+def ours(program, system, config, cert):
+    """The answer, the lemmas, time and memory of the search, the bytes of its certificate, time and memory of its check."""
+    said, *searched = timed([program, "trial", system, cert] if system.isdigit() else [program, "intersect", config, cert])
+    answer = re.search(r"^intersects (\w+)", said, re.M)
+    if not answer:
+        return "did not end", ["-", *told(*searched), "-", "-", "-"]
+    with open(cert, "rb") as it:
+        lemmas = sum(1 for line in it if line[:1].isdigit() and b" d " not in line and line.split(b" ", 2)[1] != b"0")
+    said, *checked = timed([program, "check", config, cert])
+    if not said.startswith("accepted"):
+        raise SystemExit("%s: the certificate is not accepted: %r" % (system, said))
+    return answer.group(1), [str(lemmas), *told(*searched), str(os.path.getsize(cert)), *told(*checked)]
+
+
+def other(name, cnf, answer, system):
+    """The conflicts, time and memory of another solver."""
+    words, pattern = OTHERS[name]
+    said, *spent = timed([it.format(cnf) for it in words])
+    verdict = re.search(r"\b(UN)?SATISFIABLE\b", said)
+    if verdict and answer in ("yes", "no") and bool(verdict.group(1)) != (answer == "yes"):
+        raise SystemExit("%s: %s answers otherwise" % (system, name))
+    found = re.search(pattern, said)
+    return ["-" if not verdict else found.group(1) if found else "0", *told(*spent)]
+
+
+def row(program, system, folder):
     config, cnf, cert = (os.path.join(folder, name) for name in ("config", "cnf", "cert"))
-    with open(config, "w") as it:
-        it.write(configuration(count))
-    said, searched = timed([program, "trial", str(count), cert])
-    wanted(said, "intersects yes")
-    variables, clauses = re.search(r"variables (\d+)\nclauses (\d+)", said).groups()
-    said, alone = timed([program, "intersect", config, "/dev/null"])
-    wanted(said, "intersects yes")
-    said, checked = timed([program, "check", config, cert])
-    wanted(said, "accepted refutation")
-    with open(cnf, "w") as it:
-        _, exported = timed([program, "export", config], it)
-    cells = ["%d" % count, variables, clauses, "%.2f s" % searched, "%.2f s" % alone, "%d" % os.path.getsize(cert), "%.2f s" % checked, "%.2f s" % exported]
-    for words, name in ((["minisat", cnf, "/dev/null"], r"conflicts +: (\d+)"), (["cadical", cnf], r"conflicts: +(\d+)")):
-        said, took = timed(words)
-        if said:
-            wanted(said, "UNSATISFIABLE")
-        cells += [re.search(name, said).group(1) if said else "-", "%.2f s" % took]
-    return cells
+    with open(config, "w", encoding="utf-8") as it:
+        it.write(configuration(system))
+    answer, cells = ours(program, system, config, cert)
+    with open(cnf, "w", encoding="utf-8") as it:
+        timed([program, "export", config], it)
+    for name in OTHERS:
+        cells += other(name, cnf, answer, system)
+    return [os.path.basename(system), answer, *cells]
 
 
 def main():
     if len(sys.argv) < 2:
         raise SystemExit(__doc__.strip())
-    heads = ["organisations", "variables", "clauses", "`trial`", "`intersect` without its certificate", "bytes of the certificate", "`check`", "`export`", "minisat: conflicts", "time", "cadical: conflicts", "time"]
+    heads = ["system", "intersects", "lemmas", "time", "memory", "bytes of the certificate", "`check`", "memory"]
+    heads += [it for name in OTHERS for it in ("%s: conflicts" % name, "time", "memory")]
     print("| " + " | ".join(heads) + " |\n" + "|---" * len(heads) + "|")
-    for count in map(int, sys.argv[2:] or [24, 50, 75, 100]):
+    for system in sys.argv[2:] or ["16", "24", "50", "75", "100"]:
         with tempfile.TemporaryDirectory(dir=MEMORY if os.path.isdir(MEMORY) else None) as folder:
-            print("| " + " | ".join(row(sys.argv[1], count, folder)) + " |", flush=True)
+            print("| " + " | ".join(row(sys.argv[1], system, folder)) + " |", flush=True)
 
 
 if __name__ == "__main__":

@@ -69,6 +69,8 @@ RUNS = [
     ("check config cert", malicious.THREE, malicious.BLOCKING),
     ("check config cert", malicious.THREE, malicious.SOME + b"q 1 a b\nb 2 a b\nend\n"),
     ("check config cert", malicious.THREE, malicious.PAIR[:-1]),
+    ("check-lrat config cert", malicious.TWO, b"c\n" + malicious.FIRST + malicious.LAST),
+    ("check-lrat config cert --from a --orgs orgs --faulty-orgs A", malicious.THREE, b"9 0 1 2 3 0\n"),
     ("show config", malicious.THREE, b"old\n"),
     ("closure config --node a", malicious.APART, b"old\n"),
     ("greatest config --from a --faulty b", malicious.APART, b"old\n"),

@@ -1,8 +1,8 @@
 #!/usr/bin/env python3
-"""Mutates configurations, organisations, certificates of every kind and command words, and runs the built program on them.
+"""Mutates configurations, organisations, certificates of every kind, proofs of other solvers and command words, and runs the built program on them.
 
 The program must end with one of its statuses, put out what fits that status, and nothing on standard error. What 'check'
-says of a configuration and a certificate, 'greatest' of organisations, and what the plain questions and 'export' answer,
+says of a configuration and a certificate, 'check-lrat' of a proof, 'greatest' of organisations, and what the plain questions and 'export' answer,
 must be what tests/plain_checker.py says. A certificate that a search wrote must be one that it accepts, and the answer that of
 trying all sets of nodes; where the answer is unknown, each unit of the certificate must be useful and its clauses must not close.
 
@@ -40,7 +40,7 @@ ANSWERS = rb"(?!usage|config|orgs|refused|too-large)(.+\n)+"
 SEARCHES = ("intersect", "splits", "dset", "blocking")
 
 # Numbers at the edges of what the formats allow, and texts that are no numbers.
-EDGES = "0 1 2 3 -1 -2 -0 +1 01 00 16 17 127 128 4096 2147483647 -2147483647 2147483648 -2147483648 4294967296 9223372036854775807 -9223372036854775807 9223372036854775808 18446744073709551615 18446744073709551616 1.0 1e0 x d".split()
+EDGES = "0 1 2 3 -1 -2 -0 +1 01 00 32 33 127 128 16384 2147483647 -2147483647 2147483648 -2147483648 4294967296 9223372036854775807 -9223372036854775807 9223372036854775808 18446744073709551615 18446744073709551616 1.0 1e0 x d".split()
 
 
 # ---- Configurations
@@ -336,6 +336,17 @@ def random_body(rng, subject, kind):
     return lines + (empty_lemma(held, last) if kind in ("refutation", "blocking") else [])
 
 
+def random_proof(rng, subject):
+    """The lines of a proof of the exported formula, where short proofs are found by chance, with comments between them."""
+    formula = plain.Formula(subject.system, subject.faulty, 2)
+    held = {i: frozenset(it) for i, it in enumerate(formula.clauses, 1)}
+    lines, last = random_steps(rng, held, formula.variables, len(held), True)
+    lines += empty_lemma(held, last)
+    for _ in range(rng.choice([0, 0, 1, 2])):
+        lines.insert(rng.randrange(len(lines) + 1), rng.choice(["c", "c proof", "", " ", "\t", "c\r", "cé", " c", "\r"]))
+    return lines
+
+
 def still_a_line(rng, line, subject):
     """Another line of the same form: a name more or less in a list, a number changed in a step."""
     words = line.split(" ")
@@ -416,7 +427,7 @@ def mutated_words(rng, words):
         elif kind == 1:
             words.insert(at, rng.choice(["--set", "--set=", "--set=a,b", "--faulty", "--faulty=a", "--from=a", "--from", "--node=a", "--orgs=orgs", "--faulty-orgs=A", "--budget=0", "--budget=4000000000", "--budget=4000000001", "--budget=-1", "--budget=01", "--budget=+1", "--budget=", "--", "-", "-x", "--help", "-h", "--version", "help", "", "config", "cert", "=", "--=", "a", "--budget=18446744073709551616"]))
         elif kind == 2 and words:
-            words[at % len(words)] = rng.choice(["show", "closure", "greatest", "intersect", "available", "dset", "blocks", "vblocks", "splits", "blocking", "check", "export", "trial", "missing", "config", "cert"])
+            words[at % len(words)] = rng.choice(["show", "closure", "greatest", "intersect", "available", "dset", "blocks", "vblocks", "splits", "blocking", "check", "check-lrat", "export", "trial", "missing", "config", "cert"])
         elif kind == 3 and words:
             other = rng.randrange(len(words))
             at %= len(words)
@@ -443,6 +454,7 @@ class Program:
         usage = self.run(Case("words", [], {}, None))[1]
         self.searches = [it for it in SEARCHES if b"\n" + it.encode() + b" CONFIG CERT" in usage]
         self.has_trial = b"\ntrial N CERT" in usage
+        self.has_proofs = b"\ncheck-lrat CONFIG LRAT" in usage
 
     def run(self, case):
         """The status, what is put out, what is on standard error, and what the files then hold."""
@@ -481,6 +493,10 @@ class Program:
         """The status and the text by the plain checker, where it says them."""
         if case.kind == "check":
             self.said = plain.check(case.files["config"], case.files["cert"])
+            return self.said
+        if case.kind == "proof":
+            subject = case.wanted
+            self.said = plain.check_lrat(subject.data, case.files["cert"], subject.start, set(subject.given))
             return self.said
         if case.kind == "orgs":
             return wanted_of_orgs(case)
@@ -607,9 +623,12 @@ class Maker:
         self.others = []
         self.written = []
         self.accepted = collections.Counter()
+        self.verified = 0
 
     def case(self):
         chance = self.rng.random()
+        if chance < 0.07 and self.program.has_proofs:
+            return self.proof()
         if chance < 0.54:
             return self.check()
         if chance < 0.62:
@@ -646,6 +665,21 @@ class Maker:
             cert = cert[: rng.randrange(len(cert) + 1)]
         return Case("check", ["check", "config", "cert"], {"config": subject.data, "cert": cert}, None)
 
+    def proof(self):
+        """A proof of a formula that is exported, mostly a changed one."""
+        rng = self.rng
+        subject = Subject(rng, self.config())
+        lines = random_proof(rng, subject)
+        for _ in range(rng.choice([0, 0, 1, 1, 2])):
+            lines = mutated_lines(rng, lines or [""], subject, self.others)
+        proof = "".join(line + "\n" for line in lines).encode()
+        if rng.random() < 0.1:
+            proof = mutated_bytes(rng, proof)
+        if rng.random() < 0.2:
+            proof = proof[:-1]
+        words = ["check-lrat", "config", "cert"] + subject.options()
+        return Case("proof", words, {"config": subject.data, "cert": proof}, subject)
+
     def search(self):
         rng = self.rng
         subject = Subject(rng, random_config(rng))
@@ -673,11 +707,14 @@ class Maker:
     def count(self, case):
         """Counts the certificate by its kind and version, if it was accepted."""
         status, said = self.program.said
-        if status in (0, 2):
+        if case.kind == "proof":
+            self.verified += status == 0
+        elif status in (0, 2):
             self.accepted[said.split("\n")[0].split(" ")[1], case.files["cert"][10:11].decode()] += 1
 
     def told(self):
-        return ", ".join("%s %d and %d" % (kind, self.accepted[kind, "1"], self.accepted[kind, "2"]) for kind in plain.KINDS)
+        kinds = ", ".join("%s %d and %d" % (kind, self.accepted[kind, "1"], self.accepted[kind, "2"]) for kind in plain.KINDS)
+        return "%s; proofs of other solvers that were verified: %d" % (kinds, self.verified)
 
     def keep(self, case):
         """Keeps the certificate that the search wrote."""
@@ -726,6 +763,7 @@ class Maker:
                 ["splits", "config", "cert", "--set", names],
                 ["blocking", "config", "cert"],
                 ["check", "config", "cert"],
+                ["check-lrat", "config", "cert", "--faulty", names],
                 ["export", "config", "--faulty", names],
                 ["trial", "1", "cert", "--budget", "2"],
             ]
@@ -760,7 +798,7 @@ def shrunk(program, case):
 
 def show(program, number, case):
     """Prints a failing case, made smaller where that is no change of the question."""
-    if case.kind not in ("search", "question"):
+    if case.kind not in ("search", "question", "proof"):
         case = shrunk(program, case)
     print("fuzz: case %d: %s" % (number, program.fault(case)))
     print("  words %r" % (case.words,))
@@ -785,7 +823,7 @@ def main():
                 passed += 1
                 if case.kind == "search":
                     maker.keep(case)
-                elif case.kind == "check":
+                elif case.kind in ("check", "proof"):
                     maker.count(case)
             else:
                 failed += 1

@@ -105,14 +105,14 @@ CONFIGURATIONS = [
     ("threshold 1.0", one(b'{"threshold":1.0}'), 4, "config bad-quorum-set 0 threshold\n"),
     ("threshold 01", one(b'{"threshold":01}'), 4, "config not-json\n"),
     ("no quorum set among the inner ones", one(b'{"threshold":1,"innerQuorumSets":[null]}'), 4, "config bad-quorum-set 0 shape\n"),
-    ("depth 16", one(nested(16)), 0, shown(1, 16, 0)),
-    ("depth 17", one(nested(17)), 4, "config too-deep 0\n"),
-    ("a number at depth 17", one(nested(17).replace(b'{"threshold":1,"validators":["a"]}', b"1")), 4, "config too-deep 0\n"),
+    ("depth 32", one(nested(32)), 0, shown(1, 32, 0)),
+    ("depth 33", one(nested(33)), 4, "config too-deep 0\n"),
+    ("a number at depth 33", one(nested(33).replace(b'{"threshold":1,"validators":["a"]}', b"1")), 4, "config too-deep 0\n"),
     ("1,000,000 entries", lambda: one(b'{"threshold":1,"validators":[' + b'"a",' * 999999 + b'"a"]}'), 0, shown(1, 1000000, 0, "repeated a . a")),
     ("1,000,001 entries", lambda: one(b'{"threshold":1,"validators":[' + b'"a",' * 1000000 + b'"a"]}'), 4, "config too-many-entries 1000001\n"),
     ("1,000,001 empty quorum sets", lambda: one(b'{"threshold":0,"innerQuorumSets":[' + b'{"threshold":0},' * 1000000 + b'{"threshold":0}]}'), 4, "config too-many-entries 1000001\n"),
-    ("4,097 names", one(b'{"threshold":1,"validators":[' + b",".join(b'"%d"' % i for i in range(4096)) + b"]}"), 4, "config too-many-nodes 4097\n"),
-    ("4,096 names", one(b'{"threshold":1,"validators":[' + b",".join(b'"%d"' % i for i in range(4095)) + b"]}"), 0, shown(4096, 4095, 4095)),
+    ("16,385 names", one(b'{"threshold":1,"validators":[' + b",".join(b'"%d"' % i for i in range(16384)) + b"]}"), 4, "config too-many-nodes 16385\n"),
+    ("16,384 names", one(b'{"threshold":1,"validators":[' + b",".join(b'"%d"' % i for i in range(16383)) + b"]}"), 0, shown(16384, 16383, 16383)),
 ]
 
 # What 'greatest' says of two nodes, with a file of organisations and A as the faulty one.
@@ -275,6 +275,55 @@ LISTS = [
     ("nobody twice", EMPTY, head(EMPTY, "blocking") + b"b 1\nb 2\n", 5, "refused not-new 7\n"),
 ]
 
+# What 'check-lrat' says of a proof of the formula of two nodes, which has 6 variables and 12 clauses.
+FIRST = b"13 -1 0 7 6 3 4 2 0\n"
+LAST = b"14 0 13 1 8 5 0\n"
+VERIFIED = "verified\nfrom\nfaulty\n"
+
+PROOFS = [
+    ("as it should be", FIRST + LAST, 0, VERIFIED),
+    ("no byte", b"", 5, "refused not-refuted 1\n"),
+    ("a line feed", b"\n", 5, "refused not-refuted 2\n"),
+    ("a step and no more", FIRST, 5, "refused not-refuted 2\n"),
+    ("a step without a line feed", FIRST[:-1], 5, "refused not-refuted 2\n"),
+    ("the last line feed missing", FIRST + LAST[:-1], 0, VERIFIED),
+    ("bytes of all kinds behind the empty lemma", FIRST + LAST + bytes(range(256)) * 1000, 0, VERIFIED),
+    ("a comment", b"c proof\n" + FIRST + LAST, 0, VERIFIED),
+    ("a comment without a space", b"cnf\n" + FIRST + LAST, 0, VERIFIED),
+    ("a comment of all bytes", b"c" + bytes(it for it in range(256) if it != 10) + b"\n" + FIRST + LAST, 0, VERIFIED),
+    ("a comment behind the last step", FIRST + b"c", 5, "refused not-refuted 3\n"),
+    ("a comment that begins with a space", b" c\n" + FIRST + LAST, 5, "refused bad-line 1\n"),
+    ("a comment in capitals", b"C\n" + FIRST + LAST, 5, "refused bad-line 1\n"),
+    ("lines of blanks", b"\n \n\t\n" + FIRST + b" \t \n" + LAST, 0, VERIFIED),
+    ("a carriage return alone", b"\r\n" + FIRST + LAST, 5, "refused bad-line 1\n"),
+    ("carriage returns", (FIRST + LAST).replace(b"\n", b"\r\n"), 5, "refused bad-line 1\n"),
+    ("a 0 byte", FIRST[:-1] + b"\x00\n" + LAST, 5, "refused bad-line 1\n"),
+    ("a certificate", SHARED, 5, "refused bad-line 1\n"),
+    ("steps of the formula in version 1", LEMMA + b"\n18 0 17 1 10 8 0\n", 5, "refused step 2 not-unit 3\n"),
+    ("no step but an end", FIRST + b"end\n", 5, "refused bad-line 2\n"),
+    ("a line of a list", b"q 13 p q\n", 5, "refused bad-line 1\n"),
+    ("no closing 0 and no line feed", FIRST + LAST[:-2], 5, "refused bad-line 2\n"),
+    ("a digit short of a line", FIRST + b"1", 5, "refused bad-line 2\n"),
+    ("an id of the formula", b"12 -1 0 7 6 3 4 2 0\n", 5, "refused step 1 id-order 12 12\n"),
+    ("the greatest id", b"9223372036854775807 -1 0 7 6 3 4 2 0\n" + LAST, 5, "refused step 2 id-order 9223372036854775807 14\n"),
+    ("a literal one above the variables", b"13 7 0 1 0\n", 5, "refused step 1 bad-literal 7\n"),
+    ("a hint of what is not held", b"13 -1 0 13 0\n", 5, "refused step 1 no-such-clause 13\n"),
+    ("a hint of what is deleted", b"12 d 7 0\n" + FIRST, 5, "refused step 2 no-such-clause 7\n"),
+    ("deletions of what is not needed", b"1 d 9 10 11 12 0\n" + FIRST + b"13 d 2 0\n" + LAST, 0, VERIFIED),
+    ("a deletion of what came twice", b"12 d 1 1 0\n", 5, "refused step 1 no-such-clause 1\n"),
+    ("a RAT step", b"13 -5 0 -7 -8 0\n", 5, "refused step 1 no-conflict\n"),
+    ("the empty lemma with a RAT hint", b"13 0 -1 0\n", 5, "refused step 1 rat-step 1\n"),
+    ("an empty lemma at once", b"13 0 0\n", 5, "refused step 1 no-conflict\n"),
+    ("a million comments", lambda: b"c\n" * 1000000 + FIRST + LAST, 0, VERIFIED),
+    ("a million comments and no step", lambda: b"c\n" * 1000000, 5, "refused not-refuted 1000001\n"),
+    ("a lemma with a million literals", lambda: b"13" + b" -1" * 1000000 + b" 0 7 6 3 4 2 0\n" + LAST, 0, VERIFIED),
+    ("a comment of 134,217,728 bytes", lambda: b"c" * MOST_LINE + b"\n" + FIRST + LAST, 0, VERIFIED),
+    ("a comment of 134,217,729 bytes", lambda: b"c" * (MOST_LINE + 1), 5, "refused line-too-long 1\n"),
+    ("blanks up to 134,217,729 bytes", lambda: FIRST + b" " * (MOST_LINE + 1) + b"\n" + LAST, 5, "refused line-too-long 2\n"),
+    ("an empty lemma with blanks up to 134,217,728 bytes", lambda: FIRST + LAST[:-1].ljust(MOST_LINE), 0, VERIFIED),
+    ("an empty lemma with blanks up to 134,217,729 bytes", lambda: FIRST + LAST[:-1].ljust(MOST_LINE + 1), 5, "refused line-too-long 2\n"),
+]
+
 
 class Trial:
     def __init__(self, folder, program):
@@ -340,6 +389,10 @@ def main(program=BUILT):
             trial.put("config", config)
             trial.put("cert", cert)
             trial.row("certificate: " + name, status, text, "check", "config", "cert")
+        trial.put("config", TWO)
+        for name, proof, status, text in PROOFS:
+            trial.put("cert", proof)
+            trial.row("proof: " + name, status, text, "check-lrat", "config", "cert")
         trial.full_files("intersect", "config", "made")
         trial.full_files("intersect", "config", "made", "--faulty", "a")
         trial.full_files("blocking", "config", "made")

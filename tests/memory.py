@@ -192,7 +192,7 @@ class Trial:
         """The least stack under which the deepest files are answered."""
         deep = b"[" * 127 + b"]" * 127
         skipped = b'[{"publicKey":"a","x":' + b"[" * 125 + b"]" * 125 + b"}]"
-        sets = b"[" + b",".join(b'{"publicKey":"%s","quorumSet":%s}' % (it, malicious.nested(16)) for it in (b"a", b"b")) + b"]"
+        sets = b"[" + b",".join(b'{"publicKey":"%s","quorumSet":%s}' % (it, malicious.nested(32)) for it in (b"a", b"b")) + b"]"
         self.put("deep", deep)
         self.put("skipped", skipped)
         self.put("sets", sets)
@@ -200,7 +200,7 @@ class Trial:
         rows = [
             (["show", "deep"], 4, "config not-node 0\n"),
             (["show", "skipped"], 0, malicious.shown(1, 0, 1)),
-            (["show", "sets"], 0, malicious.shown(2, 32, 0)),
+            (["show", "sets"], 0, malicious.shown(2, 64, 0)),
             (["greatest", "sets", "--from", "b"], 0, "greatest a b\n"),
             (["check", "sets", "cert"], 5, "refused not-quorum 7\n"),
             (["intersect", "sets", "made"], 0, "intersects yes\n"),

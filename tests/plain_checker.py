@@ -1,8 +1,8 @@
 #!/usr/bin/env python3
-"""A second checker of certificates, plain and slow, written from docs/FORMATS.md and docs/DEFINITIONS.md and not from the code.
+"""A second checker of certificates and of proofs, plain and slow, written from docs/FORMATS.md and docs/DEFINITIONS.md and not from the code.
 
-It answers 'check CONFIG CERT' with the program's status and text, and reads organisations, so that tests/fuzz.py can
-compare the two. Nothing here is proved. By hand: tests/plain_checker.py CONFIG CERT
+It answers 'check CONFIG CERT' and 'check-lrat CONFIG LRAT' with the program's status and text, and reads organisations, so that
+tests/fuzz.py can compare the two. Nothing here is proved. By hand: tests/plain_checker.py CONFIG CERT
 """
 
 import hashlib
@@ -12,9 +12,9 @@ import re
 import sys
 
 MOST_BYTES = 16777216
-MOST_NAMES = 4096
+MOST_NAMES = 16384
 MOST_ENTRIES = 1000000
-MOST_DEPTH = 16
+MOST_DEPTH = 32
 MOST_VARS = 4000000
 MOST_LINE = 134217728
 MOST_ID = 2**63 - 1
@@ -626,6 +626,59 @@ class Check:
         literals = [sign * (self.order.index(name) + 1) for name in sorted(nodes)]
         self.hold(number, literals, new=kind == "partial-blocking" or letter == b"b")
         return nodes
+
+
+class Verification(Check):
+    """Goes through a proof of another solver line by line, of the part of the system from a node on, without the faulty nodes."""
+
+    def __init__(self, system, start, faulty, data):
+        super().__init__(system, None, data)
+        part = closure(system, start) if start else set(system)
+        self.start, self.faulty = start, faulty & part
+        self.system = {name: system[name] for name in part}
+
+    def verified(self):
+        """The status and the text of a proof that comes to the empty lemma."""
+        formula = Formula(self.system, self.faulty, 2)
+        if formula.variables > MOST_VARS:
+            raise Refused("too-large %d" % formula.variables, 9)
+        self.held = Held(formula.variables, formula.clauses, takes_rat=True)
+        *lines, rest = self.data.split(b"\n")
+        for line in lines + ([rest] if rest else []):
+            self.line_number += 1
+            if self.is_last(line):
+                return 0, "verified\nfrom%s\nfaulty%s\n" % (spelled([self.start] if self.start else []), spelled(self.faulty))
+        self.line_number += 1
+        self.refuse("not-refuted")
+
+    def is_last(self, line):
+        """Takes a line, and tells whether it is the empty lemma."""
+        if len(line) > MOST_LINE:
+            self.refuse("line-too-long")
+        if line.startswith(b"c") or not line.strip(b" \t"):
+            return False
+        try:
+            number, literals, hints = step_in(line)
+        except ValueError:
+            self.refuse("bad-line")
+        if number is None:
+            self.judged(self.held.delete, literals)
+            return False
+        self.judged(self.held.follows, number, literals, hints)
+        self.held.hold(number, literals)
+        return not literals
+
+
+def check_lrat(config, proof, start, faulty):
+    """The status and the text of 'check-lrat' of these bytes, with a node and with faulty nodes that the configuration names."""
+    try:
+        system = system_of(config)
+    except Fault as fault:
+        return 4, "config %s\n" % fault
+    try:
+        return Verification(system, start, faulty, proof).verified()
+    except Refused as refused:
+        return refused.status, refused.text
 
 
 def check(config, cert):

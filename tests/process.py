@@ -29,6 +29,7 @@ blocking CONFIG CERT [COMMON] [--budget UNITS]
 check CONFIG CERT
 export CONFIG [COMMON]
 trial N CERT [--budget UNITS]
+check-lrat CONFIG LRAT [COMMON]
 COMMON: --from NAME --faulty NAMES --orgs ORGS --faulty-orgs IDS
 """
 
@@ -43,9 +44,12 @@ def system(nodes, threshold, is_rotated=False):
     return "[" + ",".join(sets) + "]"
 
 
-# The configuration of a trial of one organisation, as it is written.
-ORGANISATION = '{"innerQuorumSets":[],"threshold":2,"validators":["t000","t001","t002"]}'
-ONE = "[" + ",".join('{"publicKey":"t00%d","quorumSet":{"innerQuorumSets":[%s],"threshold":1,"validators":[]}}' % (node, ORGANISATION) for node in range(3)) + "]"
+def organisations(count):
+    """The configuration of a trial of so many organisations, as it is written."""
+    inner = ",".join('{"innerQuorumSets":[],"threshold":2,"validators":["t%03d","t%03d","t%03d"]}' % (node, node + 1, node + 2) for node in range(0, 3 * count, 3))
+    common = '"quorumSet":{"innerQuorumSets":[%s],"threshold":%d,"validators":[]}' % (inner, count - (count - 1) // 3)
+    return "[" + ",".join('{"publicKey":"t%03d",%s}' % (node, common) for node in range(3 * count)) + "]"
+
 
 # How large trials are, by the number of their organisations.
 TRIALS = {
@@ -61,14 +65,22 @@ SPENT = HEAD + "faulty\nkind partial\nformula 16 25\nend\n"
 LISTED = HEAD + "faulty\nkind blocking\nq 1 a b\nq 2 a c\nq 3 b c\nb 4 a b\nb 5 a c\nb 6 b c\n7 -1 0 4 5 3 0\n8 0 7 1 2 6 0\nend\n"
 UNLISTED = HEAD + "faulty\nkind partial-blocking\nend\n"
 SETS = "set a b\nset a c\nset b c\n"
+# Each needs both, and a proof of another solver that every two quorums share a node.
+TWO = system("pq", 2)
+PROOF = "c proof\n13 -1 0 7 6 3 4 2 0\n14 0 13 1 8 5 0\n"
 # No two of its quorum sets are equal.
 WIDE = system(["w%03d" % i for i in range(200)], 100, is_rotated=True)
 
 FILES = {
+    "two": TWO,
+    "proof": PROOF,
+    "cutproof": PROOF[:-1],
+    "nothing": "",
     "three": THREE,
     "pair": PAIR,
     "wide": WIDE,
-    "one": ONE,
+    "one": organisations(1),
+    "sixty": organisations(60),
     "none": "[]",
     "bad": "{",
     "listed": LISTED,
@@ -116,6 +128,17 @@ ROWS = [
     ("trial 0 kept", 3, USAGE, {"kept": None}),
     ("trial 101 kept", 3, USAGE, {"kept": None}),
     ("trial 1 nowhere/made", 7, "", {}),
+    ("check-lrat two proof", 0, "verified\nfrom\nfaulty\n", {"proof": PROOF, "two": TWO}),
+    ("check-lrat two cutproof", 0, "verified\nfrom\nfaulty\n", {}),
+    ("check-lrat two nothing", 5, "refused not-refuted 1\n", {"nothing": ""}),
+    ("check-lrat two proof --from p --faulty p", 5, "refused step 2 not-unit 1\n", {}),
+    ("check-lrat two missing", 6, "", {"missing": None}),
+    ("check-lrat two .", 6, "", {}),
+    ("check-lrat two missing --faulty z", 3, "usage unknown-name --faulty 1\n", {}),
+    ("check-lrat wide missing", 6, "", {}),
+    ("check-lrat wide proof", 9, "too-large 6020400\n", {}),
+    ("check-lrat two two", 3, "usage same-path\n", {"two": TWO}),
+    ("check-lrat two proof --budget 3", 3, USAGE, {}),
     ("intersect three longer --faulty a", 1, "intersects no\nfirst b\nsecond c\n", {"longer": PAIR}),
     ("intersect three three", 3, "usage same-path\n", {"three": THREE}),
     ("intersect three kept --faulty z", 3, "usage unknown-name --faulty 1\n", {"kept": None}),
@@ -183,6 +206,14 @@ class Trial:
         held = {name: self.held(name) for name in files}
         self.judge("'%s'" % words, (found, held), ((status, text, ""), files))
 
+    def forgets(self):
+        """A search so long that lemmas are deleted, from 500 to 1,000 at a time."""
+        status, text, error = self.run("trial 60 forgetful")
+        self.judge("a long search", (status, text.splitlines()[-1:], error), (0, ["intersects yes"], ""))
+        deletions = [line.split(" ")[2:-1] for line in (self.held("forgetful") or "").splitlines() if " d " in line]
+        self.judge("its deletions", (len(deletions) > 0, all(500 <= len(ids) <= 1000 for ids in deletions)), (True, True))
+        self.judge("its certificate", self.run("check sixty forgetful"), (0, "accepted refutation\nfrom\nfaulty\n", ""))
+
     def from_a_pipe(self):
         os.mkfifo(self.path("pipe"))
         os.chmod(self.path("pipe"), 0o666)
@@ -227,6 +258,7 @@ def main():
         trial = Trial(folder, built)
         for row in ROWS:
             trial.row(*row)
+        trial.forgets()
         trial.from_a_pipe()
         trial.to_a_full_device()
         trial.full_after_the_certificate()
