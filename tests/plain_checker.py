@@ -582,12 +582,8 @@ class Check:
                     sets.add(tuple(sorted(nodes)))
                 units += 1
                 continue
-            try:
-                number, literals, hints = step_in(line)
-            except ValueError:
-                self.refuse("bad-line")
+            number, literals, hints = self.step(line)
             if number is None:
-                self.judged(self.held.delete, literals)
                 continue
             if not literals and not whole:
                 self.refuse("bad-line")
@@ -595,6 +591,16 @@ class Check:
             self.hold(number, literals, new=not whole)
             closed = not literals
             units += 1
+
+    def step(self, line):
+        """The step of a line, its number none where it deletes; a deletion is made at once."""
+        try:
+            number, literals, hints = step_in(line)
+        except ValueError:
+            self.refuse("bad-line")
+        if number is None:
+            self.judged(self.held.delete, literals)
+        return number, literals, hints
 
     def judged(self, call, *words):
         try:
@@ -657,12 +663,8 @@ class Verification(Check):
             self.refuse("line-too-long")
         if line.startswith(b"c") or not line.strip(b" \t"):
             return False
-        try:
-            number, literals, hints = step_in(line)
-        except ValueError:
-            self.refuse("bad-line")
+        number, literals, hints = self.step(line)
         if number is None:
-            self.judged(self.held.delete, literals)
             return False
         self.judged(self.held.follows, number, literals, hints)
         self.held.hold(number, literals)
