@@ -11,12 +11,12 @@ use lrat_model::Lit;
 use std::alloc::{AllocError, Global};
 use std::marker::Model;
 
-/// Where the literals of a clause stand.
+/// Where the literals of a clause stand, in numbers of 32 bits, since propagation waits for the load of places.
 #[derive(Clone, Copy)]
 pub struct Place {
     pub id: u64,
-    pub start: usize,
-    pub end: usize,
+    pub start: u32,
+    pub end: u32,
 }
 
 /// Clauses, seen as the list of their ids and literals. The first of them, so many as `dense` says, have the
@@ -92,7 +92,7 @@ impl Clauses {
         ensures { result.now ≡ lits_at self.now place }
     {
         let place = self.places[place];
-        &self.arena[place.start..place.end]
+        &self.arena[place.start as usize..place.end as usize]
     }
 
     /// The literals of the clause of an id: O(1) where ids count up from 1 or the table knows the place, else
@@ -144,19 +144,33 @@ impl Clauses {
         Ok(())
     }
 
-    /// One more clause.
+    /// One more clause. More literals than 32 bits can name are want of memory.
     pub fn push(&mut self, id: u64, lits: &[Lit]) -> Result<(), AllocError>
         ensures pushed { OnOk result (self.new ≡ self.old ++ (id, lits.now) ∷ []) }
         ensures unchanged { OnErr result (self.new ≡ self.old) }
     {
         let start = self.arena.len();
         self.arena.extend_from_slice(lits)?;
-        let end = self.arena.len();
-        self.places.push(Place { id, start, end })?;
+        let place = place_between(id, start, self.arena.len())?;
+        self.places.push(place)?;
         note(&mut self.guesses, id, self.places.len());
         self.dense = dense_with(self.dense, self.places.len(), id);
         Ok(())
     }
+}
+
+/// The place of the literals between two of the arena, where it has one.
+fn place_between(id: u64, start: usize, end: usize) -> Result<Place, AllocError>
+    ensures { IfOk result (λ place. (place.id ≡ id) × (place.start ≡ start) × (place.end ≡ end)) }
+{
+    if start > u32::MAX as usize || end > u32::MAX as usize {
+        return Err(AllocError);
+    }
+    Ok(Place {
+        id,
+        start: start as u32,
+        end: end as u32,
+    })
 }
 
 /// How many clauses from the first on have the ids from 1 on, now that there are so many, the last under an id.

@@ -11,6 +11,12 @@ use crate::restarts::Restarts;
 use lrat_model::Lit;
 use std::alloc::{AllocError, Global};
 
+const FEW_LEVELS: u32 = 3;
+
+const MANY_LEVELS: u32 = 7;
+
+const MANY_LITERALS: usize = 400;
+
 /// The order of decisions, the marks of an analysis, where the first decision stood last, and what is known
 /// of literals that may be derived.
 #[derive(Drop)]
@@ -68,16 +74,22 @@ impl Guide {
             .follows(clauses, trail, reasons, places, &self.marks, place)
     }
 
-    /// How many decision levels the literals of a lemma have, which stand on the trail. Restarts go by them, and the order
-    /// of decisions by how many literals there are.
-    pub fn levels_of(&mut self, lits: &[Lit], places: &[usize]) -> u32
+    /// What a lemma costs whose literals stand on the trail: the more, the sooner it is forgotten. That is how many decision
+    /// levels they have, up to seven; but where scores decide by turns, how many there are if the levels are more than two,
+    /// since lemmas have many levels alike then, and a long one is gone through more often. Restarts go by the levels, and the
+    /// order of decisions by the number of literals.
+    pub fn cost_of(&mut self, lits: &[Lit], places: &[usize]) -> u32
         ensures order { self.new.order ≡ self.old.order }
         ensures marks { self.new.marks ≡ self.old.marks }
     {
         let levels = self.minimiser.levels_of(lits, places);
         self.restarts.note(levels);
         self.order.count(lits.len());
-        levels
+        if levels >= FEW_LEVELS && self.order.has_scores_by_turns() {
+            lits.len().min(MANY_LITERALS) as u32
+        } else {
+            levels.min(MANY_LEVELS)
+        }
     }
 
     /// Counts a conflict; says whether a restart is due.

@@ -1,6 +1,6 @@
-//! Which lemmas a search holds, and which of them it forgets: those of many decision levels, the oldest first
-//! (after the 'literal block distance' of Audemard and Simon, 'Predicting learnt clauses quality in modern SAT
-//! solvers', 2009), but none that is the reason of a literal on the trail.
+//! Which lemmas a search holds, and which of them it forgets: those that cost most, as of many decision levels, and of
+//! these the oldest first (after the 'literal block distance' of Audemard and Simon, 'Predicting learnt clauses quality in
+//! modern SAT solvers', 2009), but none that is the reason of a literal on the trail.
 ghost use Rattle.std.specs.Prelude.{◌≡◌, ◌⊎◌, ℕ, ◌+◌, ◌<◌, ◌≤◌, ◌∷◌, ◌++◌, [], not, true, false, None, filter, All, AllPairs, IfOk, IfSome, Ok, OnOk, OnErr, MatchBool, if◌then◌else◌, length, slice_index};
 ghost use Rattle.std.specs.List.{AllWithin};
 ghost use Rattle.std.specs.List.Sorted.{IsNonDecreasingBy};
@@ -14,17 +14,17 @@ const FEWEST: usize = 500;
 
 const MOST: usize = 1000;
 
-const FEW_LEVELS: u32 = 3;
+/// A lemma of less cost stays while others have more.
+const LEAST_COST: u32 = 3;
 
-const MANY_LEVELS: u32 = 7;
+const MOST_COST: u32 = 400;
 
-/// The ids of the lemmas that are held and have a literal, which rise, and how many decision levels each had
-/// when it was learnt; how many deletions there were; and how many lemmas are to be live before the next is
-/// tried.
+/// The ids of the lemmas that are held and have a literal, which rise, and what each costs; how many deletions there
+/// were; and how many lemmas are to be live before the next is tried.
 #[derive(Drop)]
 pub struct Memory {
     pub ids: Vec<u64>,
-    pub levels: Vec<u32>,
+    pub costs: Vec<u32>,
     pub deletions: u64,
     pub due: usize,
 }
@@ -37,24 +37,24 @@ impl Memory {
     {
         Memory {
             ids: Vec::new(alloc),
-            levels: Vec::new(alloc),
+            costs: Vec::new(alloc),
             deletions: 0,
             due: 0,
         }
     }
 
-    /// One lemma more, of so many levels.
-    pub fn note(&mut self, id: u64, levels: u32) -> Result<(), AllocError>
+    /// One lemma more, of this cost.
+    pub fn note(&mut self, id: u64, cost: u32) -> Result<(), AllocError>
         ensures ids { OnOk result (self.new.ids.items ≡ self.old.ids.items ++ id ∷ []) }
         ensures deletions { self.new.deletions ≡ self.old.deletions }
         ensures unchanged { OnErr result (self.new.ids.items ≡ self.old.ids.items) }
     {
-        self.levels.push(levels)?;
+        self.costs.push(cost.min(MOST_COST))?;
         self.ids.push(id)?;
         Ok(())
     }
 
-    /// The lemmas that go where a deletion comes now, none where it does not: those of many levels, where there
+    /// The lemmas that go where a deletion comes now, none where it does not: those of great cost, where there
     /// are enough of them; and any, where no more lemma has room. Reasons are passed over.
     pub fn choose(
         &mut self,
@@ -75,7 +75,7 @@ impl Memory {
             return Ok(None);
         }
         let needed = sorted(alloc, reasons)?;
-        let gone = self.part(alloc, &needed, self.least_levels())?;
+        let gone = self.dearest(alloc, &needed)?;
         if gone.len() >= FEWEST {
             return Ok(Some(gone));
         }
@@ -85,6 +85,16 @@ impl Memory {
         }
         self.due = self.ids.len() + FEWEST;
         Ok(None)
+    }
+
+    /// The lemmas of great cost that are not needed, the oldest of these, at most 1,000.
+    fn dearest(&self, alloc: Global, needed: &[u64]) -> Result<Vec<u64>, AllocError>
+        requires rise { AllPairs (λ j k. j < k) self.now.ids.items }
+        requires sorted { IsNonDecreasingBy (λ k. k) needed.now }
+        ensures chosen { IfOk result (λ gone. IsChosen self.now.ids.items needed.now gone.items) }
+    {
+        let least = self.least_cost(alloc)?;
+        self.part(alloc, needed, least)
     }
 
     /// Whether a deletion is tried: where so many lemmas are live as it asks, and always where no more has room.
@@ -112,27 +122,30 @@ impl Memory {
         live >= least && (live - least) / 500 >= self.deletions
     }
 
-    /// The levels from which on a lemma goes: many, or fewer where not enough lemmas have many.
-    fn least_levels(&self) -> u32 {
-        let mut least = MANY_LEVELS;
-        while least > FEW_LEVELS && self.count_from(least) < MOST {
+    /// The cost from which on a lemma goes: the greatest from which on there are enough lemmas.
+    fn least_cost(&self, alloc: Global) -> Result<u32, AllocError> {
+        let counts = self.counts(alloc)?;
+        let mut least = MOST_COST;
+        let mut count = count_at(&counts, least);
+        while least > LEAST_COST && count < MOST {
             least -= 1;
+            count = count.saturating_add(count_at(&counts, least));
         }
-        least
+        Ok(least)
     }
 
-    /// How many lemmas have this many levels or more.
-    fn count_from(&self, least: u32) -> usize {
-        let mut count = 0usize;
-        for levels in &self.levels {
-            if *levels >= least {
-                count = count.saturating_add(1);
+    /// How many lemmas have each cost.
+    fn counts(&self, alloc: Global) -> Result<Vec<usize>, AllocError> {
+        let mut counts = vec![in alloc; 0usize; MOST_COST as usize + 1]?;
+        for cost in &self.costs {
+            if let Some(count) = counts.get_mut(*cost as usize) {
+                *count = count.saturating_add(1);
             }
         }
-        count
+        Ok(counts)
     }
 
-    /// The oldest lemmas that have this many levels or more and are not needed, at most 1,000.
+    /// The oldest lemmas that cost this or more and are not needed, at most 1,000.
     fn part(&self, alloc: Global, needed: &[u64], least: u32) -> Result<Vec<u64>, AllocError>
         requires rise { AllPairs (λ j k. j < k) self.now.ids.items }
         requires sorted { IsNonDecreasingBy (λ k. k) needed.now }
@@ -159,12 +172,12 @@ impl Memory {
         count < MOST && self.has_from(place, least) && !is_among(needed, self.ids[place])
     }
 
-    /// Whether the lemma at a place has this many levels or more.
+    /// Whether the lemma at a place costs this or more.
     fn has_from(&self, place: usize, least: u32) -> bool
         ensures { least ≡ 0 → result ≡ true }
     {
-        match self.levels.get(place) {
-            Some(levels) => *levels >= least,
+        match self.costs.get(place) {
+            Some(cost) => *cost >= least,
             None => true,
         }
     }
@@ -177,20 +190,20 @@ impl Memory {
         ensures deletions { IfOk result (λ memory. memory.deletions ≡ self.now.deletions + 1) }
     {
         let mut ids = Vec::new(alloc);
-        let mut levels = Vec::new(alloc);
+        let mut costs = Vec::new(alloc);
         let mut place = 0;
         while place < self.ids.len() {
             let id = self.ids[place];
             let stays = !is_among(gone, id);
             put(&mut ids, id, stays)?;
             if stays {
-                levels.push(at(&self.levels, place))?;
+                costs.push(cost_at(&self.costs, place))?;
             }
             place += 1;
         }
         Ok(Memory {
             ids,
-            levels,
+            costs,
             deletions: self.deletions + 1,
             due: 0,
         })
@@ -207,9 +220,17 @@ fn put(ids: &mut Vec<u64>, id: u64, is_one: bool) -> Result<(), AllocError>
     Ok(())
 }
 
-/// The entry at a place, 0 where there is none.
-fn at(levels: &[u32], place: usize) -> u32 {
-    match levels.get(place) {
+/// The cost at a place, 0 where there is none.
+fn cost_at(costs: &[u32], place: usize) -> u32 {
+    match costs.get(place) {
+        Some(cost) => *cost,
+        None => 0,
+    }
+}
+
+/// How many lemmas have a cost.
+fn count_at(counts: &[usize], cost: u32) -> usize {
+    match counts.get(cost as usize) {
         Some(count) => *count,
         None => 0,
     }

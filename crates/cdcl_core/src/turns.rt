@@ -10,7 +10,7 @@ const SHORT: u64 = 500;
 const LONG: u64 = 1000;
 
 /// In one turn of so many the order is tried whose lemmas had more literals.
-const TURNS: u64 = 10;
+const TURNS: u64 = 16;
 
 /// Over how many lemmas a mean goes.
 const LEMMAS: u64 = 1000;
@@ -43,6 +43,11 @@ impl Turns {
     /// Whether scores decide.
     pub fn by_scores(&self) -> bool {
         self.by_scores
+    }
+
+    /// Whether scores decide for good.
+    pub fn is_settled(&self) -> bool {
+        self.is_settled
     }
 
     /// Scores decide from here on.

@@ -88,6 +88,7 @@ pub enum Sight {
 
 /// Looks at a clause that watches a false literal. Clauses of up to three literals, most of those that are
 /// given, are told by the watch alone, since propagation waits for memory.
+#[inline]
 fn look(clauses: &Clauses, pairs: &[Pair], assignment: &Assignment, l: Lit, watch: Watch) -> Sight
     requires range { (m : Literal) → has (lits_at clauses.now watch.place) m ≡ true → variable_of m ≤ assignment.now.vars }
     requires sound { IsSound clauses.now l watch }
@@ -109,6 +110,7 @@ fn look(clauses: &Clauses, pairs: &[Pair], assignment: &Assignment, l: Lit, watc
 }
 
 /// The same of a clause of which the watch has not all literals, whatever view lends it. O(its literals).
+#[inline]
 fn look_long<V: ClauseView>(clause: &V, pair: Pair, assignment: &Assignment, l: Lit) -> Sight
     requires range { (m : Literal) → has (V.literals clause.now) m ≡ true → variable_of m ≤ assignment.now.vars }
     requires inside { (has (V.literals clause.now) pair.first ≡ true) × (has (V.literals clause.now) pair.second ≡ true) }
@@ -130,6 +132,7 @@ fn look_long<V: ClauseView>(clause: &V, pair: Pair, assignment: &Assignment, l: 
 }
 
 /// The same of a clause that has no more literals than l and these two, of which the first is not true. O(1).
+#[inline]
 fn look_short(
     pairs: &[Pair],
     place: usize,
@@ -180,6 +183,7 @@ pub enum Seen {
 
 /// Visits a clause that watches a literal which became false: unless it is true, it watches another literal
 /// that is not false, or forces its other watched literal, or is false.
+#[inline]
 pub fn visit(
     clauses: &Clauses,
     pairs: &mut [Pair],

@@ -19,7 +19,7 @@ returns-clause-searching c =
     let at = clause_at-last s.clauses id lits below in
     record {
       vars = c.make_true.ensures.vars ∙ c.back.ensures.vars ∙ was.vars;
-      guide = c.back.ensures.guide s.vars (record { ordered = c.levels_of-levels.ensures.order ∙ was.guide.ordered; marked = ap (λ (marks : List Bool). length marks) c.levels_of-levels.ensures.marks ∙ was.guide.marked });
+      guide = c.back.ensures.guide s.vars (record { ordered = c.cost_of-cost.ensures.order ∙ was.guide.ordered; marked = ap (λ (marks : List Bool). length marks) c.cost_of-cost.ensures.marks ∙ was.guide.marked });
       state = rw (c.in_ok-record.ensures.clauses, c.make_true.ensures.trues, c.in_ok-push.ensures.items, c.back.ensures.trues, c.back.ensures.reasons)
           (lemma_state s.vars s.clauses s.assignment.trues s.reasons.items was.state id lits c.args.pair c.args.jump c.requires.within c.requires.asserting (c.requires.learnt.closed id) at (omega arith) (omega (arith, c.requires.room)));
       lists = c.in_ok-attach.ensures.lists ∙ was.lists;

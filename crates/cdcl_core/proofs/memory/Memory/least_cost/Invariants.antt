@@ -1,4 +1,4 @@
-use Rattle.cdcl_core.proofs.memory.Memory.least_levels.Given as goal
+use Rattle.cdcl_core.proofs.memory.Memory.least_cost.Given as goal
 
 abbrev pub decreases-loop-least : goal.decreases-loop-least
 decreases-loop-least l = l.least
