@@ -10,8 +10,8 @@ use name_set::Names;
 use std::alloc::{AllocError, Global};
 use std::hash::{FoldHasher, Hasher};
 
-/// How many slots a table has: sixteen for each name that a system may have, so that few of them meet in one.
-pub(crate) const SLOTS: usize = 262_144;
+/// How many slots a table has: four for each name that a system may have, so that few of them meet in one.
+pub(crate) const SLOTS: usize = 65_536;
 
 /// The slot of a name: O(its length).
 pub(crate) fn slot_of(name: &str) -> usize
