@@ -1,5 +1,5 @@
 -- The names that are gathered while quorum sets and nodes are read.
-use Rattle.std.proofs.Common.{◌≡◌, ℕ, List, [], ◌∷◌, ◌++◌, append_assoc, append-nil, refl, sym, ap, ◌∙◌}
+use Rattle.std.proofs.Common.{◌≡◌, ℕ, List, [], ◌∷◌, ◌++◌, append_assoc, append-nil, sym, ap, ◌∙◌}
 use Rattle.std.proofs.lemmas.List.Sums.{fold-append}
 use Rattle.std.specs.BTreeSet.{insert_key}
 use Rattle.std.specs.Prelude.{option_map}
@@ -7,7 +7,7 @@ use Rattle.fbas_model.specs.Names.{Name, name_cmp}
 use Rattle.node_json.specs.Configuration.{names_in_set, names_in_sets, names_if_any, all_names}
 use Rattle.node_json.specs.Named as spec
 use Rattle.node_json.specs.NamesInOrder.{with_names}
-use Rattle.node_json.specs.View.{node_view, nodes_view, set_view, sets_view}
+use Rattle.node_json.specs.View.{nodes_view, set_view, sets_view}
 use Rattle.node_json.specs.declared.nodes.NamedNode.{NamedNode}
 use Rattle.node_json.specs.declared.quorum_sets.NamedSet.{NamedSet}
 

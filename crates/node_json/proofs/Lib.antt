@@ -1,6 +1,8 @@
 pub mod NamesInOrder
 mod SeenNames
 pub mod NameSets
+pub mod JsonNumbers
+pub mod Trees
 pub mod SetReading
 pub mod NodeReading
 mod Gathering

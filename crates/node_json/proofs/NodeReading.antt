@@ -9,8 +9,7 @@ use Rattle.std.specs.Str.{IsUtf8, is_utf8}
 use Rattle.serde_json.specs.Data.{Data, Items, item}
 use Rattle.serde_json.specs.Find.{as_array}
 use Rattle.serde_json.specs.Read.{read}
-use Rattle.serde_json.specs.View.{view, items_view}
-use Rattle.serde_json.specs.declared.value.Value.{Value}
+use Rattle.node_json.specs.Tree.{Tree, view, items_view}
 use Rattle.node_json.specs.Named as spec
 use Rattle.fbas_model.specs.Names.{Name, name_cmp, is_among}
 use Rattle.node_json.specs.NamesInOrder.{in_order, with_names}
@@ -76,7 +75,7 @@ nodes_from-one i done n d ds e = rw e (rw (map-append (λ node. node.key.now) do
     after_one (Err e) = refl
 
 -- a step of the loop over the nodes, and its end
-pub nodes_loop : (all : Result (List spec.NamedNode) ConfigFault) (done more : List NamedNode) (n : NamedNode) (xs : List Value) (i : ℕ) (v : Value) → i < length xs → v ≡ get_or xs i v
+pub nodes_loop : (all : Result (List spec.NamedNode) ConfigFault) (done more : List NamedNode) (n : NamedNode) (xs : List Tree) (i : ℕ) (v : Tree) → i < length xs → v ≡ get_or xs i v
     → node_of i (keys_of done) (view v) ≡ Ok (node_view n) → more ≡ done ++ n ∷ [] → all ≡ after (λ m. nodes_view done ++ m) (nodes_from i (keys_of done) (items_view (drop i xs)))
     → all ≡ after (λ m. nodes_view more ++ m) (nodes_from (i + 1) (keys_of more) (items_view (drop (i + 1) xs)))
 nodes_loop all done more n xs i v h is e m inv =
@@ -85,7 +84,7 @@ nodes_loop all done more n xs i v h is e m inv =
     ∙ nodes_from-one i done n (view v) rest e ∙ ap (λ ns. after (λ m. nodes_view ns ++ m) (nodes_from (i + 1) (keys_of ns) rest)) (sym m)
 
 -- an element that has a fault is the first
-pub nodes_fault : (all : Result (List spec.NamedNode) ConfigFault) (done : List NamedNode) (xs : List Value) (i : ℕ) (v : Value) (e : ConfigFault) → i < length xs → v ≡ get_or xs i v → node_of i (keys_of done) (view v) ≡ Err e
+pub nodes_fault : (all : Result (List spec.NamedNode) ConfigFault) (done : List NamedNode) (xs : List Tree) (i : ℕ) (v : Tree) (e : ConfigFault) → i < length xs → v ≡ get_or xs i v → node_of i (keys_of done) (view v) ≡ Err e
     → all ≡ after (λ m. nodes_view done ++ m) (nodes_from i (keys_of done) (items_view (drop i xs))) → all ≡ Err e
 nodes_fault all done xs i v e h is fault inv =
     inv ∙ at_drop_more (λ vs. after (λ m. nodes_view done ++ m) (nodes_from i (keys_of done) (items_view vs))) xs i v h

@@ -11,8 +11,7 @@ use Rattle.std.specs.List.{IsDistinct}
 use Rattle.std.specs.Str.{bytes_eq}
 use Rattle.serde_json.specs.Data.{Data, Items, item}
 use Rattle.serde_json.specs.Find.{as_array}
-use Rattle.serde_json.specs.View.{view, items_view}
-use Rattle.serde_json.specs.declared.value.Value.{Value}
+use Rattle.node_json.specs.Tree.{Tree, view, items_view}
 use Rattle.fbas_model.specs.Names.{Name, name_cmp, is_among}
 use Rattle.fbas_model.specs.declared.TheConstants.{MOST_ORGS}
 use Rattle.node_json.specs.NamesInOrder.{in_order, with_names}
@@ -92,7 +91,7 @@ then_more-one i done org d ds e = rw e (rw (ids-more done org) (after_one (orgs_
     after_one (Ok more) = ap Ok (sym (ap (λ os. os ++ more) (map-append named_org_view done (org ∷ [])) ∙ append_assoc (named_orgs_view done) (named_org_view org ∷ []) more))
     after_one (Err e) = refl
 
-module _ (all : Result (List spec.NamedOrg) OrgFault) (done : List NamedOrg) (xs : List Value) (i : ℕ) (v : Value) (h : i < length xs) (is : v ≡ get_or xs i v) (inv : all ≡ then_more done i (items_view (drop i xs))) where
+module _ (all : Result (List spec.NamedOrg) OrgFault) (done : List NamedOrg) (xs : List Tree) (i : ℕ) (v : Tree) (h : i < length xs) (is : v ≡ get_or xs i v) (inv : all ≡ then_more done i (items_view (drop i xs))) where
   at_item : all ≡ then_more done i (item (view v) (items_view (drop (i + 1) xs)))
   at_item = inv ∙ at_drop_more (λ vs. then_more done i (items_view vs)) xs i v h ∙ ap (λ w. then_more done i (item (view w) (items_view (drop (i + 1) xs)))) (sym is)
 

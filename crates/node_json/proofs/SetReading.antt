@@ -3,8 +3,7 @@ use Rattle.std.proofs.Common.{◌≡◌, ℕ, zero, suc, ◌+◌, ◌-◌, ◌<�
 use Rattle.std.proofs.Math.ListN.{drop_of_length-le}
 use Rattle.std.proofs.lemmas.List.{at_drop_more}
 use Rattle.serde_json.specs.Data.{Data, Items, item}
-use Rattle.serde_json.specs.View.{view, items_view}
-use Rattle.serde_json.specs.declared.value.Value.{Value}
+use Rattle.node_json.specs.Tree.{Tree, view, items_view}
 use Rattle.fbas_model.specs.Names.{Name}
 use Rattle.node_json.specs.Named as spec
 use Rattle.node_json.specs.Reading.{after, set_by, set_of, sets_by, is_object, threshold_of, validators_of, inner_by}
@@ -55,13 +54,13 @@ sets_by-one one done s d ds e = rw e (after_one (sets_by one ds))
     after_one (Err e) = refl
 
 -- a step of the loop over the sets, and its end
-pub sets_loop : (one : Data → Result spec.NamedSet ConfigFault) (all : Result spec.NamedSets ConfigFault) (done more : List NamedSet) (s : NamedSet) (xs : List Value) (i : ℕ) (v : Value) → i < length xs → v ≡ get_or xs i v
+pub sets_loop : (one : Data → Result spec.NamedSet ConfigFault) (all : Result spec.NamedSets ConfigFault) (done more : List NamedSet) (s : NamedSet) (xs : List Tree) (i : ℕ) (v : Tree) → i < length xs → v ≡ get_or xs i v
     → one (view v) ≡ Ok (set_view s) → more ≡ done ++ s ∷ [] → all ≡ after (sets_before done) (sets_by one (items_view (drop i xs))) → all ≡ after (sets_before more) (sets_by one (items_view (drop (i + 1) xs)))
 sets_loop one all done more s xs i v h is e m inv =
     let rest = items_view (drop (i + 1) xs) in
     inv ∙ at_drop_more (λ vs. after (sets_before done) (sets_by one (items_view vs))) xs i v h ∙ ap (λ w. after (sets_before done) (sets_by one (item (view w) rest))) (sym is)
     ∙ sets_by-one one done s (view v) rest e ∙ ap (λ ss. after (sets_before ss) (sets_by one rest)) (sym m)
 
-pub sets_end : (one : Data → Result spec.NamedSet ConfigFault) (all : Result spec.NamedSets ConfigFault) (done : List NamedSet) (xs : List Value) (i : ℕ) → length xs ≤ i
+pub sets_end : (one : Data → Result spec.NamedSet ConfigFault) (all : Result spec.NamedSets ConfigFault) (done : List NamedSet) (xs : List Tree) (i : ℕ) → length xs ≤ i
     → all ≡ after (sets_before done) (sets_by one (items_view (drop i xs))) → all ≡ Ok (sets_view done)
 sets_end one all done xs i h inv = inv ∙ ap (λ vs. after (sets_before done) (sets_by one (items_view vs))) (drop_of_length-le xs h) ∙ ap Ok (sets_before-none done)

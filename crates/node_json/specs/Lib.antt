@@ -1,6 +1,7 @@
 pub mod NamesInOrder
 pub mod SeenNames
 pub mod Named
+pub mod Tree
 pub mod Reading
 pub mod View
 pub mod Configuration

@@ -3,6 +3,7 @@
 
 mod faults;
 mod ids;
+mod json_numbers;
 mod keys;
 mod named_orgs;
 mod names;
@@ -12,6 +13,7 @@ mod quorum_sets;
 mod seen_names;
 mod slots;
 mod system;
+mod tree;
 
 pub use faults::{ConfigFault, OrgFault, SetFault};
 pub use ids::read_ids;

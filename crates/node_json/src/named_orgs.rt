@@ -3,43 +3,42 @@
 ghost use Rattle.std.specs.Prelude.{◌≡◌, ◌⊎◌, [], Ok, Err, Some, IfOk, IfErr, MatchResult};
 ghost use Rattle.std.specs.List.{IsDistinct};
 ghost use Rattle.std.specs.Str.{bytes_eq};
-ghost use Rattle.serde_json.specs.View.{view, items_view};
 ghost use Rattle.node_json.specs.Organisations.{org_id_of, org_validators_of, orgs_from, orgs_in};
 ghost use Rattle.node_json.specs.Reading.{tree_of};
 ghost use Rattle.node_json.specs.OrgsView.{named_orgs_view, named_ids};
+ghost use Rattle.node_json.specs.Tree.{view, items_view};
 ghost use Rattle.node_json.specs.View.{names_view};
 
 use crate::faults::{ConfigFault, OrgFault};
 use crate::keys::read_key;
 use crate::names::add_name;
-use crate::nodes::read_tree;
 use crate::quorum_sets::read_validators;
-use serde_json::Value;
+use crate::tree::{is_object, items_of, member_of, read_tree};
+use json::{Scratch, Value};
 use std::alloc::Global;
 use std::collections::BTreeSet;
 
-// An organisation with names in place of numbers. The names lie in the tree that it was read from.
+// An organisation with names in place of numbers. The names lie in the text that it was read from.
 #[derive(Drop)]
-pub(crate) struct NamedOrg<'v> {
-    pub id: &'v str,
-    pub validators: Vec<&'v str>,
+pub(crate) struct NamedOrg<'t> {
+    pub id: &'t str,
+    pub validators: Vec<&'t str>,
 }
 
 // The id of element `at`.
-fn org_id(value: &Value, at: u64) -> Result<&str, OrgFault>
+fn org_id<'t>(value: &Value<'t>, at: u64) -> Result<&'t str, OrgFault>
     ensures { MatchResult result (λ id. org_id_of at (view value.now) ≡ Ok id.now) (λ e. org_id_of at (view value.now) ≡ Err e) }
 {
-    if !value.is_object() {
+    if !is_object(value) {
         return Err(OrgFault::BadOrg(at));
     }
-    value
-        .get("id")
+    member_of(value, "id")
         .and_then(read_key)
         .ok_or(OrgFault::BadOrg(at))
 }
 
 // The validators of element `at`.
-fn org_validators(alloc: Global, value: &Value, at: u64) -> Result<Vec<&str>, OrgFault>
+fn org_validators<'t>(alloc: Global, value: &Value<'t>, at: u64) -> Result<Vec<&'t str>, OrgFault>
     ensures ok { IfOk result (λ v. org_validators_of at (view value.now) ≡ Ok (names_view v.items)) }
     ensures err { IfErr result (λ e. (e ≡ OrgFault.Memory) ⊎ (org_validators_of at (view value.now) ≡ Err e)) }
 {
@@ -47,7 +46,7 @@ fn org_validators(alloc: Global, value: &Value, at: u64) -> Result<Vec<&str>, Or
     validators.ok_or(OrgFault::BadOrg(at))
 }
 
-fn read_items(alloc: Global, items: &[Value]) -> Result<Vec<NamedOrg<'_>>, OrgFault>
+fn read_items<'t>(alloc: Global, items: &[Value<'t>]) -> Result<Vec<NamedOrg<'t>>, OrgFault>
     ensures ok { IfOk result (λ v. orgs_from 0 [] (items_view items.now) ≡ Ok (named_orgs_view v.items)) }
     ensures err { IfErr result (λ e. (e ≡ OrgFault.Memory) ⊎ (orgs_from 0 [] (items_view items.now) ≡ Err e)) }
     ensures apart { IfOk result (λ v. IsDistinct bytes_eq (named_ids v.items)) }
@@ -67,11 +66,15 @@ fn read_items(alloc: Global, items: &[Value]) -> Result<Vec<NamedOrg<'_>>, OrgFa
 }
 
 // The tree of the bytes.
-pub(crate) fn read_org_tree(alloc: Global, bytes: &[u8]) -> Result<Value, OrgFault>
+pub(crate) fn read_org_tree<'t>(
+    alloc: Global,
+    bytes: &'t [u8],
+    scratch: &'t mut Scratch,
+) -> Result<Value<'t>, OrgFault>
     ensures ok { IfOk result (λ v. tree_of bytes.now ≡ Some (view v)) }
     ensures err { IfErr result (λ e. (e ≡ OrgFault.Memory) ⊎ ((e ≡ OrgFault.NotJson) × (tree_of bytes.now ≡ None))) }
 {
-    match read_tree(alloc, bytes) {
+    match read_tree(alloc, bytes, scratch) {
         Ok(tree) => Ok(tree),
         Err(ConfigFault::NotJson) => Err(OrgFault::NotJson),
         Err(_) => Err(OrgFault::Memory),
@@ -79,12 +82,15 @@ pub(crate) fn read_org_tree(alloc: Global, bytes: &[u8]) -> Result<Value, OrgFau
 }
 
 // The organisations of a tree, or its first fault. Their ids are distinct.
-pub(crate) fn read_named_orgs(alloc: Global, tree: &Value) -> Result<Vec<NamedOrg<'_>>, OrgFault>
+pub(crate) fn read_named_orgs<'t>(
+    alloc: Global,
+    tree: &Value<'t>,
+) -> Result<Vec<NamedOrg<'t>>, OrgFault>
     ensures ok { IfOk result (λ orgs. orgs_in (view tree.now) ≡ Ok (named_orgs_view orgs.items)) }
     ensures err { IfErr result (λ e. (e ≡ OrgFault.Memory) ⊎ (orgs_in (view tree.now) ≡ Err e)) }
     ensures apart { IfOk result (λ orgs. IsDistinct bytes_eq (named_ids orgs.items)) }
 {
-    let Some(items) = tree.as_array() else {
+    let Some(items) = items_of(tree) else {
         return Err(OrgFault::NotOrgs);
     };
     read_items(alloc, items)

@@ -1,10 +1,10 @@
 //! The declared nodes of a configuration, by name.
 
 ghost use Rattle.std.specs.Prelude.{◌≡◌, ◌⊎◌, [], Ok, Err, Some, None, IfOk, IfErr, MatchResult, option_map};
-ghost use Rattle.serde_json.specs.View.{view, items_view};
 ghost use Rattle.node_json.specs.Configuration.{names_if_any, all_names};
 ghost use Rattle.node_json.specs.NamesInOrder.{with_names};
-ghost use Rattle.node_json.specs.Reading.{node_key_of, node_set_of, nodes_from, nodes_in, tree_of};
+ghost use Rattle.node_json.specs.Reading.{node_key_of, node_set_of, nodes_from, nodes_in};
+ghost use Rattle.node_json.specs.Tree.{view, items_view};
 ghost use Rattle.node_json.specs.View.{set_view, nodes_view};
 
 use crate::faults::ConfigFault;
@@ -12,39 +12,38 @@ use crate::keys::read_key;
 use crate::names::add_name;
 use crate::quorum_sets::{NamedSet, member, read_set};
 use crate::seen_names::SeenNames;
+use crate::tree::{is_object, items_of, member_of};
 use fbas_model::MOST_LEVELS;
-use serde_json::Value;
+use json::Value;
 use std::alloc::Global;
 use std::collections::BTreeSet;
-use std::str;
 
-// A declared node. The names lie in the tree that it was read from.
+// A declared node. The names lie in the text that it was read from.
 #[derive(Drop)]
-pub(crate) struct NamedNode<'v> {
-    pub key: &'v str,
-    pub quorum_set: Option<NamedSet<'v>>,
+pub(crate) struct NamedNode<'t> {
+    pub key: &'t str,
+    pub quorum_set: Option<NamedSet<'t>>,
 }
 
 // The key of element `at`.
-fn node_key(value: &Value, at: u64) -> Result<&str, ConfigFault>
+fn node_key<'t>(value: &Value<'t>, at: u64) -> Result<&'t str, ConfigFault>
     ensures { MatchResult result (λ key. node_key_of at (view value.now) ≡ Ok key.now) (λ e. node_key_of at (view value.now) ≡ Err e) }
 {
-    if !value.is_object() {
+    if !is_object(value) {
         return Err(ConfigFault::NotNode(at));
     }
-    value
-        .get("publicKey")
+    member_of(value, "publicKey")
         .and_then(read_key)
         .ok_or(ConfigFault::BadKey(at))
 }
 
 // The quorum set of element `at`, if it has one.
-fn node_set<'v>(
+fn node_set<'t>(
     alloc: Global,
-    names: &mut SeenNames<'v>,
-    value: &'v Value,
+    names: &mut SeenNames<'t>,
+    value: &Value<'t>,
     at: u64,
-) -> Result<Option<NamedSet<'v>>, ConfigFault>
+) -> Result<Option<NamedSet<'t>>, ConfigFault>
     ensures ok { IfOk result (λ o. node_set_of at (view value.now) ≡ Ok (option_map set_view o)) }
     ensures err { IfErr result (λ e. (e ≡ ConfigFault.Memory) ⊎ (node_set_of at (view value.now) ≡ Err e)) }
     ensures gathered { IfOk result (λ o. names.new ≡ with_names names.old (names_if_any (option_map set_view o))) }
@@ -55,11 +54,11 @@ fn node_set<'v>(
     }
 }
 
-fn read_items<'v>(
+fn read_items<'t>(
     alloc: Global,
-    names: &mut SeenNames<'v>,
-    items: &'v [Value],
-) -> Result<Vec<NamedNode<'v>>, ConfigFault>
+    names: &mut SeenNames<'t>,
+    items: &[Value<'t>],
+) -> Result<Vec<NamedNode<'t>>, ConfigFault>
     ensures ok { IfOk result (λ v. nodes_from 0 [] (items_view items.now) ≡ Ok (nodes_view v.items)) }
     ensures err { IfErr result (λ e. (e ≡ ConfigFault.Memory) ⊎ (nodes_from 0 [] (items_view items.now) ≡ Err e)) }
     ensures gathered { IfOk result (λ v. names.new ≡ with_names names.old (all_names (nodes_view v.items))) }
@@ -79,35 +78,17 @@ fn read_items<'v>(
     Ok(nodes)
 }
 
-// The tree of the bytes.
-pub(crate) fn read_tree(alloc: Global, bytes: &[u8]) -> Result<Value, ConfigFault>
-    ensures ok { IfOk result (λ v. tree_of bytes.now ≡ Some (view v)) }
-    ensures err { IfErr result (λ e. (e ≡ ConfigFault.Memory) ⊎ ((e ≡ ConfigFault.NotJson) × (tree_of bytes.now ≡ None))) }
-{
-    let Ok(text) = str::from_utf8(bytes) else {
-        return Err(ConfigFault::NotJson);
-    };
-    match Value::from_str(alloc, text) {
-        Ok(value) => Ok(value),
-        Err(e) => Err(if e.is_memory() {
-            ConfigFault::Memory
-        } else {
-            ConfigFault::NotJson
-        }),
-    }
-}
-
 // The declared nodes of a tree, or its first fault. Every name that is declared or stands in a quorum set is gathered.
-pub(crate) fn read_nodes<'v>(
+pub(crate) fn read_nodes<'t>(
     alloc: Global,
-    names: &mut SeenNames<'v>,
-    tree: &'v Value,
-) -> Result<Vec<NamedNode<'v>>, ConfigFault>
+    names: &mut SeenNames<'t>,
+    tree: &Value<'t>,
+) -> Result<Vec<NamedNode<'t>>, ConfigFault>
     ensures ok { IfOk result (λ nodes. nodes_in (view tree.now) ≡ Ok (nodes_view nodes.items)) }
     ensures err { IfErr result (λ e. (e ≡ ConfigFault.Memory) ⊎ (nodes_in (view tree.now) ≡ Err e)) }
     ensures gathered { IfOk result (λ nodes. names.new ≡ with_names names.old (all_names (nodes_view nodes.items))) }
 {
-    let Some(items) = tree.as_array() else {
+    let Some(items) = items_of(tree) else {
         return Err(ConfigFault::NotNodes);
     };
     read_items(alloc, names, items)

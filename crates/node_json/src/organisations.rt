@@ -12,6 +12,7 @@ use crate::faults::OrgFault;
 use crate::named_orgs::{NamedOrg, read_named_orgs, read_org_tree};
 use fbas_core::System;
 use fbas_model::{MOST_NODES, MOST_ORGS};
+use json::Scratch;
 use name_set::{Names, NodeSet};
 use std::alloc::{AllocError, Global};
 use std::collections::BTreeMap;
@@ -133,7 +134,8 @@ pub fn read_orgs(alloc: Global, bytes: &[u8], system: &System) -> Result<Orgs, O
     ensures sized { IfOk result (λ o. All (λ org. length org.members ≡ length system.now.names) o) }
     ensures apart { IfOk result (λ o. IsDistinct bytes_eq (ids_of o)) }
 {
-    let tree = read_org_tree(alloc, bytes)?;
+    let mut scratch = Scratch::new(alloc);
+    let tree = read_org_tree(alloc, bytes, &mut scratch)?;
     let orgs = read_named_orgs(alloc, &tree)?;
     let n = orgs.len();
     if n > MOST_ORGS {

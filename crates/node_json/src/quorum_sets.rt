@@ -2,32 +2,34 @@
 
 ghost use Rattle.std.specs.Prelude.{◌≡◌, ◌⊎◌, Ok, Err, IfOk, IfErr, codes, option_map};
 ghost use Rattle.serde_json.specs.Find.{get};
-ghost use Rattle.serde_json.specs.View.{view, items_view};
 ghost use Rattle.node_json.specs.Configuration.{names_in_set, names_in_sets};
 ghost use Rattle.node_json.specs.NamesInOrder.{with_names};
 ghost use Rattle.node_json.specs.Reading.{or_missing, threshold_of, validators_of, inner_by, set_of, sets_by};
+ghost use Rattle.node_json.specs.Tree.{view, items_view};
 ghost use Rattle.node_json.specs.View.{names_view, set_view, sets_view};
 
 use crate::faults::{ConfigFault, SetFault};
+use crate::json_numbers::whole_number;
 use crate::keys::read_keys;
 use crate::names::add_all;
 use crate::seen_names::SeenNames;
-use serde_json::Value;
+use crate::tree::{is_object, member_of};
+use json::Value;
 use std::alloc::{AllocError, Global};
 
-// A quorum set with names in place of numbers. The names lie in the tree that it was read from.
+// A quorum set with names in place of numbers. The names lie in the text that it was read from.
 #[derive(Drop)]
-pub(crate) struct NamedSet<'v> {
+pub(crate) struct NamedSet<'t> {
     pub threshold: u64,
-    pub validators: Vec<&'v str>,
-    pub inner: Vec<NamedSet<'v>>,
+    pub validators: Vec<&'t str>,
+    pub inner: Vec<NamedSet<'t>>,
 }
 
 // The value of a member that is there and not `null`.
-pub(crate) fn member<'v>(members: &'v Value, name: &str) -> Option<&'v Value>
+pub(crate) fn member<'v, 't>(members: &'v Value<'t>, name: &str) -> Option<&'v Value<'t>>
     ensures { option_map (λ v. view v.now) result ≡ or_missing (get name.now (view members.now)) }
 {
-    match members.get(name) {
+    match member_of(members, name) {
         None | Some(Value::Null) => None,
         Some(value) => Some(value),
     }
@@ -36,11 +38,15 @@ pub(crate) fn member<'v>(members: &'v Value, name: &str) -> Option<&'v Value>
 fn read_threshold(value: &Value) -> Option<u64>
     ensures { result ≡ threshold_of (view value.now) }
 {
-    value.get("threshold").and_then(Value::as_u64)
+    let number = member_of(value, "threshold")?.as_number()?;
+    whole_number(number)
 }
 
 // The keys of the member `validators`, which may be missing.
-pub(crate) fn read_validators(alloc: Global, value: &Value) -> Result<Option<Vec<&str>>, AllocError>
+pub(crate) fn read_validators<'t>(
+    alloc: Global,
+    value: &Value<'t>,
+) -> Result<Option<Vec<&'t str>>, AllocError>
     ensures { IfOk result (λ keys. option_map (λ v. names_view v.items) keys ≡ validators_of (view value.now)) }
 {
     match member(value, "validators") {
@@ -52,13 +58,13 @@ pub(crate) fn read_validators(alloc: Global, value: &Value) -> Result<Option<Vec
 
 // The quorum set of element `at`, where `levels` more levels may nest. Its names are gathered while they are at hand.
 #[cycle(sets)]
-pub(crate) fn read_set<'v>(
+pub(crate) fn read_set<'t>(
     alloc: Global,
-    names: &mut SeenNames<'v>,
-    value: &'v Value,
+    names: &mut SeenNames<'t>,
+    value: &Value<'t>,
     at: u64,
     levels: u64,
-) -> Result<NamedSet<'v>, ConfigFault>
+) -> Result<NamedSet<'t>, ConfigFault>
     ensures ok { IfOk result (λ s. set_of at levels (view value.now) ≡ Ok (set_view s)) }
     ensures err { IfErr result (λ e. (e ≡ ConfigFault.Memory) ⊎ (set_of at levels (view value.now) ≡ Err e)) }
     ensures gathered { IfOk result (λ s. names.new ≡ with_names names.old (names_in_set (set_view s))) }
@@ -66,7 +72,7 @@ pub(crate) fn read_set<'v>(
     if levels == 0 {
         return Err(ConfigFault::TooDeep(at));
     }
-    if !value.is_object() {
+    if !is_object(value) {
         return Err(ConfigFault::BadQuorumSet(at, SetFault::Shape));
     }
     let Some(threshold) = read_threshold(value) else {
@@ -86,13 +92,13 @@ pub(crate) fn read_set<'v>(
 
 // The sets in a quorum set of element `at`, where `levels` more levels may nest.
 #[cycle(sets)]
-fn read_inner<'v>(
+fn read_inner<'t>(
     alloc: Global,
-    names: &mut SeenNames<'v>,
-    value: &'v Value,
+    names: &mut SeenNames<'t>,
+    value: &Value<'t>,
     at: u64,
     levels: u64,
-) -> Result<Vec<NamedSet<'v>>, ConfigFault>
+) -> Result<Vec<NamedSet<'t>>, ConfigFault>
     ensures ok { IfOk result (λ v. inner_by (set_of at levels) at (view value.now) ≡ Ok (sets_view v.items)) }
     ensures err { IfErr result (λ e. (e ≡ ConfigFault.Memory) ⊎ (inner_by (set_of at levels) at (view value.now) ≡ Err e)) }
     ensures gathered { IfOk result (λ v. names.new ≡ with_names names.old (names_in_sets (sets_view v.items))) }
@@ -105,13 +111,13 @@ fn read_inner<'v>(
 }
 
 #[cycle(sets)]
-fn read_sets<'v>(
+fn read_sets<'t>(
     alloc: Global,
-    names: &mut SeenNames<'v>,
-    items: &'v Vec<Value>,
+    names: &mut SeenNames<'t>,
+    items: &Vec<Value<'t>>,
     at: u64,
     levels: u64,
-) -> Result<Vec<NamedSet<'v>>, ConfigFault>
+) -> Result<Vec<NamedSet<'t>>, ConfigFault>
     ensures ok { IfOk result (λ v. sets_by (set_of at levels) (items_view items.now.items) ≡ Ok (sets_view v.items)) }
     ensures err { IfErr result (λ e. (e ≡ ConfigFault.Memory) ⊎ (sets_by (set_of at levels) (items_view items.now.items) ≡ Err e)) }
     ensures gathered { IfOk result (λ v. names.new ≡ with_names names.old (names_in_sets (sets_view v.items))) }

@@ -15,12 +15,14 @@ ghost use Rattle.node_json.specs.View.{names_view, set_view, nodes_view};
 
 use crate::faults::ConfigFault;
 use crate::names::owned_names;
-use crate::nodes::{NamedNode, read_nodes, read_tree};
+use crate::nodes::{NamedNode, read_nodes};
 use crate::quorum_sets::NamedSet;
 use crate::seen_names::SeenNames;
 use crate::slots::Guesses;
+use crate::tree::read_tree;
 use fbas_core::System;
 use fbas_model::{MOST_ENTRIES, MOST_NODES};
+use json::Scratch;
 use name_set::Names;
 use quorum_set::QuorumSet;
 use std::alloc::{AllocError, Global};
@@ -174,7 +176,8 @@ pub fn read_config(alloc: Global, bytes: &[u8]) -> Result<System, ConfigFault>
     // What the definition gives is the system of the declared nodes.
     ensures means { IfOk result (λ s. (nodes : List Declared) × (nodes_of bytes.now ≡ Ok nodes) × IsSystemOf nodes s) }
 {
-    let tree = read_tree(alloc, bytes)?;
+    let mut scratch = Scratch::new(alloc);
+    let tree = read_tree(alloc, bytes, &mut scratch)?;
     let mut names = SeenNames::new(alloc)?;
     let nodes = read_nodes(alloc, &mut names, &tree)?;
     system(alloc, &nodes, names.in_order())

@@ -1,5 +1,5 @@
 use Rattle.std.proofs.Common.{◌≡◌, ◌++◌, drop, option_map}
-use Rattle.serde_json.specs.View.{items_view}
+use Rattle.node_json.specs.Tree.{items_view}
 use Rattle.node_json.specs.Reading.{keys_in}
 use Rattle.node_json.specs.View.{names_view}
 use Rattle.node_json.proofs.keys.read_keys.Given as goal

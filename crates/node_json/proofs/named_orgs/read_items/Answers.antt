@@ -1,5 +1,5 @@
 use Rattle.std.proofs.Common.{◌≡◌, Ok, Err, true, false, not, arith, rules, refl, sym, ◌∙◌, inl, inr}
-use Rattle.serde_json.specs.View.{view, items_view}
+use Rattle.node_json.specs.Tree.{view, items_view}
 use Rattle.fbas_model.specs.Names.{is_among}
 use Rattle.node_json.specs.declared.named_orgs.NamedOrg.{NamedOrg}
 use Rattle.node_json.specs.declared.faults.OrgFault.TheVariants.{DuplicateOrg}

@@ -1,7 +1,7 @@
 use Rattle.std.proofs.Common.{◌≡◌, [], drop}
 use Rattle.std.specs.List.{IsDistinct}
 use Rattle.std.specs.Str.{bytes_eq}
-use Rattle.serde_json.specs.View.{items_view}
+use Rattle.node_json.specs.Tree.{items_view}
 use Rattle.node_json.specs.NamesInOrder.{in_order}
 use Rattle.node_json.specs.Organisations.{orgs_from}
 use Rattle.node_json.specs.OrgsView.{named_ids}

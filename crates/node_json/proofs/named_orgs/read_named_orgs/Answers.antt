@@ -1,5 +1,5 @@
 use Rattle.std.proofs.Common.{inr, rules}
-use Rattle.serde_json.specs.View.{view, items_view}
+use Rattle.node_json.specs.Tree.{view, items_view}
 use Rattle.node_json.proofs.OrgReading.{orgs_in-no_array, orgs_in-array}
 use Rattle.node_json.proofs.named_orgs.read_named_orgs.Goals as goal
 

@@ -1,5 +1,5 @@
 use Rattle.std.proofs.Common.{◌≡◌, ◌<◌, length, Ok, Err, true, false, not, arith, rules, sym, ◌∙◌, inl, inr}
-use Rattle.serde_json.specs.View.{view}
+use Rattle.node_json.specs.Tree.{view}
 use Rattle.fbas_model.specs.Names.{is_among}
 use Rattle.node_json.specs.declared.nodes.NamedNode.{NamedNode}
 use Rattle.node_json.specs.declared.faults.ConfigFault.TheVariants.{Duplicate}

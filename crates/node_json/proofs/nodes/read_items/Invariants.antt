@@ -1,5 +1,5 @@
 use Rattle.std.proofs.Common.{◌≡◌, [], ◌++◌, drop}
-use Rattle.serde_json.specs.View.{items_view}
+use Rattle.node_json.specs.Tree.{items_view}
 use Rattle.node_json.specs.Configuration.{all_names}
 use Rattle.node_json.specs.NamesInOrder.{in_order, with_names}
 use Rattle.node_json.specs.Reading.{nodes_from, after}

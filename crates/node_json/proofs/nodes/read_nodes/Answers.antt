@@ -1,5 +1,5 @@
 use Rattle.std.proofs.Common.{inr, rules}
-use Rattle.serde_json.specs.View.{view, items_view}
+use Rattle.node_json.specs.Tree.{view, items_view}
 use Rattle.node_json.proofs.NodeReading.{nodes_in-no_array, nodes_in-array}
 use Rattle.node_json.proofs.nodes.read_nodes.Goals as goal
 

@@ -1,6 +1,6 @@
 use Rattle.std.proofs.Common.{◌≡◌, length, Ok, Err, map, inl, inr, rules, sym, ap, ◌∙◌, arith}
 use Rattle.std.proofs.lemmas.List.{length-map}
-use Rattle.serde_json.specs.View.{view}
+use Rattle.node_json.specs.Tree.{view}
 use Rattle.node_json.specs.Organisations.{among_nodes}
 use Rattle.node_json.specs.OrgsView.{named_org_view, named_orgs_view}
 use Rattle.node_json.proofs.OrgReading.{orgs_of-no_tree, orgs_of-fault, too_many_orgs, few_orgs, all_sized}

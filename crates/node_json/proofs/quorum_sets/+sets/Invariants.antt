@@ -1,5 +1,5 @@
 use Rattle.std.proofs.Common.{◌≡◌, ◌+◌, ◌*◌, drop}
-use Rattle.serde_json.specs.View.{items_view}
+use Rattle.node_json.specs.Tree.{items_view}
 use Rattle.node_json.specs.Configuration.{names_in_sets}
 use Rattle.node_json.specs.NamesInOrder.{with_names}
 use Rattle.node_json.specs.View.{sets_view}

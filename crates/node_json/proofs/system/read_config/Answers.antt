@@ -1,6 +1,6 @@
 use Rattle.std.proofs.Common.{◌≡◌, List, Ok, Err, inl, inr, rules, ap, sym, ◌∙◌}
 use Rattle.std.proofs.lemmas.Result.{IfOk-weaker}
-use Rattle.serde_json.specs.View.{view}
+use Rattle.node_json.specs.Tree.{view}
 use Rattle.fbas_model.specs.Names.{Name}
 use Rattle.node_json.specs.Configuration.{all_names, system_of, system_with}
 use Rattle.node_json.specs.Named.{NamedNode}
