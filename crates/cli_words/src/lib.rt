@@ -49,49 +49,23 @@ pub fn order(alloc: Global, words: &[String]) -> Result<Order, OrderFault>
 fn command_named(name: &str) -> Option<Command>
     ensures { result ≡ spec_command_named name.now }
 {
-    if name == "show" {
-        return Some(Command::Query(Query::Show));
+    match name {
+        "show" => Some(Command::Query(Query::Show)),
+        "closure" => Some(Command::Query(Query::Closure)),
+        "greatest" => Some(Command::Query(Query::Greatest)),
+        "available" => Some(Command::Query(Query::Available)),
+        "blocks" => Some(Command::Query(Query::Blocks)),
+        "vblocks" => Some(Command::Query(Query::Vblocks)),
+        "intersect" => Some(Command::Search(Goal::Intersect)),
+        "dset" => Some(Command::Search(Goal::Dset)),
+        "splits" => Some(Command::Search(Goal::Splits)),
+        "blocking" => Some(Command::Search(Goal::Blocking)),
+        "trial" => Some(Command::Search(Goal::Trial)),
+        "check" => Some(Command::Check),
+        "export" => Some(Command::Query(Query::Export)),
+        "check-lrat" => Some(Command::CheckLrat),
+        _ => None,
     }
-    if name == "closure" {
-        return Some(Command::Query(Query::Closure));
-    }
-    if name == "greatest" {
-        return Some(Command::Query(Query::Greatest));
-    }
-    if name == "available" {
-        return Some(Command::Query(Query::Available));
-    }
-    if name == "blocks" {
-        return Some(Command::Query(Query::Blocks));
-    }
-    if name == "vblocks" {
-        return Some(Command::Query(Query::Vblocks));
-    }
-    if name == "intersect" {
-        return Some(Command::Search(Goal::Intersect));
-    }
-    if name == "dset" {
-        return Some(Command::Search(Goal::Dset));
-    }
-    if name == "splits" {
-        return Some(Command::Search(Goal::Splits));
-    }
-    if name == "blocking" {
-        return Some(Command::Search(Goal::Blocking));
-    }
-    if name == "trial" {
-        return Some(Command::Search(Goal::Trial));
-    }
-    if name == "check" {
-        return Some(Command::Check);
-    }
-    if name == "export" {
-        return Some(Command::Query(Query::Export));
-    }
-    if name == "check-lrat" {
-        return Some(Command::CheckLrat);
-    }
-    None
 }
 
 // The order of a command by its own words, which begin with its name.
