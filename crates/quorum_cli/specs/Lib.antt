@@ -1,13 +1,1 @@
-pub mod Status
-pub mod Reading
-pub mod Questions
-pub mod Searches
-pub mod Finding
-pub mod Replies
-pub mod Searching
-pub mod Answers
-pub mod Putting
-pub mod Printing
-pub mod Showing
-pub mod Meaning
-pub mod Headline
+pub mod Exit

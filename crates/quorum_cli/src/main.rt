@@ -1,32 +1,13 @@
 //! `quorum_cli`, an analyser of federated Byzantine agreement systems.
 #![tactic(auto)]
 
-mod checking;
-mod early;
-mod files;
-mod found;
-mod names;
-mod parts;
-mod printing;
-mod question;
-mod reading;
-mod replies;
-mod reply;
-mod run;
-mod searches;
-mod searching;
-mod solving;
-mod status;
-#[cfg(test)]
-mod tests;
-mod verifying;
-mod word;
+mod exit;
 
 ghost use Rattle.std.specs.Prelude.{◌≡◌, [], IfOk, IsErr, IsOk};
 
-use crate::run::run;
-use crate::status::{Status, exit_code};
+use crate::exit::exit_code;
 use desk_io::RealDesk;
+use quorum_run::{Status, run};
 use std::alloc::{AllocError, Global};
 use std::env;
 use std::io::ErrorKind;

@@ -1,0 +1,4 @@
+pub mod Unions
+pub mod Cuts
+pub mod Told
+pub mod Trials

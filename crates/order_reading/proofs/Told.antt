@@ -1,0 +1,83 @@
+-- What is told early.
+use Rattle.std.proofs.Common.{◌≡◌, ◌⊎◌, inl, inr, ℕ, nat_le, length, Bool, true, false, List, Option, Some, None, Result, Ok, Err, sym, ◌∙◌, ap, subst, if◌then◌else◌}
+use Rattle.fbas_model.specs.Systems.{System}
+use Rattle.node_json.specs.Configuration.{system_of}
+use Rattle.node_json.specs.declared.faults.ConfigFault.{ConfigFault}
+use Rattle.cli_words.specs.Order.{Ordered}
+use Rattle.desk_io.specs.State.{Files}
+use Rattle.cli_words.specs.Words.{order_of}
+use Rattle.cli_words.specs.declared.orders.Command.{Command}
+use Rattle.cli_words.specs.declared.orders.Command.TheVariants.{Check, CheckLrat}
+use Rattle.cli_words.specs.declared.orders.OrderFault.{OrderFault}
+use Rattle.cli_words.specs.declared.orders.OrderFault.TheVariants as fault
+use Rattle.report.specs.Lines.{Text, usage}
+use Rattle.order_reading.specs.declared.reply.Reply.{Reply as Answer}
+use Rattle.order_reading.specs.declared.status.Status.TheVariants.{Usage, ConfigRefused}
+use Rattle.order_reading.specs.declared.early.Early.{Early}
+use Rattle.order_reading.specs.declared.early.Early.TheVariants.{Told, Read, Memory}
+use Rattle.order_reading.specs.Answers.{or_words_refused, file_in, max_file, is_told, system_in, or_config_refused}
+use Rattle.order_reading.specs.Meaning.{MeansYes, OfWords, NamesAccepted, NamesVerified, YesMeans, IsCheck, IsCheckLrat, IsTold}
+
+pub YesMeans-weaker : (A B : Type 0) (e : Early) → (A → B) → YesMeans A e → YesMeans B e
+YesMeans-weaker A B (Told a) f means = λ said. f (means said)
+YesMeans-weaker A B Read f means = tt
+YesMeans-weaker A B Memory f means = tt
+
+-- ---- what a yes means, by the command
+
+pub check_is_told : (r : Result Ordered OrderFault) → IsCheck r → IsTold r
+check_is_told (Ok order) is = ap is_told is
+check_is_told (Err fault) never = never
+
+pub check_lrat_is_told : (r : Result Ordered OrderFault) → IsCheckLrat r → IsTold r
+check_lrat_is_told (Ok order) is = ap is_told is
+check_lrat_is_told (Err fault) never = never
+
+-- what a yes means to the words
+abbrev pub WordsMean : List (List ℕ) → Files → Type 0
+WordsMean words files = OfWords (λ order system config. MeansYes order.command order system config files) files words
+
+-- with the meaning of one command
+by_command : (words : List (List ℕ)) (files : Files) (k : Command) (m : WordsMean words files) → m.order.command ≡ k → OfWords (λ order system config. MeansYes k order system config files) files words
+by_command words files k m is =
+    let file = m.means in
+    let config = m.means.means in
+    record {
+      order = m.order;
+      taken = m.taken;
+      means = record {
+        config = file.config;
+        held = file.held;
+        means = record {
+          system = config.system;
+          read = config.read;
+          means = subst (λ (x : Command). MeansYes x m.order config.system file.config files) is config.means;
+        };
+      };
+    }
+
+pub accepted_by : (words : List (List ℕ)) (files : Files) → IsCheck (order_of words) → WordsMean words files → NamesAccepted words files
+accepted_by words files check m = by_command words files Check m (subst IsCheck m.taken check)
+
+pub verified_by : (words : List (List ℕ)) (files : Files) → IsCheckLrat (order_of words) → WordsMean words files → NamesVerified words files
+verified_by words files check m = by_command words files CheckLrat m (subst IsCheckLrat m.taken check)
+
+pub words_refused : (r : Result Ordered OrderFault) (a : Answer) → (fault.Words ≡ fault.Memory) ⊎ (r ≡ Err fault.Words) → a ≡ record { status = Usage; text = usage } → or_words_refused r ≡ Err (Told a)
+words_refused r a (inl memory) said = absurd (let k = memory in cc)
+words_refused r a (inr words) said = ap or_words_refused words ∙ ap (λ (x : Answer). Err (Told x)) (sym said)
+
+held_within : (text : Text) (held bytes : List ℕ) (within : Bool) → (if within then Ok held else Err (Told (record { status = ConfigRefused; text = text }))) ≡ Ok bytes → Some held ≡ Some bytes
+held_within text held bytes true e = cc
+held_within text held bytes false e = absurd cc
+
+-- the bytes that were read are those of the file
+pub file_held : (text : Text) (file : Option (List ℕ)) (bytes : List ℕ) → file_in text file ≡ Ok bytes → file ≡ Some bytes
+file_held text None bytes e = absurd cc
+file_held text (Some held) bytes e = held_within text held bytes (nat_le (length held) max_file) e
+
+read_of : (r : Result System ConfigFault) (f : System) → or_config_refused r ≡ Ok f → r ≡ Ok f
+read_of (Ok g) f e = cc
+read_of (Err fault) f e = absurd cc
+
+pub system_read : (config : List ℕ) (f : System) → system_in config ≡ Ok f → system_of config ≡ Ok f
+system_read config f e = read_of (system_of config) f e

@@ -1,0 +1,200 @@
+-- What the program asks or answers, by its words and the files that they name.
+use Rattle.std.specs.Prelude.{ℕ, nat_le, Bool, true, false, List, [], length, Option, Some, None, Result, Ok, Err, if◌then◌else◌, map, string_bytes, String}
+use Rattle.std.specs.declared.alloc.Global.{Global}
+use Rattle.sha2.specs.Sha256.{sha256}
+use Rattle.desk_io.specs.State.{Files}
+use Rattle.fbas_model.specs.Names.{Name}
+use Rattle.fbas_model.specs.Systems.{System}
+use Rattle.cli_words.specs.Order.{Ordered, has_configuration}
+use Rattle.cli_words.specs.Words.{order_of}
+use Rattle.cli_words.specs.declared.orders.Command.{Command}
+use Rattle.cli_words.specs.declared.orders.Command.TheVariants as command
+use Rattle.cli_words.specs.declared.orders.Query.{Query}
+use Rattle.cli_words.specs.declared.orders.Goal.{Goal}
+use Rattle.cli_words.specs.declared.orders.OrderFault.{OrderFault}
+use Rattle.cli_words.specs.declared.orders.OrderFault.TheVariants as fault
+use Rattle.node_json.specs.Configuration.{system_of}
+use Rattle.node_json.specs.declared.faults.ConfigFault.{ConfigFault}
+use Rattle.node_json.specs.Organisations.{Org, orgs_of}
+use Rattle.node_json.specs.declared.faults.OrgFault.{OrgFault}
+use Rattle.trial_network.specs.Tree.{trial_text}
+use Rattle.certificate_file.specs.Acceptance.{checked}
+use Rattle.certificate_file.specs.Verification.{verified}
+use Rattle.certificate_file.specs.declared.places.Header.{Header}
+use Rattle.certificate_file.specs.declared.places.Accepted.{Accepted}
+use Rattle.certificate_file.specs.declared.places.Answer.{Answer as Shown}
+use Rattle.certificate_file.specs.declared.places.Answer.TheVariants.{Partial, PartialBlocking}
+use Rattle.cert_lines.specs.declared.faults.CertError.{CertError}
+use Rattle.cert_lines.specs.declared.faults.CertError.TheVariants.{TooLarge as TooManyVariables}
+use Rattle.report.specs.Lines.{Text, usage, same_path, config_too_long, config_refused, orgs_too_long, orgs_refused, cert_refused, accepted, verified as verified_lines}
+use Rattle.order_reading.specs.declared.status.Status.TheVariants.{Yes, Unknown, Usage, ConfigRefused, CertRefused, TooLarge}
+use Rattle.order_reading.specs.declared.status.Status.{Status}
+use Rattle.order_reading.specs.declared.reply.Reply.{Reply as Answer}
+use Rattle.order_reading.specs.declared.early.Early.{Early}
+use Rattle.order_reading.specs.declared.early.Early.TheVariants.{Told, Read, Memory}
+use Rattle.order_reading.specs.declared.reading.Asked.{Asked}
+use Rattle.order_reading.specs.declared.reading.Asked.TheVariants as asked
+use Rattle.order_reading.specs.declared.question.Inquiry.{Inquiry}
+use Rattle.order_reading.specs.Reading.{◌>>=◌}
+use Rattle.order_reading.specs.Questions.{question_of, part_of, FitsQuestion}
+use Rattle.order_reading.specs.Searches.{header_named, search_of, trial_of, FitsSearch}
+
+abbrev pub words_of : List (String Global) → List (List ℕ)
+words_of words = map string_bytes words
+
+-- the most bytes of a configuration, or of organisations, that are read
+abbrev pub max_file : ℕ
+max_file = 16777216
+
+-- the bytes of a file, which is refused with this text where they are too many
+abbrev pub file_in : Text → Option (List ℕ) → Result (List ℕ) Early
+file_in too_long None = Err Read
+file_in too_long (Some bytes) = if nat_le (length bytes) max_file then Ok bytes else Err (Told (record { status = ConfigRefused; text = too_long }))
+
+abbrev pub or_config_refused : Result System ConfigFault → Result System Early
+or_config_refused (Ok f) = Ok f
+or_config_refused (Err fault) = Err (Told (record { status = ConfigRefused; text = config_refused fault }))
+
+-- the system of a configuration
+abbrev pub system_in : List ℕ → Result System Early
+system_in config = or_config_refused (system_of config)
+
+abbrev pub or_orgs_refused : Result (List Org) OrgFault → Result (List Org) Early
+or_orgs_refused (Ok orgs) = Ok orgs
+or_orgs_refused (Err fault) = Err (Told (record { status = ConfigRefused; text = orgs_refused fault }))
+
+-- the organisations of the file that the order names, or none where it names no file
+abbrev pub orgs_given : List Name → Files → Option (List ℕ) → Result (List Org) Early
+orgs_given names files None = Ok []
+orgs_given names files (Some path) = do
+  bytes ← file_in orgs_too_long (files path)
+  or_orgs_refused (orgs_of names bytes)
+
+-- ---- a certificate
+
+-- how the program ends where a certificate has this fault
+abbrev pub cert_status : CertError → Status
+cert_status (TooManyVariables vars) = TooLarge
+cert_status fault = CertRefused
+
+-- how it ends where a certificate is accepted: a partial one leaves the question open
+abbrev pub accepted_status : Shown → Status
+accepted_status (Partial units) = Unknown
+accepted_status (PartialBlocking units) = Unknown
+accepted_status shown = Yes
+
+-- the first fault of a certificate, or of a proof, is named
+abbrev pub refused_answer : List Name → CertError → Answer
+refused_answer names e = record { status = cert_status e; text = cert_refused names e }
+
+-- a certificate is accepted, or its first fault is named
+abbrev pub checked_answer : List Name → Result Accepted CertError → Answer
+checked_answer names (Ok a) = record { status = accepted_status a.answer; text = accepted names a }
+checked_answer names (Err e) = refused_answer names e
+
+-- what `check` says of a file
+abbrev pub check_in : System → List ℕ → Option (List ℕ) → Result Answer Early
+check_in f config None = Err Read
+check_in f config (Some cert) = Ok (checked_answer f.names (checked f (sha256 config) cert))
+
+-- ---- a proof of another solver
+
+-- a proof is verified, or its first fault is named
+abbrev pub verified_answer : List Name → Header → Result (Unit {0}) CertError → Answer
+verified_answer names h (Ok done) = record { status = Yes; text = verified_lines names h }
+verified_answer names h (Err e) = refused_answer names e
+
+-- what is said of a file as a proof for a part of the system, without the faulty nodes
+abbrev pub verify_in : System → Header → Option (List ℕ) → Result Answer Early
+verify_in f h None = Err Read
+verify_in f h (Some proof) = Ok (verified_answer f.names h (verified f h proof))
+
+-- what `check-lrat` says over a configuration that was read
+abbrev pub verify_asked : Ordered → System → Files → Result Answer Early
+verify_asked o f files = do
+  orgs ← orgs_given f.names files o.orgs
+  header ← header_named f orgs o
+  verify_in f header (files o.cert)
+
+-- ---- what is asked
+
+-- the commands that are answered before anything is asked
+abbrev pub is_told : Command → Bool
+is_told command.Check = true
+is_told command.CheckLrat = true
+is_told (command.Query q) = false
+is_told (command.Search goal) = false
+
+abbrev pub asked_about : System → Inquiry → Asked
+asked_about f inquiry = asked.Question (part_of f inquiry.closure) inquiry.question
+
+-- what an order with this question asks, once the organisations were read
+abbrev pub query_asked : Query → Ordered → System → List ℕ → List Org → Result Asked Early
+query_asked q o f config orgs = do
+  inquiry ← question_of q f config orgs o
+  Ok (asked_about f inquiry)
+
+-- what an order with this goal asks, once the organisations were read
+abbrev pub goal_asked : Goal → Ordered → System → List ℕ → List Org → Result Asked Early
+goal_asked goal o f config orgs = do
+  search ← search_of goal f config orgs o
+  Ok (asked.Search search)
+
+-- what a command asks over a configuration that was read, or its early answer
+abbrev pub command_asked : Command → Ordered → System → List ℕ → Files → Result Asked Early
+command_asked command.Check o f config files = do
+  answer ← check_in f config (files o.cert)
+  Err (Told answer)
+command_asked command.CheckLrat o f config files = do
+  answer ← verify_asked o f files
+  Err (Told answer)
+command_asked (command.Query q) o f config files = do
+  orgs ← orgs_given f.names files o.orgs
+  query_asked q o f config orgs
+command_asked (command.Search goal) o f config files = do
+  orgs ← orgs_given f.names files o.orgs
+  goal_asked goal o f config orgs
+
+-- what an order asks over the bytes of its configuration, or its early answer
+abbrev pub config_asked : Ordered → Files → List ℕ → Result Asked Early
+config_asked o files config = do
+  f ← system_in config
+  command_asked o.command o f config files
+
+-- what an order asks over the file of its configuration
+abbrev pub file_asked : Ordered → Files → Result Asked Early
+file_asked o files = do
+  config ← file_in config_too_long (files o.config)
+  config_asked o files config
+
+-- what a trial asks: the text of its configuration is in no file
+abbrev pub trial_asked : Ordered → Result Asked Early
+trial_asked o = do
+  f ← system_in (trial_text o.trial)
+  Ok (asked.Search (trial_of f (trial_text o.trial) o))
+
+-- what an order asks, or its early answer
+abbrev pub order_asked : Ordered → Files → Result Asked Early
+order_asked o files = if has_configuration o.command then file_asked o files else trial_asked o
+
+-- the early end where the words are no order
+abbrev pub refused_words : OrderFault → Early
+refused_words fault.Words = Told (record { status = Usage; text = usage })
+refused_words fault.SamePath = Told (record { status = Usage; text = same_path })
+refused_words fault.Memory = Memory
+
+abbrev pub or_words_refused : Result Ordered OrderFault → Result Ordered Early
+or_words_refused (Ok o) = Ok o
+or_words_refused (Err fault) = Err (refused_words fault)
+
+-- what the words ask, which begin with the program's name, over the files: a question about a system, an early answer, or a
+-- missing file
+abbrev pub asked_of : List (List ℕ) → Files → Result Asked Early
+asked_of words files = do
+  o ← or_words_refused (order_of words)
+  order_asked o files
+
+-- what is asked fits the system
+abbrev pub FitsAsked : Asked → Type 0
+FitsAsked (asked.Question f question) = FitsQuestion (length f.sets) question
+FitsAsked (asked.Search s) = FitsSearch s

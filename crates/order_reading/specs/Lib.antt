@@ -1,0 +1,6 @@
+pub mod Status
+pub mod Reading
+pub mod Questions
+pub mod Searches
+pub mod Answers
+pub mod Meaning

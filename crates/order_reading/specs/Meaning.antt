@@ -1,0 +1,113 @@
+-- What an accepted certificate means, and a verified proof.
+use Rattle.std.specs.Prelude.{◌≡◌, ℕ, IsTrue, List, Some, Result, Ok, Err}
+use Rattle.sha2.specs.Sha256.{sha256}
+use Rattle.fbas_model.specs.Systems.{System}
+use Rattle.desk_io.specs.State.{Files}
+use Rattle.cli_words.specs.Order.{Ordered}
+use Rattle.cli_words.specs.declared.orders.Command.{Command}
+use Rattle.cli_words.specs.declared.orders.Command.TheVariants.{Query, Search, Check, CheckLrat}
+use Rattle.cli_words.specs.declared.orders.OrderFault.{OrderFault}
+use Rattle.cli_words.specs.Words.{order_of}
+use Rattle.node_json.specs.Configuration.{system_of}
+use Rattle.node_json.specs.Organisations.{Org}
+use Rattle.certificate_file.specs.Acceptance.{checked}
+use Rattle.certificate_file.specs.Meaning.{Holds, PartIntersects, part_from}
+use Rattle.certificate_file.specs.Verification.{verified}
+use Rattle.certificate_file.specs.declared.places.Header.{Header}
+use Rattle.certificate_file.specs.declared.places.Accepted.{Accepted}
+use Rattle.order_reading.specs.declared.status.Status.TheVariants.{Yes, Usage}
+use Rattle.order_reading.specs.declared.early.Early.{Early}
+use Rattle.order_reading.specs.Answers.{orgs_given, is_told}
+use Rattle.order_reading.specs.Searches.{header_named}
+use Rattle.order_reading.specs.Reading.{TellsStatus}
+
+-- the certificate is accepted for a configuration and its system, and its answer holds for the part that it speaks of, the
+-- whole system or the trust closure of a node, once the nodes of its header are deleted: the two sets of a pair are quorums
+-- of the part and share no node, and with a refutation every two quorums of the part share a node
+pub record Shows (system : System) (config cert : List ℕ) : Type 0 where
+  pub accepted : Accepted
+  pub checks : checked system (sha256 config) cert ≡ Ok accepted
+  pub holds : Holds system accepted
+
+-- the named file is such a certificate
+pub record HasCert (system : System) (config : List ℕ) (files : Files) (name : List ℕ) : Type 0 where
+  pub cert : List ℕ
+  pub held : files name ≡ Some cert
+  pub shows : Shows system config cert
+
+-- the proof is verified for a part of the system without its faulty nodes, and every two quorums of it share a node
+pub record Verifies (system : System) (header : Header) (proof : List ℕ) : Type 0 where
+  pub verifies : verified system header proof ≡ Ok tt
+  pub meets : PartIntersects system (part_from system header.from) header.faulty
+
+-- the named file is such a proof
+pub record HasProof (system : System) (header : Header) (files : Files) (name : List ℕ) : Type 0 where
+  pub proof : List ℕ
+  pub held : files name ≡ Some proof
+  pub shows : Verifies system header proof
+
+-- the order names such a proof for the part and the faulty nodes that its options name
+pub record HasVerified (order : Ordered) (system : System) (files : Files) : Type 0 where
+  pub orgs : List Org
+  pub given : orgs_given system.names files order.orgs ≡ Ok orgs
+  pub header : Header
+  pub named : header_named system orgs order ≡ Ok header
+  pub proof : HasProof system header files order.cert
+
+-- what a yes means that is told before anything is asked: the certificate is accepted, or the proof is verified
+abbrev pub MeansYes : Command → Ordered → System → List ℕ → Files → Type 0
+MeansYes Check order system config files = HasCert system config files order.cert
+MeansYes CheckLrat order system config files = HasVerified order system files
+MeansYes (Query q) order system config files = ⊥
+MeansYes (Search goal) order system config files = ⊥
+
+-- ---- what is so of a configuration that is read
+
+-- the bytes say a system, and this is so of it
+pub record OfConfig (Means : System → Type 0) (config : List ℕ) : Type 0 where
+  pub system : System
+  pub read : system_of config ≡ Ok system
+  pub means : Means system
+
+-- the named file is a configuration, and this is so of its system and its bytes
+pub record OfFile (Means : System → List ℕ → Type 0) (files : Files) (name : List ℕ) : Type 0 where
+  pub config : List ℕ
+  pub held : files name ≡ Some config
+  pub means : OfConfig (λ system. Means system config) config
+
+-- the words are an order that names a configuration, and this is so of the order, the system and its bytes
+pub record OfWords (Means : Ordered → System → List ℕ → Type 0) (files : Files) (words : List (List ℕ)) : Type 0 where
+  pub order : Ordered
+  pub taken : order_of words ≡ Ok order
+  pub means : OfFile (Means order) files order.config
+
+-- the words are an order that names a configuration and a certificate that is accepted for it
+abbrev pub NamesAccepted : List (List ℕ) → Files → Type 0
+NamesAccepted words files = OfWords (λ order system config. HasCert system config files order.cert) files words
+
+-- the words are an order that names a configuration and a proof that is verified for it
+abbrev pub NamesVerified : List (List ℕ) → Files → Type 0
+NamesVerified words files = OfWords (λ order system config. HasVerified order system files) files words
+
+-- a yes that is told early is one of which this is so
+abbrev pub YesMeans : Type 0 → Early → Type 0
+YesMeans meaning e = TellsStatus (λ status. status ≡ Yes → meaning) e
+
+-- the words are an order to check a certificate
+abbrev pub IsCheck : Result Ordered OrderFault → Type 0
+IsCheck (Ok order) = order.command ≡ Check
+IsCheck (Err fault) = ⊥
+
+-- the words are an order to check a proof of another solver
+abbrev pub IsCheckLrat : Result Ordered OrderFault → Type 0
+IsCheckLrat (Ok order) = order.command ≡ CheckLrat
+IsCheckLrat (Err fault) = ⊥
+
+-- the words are an order that is answered before anything is asked
+abbrev pub IsTold : Result Ordered OrderFault → Type 0
+IsTold (Ok order) = IsTrue (is_told order.command)
+IsTold (Err fault) = ⊥
+
+-- the words are refused, if an answer is told
+abbrev pub IsUsage : Early → Type 0
+IsUsage e = TellsStatus (λ status. status ≡ Usage) e

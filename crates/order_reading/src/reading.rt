@@ -1,0 +1,339 @@
+//! What the words ask, once everything that they name was read.
+ghost use Rattle.std.specs.Prelude.{◌≡◌, ◌≤◌, All, Ok, IsTrue, IfOk, IfErr, IsOk, IsErr, IsErrOf, length, option_map, string_bytes};
+ghost use Rattle.desk_io.specs.State.{OnlyReads};
+ghost use Rattle.desk_io.specs.Faults.{ReadFails};
+ghost use Rattle.cli_words.specs.Order.{order_view, has_configuration};
+ghost use Rattle.cli_words.specs.Words.{order_of};
+ghost use Rattle.cli_words.specs.declared.budget.TheConstants.{MOST_BUDGET};
+ghost use Rattle.cli_words.specs.declared.organisations.TheConstants.{MOST_ORGANISATIONS};
+ghost use Rattle.report.specs.Lines.{config_refused, orgs_refused};
+ghost use Rattle.node_json.specs.Organisations.{orgs_of};
+ghost use Rattle.order_reading.specs.Answers.{words_of, asked_of, or_words_refused, order_asked, file_asked, trial_asked, config_asked, command_asked, query_asked, verify_asked, is_told, system_in, or_orgs_refused, orgs_given, FitsAsked};
+ghost use Rattle.order_reading.specs.Meaning.{HasVerified, MeansYes, OfConfig, OfFile, OfWords, YesMeans, IsTold, IsUsage};
+ghost use Rattle.order_reading.specs.Reading.{Fails, Gives, GivesReading, IsRefusal, IsAnswer};
+ghost use Rattle.order_reading.specs.Status.{is_answer};
+
+use crate::checking::check;
+use crate::early::Early;
+use crate::files::read_file;
+use crate::parts::part_of;
+use crate::question::{Inquiry, Question, question_asked};
+use crate::reply::{Reply, says};
+use crate::searches::{Search, search_asked, trial_search};
+use crate::status::Status;
+use crate::verifying::{header_named, verify};
+use cli_words::{Command, Goal, Order, OrderFault, Query};
+use desk_io::{Desk, Which};
+use fbas_core::System;
+use node_json::{ConfigFault, OrgFault, Orgs, read_config, read_orgs};
+use std::alloc::{AllocError, Global};
+use trial_network::Trial;
+
+/// What is asked.
+#[derive(Drop)]
+pub enum Asked {
+    /// A question about a part of the system.
+    Question(System, Question),
+    /// A search over the system.
+    Search(Search),
+}
+
+// The order of the words, or their refusal.
+fn order_in(alloc: Global, words: &[String]) -> Result<Order, Early>
+    ensures ok { IfOk result (λ o. order_of (words_of words.now) ≡ Ok (order_view o)) }
+    ensures err { IfErr result (λ e. Fails e (or_words_refused (order_of (words_of words.now)))) }
+    ensures few { IfOk result (λ o. o.budget ≤ MOST_BUDGET) }
+    ensures organisations { IfOk result (λ o. o.command ≡ Command.Search Goal.Trial → (1 ≤ o.trial) × (o.trial ≤ MOST_ORGANISATIONS)) }
+    ensures refused { IfErr result IsUsage }
+{
+    match cli_words::order(alloc, words) {
+        Ok(order) => Ok(order),
+        Err(OrderFault::Words) => Err(Early::Told(says(
+            alloc,
+            Status::Usage,
+            "usage: quorum_cli COMMAND\nshow CONFIG\nclosure CONFIG --node NAME\ngreatest CONFIG [COMMON]\nintersect CONFIG CERT [COMMON] [--budget UNITS]\navailable CONFIG --set NAMES [--from NAME]\ndset CONFIG CERT --set NAMES [--from NAME] [--budget UNITS]\nblocks CONFIG --set NAMES [COMMON]\nvblocks CONFIG --node NAME --set NAMES\nsplits CONFIG CERT --set NAMES [COMMON] [--budget UNITS]\nblocking CONFIG CERT [COMMON] [--budget UNITS]\ncheck CONFIG CERT\nexport CONFIG [COMMON]\ntrial N CERT [--budget UNITS]\ncheck-lrat CONFIG LRAT [COMMON]\nCOMMON: --from NAME --faulty NAMES --orgs ORGS --faulty-orgs IDS\n",
+        )?)),
+        Err(OrderFault::SamePath) => Err(Early::Told(says(
+            alloc,
+            Status::Usage,
+            "usage same-path\n",
+        )?)),
+        Err(OrderFault::Memory) => Err(Early::Memory),
+    }
+}
+
+// The answer to a configuration that is refused.
+fn refuse_config(alloc: Global, fault: ConfigFault) -> Result<Reply, AllocError>
+    ensures { IfOk result (λ a. a ≡ record { status = Status.ConfigRefused; text = config_refused fault }) }
+{
+    let text = report::config_refused(alloc, fault)?;
+    Ok(Reply::new(Status::ConfigRefused, text))
+}
+
+// The system of a configuration.
+fn system_in(alloc: Global, config: &[u8]) -> Result<System, Early>
+    ensures gives { Gives result (system_in config.now) }
+    ensures refused { IfErr result IsRefusal }
+{
+    match read_config(alloc, config) {
+        Ok(system) => Ok(system),
+        Err(ConfigFault::Memory) => Err(Early::Memory),
+        Err(fault) => Err(Early::Told(refuse_config(alloc, fault)?)),
+    }
+}
+
+// The answer to organisations that are refused.
+fn refuse_orgs(alloc: Global, fault: OrgFault) -> Result<Reply, AllocError>
+    ensures { IfOk result (λ a. a ≡ record { status = Status.ConfigRefused; text = orgs_refused fault }) }
+{
+    let text = report::orgs_refused(alloc, fault)?;
+    Ok(Reply::new(Status::ConfigRefused, text))
+}
+
+// The organisations of a file's bytes.
+fn orgs_in(alloc: Global, system: &System, bytes: &[u8]) -> Result<Orgs, Early>
+    ensures gives { Gives result (or_orgs_refused (orgs_of system.now.names bytes.now)) }
+    ensures refused { IfErr result IsRefusal }
+    ensures fits { IfOk result (All (λ org. length org.members ≡ length system.now.names)) }
+{
+    match read_orgs(alloc, bytes, system) {
+        Ok(orgs) => Ok(orgs),
+        Err(OrgFault::Memory) => Err(Early::Memory),
+        Err(fault) => Err(Early::Told(refuse_orgs(alloc, fault)?)),
+    }
+}
+
+// The organisations of the file that an order names, none where it names no file.
+fn orgs_for<D: Desk>(
+    alloc: Global,
+    system: &System,
+    desk: &mut D,
+    path: &Option<String>,
+) -> Result<Orgs, Early>
+    ensures gives { IsTrue D.tells → GivesReading (D.state desk.old).plain result
+        (orgs_given system.now.names (D.state desk.old).files (option_map string_bytes path.now)) }
+    ensures refused { IfErr result IsRefusal }
+    ensures fits { IfOk result (All (λ org. length org.members ≡ length system.now.names)) }
+    ensures reads { IsTrue D.tells → OnlyReads (D.state desk.old) (D.state desk.new) }
+    ensures faults { ReadFails (D.faults desk.old) (D.faults desk.new) (IsErrOf result Early.Read) }
+{
+    let Some(path) = path else {
+        return Ok(Orgs::none(alloc));
+    };
+    let bytes = read_file(alloc, desk, Which::Orgs, path, "orgs too-long\n")?;
+    orgs_in(alloc, system, &bytes)
+}
+
+// What an order with this question asks of a part of the system, once the organisations were read.
+fn ask_about(
+    alloc: Global,
+    query: Query,
+    order: &Order,
+    system: System,
+    config: &[u8],
+    orgs: &Orgs,
+) -> Result<Asked, Early>
+    requires { All (λ org. length org.members ≡ length system.names) orgs.now }
+    ensures gives { Gives result (query_asked query (order_view order.now) system config.now orgs.now) }
+    ensures refused { IfErr result IsRefusal }
+    ensures fits { IfOk result FitsAsked }
+{
+    let Inquiry { closure, question } = question_asked(alloc, query, order, &system, config, orgs)?;
+    let part = part_of(alloc, system, &closure)?;
+    Ok(Asked::Question(part, question))
+}
+
+// What an order with this question asks over a configuration that was read.
+fn ask<D: Desk>(
+    alloc: Global,
+    query: Query,
+    order: &Order,
+    system: System,
+    config: &[u8],
+    desk: &mut D,
+) -> Result<Asked, Early>
+    ensures gives { IsTrue D.tells → GivesReading (D.state desk.old).plain result
+        (command_asked (Command.Query query) (order_view order.now) system config.now (D.state desk.old).files) }
+    ensures refused { IfErr result IsRefusal }
+    ensures fits { IfOk result FitsAsked }
+    ensures reads { IsTrue D.tells → OnlyReads (D.state desk.old) (D.state desk.new) }
+    ensures faults { ReadFails (D.faults desk.old) (D.faults desk.new) (IsErrOf result Early.Read) }
+{
+    let orgs = orgs_for(alloc, &system, desk, &order.orgs)?;
+    ask_about(alloc, query, order, system, config, &orgs)
+}
+
+// What an order with this goal asks over a configuration that was read.
+fn seek<D: Desk>(
+    alloc: Global,
+    goal: Goal,
+    order: &Order,
+    system: System,
+    config: &[u8],
+    desk: &mut D,
+) -> Result<Asked, Early>
+    requires few { order.now.budget ≤ MOST_BUDGET }
+    requires file { IsTrue (has_configuration (Command.Search goal)) }
+    ensures gives { IsTrue D.tells → GivesReading (D.state desk.old).plain result
+        (command_asked (Command.Search goal) (order_view order.now) system config.now (D.state desk.old).files) }
+    ensures refused { IfErr result IsRefusal }
+    ensures fits { IfOk result FitsAsked }
+    ensures reads { IsTrue D.tells → OnlyReads (D.state desk.old) (D.state desk.new) }
+    ensures faults { ReadFails (D.faults desk.old) (D.faults desk.new) (IsErrOf result Early.Read) }
+{
+    let orgs = orgs_for(alloc, &system, desk, &order.orgs)?;
+    let search = search_asked(alloc, goal, order, system, config, &orgs)?;
+    Ok(Asked::Search(search))
+}
+
+// What `check-lrat` says over a configuration that was read. The organisations and the names are read before the proof.
+fn verify_by<D: Desk>(
+    alloc: Global,
+    order: &Order,
+    system: &System,
+    desk: &mut D,
+) -> Result<Reply, Early>
+    ensures gives { IsTrue D.tells → GivesReading (D.state desk.old).plain result
+        (verify_asked (order_view order.now) system.now (D.state desk.old).files) }
+    ensures answers { IfOk result (λ a. IsTrue (is_answer a.status)) }
+    ensures refused { IfErr result IsRefusal }
+    ensures verified { IfOk result (λ a. IsTrue D.tells → a.status ≡ Status.Yes →
+        HasVerified (order_view order.now) system.now (D.state desk.old).files) }
+    ensures reads { IsTrue D.tells → OnlyReads (D.state desk.old) (D.state desk.new) }
+    ensures faults { ReadFails (D.faults desk.old) (D.faults desk.new) (IsErrOf result Early.Read) }
+{
+    let orgs = orgs_for(alloc, system, desk, &order.orgs)?;
+    let header = header_named(alloc, system, &orgs, order)?;
+    verify(alloc, system, &header, desk, &order.cert)
+}
+
+// What a command asks over a configuration that was read.
+fn command<D: Desk>(
+    alloc: Global,
+    order: &Order,
+    system: System,
+    config: &[u8],
+    desk: &mut D,
+) -> Result<Asked, Early>
+    requires few { order.now.budget ≤ MOST_BUDGET }
+    requires file { IsTrue (has_configuration order.now.command) }
+    ensures gives { IsTrue D.tells → GivesReading (D.state desk.old).plain result
+        (command_asked order.now.command (order_view order.now) system config.now (D.state desk.old).files) }
+    ensures answers { IfErr result IsAnswer }
+    ensures fits { IfOk result FitsAsked }
+    ensures told { IsTrue (is_told order.now.command) → IsErr result }
+    ensures shows { IfErr result (λ e. IsTrue D.tells → YesMeans
+        (MeansYes order.now.command (order_view order.now) system config.now (D.state desk.old).files) e) }
+    ensures reads { IsTrue D.tells → OnlyReads (D.state desk.old) (D.state desk.new) }
+    ensures faults { ReadFails (D.faults desk.old) (D.faults desk.new) (IsErrOf result Early.Read) }
+{
+    match order.command {
+        Command::Check => {
+            let reply = check(alloc, &system, config, desk, &order.cert)?;
+            Err(Early::Told(reply))
+        }
+        Command::CheckLrat => {
+            let reply = verify_by(alloc, order, &system, desk)?;
+            Err(Early::Told(reply))
+        }
+        Command::Query(query) => ask(alloc, query, order, system, config, desk),
+        Command::Search(goal) => seek(alloc, goal, order, system, config, desk),
+    }
+}
+
+// What an order asks over the bytes of its configuration.
+fn over_config<D: Desk>(
+    alloc: Global,
+    order: &Order,
+    config: &[u8],
+    desk: &mut D,
+) -> Result<Asked, Early>
+    requires few { order.now.budget ≤ MOST_BUDGET }
+    requires file { IsTrue (has_configuration order.now.command) }
+    ensures gives { IsTrue D.tells → GivesReading (D.state desk.old).plain result
+        (config_asked (order_view order.now) (D.state desk.old).files config.now) }
+    ensures answers { IfErr result IsAnswer }
+    ensures fits { IfOk result FitsAsked }
+    ensures told { IsTrue (is_told order.now.command) → IsErr result }
+    ensures shows { IfErr result (λ e. IsTrue D.tells → YesMeans
+        (OfConfig (λ system. MeansYes order.now.command (order_view order.now) system config.now (D.state desk.old).files) config.now) e) }
+    ensures reads { IsTrue D.tells → OnlyReads (D.state desk.old) (D.state desk.new) }
+    ensures faults { ReadFails (D.faults desk.old) (D.faults desk.new) (IsErrOf result Early.Read) }
+{
+    let system = system_in(alloc, config)?;
+    command(alloc, order, system, config, desk)
+}
+
+// What an order asks over the file of its configuration.
+fn over_file<D: Desk>(alloc: Global, order: &Order, desk: &mut D) -> Result<Asked, Early>
+    requires few { order.now.budget ≤ MOST_BUDGET }
+    requires file { IsTrue (has_configuration order.now.command) }
+    ensures gives { IsTrue D.tells → GivesReading (D.state desk.old).plain result (file_asked (order_view order.now) (D.state desk.old).files) }
+    ensures answers { IfErr result IsAnswer }
+    ensures fits { IfOk result FitsAsked }
+    ensures told { IsTrue (is_told order.now.command) → IsErr result }
+    ensures shows { IfErr result (λ e. IsTrue D.tells → YesMeans
+        (OfFile (λ system config. MeansYes order.now.command (order_view order.now) system config (D.state desk.old).files) (D.state desk.old).files (order_view order.now).config) e) }
+    ensures reads { IsTrue D.tells → OnlyReads (D.state desk.old) (D.state desk.new) }
+    ensures faults { ReadFails (D.faults desk.old) (D.faults desk.new) (IsErrOf result Early.Read) }
+{
+    let config = read_file(
+        alloc,
+        desk,
+        Which::Config,
+        &order.config,
+        "config too-long\n",
+    )?;
+    over_config(alloc, order, &config, desk)
+}
+
+// What a trial asks. Its configuration's text is in no file.
+fn over_trial(alloc: Global, order: &Order) -> Result<Asked, AllocError>
+    requires few { order.now.budget ≤ MOST_BUDGET }
+    requires some { 1 ≤ order.now.trial }
+    requires organisations { order.now.trial ≤ MOST_ORGANISATIONS }
+    ensures gives { IfOk result (λ asked. trial_asked (order_view order.now) ≡ Ok asked) }
+    ensures fits { IfOk result FitsAsked }
+{
+    let Trial { text, system } = Trial::of(alloc, order.trial)?;
+    let search = trial_search(alloc, order, system, text.as_bytes())?;
+    Ok(Asked::Search(search))
+}
+
+// What an order asks.
+fn carry_out<D: Desk>(alloc: Global, order: &Order, desk: &mut D) -> Result<Asked, Early>
+    requires few { order.now.budget ≤ MOST_BUDGET }
+    requires organisations { order.now.command ≡ Command.Search Goal.Trial → (1 ≤ order.now.trial) × (order.now.trial ≤ MOST_ORGANISATIONS) }
+    ensures gives { IsTrue D.tells → GivesReading (D.state desk.old).plain result (order_asked (order_view order.now) (D.state desk.old).files) }
+    ensures answers { IfErr result IsAnswer }
+    ensures fits { IfOk result FitsAsked }
+    ensures told { IsTrue (is_told order.now.command) → IsErr result }
+    ensures shows { IfErr result (λ e. IsTrue D.tells → YesMeans
+        (OfFile (λ system config. MeansYes order.now.command (order_view order.now) system config (D.state desk.old).files) (D.state desk.old).files (order_view order.now).config) e) }
+    ensures reads { IsTrue D.tells → OnlyReads (D.state desk.old) (D.state desk.new) }
+    ensures faults { ReadFails (D.faults desk.old) (D.faults desk.new) (IsErrOf result Early.Read) }
+{
+    if order.command.has_configuration() {
+        return over_file(alloc, order, desk);
+    }
+    Ok(over_trial(alloc, order)?)
+}
+
+/// What the words ask, which begin with the program's name, or the early answer.
+pub fn ask_by_words<D: Desk>(alloc: Global, words: &[String], desk: &mut D) -> Result<Asked, Early>
+    ensures gives { IsTrue D.tells → GivesReading (D.state desk.old).plain result (asked_of (words_of words.now) (D.state desk.old).files) }
+    ensures answers { IfErr result IsAnswer }
+    ensures fits { IfOk result FitsAsked }
+    ensures told { IsTold (order_of (words_of words.now)) → IsErr result }
+    ensures shows { IfErr result (λ e. IsTrue D.tells → YesMeans
+        (OfWords (λ order system config. MeansYes order.command order system config (D.state desk.old).files) (D.state desk.old).files (words_of words.now)) e) }
+    ensures refused { IsErr (order_of (words_of words.now)) → IfErr result IsUsage }
+    ensures unasked { IsErr (order_of (words_of words.now)) → IsErr result }
+    ensures taken { IsErrOf result Early.Read → IsOk (order_of (words_of words.now)) }
+    ensures unread { IsErr (order_of (words_of words.now)) → IsTrue D.tells → D.state desk.new ≡ D.state desk.old }
+    ensures reads { IsTrue D.tells → OnlyReads (D.state desk.old) (D.state desk.new) }
+    ensures faults { ReadFails (D.faults desk.old) (D.faults desk.new) (IsErrOf result Early.Read) }
+{
+    let order = order_in(alloc, words)?;
+    carry_out(alloc, &order, desk)
+}

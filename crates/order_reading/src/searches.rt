@@ -1,0 +1,181 @@
+//! What a search is asked for.
+ghost use Rattle.std.specs.Prelude.{◌≡◌, ◌≤◌, ◌<◌, All, IfOk, IfErr, IfSome, IsTrue, Ok, length, option_map, string_bytes};
+ghost use Rattle.fbas_model.specs.Nodes.{members, ∅};
+ghost use Rattle.fbas_model.specs.Fbas.{Intersects};
+ghost use Rattle.cli_words.specs.Order.{order_view, has_configuration};
+ghost use Rattle.cli_words.specs.declared.budget.TheConstants.{MOST_BUDGET};
+ghost use Rattle.order_reading.specs.Questions.{set_named as set_by_option, faulty_named as faulty_by_options};
+ghost use Rattle.order_reading.specs.Searches.{deleted_by, nobody as spec_nobody, cut_within as spec_cut_within, search_of, trial_of, FitsSearch};
+ghost use Rattle.hex.specs.Hex.{IsBytes};
+ghost use Rattle.cert_writer.specs.Promises.{IsHeader};
+ghost use Rattle.certificate_file.specs.Known.{FitsHeader};
+ghost use Rattle.order_reading.specs.Reading.{Gives, IsRefusal};
+
+use crate::early::Early;
+use crate::names::{faulty_named, set_named};
+use crate::parts::from_named;
+use crate::word::Word;
+use certificate_file::Header;
+use cli_words::{Command, Goal, Order};
+use digest_text::digest;
+use fbas_core::System;
+use name_set::NodeSet;
+use node_json::Orgs;
+use std::alloc::{AllocError, Global};
+
+/// A search over a system, and where its certificate goes.
+#[derive(Drop)]
+pub struct Search {
+    /// What it finds out.
+    pub goal: Goal,
+    /// The path of the certificate.
+    pub path: Word,
+    pub whole: System,
+    /// The digest of the configuration.
+    pub digest: [u8; 32],
+    /// The part of the system that is meant, and the nodes of it that are deleted.
+    pub header: Header,
+    /// How many units it may take.
+    pub budget: u64,
+}
+
+// No node of a system.
+fn nobody(system: &System) -> NodeSet
+    ensures value { result ≡ spec_nobody system.now }
+    ensures empty { members result ≡ ∅ }
+    ensures places { length result ≡ length system.now.sets }
+{
+    NodeSet::new(system.len())
+}
+
+// The nodes that are deleted: the faulty ones, those of the set, or both, and none in a trial.
+fn deleted(
+    alloc: Global,
+    goal: Goal,
+    system: &System,
+    orgs: &Orgs,
+    order: &Order,
+) -> Result<NodeSet, Early>
+    requires { All (λ org. length org.members ≡ length system.now.names) orgs.now }
+    ensures gives { Gives result (deleted_by goal system.now orgs.now (order_view order.now)) }
+    ensures refused { IfErr result IsRefusal }
+    ensures fits { IfOk result (λ s. length s ≡ length system.now.sets) }
+{
+    match goal {
+        Goal::Intersect | Goal::Blocking => faulty_named(alloc, system, orgs, order),
+        Goal::Dset => set_named(alloc, system, "--set", &order.set),
+        Goal::Splits => both_named(alloc, system, orgs, order),
+        Goal::Trial => Ok(nobody(system)),
+    }
+}
+
+// The faulty nodes and those of the set.
+fn both_named(alloc: Global, system: &System, orgs: &Orgs, order: &Order) -> Result<NodeSet, Early>
+    requires { All (λ org. length org.members ≡ length system.now.names) orgs.now }
+    ensures gives { Gives result (deleted_by Goal.Splits system.now orgs.now (order_view order.now)) }
+    ensures refused { IfErr result IsRefusal }
+    ensures fits { IfOk result (λ s. length s ≡ length system.now.sets) }
+{
+    let mut faulty = faulty_named(alloc, system, orgs, order)?;
+    let set = set_named(alloc, system, "--set", &order.set)?;
+    faulty.join(&set);
+    Ok(faulty)
+}
+
+// The nodes of a set that are in the part, the whole system or the trust closure of a node.
+fn cut_within(system: &System, from: Option<u32>, set: NodeSet) -> NodeSet
+    requires node { IfSome from (λ v. v < length system.now.sets) }
+    requires same_n { length set ≡ length system.now.sets }
+    ensures cut { result ≡ spec_cut_within system.now from set }
+    ensures places { length result ≡ length system.now.sets }
+{
+    let mut set = set;
+    if let Some(node) = from {
+        set.meet(&system.closure(node));
+    }
+    set
+}
+
+/// The part that is meant, and the nodes of it that are deleted.
+pub fn header_of(system: &System, from: Option<u32>, named: NodeSet) -> Header
+    requires node { IfSome from (λ v. v < length system.now.sets) }
+    requires same_n { length named ≡ length system.now.sets }
+    ensures value { result ≡ record { from = from; faulty = spec_cut_within system.now from named } }
+    ensures fits { IsHeader system.now result }
+    ensures places { FitsHeader system.now result }
+{
+    let _ = system.len();
+    let faulty = cut_within(system, from, named);
+    Header { from, faulty }
+}
+
+// What is known of the bytes of an array is known where it is handed to a call.
+fn hand(_digest: &[u8; 32]) {}
+
+// Shows that a digest has 32 bytes.
+fn look(digest: &[u8; 32])
+    ensures long { length digest.now ≡ 32 }
+    ensures bytes { IsBytes digest.now }
+{
+    hand(digest);
+}
+
+/// What an order with this goal asks of the system of a configuration. The names are read in the order of the options `--from`,
+/// `--faulty`, `--faulty-orgs`, `--set`.
+pub fn search_asked(
+    alloc: Global,
+    goal: Goal,
+    order: &Order,
+    system: System,
+    config: &[u8],
+    orgs: &Orgs,
+) -> Result<Search, Early>
+    requires members { All (λ org. length org.members ≡ length system.names) orgs.now }
+    requires few { order.now.budget ≤ MOST_BUDGET }
+    requires file { IsTrue (has_configuration (Command.Search goal)) }
+    ensures gives { Gives result (search_of goal system config.now orgs.now (order_view order.now)) }
+    ensures refused { IfErr result IsRefusal }
+    ensures fits { IfOk result FitsSearch }
+{
+    let from = from_named(alloc, &system, &order.from)?;
+    let named = deleted(alloc, goal, &system, orgs, order)?;
+    let header = header_of(&system, from, named);
+    let path = Word::of(alloc, &order.cert)?;
+    let digest = digest(config);
+    look(&digest);
+    Ok(Search {
+        goal,
+        path,
+        whole: system,
+        digest,
+        header,
+        budget: order.budget,
+    })
+}
+
+/// What a trial asks of the system of its configuration's text, in which every two quorums share a node. It is the whole system
+/// that is meant, and nobody is deleted.
+pub fn trial_search(
+    alloc: Global,
+    order: &Order,
+    system: System,
+    config: &[u8],
+) -> Result<Search, AllocError>
+    requires few { order.now.budget ≤ MOST_BUDGET }
+    requires meets { Intersects system.sets ∅ }
+    ensures gives { IfOk result (λ s. s ≡ trial_of system config.now (order_view order.now)) }
+    ensures fits { IfOk result FitsSearch }
+{
+    let header = header_of(&system, None, nobody(&system));
+    let path = Word::of(alloc, &order.cert)?;
+    let digest = digest(config);
+    look(&digest);
+    Ok(Search {
+        goal: Goal::Trial,
+        path,
+        whole: system,
+        digest,
+        header,
+        budget: order.budget,
+    })
+}

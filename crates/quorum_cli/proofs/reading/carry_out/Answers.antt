@@ -1,9 +1,0 @@
-use Rattle.std.proofs.Common.{sym}
-use Rattle.quorum_cli.proofs.Trials.{is_trial}
-use Rattle.quorum_cli.proofs.reading.carry_out.Goals as goal
-
-pub over_trial-requires-clause-some : goal.over_trial-requires-clause-some
-over_trial-requires-clause-some g c = (c.requires.organisations (is_trial c.args.order.now.command (sym c.if-has_configuration.ensures))).0
-
-pub over_trial-requires-clause-organisations : goal.over_trial-requires-clause-organisations
-over_trial-requires-clause-organisations g c = (c.requires.organisations (is_trial c.args.order.now.command (sym c.if-has_configuration.ensures))).1

@@ -1,4 +1,0 @@
-use Rattle.quorum_cli.proofs.searches.look.Goals as goal
-
-pub returns-clause-bytes : goal.returns-clause-bytes
-returns-clause-bytes c = λ i. c.fits-digest i

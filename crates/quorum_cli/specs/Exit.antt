@@ -1,0 +1,17 @@
+-- The exit status of the process.
+use Rattle.std.specs.Prelude.{ℕ}
+use Rattle.order_reading.specs.declared.status.Status.{Status}
+use Rattle.order_reading.specs.declared.status.Status.TheVariants.{Yes, No, Unknown, Usage, ConfigRefused, CertRefused, ReadFault, WriteFault, Memory, TooLarge}
+
+-- the exit status of each way to end
+abbrev pub code_of : Status → ℕ
+code_of Yes = 0
+code_of No = 1
+code_of Unknown = 2
+code_of Usage = 3
+code_of ConfigRefused = 4
+code_of CertRefused = 5
+code_of ReadFault = 6
+code_of WriteFault = 7
+code_of Memory = 8
+code_of TooLarge = 9

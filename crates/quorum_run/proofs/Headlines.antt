@@ -1,0 +1,344 @@
+-- What is so where a search prints its answer.
+use Rattle.std.proofs.Common.{◌≡◌, ◌⊎◌, ◌↔◌, inl, inr, IsTrue, Bool, true, false, ℕ, List, [], ◌++◌, Some, Result, Ok, Err, refl, sym, ◌∙◌, ap, subst, codes}
+use Rattle.std.proofs.lemmas.List.{append_assoc, append-nil}
+use Rattle.std.proofs.lemmas.Slice.Eq.{bytes_eq-Decides}
+use Rattle.fbas_model.specs.Nodes.{Table}
+use Rattle.witness_pair.specs.declared.Pair.{Pair}
+use Rattle.lrat_model.specs.Steps.{ProofStep}
+use Rattle.quorum_questions.specs.declared.answers.Size.{Size}
+use Rattle.quorum_questions.specs.declared.answers.Answer.{Answer as Shown}
+use Rattle.quorum_questions.specs.declared.answers.Answer.TheVariants.{Yes as together, No as apart, Spent as spent}
+use Rattle.blocking_lists.specs.declared.outcome.ListOutcome.{ListOutcome}
+use Rattle.blocking_lists.specs.declared.outcome.ListOutcome.TheVariants.{Whole as whole_list, Spent as part_of_list}
+use Rattle.desk_io.specs.State.{Files, DeskState, with_file}
+use Rattle.certificate_file.specs.Acceptance.{checked}
+use Rattle.cert_writer.specs.Finding.{Finds}
+use Rattle.cert_writer.specs.Listing.{FindsList}
+use Rattle.cli_words.specs.Words.{order_of}
+use Rattle.cli_words.specs.declared.orders.Goal.{Goal}
+use Rattle.cli_words.specs.declared.orders.Goal.TheVariants.{Intersect, Dset, Splits, Blocking, Trial}
+use Rattle.report.specs.Lines.{Text, with_pair, counted}
+use Rattle.order_reading.specs.declared.early.Early.{Early}
+use Rattle.order_reading.specs.declared.reading.Asked.{Asked}
+use Rattle.order_reading.specs.declared.reading.Asked.TheVariants as asked
+use Rattle.order_reading.specs.declared.searches.Search.{Search}
+use Rattle.quorum_run.specs.declared.found.Found.{Found}
+use Rattle.quorum_run.specs.declared.found.Found.TheVariants.{Shared, Listed}
+use Rattle.order_reading.specs.declared.reply.Reply.{Reply as Answer}
+use Rattle.order_reading.specs.declared.status.Status.{Status}
+use Rattle.order_reading.specs.declared.status.Status.TheVariants.{Yes, No, Unknown, TooLarge}
+use Rattle.quorum_run.specs.Finding.{FindsFound, accepted_as}
+use Rattle.quorum_run.specs.Putting.{PutsBoth}
+use Rattle.quorum_run.specs.Replies.{intersect_answer, splits_answer, available_lines, dset_answer, size_lines, RepliesTrial, Replies}
+use Rattle.quorum_run.specs.Printing.{part, deleted, request, PrintsFound, PrintsTooLarge, PrintsSearch, Prints}
+use Rattle.quorum_run.proofs.Titles.{title_there}
+use Rattle.quorum_run.specs.Showing.{IsAccepted, WritesAccepted, ShowsPair, PrintsPair, ShowsNone, ShowsUnknown, PrintsUnknown, PrintsUnknownTrial, IsAvailable, IsNoDset, PrintsList, PrintsPartOfList}
+use Rattle.order_reading.specs.Answers.{asked_of}
+use Rattle.order_reading.specs.Meaning.{IsCheck, IsCheckLrat, NamesAccepted, NamesVerified}
+use Rattle.quorum_run.specs.Headline.{NoShows, YesShows, UnknownShows, Headline}
+
+held_there : (path : List ℕ) (cert : Text) (files now : Files) → now ≡ with_file path cert files → now path ≡ Some cert
+held_there path cert files now e = ap (λ (f : Files). f path) e ∙ rw ((bytes_eq-Decides path path).1 refl) refl
+
+-- ---- by what was found
+
+of_pair : (s : Search) (old new : DeskState) (p : Pair) (cert : Text) → Finds (request s) (apart p) cert → new.files ≡ with_file s.path cert old.files → ShowsPair s p new
+of_pair s old new p cert finds files = record {
+  is = finds.shows.apart;
+  cert = cert;
+  held = held_there s.path cert old.files new.files files;
+  accepted = finds.accepted;
+}
+
+of_none : (s : Search) (old new : DeskState) (log : List ProofStep) (size : Size) (cert : Text) → Finds (request s) (together log size) cert → new.files ≡ with_file s.path cert old.files → ShowsNone s new
+of_none s old new log size cert finds files = record {
+  intersects = finds.shows.intersects;
+  log = log;
+  size = size;
+  refutes = finds.shows;
+  held = held_there s.path cert old.files new.files files ∙ ap Some finds.cert_is;
+  accepted = sym (ap (checked s.whole s.digest) finds.cert_is) ∙ finds.accepted;
+}
+
+of_unknown : (s : Search) (old new : DeskState) (log : List ProofStep) (size : Size) (cert : Text) → Finds (request s) (spent log size) cert → new.files ≡ with_file s.path cert old.files → ShowsUnknown s new
+of_unknown s old new log size cert finds files = record {
+  log = log;
+  size = size;
+  spends = finds.shows;
+  held = held_there s.path cert old.files new.files files ∙ ap Some finds.cert_is;
+  accepted = sym (ap (checked s.whole s.digest) finds.cert_is) ∙ finds.accepted;
+}
+
+-- whatever was found, its certificate is accepted
+accepted_there : (s : Search) (found : Found) (cert : Text) → FindsFound (request s) found cert → IsAccepted s cert (accepted_as (request s) found)
+accepted_there s (Shared answer) cert finds = finds.accepted
+accepted_there s (Listed outcome) cert finds = finds.accepted
+
+-- ---- the reply that was put
+
+status_there : (s : Search) (old new : DeskState) (status : Status) (cert : Text) (a b : Answer) (wanted : Status) → PutsBoth s.path cert a old new status → a ≡ b → status ≡ wanted → b.status ≡ wanted
+status_there s old new status cert a b wanted put is at = sym (put.status_is ∙ ap (λ (x : Answer). x.status) is) ∙ at
+
+text_there : (s : Search) (old new : DeskState) (status : Status) (cert : Text) (a b : Answer) → PutsBoth s.path cert a old new status → a ≡ b → new.out ≡ old.out ++ b.text
+text_there s old new status cert a b put is = put.out ∙ ap (λ (x : Answer). old.out ++ x.text) is
+
+-- a pair is printed behind a line
+pair_there : (s : Search) (old new : DeskState) (head : Text) (p : Pair) → ShowsPair s p new → new.out ≡ old.out ++ with_pair head (part s).names p → PrintsPair s head [] old new
+pair_there s old new head p shows out = record {
+  pair = p;
+  shows = shows;
+  out = out ∙ ap (λ (t : Text). old.out ++ t) (sym (append-nil (with_pair head (part s).names p)));
+}
+
+-- a pair is printed behind a line, between other texts
+pair_between : (s : Search) (old new : DeskState) (before head behind : Text) (p : Pair) → ShowsPair s p new → new.out ≡ old.out ++ (before ++ (with_pair head (part s).names p ++ behind)) → PrintsPair s (before ++ head) behind old new
+pair_between s old new before head behind p shows out =
+    let lists : Text = with_pair [] (part s).names p in
+    record {
+      pair = p;
+      shows = shows;
+      out = out ∙ ap (λ (t : Text). old.out ++ t) (sym (ap (λ (t : Text). t ++ behind) (append_assoc before head lists) ∙ append_assoc before (head ++ lists) behind));
+    }
+
+-- ---- `intersect`
+
+intersect_no : (s : Search) (old new : DeskState) (status : Status) (found : Shown) (cert : Text) (a : Answer) → a ≡ intersect_answer (part s).names s.budget found → Finds (request s) found cert → PutsBoth s.path cert a old new status
+    → status ≡ No → PrintsPair s (codes "intersects no\n") [] old new
+intersect_no s old new status (together log size) cert a is finds put at = absurd (let k : Yes ≡ No = status_there s old new status cert a _ No put is at in cc)
+intersect_no s old new status (apart p) cert a is finds put at = pair_there s old new (codes "intersects no\n") p (of_pair s old new p cert finds put.files) (text_there s old new status cert a _ put is)
+intersect_no s old new status (spent log size) cert a is finds put at = absurd (let k : Unknown ≡ No = status_there s old new status cert a _ No put is at in cc)
+
+intersect_yes : (s : Search) (old new : DeskState) (status : Status) (found : Shown) (cert : Text) (a : Answer) → a ≡ intersect_answer (part s).names s.budget found → Finds (request s) found cert → PutsBoth s.path cert a old new status
+    → status ≡ Yes → ShowsNone s new
+intersect_yes s old new status (together log size) cert a is finds put at = of_none s old new log size cert finds put.files
+intersect_yes s old new status (apart p) cert a is finds put at = absurd (let k : No ≡ Yes = status_there s old new status cert a _ Yes put is at in cc)
+intersect_yes s old new status (spent log size) cert a is finds put at = absurd (let k : Unknown ≡ Yes = status_there s old new status cert a _ Yes put is at in cc)
+
+intersect_unknown : (s : Search) (old new : DeskState) (status : Status) (found : Shown) (cert : Text) (a : Answer) → a ≡ intersect_answer (part s).names s.budget found → Finds (request s) found cert → PutsBoth s.path cert a old new status
+    → status ≡ Unknown → PrintsUnknown s (counted (codes "intersects unknown") s.budget) old new
+intersect_unknown s old new status (together log size) cert a is finds put at = absurd (let k : Yes ≡ Unknown = status_there s old new status cert a _ Unknown put is at in cc)
+intersect_unknown s old new status (apart p) cert a is finds put at = absurd (let k : No ≡ Unknown = status_there s old new status cert a _ Unknown put is at in cc)
+intersect_unknown s old new status (spent log size) cert a is finds put at = record { shows = of_unknown s old new log size cert finds put.files; out = text_there s old new status cert a _ put is }
+
+-- ---- `splits`
+
+splits_yes : (s : Search) (old new : DeskState) (status : Status) (found : Shown) (cert : Text) (a : Answer) → a ≡ splits_answer (part s).names s.budget found → Finds (request s) found cert → PutsBoth s.path cert a old new status
+    → status ≡ Yes → PrintsPair s (codes "splits yes\n") [] old new
+splits_yes s old new status (together log size) cert a is finds put at = absurd (let k : No ≡ Yes = status_there s old new status cert a _ Yes put is at in cc)
+splits_yes s old new status (apart p) cert a is finds put at = pair_there s old new (codes "splits yes\n") p (of_pair s old new p cert finds put.files) (text_there s old new status cert a _ put is)
+splits_yes s old new status (spent log size) cert a is finds put at = absurd (let k : Unknown ≡ Yes = status_there s old new status cert a _ Yes put is at in cc)
+
+splits_no : (s : Search) (old new : DeskState) (status : Status) (found : Shown) (cert : Text) (a : Answer) → a ≡ splits_answer (part s).names s.budget found → Finds (request s) found cert → PutsBoth s.path cert a old new status
+    → status ≡ No → ShowsNone s new
+splits_no s old new status (together log size) cert a is finds put at = of_none s old new log size cert finds put.files
+splits_no s old new status (apart p) cert a is finds put at = absurd (let k : Yes ≡ No = status_there s old new status cert a _ No put is at in cc)
+splits_no s old new status (spent log size) cert a is finds put at = absurd (let k : Unknown ≡ No = status_there s old new status cert a _ No put is at in cc)
+
+splits_unknown : (s : Search) (old new : DeskState) (status : Status) (found : Shown) (cert : Text) (a : Answer) → a ≡ splits_answer (part s).names s.budget found → Finds (request s) found cert → PutsBoth s.path cert a old new status
+    → status ≡ Unknown → PrintsUnknown s (counted (codes "splits unknown") s.budget) old new
+splits_unknown s old new status (together log size) cert a is finds put at = absurd (let k : No ≡ Unknown = status_there s old new status cert a _ Unknown put is at in cc)
+splits_unknown s old new status (apart p) cert a is finds put at = absurd (let k : Yes ≡ Unknown = status_there s old new status cert a _ Unknown put is at in cc)
+splits_unknown s old new status (spent log size) cert a is finds put at = record { shows = of_unknown s old new log size cert finds put.files; out = text_there s old new status cert a _ put is }
+
+-- ---- `trial`: as `intersect`, and never no
+
+trial_no : (s : Search) (old new : DeskState) (status : Status) (found : Shown) (cert : Text) (a : Answer) → RepliesTrial (part s) s.budget found a → PutsBoth s.path cert a old new status → status ≡ No → ⊥
+trial_no s old new status (together log size) cert a is put at = absurd (let k : Yes ≡ No = status_there s old new status cert a _ No put is.said at in cc)
+trial_no s old new status (apart p) cert a is put at = is.has
+trial_no s old new status (spent log size) cert a is put at = absurd (let k : Unknown ≡ No = status_there s old new status cert a _ No put is.said at in cc)
+
+trial_yes : (s : Search) (old new : DeskState) (status : Status) (found : Shown) (cert : Text) (a : Answer) → RepliesTrial (part s) s.budget found a → Finds (request s) found cert → PutsBoth s.path cert a old new status → status ≡ Yes → ShowsNone s new
+trial_yes s old new status (together log size) cert a is finds put at = of_none s old new log size cert finds put.files
+trial_yes s old new status (apart p) cert a is finds put at = absurd is.has
+trial_yes s old new status (spent log size) cert a is finds put at = absurd (let k : Unknown ≡ Yes = status_there s old new status cert a _ Yes put is.said at in cc)
+
+trial_unknown : (s : Search) (old new : DeskState) (status : Status) (found : Shown) (cert : Text) (a : Answer) → RepliesTrial (part s) s.budget found a → Finds (request s) found cert → PutsBoth s.path cert a old new status
+    → status ≡ Unknown → PrintsUnknownTrial s (counted (codes "intersects unknown") s.budget) old new
+unfolding of_unknown
+trial_unknown s old new status (together log size) cert a is finds put at = absurd (let k : Yes ≡ Unknown = status_there s old new status cert a _ Unknown put is.said at in cc)
+trial_unknown s old new status (apart p) cert a is finds put at = absurd is.has
+trial_unknown s old new status (spent log size) cert a is finds put at = record {
+  shows = of_unknown s old new log size cert finds put.files;
+  out = text_there s old new status cert a _ put is.said ∙ ap (λ (z : Size). old.out ++ (size_lines (part s) z ++ counted (codes "intersects unknown") s.budget)) is.has;
+}
+
+-- ---- `dset`: the status is that of both answers
+
+not_available : (s : Search) → (IsTrue false ↔ IsAvailable s) → IsAvailable s → ⊥
+not_available s is a = absurd (let k = is.1 a in cc)
+
+dset_no : (s : Search) (old new : DeskState) (status : Status) (found : Shown) (cert : Text) (a : Answer) (available : Bool) (unmet : Table) → (IsTrue available ↔ IsAvailable s)
+    → a ≡ dset_answer (part s).names available unmet (intersect_answer (part s).names s.budget found) → Finds (request s) found cert → PutsBoth s.path cert a old new status → status ≡ No → IsNoDset s old new
+dset_no s old new status (together log size) cert a false unmet is said finds put at = inr (not_available s is, inl (of_none s old new log size cert finds put.files))
+dset_no s old new status (together log size) cert a true unmet is said finds put at = absurd (let k : Yes ≡ No = status_there s old new status cert a _ No put said at in cc)
+dset_no s old new status (apart p) cert a false unmet is said finds put at =
+    inl (available_lines (part s).names false unmet ++ codes "intersects no\n", pair_between s old new (available_lines (part s).names false unmet) (codes "intersects no\n") (codes "dset no\n") p (of_pair s old new p cert finds put.files) (text_there s old new status cert a _ put said))
+dset_no s old new status (apart p) cert a true unmet is said finds put at =
+    inl (available_lines (part s).names true unmet ++ codes "intersects no\n", pair_between s old new (available_lines (part s).names true unmet) (codes "intersects no\n") (codes "dset no\n") p (of_pair s old new p cert finds put.files) (text_there s old new status cert a _ put said))
+dset_no s old new status (spent log size) cert a false unmet is said finds put at = inr (not_available s is, inr (of_unknown s old new log size cert finds put.files))
+dset_no s old new status (spent log size) cert a true unmet is said finds put at = absurd (let k : Unknown ≡ No = status_there s old new status cert a _ No put said at in cc)
+
+dset_yes : (s : Search) (old new : DeskState) (status : Status) (found : Shown) (cert : Text) (a : Answer) (available : Bool) (unmet : Table) → (IsTrue available ↔ IsAvailable s)
+    → a ≡ dset_answer (part s).names available unmet (intersect_answer (part s).names s.budget found) → Finds (request s) found cert → PutsBoth s.path cert a old new status → status ≡ Yes → IsAvailable s × ShowsNone s new
+dset_yes s old new status found cert a false unmet is said finds put at = absurd (let k : No ≡ Yes = status_there s old new status cert a _ Yes put said at in cc)
+dset_yes s old new status (together log size) cert a true unmet is said finds put at = (is.0 refl, of_none s old new log size cert finds put.files)
+dset_yes s old new status (apart p) cert a true unmet is said finds put at = absurd (let k : No ≡ Yes = status_there s old new status cert a _ Yes put said at in cc)
+dset_yes s old new status (spent log size) cert a true unmet is said finds put at = absurd (let k : Unknown ≡ Yes = status_there s old new status cert a _ Yes put said at in cc)
+
+dset_unknown : (s : Search) (old new : DeskState) (status : Status) (found : Shown) (cert : Text) (a : Answer) (available : Bool) (unmet : Table) → (IsTrue available ↔ IsAvailable s)
+    → a ≡ dset_answer (part s).names available unmet (intersect_answer (part s).names s.budget found) → Finds (request s) found cert → PutsBoth s.path cert a old new status → status ≡ Unknown
+    → IsAvailable s × PrintsUnknown s (codes "available yes\n" ++ (counted (codes "intersects unknown") s.budget ++ codes "dset unknown\n")) old new
+dset_unknown s old new status found cert a false unmet is said finds put at = absurd (let k : No ≡ Unknown = status_there s old new status cert a _ Unknown put said at in cc)
+dset_unknown s old new status (together log size) cert a true unmet is said finds put at = absurd (let k : Yes ≡ Unknown = status_there s old new status cert a _ Unknown put said at in cc)
+dset_unknown s old new status (apart p) cert a true unmet is said finds put at = absurd (let k : No ≡ Unknown = status_there s old new status cert a _ Unknown put said at in cc)
+dset_unknown s old new status (spent log size) cert a true unmet is said finds put at = (is.0 refl, record { shows = of_unknown s old new log size cert finds put.files; out = text_there s old new status cert a _ put said })
+
+-- ---- `blocking`
+
+list_whole : (s : Search) (old new : DeskState) (status : Status) (found : Found) (cert : Text) (a : Answer) → Replies Blocking (part s) (deleted s) s.budget found a → FindsFound (request s) found cert → PutsBoth s.path cert a old new status
+    → status ≡ Yes → PrintsList s old new
+list_whole s old new status (Shared answer) cert a is finds put at = absurd is
+list_whole s old new status (Listed (whole_list sets journal)) cert a is finds put at = record {
+  sets = sets;
+  out = text_there s old new status cert a _ put is;
+  list = finds.shows.holds.list;
+  journal = journal;
+  left = finds.shows.left;
+  lists = finds.shows.holds;
+  held = held_there s.path cert old.files new.files put.files ∙ ap Some finds.cert_is;
+  accepted = sym (ap (checked s.whole s.digest) finds.cert_is) ∙ finds.accepted;
+}
+list_whole s old new status (Listed (part_of_list journal)) cert a is finds put at = absurd (let k : Unknown ≡ Yes = status_there s old new status cert a _ Yes put is at in cc)
+
+list_unknown : (s : Search) (old new : DeskState) (status : Status) (found : Found) (cert : Text) (a : Answer) → Replies Blocking (part s) (deleted s) s.budget found a → FindsFound (request s) found cert → PutsBoth s.path cert a old new status
+    → status ≡ Unknown → PrintsPartOfList s old new
+list_unknown s old new status (Shared answer) cert a is finds put at = absurd is
+list_unknown s old new status (Listed (whole_list sets journal)) cert a is finds put at = absurd (let k : Yes ≡ Unknown = status_there s old new status cert a _ Unknown put is at in cc)
+list_unknown s old new status (Listed (part_of_list journal)) cert a is finds put at = record {
+  out = text_there s old new status cert a _ put is;
+  journal = journal;
+  lists = finds.shows.holds.1;
+  held = held_there s.path cert old.files new.files put.files ∙ ap Some finds.cert_is;
+  accepted = sym (ap (checked s.whole s.digest) finds.cert_is) ∙ finds.accepted;
+}
+
+-- ---- by what is sought
+
+found_no : (s : Search) (old new : DeskState) (status : Status) (goal : Goal) (found : Found) (cert : Text) (a : Answer) → Replies goal (part s) (deleted s) s.budget found a → FindsFound (request s) found cert → PutsBoth s.path cert a old new status → NoShows goal s old new status
+found_no s old new status Intersect (Shared answer) cert a is finds put = λ at. intersect_no s old new status answer cert a is finds put at
+found_no s old new status Splits (Shared answer) cert a is finds put = λ at. splits_yes s old new status answer cert a is finds put at
+found_no s old new status Dset (Shared answer) cert a is finds put = λ at. dset_no s old new status answer cert a is.available is.unmet is.is.is is.said finds put at
+found_no s old new status Blocking found cert a is finds put = tt
+found_no s old new status Trial (Shared answer) cert a is finds put = λ at. trial_no s old new status answer cert a is put at
+found_no s old new status Intersect (Listed outcome) cert a is finds put = absurd is
+found_no s old new status Splits (Listed outcome) cert a is finds put = absurd is
+found_no s old new status Dset (Listed outcome) cert a is finds put = absurd is
+found_no s old new status Trial (Listed outcome) cert a is finds put = absurd is
+
+found_yes : (s : Search) (old new : DeskState) (status : Status) (goal : Goal) (found : Found) (cert : Text) (a : Answer) → Replies goal (part s) (deleted s) s.budget found a → FindsFound (request s) found cert → PutsBoth s.path cert a old new status → YesShows goal s new status
+found_yes s old new status Intersect (Shared answer) cert a is finds put = λ at. intersect_yes s old new status answer cert a is finds put at
+found_yes s old new status Splits (Shared answer) cert a is finds put = λ at. splits_no s old new status answer cert a is finds put at
+found_yes s old new status Dset (Shared answer) cert a is finds put = λ at. dset_yes s old new status answer cert a is.available is.unmet is.is.is is.said finds put at
+found_yes s old new status Blocking found cert a is finds put = tt
+found_yes s old new status Trial (Shared answer) cert a is finds put = λ at. trial_yes s old new status answer cert a is finds put at
+found_yes s old new status Intersect (Listed outcome) cert a is finds put = absurd is
+found_yes s old new status Splits (Listed outcome) cert a is finds put = absurd is
+found_yes s old new status Dset (Listed outcome) cert a is finds put = absurd is
+found_yes s old new status Trial (Listed outcome) cert a is finds put = absurd is
+
+found_unknown : (s : Search) (old new : DeskState) (status : Status) (goal : Goal) (found : Found) (cert : Text) (a : Answer) → Replies goal (part s) (deleted s) s.budget found a → FindsFound (request s) found cert → PutsBoth s.path cert a old new status → status ≡ Unknown
+    → UnknownShows goal s old new
+found_unknown s old new status Intersect (Shared answer) cert a is finds put at = intersect_unknown s old new status answer cert a is finds put at
+found_unknown s old new status Splits (Shared answer) cert a is finds put at = splits_unknown s old new status answer cert a is finds put at
+found_unknown s old new status Dset (Shared answer) cert a is finds put at = dset_unknown s old new status answer cert a is.available is.unmet is.is.is is.said finds put at
+found_unknown s old new status Blocking found cert a is finds put at = list_unknown s old new status found cert a is finds put at
+found_unknown s old new status Trial (Shared answer) cert a is finds put at = trial_unknown s old new status answer cert a is finds put at
+found_unknown s old new status Intersect (Listed outcome) cert a is finds put at = absurd is
+found_unknown s old new status Splits (Listed outcome) cert a is finds put at = absurd is
+found_unknown s old new status Dset (Listed outcome) cert a is finds put at = absurd is
+found_unknown s old new status Trial (Listed outcome) cert a is finds put at = absurd is
+
+found_list : (s : Search) (old new : DeskState) (status : Status) (goal : Goal) (found : Found) (cert : Text) (a : Answer) → Replies goal (part s) (deleted s) s.budget found a → FindsFound (request s) found cert → PutsBoth s.path cert a old new status
+    → goal ≡ Blocking → status ≡ Yes → PrintsList s old new
+found_list s old new status goal found cert a is finds put listed at = list_whole s old new status found cert a (subst (λ (g : Goal). Replies g (part s) (deleted s) s.budget found a) listed is) finds put at
+
+-- ---- what is so of a search that was answered
+
+-- the five parts of the headline, of one search
+pub record SearchMeans (s : Search) (old new : DeskState) (status : Status) : Type 0 where
+  pub no : NoShows s.goal s old new status
+  pub yes : YesShows s.goal s new status
+  pub completed : s.goal ≡ Blocking → status ≡ Yes → PrintsList s old new
+  pub finished : (status ≡ Yes) ⊎ ((status ≡ No) ⊎ (status ≡ Unknown)) → WritesAccepted s new
+  pub unknown : status ≡ Unknown → UnknownShows s.goal s old new
+
+found_means : (s : Search) (old new : DeskState) (status : Status) → PrintsFound s old new status → SearchMeans s old new status
+found_means s old new status p =
+    let r = p.reply in
+    record {
+      no = found_no s old new status s.goal r.found r.cert r.answer r.is r.finds p.put;
+      yes = found_yes s old new status s.goal r.found r.cert r.answer r.is r.finds p.put;
+      completed = found_list s old new status s.goal r.found r.cert r.answer r.is r.finds p.put;
+      finished = λ at. record {
+        cert = r.cert;
+        held = held_there s.path r.cert old.files new.files p.put.files;
+        title = title_there s r.found r.cert r.finds;
+        answer = accepted_as (request s) r.found;
+        accepted = accepted_there s r.found r.cert r.finds;
+      };
+      unknown = found_unknown s old new status s.goal r.found r.cert r.answer r.is r.finds p.put;
+    }
+
+-- ---- a formula that is too large
+
+too_large_at : (s : Search) (old new : DeskState) (status : Status) → PrintsTooLarge s old new status → status ≡ TooLarge
+too_large_at s old new status p = p.printed.status_is ∙ ap (λ (x : Answer). x.status) p.is.said
+
+no_no : (s : Search) (old new : DeskState) (status : Status) (goal : Goal) → status ≡ TooLarge → NoShows goal s old new status
+no_no s old new status Intersect large = λ at. absurd cc
+no_no s old new status Splits large = λ at. absurd cc
+no_no s old new status Dset large = λ at. absurd cc
+no_no s old new status Blocking large = tt
+no_no s old new status Trial large = λ at. absurd cc
+
+no_yes : (s : Search) (new : DeskState) (status : Status) (goal : Goal) → status ≡ TooLarge → YesShows goal s new status
+no_yes s new status Intersect large = λ at. absurd cc
+no_yes s new status Splits large = λ at. absurd cc
+no_yes s new status Dset large = λ at. absurd cc
+no_yes s new status Blocking large = tt
+no_yes s new status Trial large = λ at. absurd cc
+
+too_large_means : (s : Search) (old new : DeskState) (status : Status) → PrintsTooLarge s old new status → SearchMeans s old new status
+too_large_means s old new status p =
+    let large = too_large_at s old new status p in
+    record {
+      no = no_no s old new status s.goal large;
+      yes = no_yes s new status s.goal large;
+      completed = λ goal at. absurd cc;
+      finished = λ at. elim at [
+        | inl yes_is ↦ absurd cc
+        | inr other ↦ elim other [ inl no_is ↦ absurd cc | inr unknown_is ↦ absurd cc ]
+      ];
+      unknown = λ at. absurd cc;
+    }
+
+search_means : (s : Search) (old new : DeskState) (status : Status) → PrintsSearch s old new status → SearchMeans s old new status
+search_means s old new status (inl p) = found_means s old new status p
+search_means s old new status (inr p) = too_large_means s old new status p
+
+-- the same of a search that the words ask
+sought_means : (r : Result Asked Early) (s : Search) (old new : DeskState) (status : Status) → r ≡ Ok (asked.Search s) → Prints r old new status → SearchMeans s old new status
+sought_means r s old new status is p = search_means s old new status (subst (λ (x : Result Asked Early). Prints x old new status) is p)
+
+-- the headline, by what was printed and what was accepted
+pub headline_of : (words : List (List ℕ)) (old new : DeskState) (status : Status) → Prints (asked_of words old.files) old new status → (IsCheck (order_of words) → status ≡ Yes → NamesAccepted words old.files)
+    → (IsCheckLrat (order_of words) → status ≡ Yes → NamesVerified words old.files) → Headline words old new status
+headline_of words old new status prints accepts verifies = record {
+  no = λ s seeks. (sought_means (asked_of words old.files) s old new status seeks prints).no;
+  yes = λ s seeks. (sought_means (asked_of words old.files) s old new status seeks prints).yes;
+  accepts = accepts;
+  verifies = verifies;
+  completed = λ s seeks. (sought_means (asked_of words old.files) s old new status seeks prints).completed;
+  finished = λ s seeks. (sought_means (asked_of words old.files) s old new status seeks prints).finished;
+  unknown = λ s seeks. (sought_means (asked_of words old.files) s old new status seeks prints).unknown;
+}

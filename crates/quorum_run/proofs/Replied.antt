@@ -1,0 +1,82 @@
+-- A reply of a search has the status of an answer.
+use Rattle.std.proofs.Common.{◌≡◌, ◌<◌, ℕ, IsTrue, Bool, true, false, Contains, length, refl, sym, subst, ap, ◌∙◌}
+use Rattle.std.proofs.lemmas.List.Elements.{All-weaker, All-contains_itself}
+use Rattle.fbas_model.specs.Fbas.{Fbas, Intersects}
+use Rattle.fbas_model.specs.Nodes.{Table, members}
+use Rattle.fbas_model.specs.Systems.{System}
+use Rattle.quorum_questions.specs.Evidence.{vars_of, Shows}
+use Rattle.clause_encoder.specs.declared.limits.TheConstants.{MOST_VARS}
+use Rattle.cert_writer.specs.Finding.{CanBeWritten}
+use Rattle.witness_pair.specs.declared.Pair.{Pair}
+use Rattle.report.specs.Lines.{too_large}
+use Rattle.order_reading.specs.declared.status.Status.TheVariants.{TooLarge}
+use Rattle.quorum_questions.specs.declared.answers.Answer.{Answer as Shown}
+use Rattle.quorum_questions.specs.declared.answers.Answer.TheVariants.{Yes as together, No as apart, Spent as spent}
+use Rattle.cli_words.specs.declared.orders.Goal.{Goal}
+use Rattle.cli_words.specs.declared.orders.Goal.TheVariants.{Intersect, Dset, Splits, Blocking, Trial}
+use Rattle.blocking_lists.specs.Outcomes.{OutcomeHolds}
+use Rattle.blocking_lists.specs.declared.outcome.ListOutcome.{ListOutcome}
+use Rattle.blocking_lists.specs.declared.outcome.ListOutcome.TheVariants.{Whole as whole_list, Spent as part_of_list}
+use Rattle.order_reading.specs.Status.{is_answer}
+use Rattle.quorum_run.specs.declared.found.Found.{Found}
+use Rattle.quorum_run.specs.declared.found.Found.TheVariants.{Shared, Listed}
+use Rattle.order_reading.specs.declared.reply.Reply.{Reply as Answer}
+use Rattle.quorum_run.specs.Replies.{intersect_answer, splits_answer, blocking_answer, dset_status, HasSets, Replies, RepliesTooLarge}
+
+abbrev Answered : Answer → Type 0
+Answered a = IsTrue (is_answer a.status)
+
+intersect_answered : (f : System) (budget : ℕ) (found : Shown) → Answered (intersect_answer f.names budget found)
+intersect_answered f budget (together log size) = refl
+intersect_answered f budget (apart p) = refl
+intersect_answered f budget (spent log size) = refl
+
+splits_answered : (f : System) (budget : ℕ) (found : Shown) → Answered (splits_answer f.names budget found)
+splits_answered f budget (together log size) = refl
+splits_answered f budget (apart p) = refl
+splits_answered f budget (spent log size) = refl
+
+dset_answered : (f : System) (budget : ℕ) (available : Bool) (found : Shown) → IsTrue (is_answer (dset_status available (intersect_answer f.names budget found).status))
+dset_answered f budget false found = refl
+dset_answered f budget true found = intersect_answered f budget found
+
+blocking_answered : (f : System) (budget : ℕ) (found : ListOutcome) → Answered (blocking_answer f.names budget found)
+blocking_answered f budget (whole_list sets journal) = refl
+blocking_answered f budget (part_of_list journal) = refl
+
+pub reply_answered : (goal : Goal) (f : System) (deleted : Table) (budget : ℕ) (found : Found) (a : Answer) → Replies goal f deleted budget found a → IsTrue (is_answer a.status)
+reply_answered Intersect f deleted budget (Shared found) a is = subst Answered (sym is) (intersect_answered f budget found)
+reply_answered Splits f deleted budget (Shared found) a is = subst Answered (sym is) (splits_answered f budget found)
+reply_answered Dset f deleted budget (Shared found) a is = subst Answered (sym is.said) (dset_answered f budget is.available found)
+reply_answered Blocking f deleted budget (Listed found) a is = subst Answered (sym is) (blocking_answered f budget found)
+reply_answered Trial f deleted budget (Shared found) a is = subst Answered (sym is.said) (intersect_answered f budget found)
+reply_answered Intersect f deleted budget (Listed found) a is = absurd is
+reply_answered Splits f deleted budget (Listed found) a is = absurd is
+reply_answered Dset f deleted budget (Listed found) a is = absurd is
+reply_answered Blocking f deleted budget (Shared found) a is = absurd is
+reply_answered Trial f deleted budget (Listed found) a is = absurd is
+
+pub too_large_answered : (f : System) (deleted : Table) (a : Answer) → RepliesTooLarge f deleted a → IsTrue (is_answer a.status)
+too_large_answered f deleted a is = subst Answered (sym is.said) refl
+
+pub too_large_fits : (f : System) (deleted : Table) (vars : ℕ) (a : Answer) → vars ≡ vars_of f.sets deleted → MOST_VARS < vars → a ≡ record { status = TooLarge; text = too_large vars } → RepliesTooLarge f deleted a
+too_large_fits f deleted vars a same large said = record {
+  large = subst (λ (n : ℕ). MOST_VARS < n) same large;
+  said = said ∙ ap (λ (n : ℕ). record { status = TooLarge; text = too_large n }) same;
+}
+
+-- what is found can be written, by the number of quorum sets
+pub written_there : (n m : ℕ) (found : Shown) → n ≡ m → CanBeWritten n found → CanBeWritten m found
+written_there n m found same can = subst (λ (k : ℕ). CanBeWritten k found) same can
+
+-- the sets of a list have a place for each node
+pub list_sized : (f : Fbas) (b : Table) (units left : ℕ) (found : ListOutcome) → OutcomeHolds f b units left found → HasSets (length f) found
+list_sized f b units left (whole_list sets journal) holds =
+    All-weaker (Contains sets.items) (λ s. length s ≡ length f) (λ s there. ((holds.list.exact s).0 there).0) sets.items (All-contains_itself sets.items)
+list_sized f b units left (part_of_list journal) holds = tt
+
+-- where every two quorums share a node, none are found apart
+pub found_together : (f : Fbas) (b : Table) (budget : ℕ) (found : Shown) → Intersects f (members b) → Shows f b budget found → (p : Pair) → found ≡ apart p → ⊥
+found_together f b budget found meets shows p is =
+    let pair = (subst (Shows f b budget) is shows).apart in
+    pair.apart (meets (members p.first) (members p.second) pair.first pair.second)

@@ -1,0 +1,25 @@
+use Rattle.std.proofs.Common.{refl, ◌∙◌, ap, sym, subst, Err}
+use Rattle.std.proofs.lemmas.Result.{IfOk-weaker}
+use Rattle.cli_words.specs.declared.orders.Goal.TheVariants.{Splits}
+use Rattle.quorum_run.specs.declared.searching.Ready.{Ready}
+use Rattle.quorum_run.specs.Searching.{FitsReady}
+use Rattle.quorum_run.proofs.Replied.{too_large_fits, written_there}
+use Rattle.quorum_run.proofs.searching.splits_ready.Goals as goal
+
+pub splits_answer-requires : goal.splits_answer-requires
+splits_answer-requires c =
+    let same = sym c.len.ensures.names ∙ c.len.ensures.sets in
+    written_there _ _ c.in-Ok.found same (c.what_is_shown_is_found.ensures.written c.args.part.now c.args.faulty.now c.args.budget c.in-Ok.found same c.in-Ok.ensures.shows)
+
+pub returns-in_ok-reply-in-Ok : goal.returns-in_ok-reply-in-Ok
+returns-in_ok-reply-in-Ok c = IfOk-weaker c.hold.result _ _ (λ ready is. subst (λ (r : Ready). FitsReady Splits c.args.part.now c.args.faulty.now c.args.budget r) (sym is) (record {
+  shows = c.in-Ok.ensures.shows;
+  replies = c.in_ok-reply-in-Ok.ensures;
+  fresh = refl;
+})) c.hold.ensures
+
+pub returns-in-Err-TooLarge : goal.returns-in-Err-TooLarge
+returns-in-Err-TooLarge c =
+    let vars = c.in-Err-TooLarge.vars in
+    let too = c.intersect.ensures.too_large vars (c.in-Err-TooLarge.is ∙ ap Err c.in-Err-TooLarge.field-0-is) in
+    IfOk-weaker c.too_large.result _ _ (λ ready is. subst (λ (r : Ready). FitsReady Splits c.args.part.now c.args.faulty.now c.args.budget r) (sym is) (too_large_fits c.args.part.now c.args.faulty.now vars _ too.0 too.1 refl)) c.too_large.ensures

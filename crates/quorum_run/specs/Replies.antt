@@ -1,0 +1,111 @@
+-- What a search prints of what it found.
+use Rattle.std.specs.Prelude.{◌≡◌, ◌↔◌, ◌<◌, ℕ, ◌++◌, ◌/◌, Bool, true, false, IsTrue, List, All, length, codes}
+use Rattle.fbas_model.specs.Names.{Name}
+use Rattle.fbas_model.specs.Nodes.{Table, members}
+use Rattle.fbas_model.specs.Fbas.{Available, AreUnmet}
+use Rattle.fbas_model.specs.Systems.{System}
+use Rattle.quorum_questions.specs.Evidence.{vars_of}
+use Rattle.quorum_questions.specs.declared.answers.Size.{Size}
+use Rattle.quorum_questions.specs.declared.answers.Answer.{Answer as Shown}
+use Rattle.quorum_questions.specs.declared.answers.Answer.TheVariants.{Yes as together, No as apart, Spent as spent}
+use Rattle.blocking_lists.specs.declared.outcome.ListOutcome.{ListOutcome}
+use Rattle.blocking_lists.specs.declared.outcome.ListOutcome.TheVariants.{Whole as whole, Spent as part}
+use Rattle.clause_encoder.specs.declared.limits.TheConstants.{MOST_VARS}
+use Rattle.cli_words.specs.declared.orders.Goal.{Goal}
+use Rattle.cli_words.specs.declared.orders.Goal.TheVariants.{Intersect, Dset, Splits, Blocking, Trial}
+use Rattle.report.specs.Lines.{Text, with_pair, with_sets, trial_size, counted, unavailable, too_large}
+use Rattle.order_reading.specs.declared.status.Status.{Status}
+use Rattle.order_reading.specs.declared.status.Status.TheVariants.{Yes, No, Unknown, TooLarge}
+use Rattle.order_reading.specs.declared.reply.Reply.{Reply as Answer}
+use Rattle.quorum_run.specs.declared.found.Found.{Found}
+use Rattle.quorum_run.specs.declared.found.Found.TheVariants.{Shared, Listed}
+
+-- whether every two quorums share a node, by the names of the part
+abbrev pub intersect_answer : List Name → ℕ → Shown → Answer
+intersect_answer names budget (together log size) = record { status = Yes; text = codes "intersects yes\n" }
+intersect_answer names budget (apart p) = record { status = No; text = with_pair (codes "intersects no\n") names p }
+intersect_answer names budget (spent log size) = record { status = Unknown; text = counted (codes "intersects unknown") budget }
+
+-- whether two quorums share no node
+abbrev pub splits_answer : List Name → ℕ → Shown → Answer
+splits_answer names budget (together log size) = record { status = No; text = codes "splits no\n" }
+splits_answer names budget (apart p) = record { status = Yes; text = with_pair (codes "splits yes\n") names p }
+splits_answer names budget (spent log size) = record { status = Unknown; text = counted (codes "splits unknown") budget }
+
+-- all minimal blocking sets
+abbrev pub blocking_answer : List Name → ℕ → ListOutcome → Answer
+blocking_answer names budget (whole sets journal) = record { status = Yes; text = with_sets (codes "blocking") names sets.items }
+blocking_answer names budget (part journal) = record { status = Unknown; text = counted (codes "blocking unknown") budget }
+
+-- each listed set has a place for each of n nodes
+abbrev pub HasSets : ℕ → ListOutcome → Type 0
+HasSets n (whole sets journal) = All (λ s. length s ≡ n) sets.items
+HasSets n (part journal) = Unit {0}
+
+-- ---- a dispensable set
+
+abbrev pub available_lines : List Name → Bool → Table → Text
+available_lines names true unmet = codes "available yes\n"
+available_lines names false unmet = unavailable names unmet
+
+-- no where either is no, yes where both are yes, else unknown
+abbrev pub dset_status : Bool → Status → Status
+dset_status false status = No
+dset_status true status = status
+
+abbrev pub dset_line : Status → Text
+dset_line Yes = codes "dset yes\n"
+dset_line No = codes "dset no\n"
+dset_line status = codes "dset unknown\n"
+
+-- the lines of both answers, and what follows
+abbrev pub dset_answer : List Name → Bool → Table → Answer → Answer
+dset_answer names available unmet answer = record {
+  status = dset_status available answer.status;
+  text = available_lines names available unmet ++ (answer.text ++ dset_line (dset_status available answer.status));
+}
+
+-- whether the others are available despite the set, and which of them are then unmet
+pub record IsAvailability (f : System) (set : Table) (available : Bool) (unmet : Table) : Type 0 where
+  pub is : IsTrue available ↔ Available f.sets (members set)
+  pub places : length unmet ≡ length f.sets
+  pub are : AreUnmet f.sets (members set) (members unmet)
+
+pub record RepliesDset (f : System) (set : Table) (budget : ℕ) (found : Shown) (a : Answer) : Type 0 where
+  pub available : Bool
+  pub unmet : Table
+  pub is : IsAvailability f set available unmet
+  pub said : a ≡ dset_answer f.names available unmet (intersect_answer f.names budget found)
+
+-- ---- a trial
+
+-- how large it is: an organisation has three nodes
+abbrev pub size_lines : System → Size → Text
+size_lines f size = trial_size (length f.names / 3) (length f.names) size.vars size.clauses
+
+-- how large the formula is, by what was found: where two quorums are apart there is no size
+abbrev pub HasSize : Shown → Size → Type 0
+HasSize (together log size) s = s ≡ size
+HasSize (apart p) s = ⊥
+HasSize (spent log size) s = s ≡ size
+
+-- how large it is, and whether every two quorums share a node, which is never no
+pub record RepliesTrial (f : System) (budget : ℕ) (found : Shown) (a : Answer) : Type 0 where
+  pub size : Size
+  pub has : HasSize found size
+  pub said : a ≡ record (intersect_answer f.names budget found) { text = size_lines f size ++ (intersect_answer f.names budget found).text }
+
+-- ---- the reply of a search over a part of the system, of which these nodes are deleted and this was found
+
+abbrev pub Replies : Goal → System → Table → ℕ → Found → Answer → Type 0
+Replies Intersect f deleted budget (Shared found) a = a ≡ intersect_answer f.names budget found
+Replies Splits f deleted budget (Shared found) a = a ≡ splits_answer f.names budget found
+Replies Dset f deleted budget (Shared found) a = RepliesDset f deleted budget found a
+Replies Blocking f deleted budget (Listed found) a = a ≡ blocking_answer f.names budget found
+Replies Trial f deleted budget (Shared found) a = RepliesTrial f budget found a
+Replies goal f deleted budget found a = ⊥
+
+-- the formula has too many variables, which are told
+pub record RepliesTooLarge (f : System) (deleted : Table) (a : Answer) : Type 0 where
+  pub large : MOST_VARS < vars_of f.sets deleted
+  pub said : a ≡ record { status = TooLarge; text = too_large (vars_of f.sets deleted) }

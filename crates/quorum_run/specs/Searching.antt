@@ -1,0 +1,20 @@
+-- What is ready to be put at the end of a search.
+use Rattle.std.specs.Prelude.{◌≡◌, ℕ, [], false}
+use Rattle.fbas_model.specs.Nodes.{Table}
+use Rattle.fbas_model.specs.Systems.{System}
+use Rattle.cli_words.specs.declared.orders.Goal.{Goal}
+use Rattle.quorum_run.specs.Finding.{FoundShows}
+use Rattle.quorum_run.specs.Replies.{Replies, RepliesTooLarge}
+use Rattle.quorum_run.specs.declared.searching.Held.{Held}
+use Rattle.quorum_run.specs.declared.searching.Ready.{Ready}
+use Rattle.quorum_run.specs.declared.searching.Ready.TheVariants.{Found, TooLarge}
+
+-- what was found, its reply, and a writer that has written nothing
+pub record FitsHeld (goal : Goal) (part : System) (deleted : Table) (budget : ℕ) (h : Held) : Type 0 where
+  pub shows : FoundShows part.sets deleted budget h.found
+  pub replies : Replies goal part deleted budget h.found h.reply
+  pub fresh : h.writer ≡ record { held = []; failed = false }
+
+abbrev pub FitsReady : Goal → System → Table → ℕ → Ready → Type 0
+FitsReady goal part deleted budget (Found h) = FitsHeld goal part deleted budget h
+FitsReady goal part deleted budget (TooLarge reply) = RepliesTooLarge part deleted reply

@@ -1,0 +1,65 @@
+//! What a search found, and its certificate.
+ghost use Rattle.std.specs.Prelude.{◌≡◌, ◌≤◌, ℕ, [], false, length, IsTrue, IsErr, OnOk, OnErr};
+ghost use Rattle.std.specs.List.Sorted.{IsStrictlySortedBy};
+ghost use Rattle.hex.specs.Hex.{IsBytes};
+ghost use Rattle.desk_io.specs.State.{written};
+ghost use Rattle.desk_io.specs.Faults.{WriteFails};
+ghost use Rattle.fbas_model.specs.Names.{name_cmp};
+ghost use Rattle.fbas_model.specs.Nodes.{Table};
+ghost use Rattle.fbas_model.specs.Systems.{System, IsSystem};
+ghost use Rattle.quorum_questions.specs.declared.asking.TheConstants.{MOST_UNITS};
+ghost use Rattle.cert_writer.specs.Promises.{IsHeader, part_of, PutsPart};
+ghost use Rattle.cert_writer.specs.Finding.{Search, part, faulty};
+ghost use Rattle.quorum_run.specs.Finding.{cert_over, cert_of, FoundShows, FindsFound, IsWritable};
+
+use blocking_lists::ListOutcome;
+use cert_writer::{
+    CertWriter, what_is_listed_is_found, what_is_shown_is_found, write_found, write_list,
+};
+use certificate_file::Header;
+use desk_io::{Desk, To, WriteFailed};
+use fbas_core::System;
+use quorum_questions::Answer;
+
+/// What a search found.
+#[derive(Drop)]
+pub enum Found {
+    /// Whether every two quorums share a node.
+    Shared(Answer),
+    /// The minimal blocking sets.
+    Listed(ListOutcome),
+}
+
+/// Writes the certificate of what was found to the created file.
+pub fn write_certificate<D: Desk>(
+    writer: &mut CertWriter,
+    desk: &mut D,
+    digest: &[u8; 32],
+    header: &Header,
+    whole: &System,
+    kept: &System,
+    found: &Found,
+) -> Result<(), WriteFailed>
+    requires fresh { writer.old ≡ record { held = []; failed = false } }
+    requires header { IsHeader whole.now header.now }
+    requires part { kept.now ≡ part_of whole.now header.now.from }
+    requires found { IsWritable (length kept.now.names) found.now }
+    ensures all { OnOk result (IsTrue D.tells → D.state desk.new ≡ written To.Cert (cert_over whole.now digest.now header.now found.now) (D.state desk.old)) }
+    ensures part { OnErr result (IsTrue D.tells → PutsPart (cert_over whole.now digest.now header.now found.now) (D.state desk.old) (D.state desk.new)) }
+    ensures faults { WriteFails (D.faults desk.old) (D.faults desk.new) (IsErr result) }
+{
+    match found {
+        Found::Shared(answer) => write_found(writer, desk, digest, header, whole, kept, answer),
+        Found::Listed(outcome) => write_list(writer, desk, digest, header, whole, kept, outcome),
+    }
+}
+
+/// What a search shows can be written, and its certificate is accepted.
+pub fn what_is_shown_is_accepted()
+    ensures written { (f : System) (b : Table) (budget : ℕ) (found : Found) → length f.names ≡ length f.sets → FoundShows f.sets b budget found → IsWritable (length f.names) found }
+    ensures found { (s : Search) (found : Found) → IsSystem s.whole.names s.whole.sets → IsStrictlySortedBy name_cmp s.whole.names → length s.digest ≡ 32 → IsBytes s.digest → IsHeader s.whole s.header → s.budget ≤ MOST_UNITS
+        → FoundShows (part s).sets (faulty s) s.budget found → FindsFound s found (cert_of s found) }
+{
+    what_is_shown_is_found();
+    what_is_listed_is_found();
+}

@@ -1,0 +1,166 @@
+//! What a search prints of what it found.
+ghost use Rattle.std.specs.Prelude.{◌≡◌, ◌⊎◌, ◌↔◌, All, IsTrue, IfOk, length};
+ghost use Rattle.witness_pair.specs.declared.Pair.{Pair};
+ghost use Rattle.fbas_model.specs.Nodes.{members};
+ghost use Rattle.fbas_model.specs.Fbas.{Available, AreUnmet};
+ghost use Rattle.cert_writer.specs.Finding.{CanBeWritten};
+ghost use Rattle.quorum_run.specs.Replies.{intersect_answer as spec_intersect, splits_answer as spec_splits, blocking_answer as spec_blocking, HasSets, HasSize, RepliesTrial, available_lines as spec_available, dset_status as spec_dset_status, dset_line as spec_dset_line, dset_answer as spec_dset};
+ghost use Rattle.order_reading.specs.Status.{is_answer};
+
+use blocking_lists::ListOutcome;
+use fbas_core::System;
+use name_set::NodeSet;
+use order_reading::{Reply, Status, says};
+use quorum_questions::{Answer, Size};
+use std::alloc::{AllocError, Global};
+
+/// Whether every two quorums share a node, by what a search found.
+pub fn intersect_answer(
+    alloc: Global,
+    part: &System,
+    budget: u64,
+    found: &Answer,
+) -> Result<Reply, AllocError>
+    requires { CanBeWritten (length part.now.sets) found.now }
+    ensures { IfOk result (λ a. a ≡ spec_intersect part.now.names budget found.now) }
+{
+    match found {
+        Answer::Yes(_, _) => says(alloc, Status::Yes, "intersects yes\n"),
+        Answer::No(pair) => {
+            let text = report::with_pair(alloc, "intersects no\n", part, pair)?;
+            Ok(Reply::new(Status::No, text))
+        }
+        Answer::Spent(_, _) => {
+            let text = report::counted(alloc, "intersects unknown", budget)?;
+            Ok(Reply::new(Status::Unknown, text))
+        }
+    }
+}
+
+/// Whether two quorums share no node, by what a search found.
+pub fn splits_answer(
+    alloc: Global,
+    part: &System,
+    budget: u64,
+    found: &Answer,
+) -> Result<Reply, AllocError>
+    requires { CanBeWritten (length part.now.sets) found.now }
+    ensures { IfOk result (λ a. a ≡ spec_splits part.now.names budget found.now) }
+{
+    match found {
+        Answer::Yes(_, _) => says(alloc, Status::No, "splits no\n"),
+        Answer::No(pair) => {
+            let text = report::with_pair(alloc, "splits yes\n", part, pair)?;
+            Ok(Reply::new(Status::Yes, text))
+        }
+        Answer::Spent(_, _) => {
+            let text = report::counted(alloc, "splits unknown", budget)?;
+            Ok(Reply::new(Status::Unknown, text))
+        }
+    }
+}
+
+/// The minimal blocking sets, by what a search for them found.
+pub fn blocking_answer(
+    alloc: Global,
+    part: &System,
+    budget: u64,
+    found: &ListOutcome,
+) -> Result<Reply, AllocError>
+    requires { HasSets (length part.now.sets) found.now }
+    ensures { IfOk result (λ a. a ≡ spec_blocking part.now.names budget found.now) }
+{
+    match found {
+        ListOutcome::Whole(sets, _) => {
+            let text = report::with_sets(alloc, "blocking", part, sets.as_slice())?;
+            Ok(Reply::new(Status::Yes, text))
+        }
+        ListOutcome::Spent(_) => {
+            let text = report::counted(alloc, "blocking unknown", budget)?;
+            Ok(Reply::new(Status::Unknown, text))
+        }
+    }
+}
+
+// How large the formula is, by what a search found: no two quorums are apart.
+fn size_of(found: &Answer) -> Size
+    requires { (p : Pair) → found.now ≡ Answer.No p → ⊥ }
+    ensures { HasSize found.now result }
+{
+    match found {
+        Answer::Yes(_, size) => *size,
+        Answer::No(_) => unreachable!(),
+        Answer::Spent(_, size) => *size,
+    }
+}
+
+/// How large a trial is, and whether every two quorums share a node, by what a search found: no two quorums are apart.
+pub fn trial_answer(
+    alloc: Global,
+    part: &System,
+    budget: u64,
+    found: &Answer,
+) -> Result<Reply, AllocError>
+    requires written { CanBeWritten (length part.now.sets) found.now }
+    requires together { (p : Pair) → found.now ≡ Answer.No p → ⊥ }
+    ensures { IfOk result (RepliesTrial part.now budget found.now) }
+{
+    let size = size_of(found);
+    let answer = intersect_answer(alloc, part, budget, found)?;
+    let nodes = part.len() as u64;
+    let mut text = report::trial_size(alloc, nodes / 3, nodes, size.vars, size.clauses)?;
+    text.extend_from_slice(answer.text.bytes())?;
+    Ok(Reply::new(answer.status, text))
+}
+
+// The lines that say whether the others are available.
+fn available_lines(
+    alloc: Global,
+    part: &System,
+    is_available: bool,
+    unmet: &NodeSet,
+) -> Result<Vec<u8>, AllocError>
+    requires { length unmet.now ≡ length part.now.sets }
+    ensures { IfOk result (λ text. text.items ≡ spec_available part.now.names is_available unmet.now) }
+{
+    if is_available {
+        Vec::from_slice(alloc, b"available yes\n")
+    } else {
+        report::with_list(alloc, "available no\n", "unmet", part, unmet)
+    }
+}
+
+// No where either is no, yes where both are yes, else unknown.
+fn dset_status(is_available: bool, status: Status) -> Status
+    ensures { result ≡ spec_dset_status is_available status }
+{
+    if is_available { status } else { Status::No }
+}
+
+fn dset_line(status: Status) -> &'static str
+    ensures { result.now ≡ spec_dset_line status }
+{
+    match status {
+        Status::Yes => "dset yes\n",
+        Status::No => "dset no\n",
+        _ => "dset unknown\n",
+    }
+}
+
+/// Whether a set is dispensable, by the answer to whether every two quorums share a node.
+pub fn dset_answer(
+    alloc: Global,
+    part: &System,
+    is_available: bool,
+    unmet: &NodeSet,
+    answer: &Reply,
+) -> Result<Reply, AllocError>
+    requires { length unmet.now ≡ length part.now.sets }
+    ensures { IfOk result (λ a. a ≡ spec_dset part.now.names is_available unmet.now answer.now) }
+{
+    let status = dset_status(is_available, answer.status);
+    let mut text = available_lines(alloc, part, is_available, unmet)?;
+    text.extend_from_slice(answer.text.bytes())?;
+    text.extend_from_slice(dset_line(status).as_bytes())?;
+    Ok(Reply::new(status, text))
+}

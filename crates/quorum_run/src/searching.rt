@@ -1,0 +1,315 @@
+//! A search: its answer, its certificate, and what is put out. All memory is taken before the certificate's file is created.
+ghost use Rattle.std.specs.Prelude.{◌≡◌, ◌⊎◌, ◌≤◌, ◌<◌, [], false, length, IsTrue, IsErr, OnOk, OnErr, IfOk};
+ghost use Rattle.fbas_model.specs.Nodes.{members};
+ghost use Rattle.fbas_model.specs.Fbas.{Intersects};
+ghost use Rattle.fbas_model.specs.Restriction.{closure_of, kept, restricted};
+ghost use Rattle.report.specs.Lines.{too_large as too_large_line};
+ghost use Rattle.desk_io.specs.Faults.{WriteFails};
+ghost use Rattle.cert_writer.specs.Promises.{IsHeader, part_of, faulty_in};
+ghost use Rattle.quorum_questions.specs.declared.asking.TheConstants.{MOST_UNITS};
+ghost use Rattle.quorum_run.specs.Finding.{cert_over, IsWritable};
+ghost use Rattle.quorum_run.specs.Putting.{put_whole, PutsSome, LacksPlace};
+ghost use Rattle.quorum_run.specs.Printing.{PrintsSearch, PrintsSearchPart, LacksForSearch};
+ghost use Rattle.quorum_run.specs.Searching.{FitsReady, FitsHeld};
+ghost use Rattle.order_reading.specs.Searches.{FitsSearch};
+ghost use Rattle.order_reading.specs.Status.{is_answer};
+
+use crate::found::{Found, what_is_shown_is_accepted, write_certificate};
+use crate::printing::print;
+use crate::replies::{blocking_answer, dset_answer, intersect_answer, splits_answer, trial_answer};
+use blocking_lists::list;
+use cdcl_core::Budget;
+use cert_writer::{CertWriter, what_is_shown_is_found};
+use cli_words::Goal;
+use desk_io::{Desk, To, WriteFailed, put_all};
+use fbas_core::System;
+use name_set::NodeSet;
+use order_reading::{Reply, Search, Status};
+use quorum_questions::{AskError, dset, intersect};
+use std::alloc::{AllocError, Global};
+
+/// What was found, what is printed of it, and a writer for its certificate.
+#[derive(Drop)]
+pub struct Held {
+    found: Found,
+    reply: Reply,
+    writer: CertWriter,
+}
+
+/// What is put at the end of a search.
+#[derive(Drop)]
+pub enum Ready {
+    Found(Held),
+    /// The formula is too large, which is told.
+    TooLarge(Reply),
+}
+
+// What was found, with the memory that writing it wants.
+fn hold(alloc: Global, found: Found, reply: Reply) -> Result<Ready, AllocError>
+    ensures { IfOk result (λ ready. ready ≡ Ready.Found (record { found = found; reply = reply; writer = record { held = []; failed = false } })) }
+{
+    let writer = CertWriter::start(alloc)?;
+    Ok(Ready::Found(Held {
+        found,
+        reply,
+        writer,
+    }))
+}
+
+fn too_large(alloc: Global, vars: u64) -> Result<Ready, AllocError>
+    ensures { IfOk result (λ ready. ready ≡ Ready.TooLarge (record { status = Status.TooLarge; text = too_large_line vars })) }
+{
+    let text = report::counted(alloc, "too-large", vars)?;
+    Ok(Ready::TooLarge(Reply::new(Status::TooLarge, text)))
+}
+
+fn intersect_ready(
+    alloc: Global,
+    part: &System,
+    faulty: &NodeSet,
+    budget: u64,
+) -> Result<Ready, AllocError>
+    requires same_n { length faulty.now ≡ length part.now.sets }
+    requires few { budget ≤ MOST_UNITS }
+    ensures { IfOk result (FitsReady Goal.Intersect part.now faulty.now budget) }
+{
+    let _ = part.len();
+    what_is_shown_is_found();
+    match intersect(alloc, part, faulty, budget) {
+        Ok(found) => {
+            let reply = intersect_answer(alloc, part, budget, &found)?;
+            hold(alloc, Found::Shared(found), reply)
+        }
+        Err(AskError::TooLarge(vars)) => too_large(alloc, vars),
+        Err(AskError::Memory) => Err(AllocError),
+    }
+}
+
+// The set is deleted with the faulty nodes.
+fn splits_ready(
+    alloc: Global,
+    part: &System,
+    faulty: &NodeSet,
+    budget: u64,
+) -> Result<Ready, AllocError>
+    requires same_n { length faulty.now ≡ length part.now.sets }
+    requires few { budget ≤ MOST_UNITS }
+    ensures { IfOk result (FitsReady Goal.Splits part.now faulty.now budget) }
+{
+    let _ = part.len();
+    what_is_shown_is_found();
+    match intersect(alloc, part, faulty, budget) {
+        Ok(found) => {
+            let reply = splits_answer(alloc, part, budget, &found)?;
+            hold(alloc, Found::Shared(found), reply)
+        }
+        Err(AskError::TooLarge(vars)) => too_large(alloc, vars),
+        Err(AskError::Memory) => Err(AllocError),
+    }
+}
+
+fn dset_ready(alloc: Global, part: &System, set: &NodeSet, budget: u64) -> Result<Ready, AllocError>
+    requires same_n { length set.now ≡ length part.now.sets }
+    requires few { budget ≤ MOST_UNITS }
+    ensures { IfOk result (FitsReady Goal.Dset part.now set.now budget) }
+{
+    let _ = part.len();
+    what_is_shown_is_found();
+    match dset(alloc, part, set, budget) {
+        Ok((is_available, unmet, found)) => {
+            let answer = intersect_answer(alloc, part, budget, &found)?;
+            let reply = dset_answer(alloc, part, is_available, &unmet, &answer)?;
+            hold(alloc, Found::Shared(found), reply)
+        }
+        Err(AskError::TooLarge(vars)) => too_large(alloc, vars),
+        Err(AskError::Memory) => Err(AllocError),
+    }
+}
+
+fn blocking_ready(
+    alloc: Global,
+    part: &System,
+    faulty: &NodeSet,
+    budget: u64,
+) -> Result<Ready, AllocError>
+    requires same_n { length faulty.now ≡ length part.now.sets }
+    requires few { budget ≤ MOST_UNITS }
+    ensures { IfOk result (FitsReady Goal.Blocking part.now faulty.now budget) }
+{
+    let _ = part.len();
+    let mut units = Budget::of(budget);
+    let found = list(alloc, part, faulty, &mut units)?;
+    let reply = blocking_answer(alloc, part, budget, &found)?;
+    hold(alloc, Found::Listed(found), reply)
+}
+
+// Every two quorums share a node there, so no two are found apart.
+fn trial_ready(
+    alloc: Global,
+    part: &System,
+    faulty: &NodeSet,
+    budget: u64,
+) -> Result<Ready, AllocError>
+    requires same_n { length faulty.now ≡ length part.now.sets }
+    requires few { budget ≤ MOST_UNITS }
+    requires meets { Intersects part.now.sets (members faulty.now) }
+    ensures { IfOk result (FitsReady Goal.Trial part.now faulty.now budget) }
+{
+    let _ = part.len();
+    what_is_shown_is_found();
+    match intersect(alloc, part, faulty, budget) {
+        Ok(found) => {
+            let reply = trial_answer(alloc, part, budget, &found)?;
+            hold(alloc, Found::Shared(found), reply)
+        }
+        Err(AskError::TooLarge(vars)) => too_large(alloc, vars),
+        Err(AskError::Memory) => Err(AllocError),
+    }
+}
+
+// What answers the search, with all the memory that is wanted to put it.
+fn make_ready(
+    alloc: Global,
+    goal: Goal,
+    part: &System,
+    faulty: &NodeSet,
+    budget: u64,
+) -> Result<Ready, AllocError>
+    requires same_n { length faulty.now ≡ length part.now.sets }
+    requires few { budget ≤ MOST_UNITS }
+    requires meets { goal ≡ Goal.Trial → Intersects part.now.sets (members faulty.now) }
+    ensures { IfOk result (FitsReady goal part.now faulty.now budget) }
+{
+    match goal {
+        Goal::Intersect => intersect_ready(alloc, part, faulty, budget),
+        Goal::Splits => splits_ready(alloc, part, faulty, budget),
+        Goal::Dset => dset_ready(alloc, part, faulty, budget),
+        Goal::Blocking => blocking_ready(alloc, part, faulty, budget),
+        Goal::Trial => trial_ready(alloc, part, faulty, budget),
+    }
+}
+
+// Creates the certificate's file, writes it whole, and puts the text to the output.
+fn put_both<D: Desk>(
+    desk: &mut D,
+    path: &str,
+    search: &Search,
+    part: &System,
+    writer: &mut CertWriter,
+    found: &Found,
+    text: &[u8],
+) -> Result<(), WriteFailed>
+    requires fresh { writer.old ≡ record { held = []; failed = false } }
+    requires header { IsHeader search.now.whole search.now.header }
+    requires part { part.now ≡ part_of search.now.whole search.now.header.from }
+    requires found { IsWritable (length part.now.names) found.now }
+    ensures all { OnOk result (IsTrue D.tells → D.state desk.new ≡ put_whole path.now (cert_over search.now.whole search.now.digest search.now.header found.now) text.now (D.state desk.old)) }
+    ensures part { OnErr result (IsTrue D.tells → PutsSome path.now (cert_over search.now.whole search.now.digest search.now.header found.now) text.now (D.state desk.old) (D.state desk.new)) }
+    ensures plain { OnErr result (IsTrue D.tells → IsTrue (D.state desk.old).plain → LacksPlace path.now (cert_over search.now.whole search.now.digest search.now.header found.now) text.now (D.state desk.old)) }
+    ensures faults { WriteFails (D.faults desk.old) (D.faults desk.new) (IsErr result) }
+{
+    desk.create(path)?;
+    write_certificate(
+        writer,
+        desk,
+        &search.digest,
+        &search.header,
+        &search.whole,
+        part,
+        found,
+    )?;
+    put_all(desk, To::Out, text)
+}
+
+// Puts what was found: its certificate, and then its text.
+fn put_found<D: Desk>(desk: &mut D, search: &Search, part: &System, held: Held) -> Status
+    requires search { FitsSearch search.now }
+    requires part { part.now ≡ part_of search.now.whole search.now.header.from }
+    requires held { FitsHeld search.now.goal part.now (faulty_in search.now.whole search.now.header) search.now.budget held }
+    ensures answered { IsTrue D.tells → IsTrue (is_answer result) → PrintsSearch search.now (D.state desk.old) (D.state desk.new) result }
+    ensures part { IsTrue D.tells → result ≡ Status.WriteFault → PrintsSearchPart search.now (D.state desk.old) (D.state desk.new) }
+    ensures ends { IsTrue (is_answer result) ⊎ (result ≡ Status.WriteFault) }
+    ensures plain { IsTrue D.tells → IsTrue (D.state desk.old).plain → result ≡ Status.WriteFault → LacksForSearch search.now (D.state desk.old) }
+    ensures faults { WriteFails (D.faults desk.old) (D.faults desk.new) (result ≡ Status.WriteFault) }
+{
+    let _ = search.whole.len();
+    let _ = part.len();
+    what_is_shown_is_accepted();
+    let Held {
+        found,
+        reply,
+        mut writer,
+    } = held;
+    match put_both(
+        desk,
+        search.path.as_str(),
+        search,
+        part,
+        &mut writer,
+        &found,
+        reply.text.bytes(),
+    ) {
+        Ok(()) => reply.status,
+        Err(WriteFailed) => Status::WriteFault,
+    }
+}
+
+// A search in this part of the system, of which the faulty nodes are deleted.
+fn search_in<D: Desk>(
+    alloc: Global,
+    desk: &mut D,
+    search: &Search,
+    part: &System,
+    faulty: &NodeSet,
+) -> Status
+    requires search { FitsSearch search.now }
+    requires part { part.now ≡ part_of search.now.whole search.now.header.from }
+    requires faulty { faulty.now ≡ faulty_in search.now.whole search.now.header }
+    requires same_n { length faulty.now ≡ length part.now.sets }
+    ensures answered { IsTrue D.tells → IsTrue (is_answer result) → PrintsSearch search.now (D.state desk.old) (D.state desk.new) result }
+    ensures part { IsTrue D.tells → result ≡ Status.WriteFault → PrintsSearchPart search.now (D.state desk.old) (D.state desk.new) }
+    ensures silent { IsTrue D.tells → result ≡ Status.Memory → D.state desk.new ≡ D.state desk.old }
+    ensures ends { IsTrue (is_answer result) ⊎ (result ≡ Status.WriteFault) ⊎ (result ≡ Status.Memory) }
+    ensures plain { IsTrue D.tells → IsTrue (D.state desk.old).plain → result ≡ Status.WriteFault → LacksForSearch search.now (D.state desk.old) }
+    ensures faults { WriteFails (D.faults desk.old) (D.faults desk.new) (result ≡ Status.WriteFault) }
+{
+    match make_ready(alloc, search.goal, part, faulty, search.budget) {
+        Ok(Ready::Found(held)) => put_found(desk, search, part, held),
+        Ok(Ready::TooLarge(reply)) => print(desk, &reply),
+        Err(AllocError) => Status::Memory,
+    }
+}
+
+// The part of the system that is the trust closure of a node, and the deleted nodes by their numbers there.
+fn part_at(alloc: Global, search: &Search, node: u32) -> Result<(System, NodeSet), AllocError>
+    requires node { node < length search.now.whole.sets }
+    requires same_n { length search.now.header.faulty ≡ length search.now.whole.sets }
+    ensures part { IfOk result (λ r. r.0 ≡ restricted (closure_of search.now.whole.sets node) search.now.whole) }
+    ensures faulty { IfOk result (λ r. r.1 ≡ kept (closure_of search.now.whole.sets node) search.now.header.faulty) }
+    ensures places { IfOk result (λ r. length r.1 ≡ length r.0.sets) }
+{
+    let closure = search.whole.closure(node);
+    let faulty = search.whole.cut(&search.header.faulty, &closure);
+    let part = search.whole.restrict(alloc, &closure)?;
+    Ok((part, faulty))
+}
+
+/// A search: what it finds is written to its certificate, and then told.
+pub fn search<D: Desk>(alloc: Global, desk: &mut D, search: &Search) -> Status
+    requires { FitsSearch search.now }
+    ensures answered { IsTrue D.tells → IsTrue (is_answer result) → PrintsSearch search.now (D.state desk.old) (D.state desk.new) result }
+    ensures part { IsTrue D.tells → result ≡ Status.WriteFault → PrintsSearchPart search.now (D.state desk.old) (D.state desk.new) }
+    ensures silent { IsTrue D.tells → result ≡ Status.Memory → D.state desk.new ≡ D.state desk.old }
+    ensures ends { IsTrue (is_answer result) ⊎ (result ≡ Status.WriteFault) ⊎ (result ≡ Status.Memory) }
+    ensures plain { IsTrue D.tells → IsTrue (D.state desk.old).plain → result ≡ Status.WriteFault → LacksForSearch search.now (D.state desk.old) }
+    ensures faults { WriteFails (D.faults desk.old) (D.faults desk.new) (result ≡ Status.WriteFault) }
+{
+    let _ = search.whole.len();
+    let Some(node) = search.header.from else {
+        return search_in(alloc, desk, search, &search.whole, &search.header.faulty);
+    };
+    match part_at(alloc, search, node) {
+        Ok((part, faulty)) => search_in(alloc, desk, search, &part, &faulty),
+        Err(AllocError) => Status::Memory,
+    }
+}

@@ -1,0 +1,253 @@
+//! Desks in memory, and how a command line ends on them.
+//!
+//! What is proved of a function grows with its ways out times its values that are to be dropped. So the steps of a test stand in
+//! functions of their own that return a text, and a test has no `?`.
+ghost use Rattle.std.specs.Prelude.{◌<◌};
+
+use desk_io::{Call, MemDesk};
+use quorum_run::{Status, run};
+use std::alloc::{AllocError, Global};
+use std::process::Abort;
+use std::str::from_utf8;
+
+/// The files `config`, `cert` and `orgs`.
+#[derive(Clone, Copy)]
+pub struct Files<'a> {
+    pub config: &'a [u8],
+    pub cert: &'a [u8],
+    pub orgs: &'a [u8],
+}
+
+impl<'a> Files<'a> {
+    /// A configuration alone: nothing is in the other files.
+    pub fn of(config: &'a [u8]) -> Files<'a> {
+        Files {
+            config,
+            cert: b"",
+            orgs: b"",
+        }
+    }
+
+    /// A configuration and a certificate.
+    pub fn with_cert(config: &'a [u8], cert: &'a [u8]) -> Files<'a> {
+        Files {
+            config,
+            cert,
+            orgs: b"",
+        }
+    }
+}
+
+/// What a run leaves: its status, what is out, what the file `cert` holds, and what the file `c` does, if it was made.
+#[derive(Drop)]
+pub struct Left {
+    pub status: Status,
+    pub out: Vec<u8>,
+    pub cert: Vec<u8>,
+    pub made: Option<Vec<u8>>,
+}
+
+impl Left {
+    /// What the file `c` holds: nothing, if it was not made.
+    pub fn made(&self) -> &[u8] {
+        match &self.made {
+            Some(bytes) => bytes,
+            None => b"",
+        }
+    }
+}
+
+fn push_file(
+    alloc: Global,
+    files: &mut Vec<(String, Vec<u8>)>,
+    name: &str,
+    bytes: &[u8],
+) -> Result<(), AllocError> {
+    let name = String::from_str(alloc, name)?;
+    files.push((name, Vec::from_slice(alloc, bytes)?))?;
+    Ok(())
+}
+
+/// How many bytes may be put in a run: more than the longest text of a test, the formula of half of two hundred.
+const ROOM: usize = 2_000_000;
+
+// The three files.
+fn files_of(alloc: Global, held: &Files) -> Result<Vec<(String, Vec<u8>)>, AllocError> {
+    let mut files = Vec::new(alloc);
+    push_file(alloc, &mut files, "config", held.config)?;
+    push_file(alloc, &mut files, "cert", held.cert)?;
+    push_file(alloc, &mut files, "orgs", held.orgs)?;
+    Ok(files)
+}
+
+fn push_word(alloc: Global, words: &mut Vec<String>, word: &str) -> Result<(), AllocError> {
+    words.push(String::from_str(alloc, word)?)?;
+    Ok(())
+}
+
+// The file that may be created.
+fn creatable(alloc: Global) -> Result<Vec<String>, AllocError> {
+    let mut paths = Vec::new(alloc);
+    push_word(alloc, &mut paths, "c")?;
+    Ok(paths)
+}
+
+// A desk with the three files, which may create the file `c`, moves so many bytes at once and fails these calls.
+fn desk(
+    alloc: Global,
+    held: &Files,
+    piece: usize,
+    failing: Vec<(Call, u64)>,
+) -> Result<MemDesk, AllocError>
+    requires { 0 < piece }
+{
+    let files = files_of(alloc, held)?;
+    let may_create = creatable(alloc)?;
+    MemDesk::new(alloc, files, may_create, piece, ROOM, failing)
+}
+
+// The words of a line behind the program's name.
+fn words(alloc: Global, line: &str) -> Result<Vec<String>, AllocError> {
+    let mut words = Vec::new(alloc);
+    push_word(alloc, &mut words, "quorum_cli")?;
+    for word in line.split(' ') {
+        if !word.is_empty() {
+            push_word(alloc, &mut words, word)?;
+        }
+    }
+    Ok(words)
+}
+
+// What the file `c` holds, if it was made.
+fn made(alloc: Global, desk: &MemDesk) -> Result<Option<Vec<u8>>, AllocError> {
+    match desk.file("c") {
+        Some(bytes) => Ok(Some(Vec::from_slice(alloc, bytes)?)),
+        None => Ok(None),
+    }
+}
+
+// What is left on the desk of a run that ended so.
+fn left_on(alloc: Global, desk: &MemDesk, status: Status) -> Result<Left, AllocError> {
+    let out = Vec::from_slice(alloc, desk.out())?;
+    let cert = Vec::from_slice(alloc, desk.file("cert").unwrap_or(b""))?;
+    let made = made(alloc, desk)?;
+    Ok(Left {
+        status,
+        out,
+        cert,
+        made,
+    })
+}
+
+// It stands apart so that its contract is not carried into what is proved of its caller.
+fn status_of(alloc: Global, words: &[String], desk: &mut MemDesk) -> Status {
+    run(alloc, words, desk)
+}
+
+/// What the words leave on a desk that moves so many bytes at once and fails these calls.
+pub fn run_words(
+    alloc: Global,
+    words: &[String],
+    held: &Files,
+    piece: usize,
+    failing: Vec<(Call, u64)>,
+) -> Result<Left, AllocError>
+    requires { 0 < piece }
+{
+    let mut desk = desk(alloc, held, piece, failing)?;
+    let status = status_of(alloc, words, &mut desk);
+    left_on(alloc, &desk, status)
+}
+
+/// The same of the words of a line behind the program's name.
+pub fn run_over(
+    alloc: Global,
+    line: &str,
+    held: &Files,
+    piece: usize,
+    failing: Vec<(Call, u64)>,
+) -> Result<Left, AllocError>
+    requires { 0 < piece }
+{
+    run_words(alloc, &words(alloc, line)?, held, piece, failing)
+}
+
+/// The bytes as a text.
+pub fn text_of(alloc: Global, bytes: &[u8]) -> Result<String, AllocError> {
+    String::from_str(alloc, from_utf8(bytes).unwrap_or("no text"))
+}
+
+/// What is said of a command line that ended so, with these bytes out.
+pub fn said(alloc: Global, line: &str, status: Status, out: &[u8]) -> Result<String, AllocError> {
+    let text = from_utf8(out).unwrap_or("no text");
+    format!(in alloc; "{line}: {status:?}\n{text}")
+}
+
+/// What is said of the command line over the files, on a desk that moves so many bytes at once.
+pub fn told(alloc: Global, line: &str, held: &Files, piece: usize) -> Result<String, AllocError>
+    requires { 0 < piece }
+{
+    let left = run_over(alloc, line, held, piece, Vec::new(alloc))?;
+    said(alloc, line, left.status, &left.out)
+}
+
+/// Fails the test where the texts differ, or memory is wanting.
+pub fn same(rt: &impl Abort, found: Result<String, AllocError>, want: Result<String, AllocError>) {
+    let found = found.expect(rt, "memory");
+    let want = want.expect(rt, "memory");
+    assert_eq!(rt; found, want);
+}
+
+/// Fails unless what is left of the command line is this status and this text.
+pub fn wants_left(
+    rt: &impl Abort,
+    alloc: Global,
+    line: &str,
+    left: &Left,
+    status: Status,
+    text: &str,
+) {
+    same(
+        rt,
+        said(alloc, line, left.status, &left.out),
+        said(alloc, line, status, text.as_bytes()),
+    );
+}
+
+/// Fails unless the command line ends with this status and this text, in pieces of 7 bytes.
+pub fn wants(rt: &impl Abort, alloc: Global, line: &str, held: &Files, status: Status, text: &str) {
+    same(
+        rt,
+        told(alloc, line, held, 7),
+        said(alloc, line, status, text.as_bytes()),
+    );
+}
+
+/// The line that checks the certificate.
+pub const CHECK: &str = "check config cert";
+
+/// Fails unless `check` of this certificate ends with this status and this text.
+pub fn wants_checked(
+    rt: &impl Abort,
+    alloc: Global,
+    config: &[u8],
+    cert: &[u8],
+    status: Status,
+    text: &str,
+) {
+    let held = Files::with_cert(config, cert);
+    wants(rt, alloc, CHECK, &held, status, text);
+}
+
+/// The same of a certificate that was made for the test.
+pub fn wants_made(
+    rt: &impl Abort,
+    alloc: Global,
+    config: &[u8],
+    cert: Result<String, AllocError>,
+    status: Status,
+    text: &str,
+) {
+    let cert = cert.expect(rt, "memory");
+    wants_checked(rt, alloc, config, cert.as_bytes(), status, text);
+}
