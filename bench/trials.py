@@ -5,9 +5,9 @@ PROGRAM is the built program. A SYSTEM is a number of organisations, whose confi
 path of a configuration; or random:NODES:SIZE:THRESHOLD:SEED, in which each node wants so many of SIZE nodes, itself and others
 drawn at random (16, 24, 50, 75 and 100 organisations where none is given). For each it prints the answer, the lemmas learnt, the
 processor time and the greatest memory of one run each: of the search (`trial`, or `intersect`) with its certificate on a file in
-memory, and of `check` of the certificate; then the conflicts, time and memory of minisat, cadical and cryptominisat (Debian's
-packages, with their own settings) on the formula that `export` writes. A run ends after LIMIT seconds of processor time. Answers
-that differ end the script with status 1.
+memory, and of `check` of the certificate; then the conflicts, time and memory of minisat, of minisat without its preprocessing,
+which eliminates variables, and of cadical and cryptominisat (Debian's packages, else with their own settings) on the formula that
+`export` writes. A run ends after LIMIT seconds of processor time. Answers that differ end the script with status 1.
 """
 import json
 import os
@@ -22,6 +22,7 @@ LIMIT = 900
 MEMORY = "/dev/shm"
 OTHERS = {
     "minisat": (["minisat", "{}", "/dev/null"], r"conflicts +: (\d+)"),
+    "minisat -no-pre": (["minisat", "-no-pre", "{}", "/dev/null"], r"conflicts +: (\d+)"),
     "cadical": (["cadical", "{}"], r"conflicts: +(\d+)"),
     "cryptominisat": (["cryptominisat5", "--verb", "1", "{}"], r"c conflicts *: (\d+)"),
 }
