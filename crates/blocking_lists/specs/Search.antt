@@ -1,6 +1,7 @@
 -- Where a search for the minimal blocking sets stands.
-use Rattle.std.specs.Prelude.{◌≡◌, ◌⊎◌, ℕ, ◌+◌, ◌*◌, ◌≤◌, Bool, true, List, [], Some, All, length}
-use Rattle.fbas_model.specs.Nodes.{Nodes, Table, members, size}
+use Rattle.std.specs.Prelude.{◌≡◌, ◌⊎◌, ◌↔◌, ℕ, ◌+◌, ◌*◌, ◌≤◌, Bool, true, List, [], Some, All, Contains, length}
+use Rattle.std.specs.List.Sorted.{IsStrictlySortedBy}
+use Rattle.fbas_model.specs.Nodes.{Nodes, Table, members, set_cmp, size}
 use Rattle.fbas_model.specs.Fbas.{Fbas}
 use Rattle.lrat_model.specs.Clauses.{Held, clause_at}
 use Rattle.lrat_model.specs.Steps.{ProofStep}
@@ -50,6 +51,10 @@ pub record IsWholeListing (f : Fbas) (b : Nodes) (g : Table) (units left : ℕ) 
   pub short : IsShortLog (size g) log
   pub journal_is : IsWholeJournal f b g (merged 0 lines log)
   pub taken : journal_units (merged 0 lines log) + left ≡ units
+
+-- the same sets as those of a list, each once and in name order
+abbrev pub AreInNameOrder : List Table → List Table → Type 0
+AreInNameOrder listed sets = IsStrictlySortedBy set_cmp sets × ((n : ℕ) → All (λ s. length s ≡ n) listed → (s : Table) → Contains sets s ↔ Contains listed s)
 
 -- the nodes whose variables are true in the assignment
 abbrev pub IsModelSet : Table → (ℕ → Bool) → Table → Type 0

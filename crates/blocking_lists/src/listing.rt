@@ -1,14 +1,16 @@
 //! The list of the minimal blocking sets.
-ghost use Rattle.std.specs.Prelude.{◌≡◌, ◌+◌, ◌<◌, ◌^◌, length, All, IfOk};
-ghost use Rattle.fbas_model.specs.Nodes.{size};
+ghost use Rattle.std.specs.Prelude.{◌≡◌, ◌+◌, ◌<◌, ◌^◌, [], length, None, Ok, Err, All, IfOk, IfErr, IfSome, OnOk};
+ghost use Rattle.fbas_model.specs.Nodes.{members, size};
+ghost use Rattle.lrat_model.specs.Propagation.{Closes};
 ghost use Rattle.greatest_quorum.specs.Greatest.{greatest_of};
-ghost use Rattle.blocking_lists.specs.Lines.{HasLineNumbers, HasFewWords};
+ghost use Rattle.blocking_lists.specs.Lines.{AreBetween, HasLineNumbers, HasFewWords, blocks_in, merged};
 ghost use Rattle.blocking_lists.specs.Outcomes.{OutcomeHolds, journal_in};
+ghost use Rattle.blocking_lists.specs.Search.{AreInNameOrder, IsListing, IsWholeListing};
 
-use crate::journal::{Journal, sets_of};
+use crate::journal::{Journal, ListLine, sets_of};
 use crate::outcome::ListOutcome;
 use crate::search::run;
-use cdcl_core::{Budget, Solver};
+use cdcl_core::{Budget, Log, Solver};
 use clause_store::Store;
 use fbas_core::System;
 use greatest_quorum::greatest;
@@ -37,19 +39,78 @@ pub fn list(
     // A system has at most 16,384 nodes, so there are as few variables.
     let _nodes = system.len();
     let greatest = greatest(system, faulty);
-    let mut solver = Solver::start(alloc, &Store::new(alloc), u64::from(greatest.count()))?;
     let mut listed = Vec::new(alloc);
-    if run(
-        alloc,
-        system,
-        faulty,
-        &greatest,
-        &mut solver,
-        &mut listed,
-        budget,
-    )? {
-        let sets = sets_of(alloc, &listed)?;
-        return Ok(ListOutcome::Whole(rising(sets), Journal::new(listed, solver.into_log())));
+    match solver_over(alloc, greatest.count()) {
+        Ok(mut solver) => {
+            let found = found_sets(
+                alloc,
+                system,
+                faulty,
+                &greatest,
+                &mut solver,
+                &mut listed,
+                budget,
+            );
+            outcome_of(found, listed, solver.into_log())
+        }
+        Err(e) => Err(e),
     }
-    Ok(ListOutcome::Spent(Journal::new(listed, solver.into_log())))
+}
+
+/// A solver over so many variables, without a clause.
+fn solver_over(alloc: Global, vars: u32) -> Result<Solver, AllocError>
+    requires small { vars < 2 ^ 31 }
+    ensures vars { IfOk result (λ solver. solver.vars ≡ vars) }
+    ensures database { IfOk result (λ solver. (solver.database.held ≡ []) × (solver.database.last ≡ 0)) }
+    ensures log { IfOk result (λ solver. solver.log ≡ []) }
+{
+    let store = Store::new(alloc);
+    Solver::start(alloc, &store, u64::from(vars))
+}
+
+/// What was found, with the listed sets among the steps of the solver's log.
+fn outcome_of(
+    found: Result<Option<Vec<NodeSet>>, AllocError>,
+    listed: Vec<ListLine>,
+    log: Log,
+) -> Result<ListOutcome, AllocError>
+    requires { OnOk found (AreBetween 0 (length log) listed.items) }
+    ensures whole { IfOk found (λ f. IfSome f (λ sets. result ≡ Ok (ListOutcome.Whole sets (merged 0 listed.items log)))) }
+    ensures spent { found ≡ Ok None → result ≡ Ok (ListOutcome.Spent (merged 0 listed.items log)) }
+    ensures err { IfErr found (λ e. result ≡ Err e) }
+{
+    let found = found?;
+    let journal = Journal::new(listed, log);
+    Ok(match found {
+        Some(sets) => ListOutcome::Whole(sets, journal),
+        None => ListOutcome::Spent(journal),
+    })
+}
+
+/// The minimal blocking sets in name order, or none where the budget was spent first. The solver is lent: a function that owns
+/// one is dear to prove at each of its ways out.
+fn found_sets(
+    alloc: Global,
+    system: &System,
+    faulty: &NodeSet,
+    greatest: &NodeSet,
+    solver: &mut Solver,
+    listed: &mut Vec<ListLine>,
+    budget: &mut Budget,
+) -> Result<Option<Vec<NodeSet>>, AllocError>
+    requires same_faulty { length faulty.now ≡ length system.now.sets }
+    requires greatest { greatest.now ≡ greatest_of system.now.sets faulty.now }
+    requires room { budget.old + 1 < 2 ^ 63 }
+    requires start { IsListing system.now.sets (members faulty.now) greatest.now budget.old budget.old listed.old.items solver.old }
+    ensures between { OnOk result (AreBetween 0 (length solver.new.log) listed.new.items) }
+    ensures whole { IfOk result (λ found. IfSome found (λ sets. IsWholeListing system.now.sets (members faulty.now) greatest.now budget.old budget.new listed.new.items solver.new.log × AreInNameOrder (blocks_in listed.new.items) sets.items)) }
+    ensures part { result ≡ Ok None → IsListing system.now.sets (members faulty.now) greatest.now budget.old budget.new listed.new.items solver.new }
+    ensures spent { result ≡ Ok None → budget.new ≡ 0 }
+    ensures unclosed { result ≡ Ok None → Closes solver.new.database.held → ⊥ }
+{
+    if run(alloc, system, faulty, greatest, solver, listed, budget)? {
+        let sets = sets_of(alloc, listed)?;
+        return Ok(Some(rising(sets)));
+    }
+    Ok(None)
 }

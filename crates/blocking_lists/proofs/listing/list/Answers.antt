@@ -1,55 +1,60 @@
-use Rattle.std.proofs.Common.{◌≡◌, ℕ, List, length, sym, ◌∙◌, ap, subst, Ok}
-use Rattle.std.specs.Prelude.{All, Contains, ◌↔◌}
-use Rattle.fbas_model.specs.Nodes.{Table}
+use Rattle.std.proofs.Common.{◌≡◌, List, ap}
+use Rattle.std.specs.Prelude.{All}
+use Rattle.fbas_model.specs.Nodes.{size, members}
+use Rattle.greatest_quorum.specs.Greatest.{greatest_of}
 use Rattle.lrat_model.specs.Steps.{ProofStep}
-use Rattle.lrat_text.specs.Texts.{HasNumbers}
-use Rattle.list_journal.specs.Journals.{JournalLine}
-use Rattle.blocking_lists.specs.Lines.{merged, blocks_in, HasLineNumbers}
-use Rattle.blocking_lists.specs.declared.journal.ListLine.{ListLine}
+use Rattle.blocking_lists.specs.Lines.{merged, blocks_in, HasLineNumbers, HasFewWords}
+use Rattle.blocking_lists.specs.Outcomes.{OutcomeHolds, journal_in}
+use Rattle.blocking_lists.specs.Search.{AreInNameOrder, IsWholeListing}
+use Rattle.blocking_lists.specs.declared.outcome.ListOutcome.TheVariants.{Whole, Spent}
+use Rattle.blocking_lists.proofs.Found.{of_found, of_outcome}
 use Rattle.blocking_lists.proofs.Merged.{numbers_merged}
 use Rattle.blocking_lists.proofs.Listings.{listing_whole, listing_spent, listing_few}
 use Rattle.blocking_lists.proofs.listing.list.Goals as goal
 
--- the lines of a journal, which is the listed sets among the steps of the log that the solver gave
-merged_log : (lines : List ListLine) (given log : List ProofStep) (journal : List JournalLine) → journal ≡ merged 0 lines given → given ≡ log → journal ≡ merged 0 lines log
-merged_log lines given log journal is same = is ∙ ap (λ (steps : List ProofStep). merged 0 lines steps) same
-
-pub returns-then-branch : goal.returns-then-branch
-returns-then-branch c =
+pub returns-in-Ok-clause-outcome : goal.returns-in-Ok-clause-outcome
+returns-in-Ok-clause-outcome c =
     let f = c.args.system.now.sets in
     let b = c.args.faulty.now in
-    let lines = c.run.new.listed.items in
-    let log = c.run.new.solver.log in
-    let journal = c.new-then-branch.result in
-    let whole = c.in_ok-run.ensures.whole (ap Ok c.if-branch.true) in
-    let journal_is = merged_log lines c.into_log.result log journal c.new-then-branch.ensures c.into_log.ensures.log in
-    let sets_are = c.in_ok-sets.ensures ∙ ap blocks_in c.deref.ensures.value in
-    let same : (n : ℕ) → All (λ s. length s ≡ n) (blocks_in lines) → (s : Table) → Contains c.rising.result.items s ↔ Contains (blocks_in lines) s =
-    subst (λ (xs : List Table). (n : ℕ) → All (λ s. length s ≡ n) xs → (s : Table) → Contains c.rising.result.items s ↔ Contains xs s) sets_are c.rising.ensures.same in record {
-      outcome = listing_whole f b c.greatest-greatest.result c.args.budget.now c.run.new.budget lines log journal c.rising.result.items c.requires.same_faulty c.greatest-greatest.ensures.counted journal_is c.rising.ensures.rising same whole;
-      numbers = subst (λ (ls : List JournalLine). All HasLineNumbers ls) (sym journal_is) (numbers_merged 0 lines log whole.ids (subst (λ (steps : List ProofStep). All HasNumbers steps) c.into_log.ensures.log c.into_log.ensures.numbers));
-      few_words = listing_few f b c.greatest-greatest.result lines log journal c.greatest-greatest.ensures.counted journal_is whole.short.steps;
-    }
+    let g = c.greatest-greatest.result in
+    let lines = c.found_sets-found.new.listed.items in
+    let log = c.found_sets-found.new.solver.log in
+    let journal = merged 0 lines c.into_log.result in
+    let journal_is : journal ≡ merged 0 lines log = ap (λ (steps : List ProofStep). merged 0 lines steps) c.into_log.ensures.log in
+    of_outcome (OutcomeHolds f b c.args.budget.now c.found_sets-found.new.budget) (λ sets. Whole sets journal) (Spent journal) c.found_sets-found.result c.outcome_of.result c.outcome_of.ensures.whole c.outcome_of.ensures.spent c.outcome_of.ensures.err
+    (λ sets is.
+    let found = of_found (λ sets. IsWholeListing f (members b) g c.args.budget.now c.found_sets-found.new.budget lines log × AreInNameOrder (blocks_in lines) sets.items) c.found_sets-found.result sets is c.found_sets-found.ensures.whole in
+    listing_whole f b g c.args.budget.now c.found_sets-found.new.budget lines log journal sets.items c.requires.same_faulty c.greatest-greatest.ensures.counted journal_is found.1.0 found.1.1 found.0)
+    (λ is. (
+      c.found_sets-found.ensures.spent is,
+      listing_spent f b g c.args.budget.now c.found_sets-found.new.budget lines c.found_sets-found.new.solver journal c.greatest-greatest.ensures.counted journal_is (c.found_sets-found.ensures.spent is) (c.found_sets-found.ensures.unclosed is) (c.found_sets-found.ensures.part is),
+    ))
 
-pub returns-clause-outcome : goal.returns-clause-outcome
-returns-clause-outcome c =
-    let lines = c.run.new.listed.items in
-    let solver = c.run.new.solver in
-    let now = c.in_ok-run.ensures in
-    let part = ap Ok c.if-branch.false in
-    let journal_is = merged_log lines c.into_log-2.result solver.log c.new-2.result c.new-2.ensures c.into_log-2.ensures.log in
-    (now.spent part, listing_spent c.args.system.now.sets c.args.faulty.now c.greatest-greatest.result c.args.budget.now c.run.new.budget lines solver c.new-2.result c.greatest-greatest.ensures.counted journal_is (now.spent part) (now.unclosed part) (now.part part))
+pub returns-in-Ok-clause-numbers : goal.returns-in-Ok-clause-numbers
+returns-in-Ok-clause-numbers c =
+    let f = c.args.system.now.sets in
+    let b = c.args.faulty.now in
+    let g = c.greatest-greatest.result in
+    let lines = c.found_sets-found.new.listed.items in
+    let log = c.found_sets-found.new.solver.log in
+    let journal = merged 0 lines c.into_log.result in
+    of_outcome (λ outcome. All HasLineNumbers (journal_in outcome)) (λ sets. Whole sets journal) (Spent journal) c.found_sets-found.result c.outcome_of.result c.outcome_of.ensures.whole c.outcome_of.ensures.spent c.outcome_of.ensures.err
+    (λ sets is.
+    let found = of_found (λ sets. IsWholeListing f (members b) g c.args.budget.now c.found_sets-found.new.budget lines log × AreInNameOrder (blocks_in lines) sets.items) c.found_sets-found.result sets is c.found_sets-found.ensures.whole in
+    numbers_merged 0 lines c.into_log.result found.0.ids c.into_log.ensures.numbers)
+    (λ is. numbers_merged 0 lines c.into_log.result (c.found_sets-found.ensures.part is).ids c.into_log.ensures.numbers)
 
-pub returns-clause-numbers : goal.returns-clause-numbers
-returns-clause-numbers c =
-    let lines = c.run.new.listed.items in
-    let log = c.run.new.solver.log in
-    let journal_is = merged_log lines c.into_log-2.result log c.new-2.result c.new-2.ensures c.into_log-2.ensures.log in
-    subst (λ (ls : List JournalLine). All HasLineNumbers ls) (sym journal_is) (numbers_merged 0 lines log (c.in_ok-run.ensures.part (ap Ok c.if-branch.false)).ids (subst (λ (steps : List ProofStep). All HasNumbers steps) c.into_log-2.ensures.log c.into_log-2.ensures.numbers))
-
-pub returns-clause-few_words : goal.returns-clause-few_words
-returns-clause-few_words c =
-    let lines = c.run.new.listed.items in
-    let log = c.run.new.solver.log in
-    let journal_is = merged_log lines c.into_log-2.result log c.new-2.result c.new-2.ensures c.into_log-2.ensures.log in
-    listing_few c.args.system.now.sets c.args.faulty.now c.greatest-greatest.result lines log c.new-2.result c.greatest-greatest.ensures.counted journal_is (c.in_ok-run.ensures.part (ap Ok c.if-branch.false)).short.steps
+pub returns-in-Ok-clause-few_words : goal.returns-in-Ok-clause-few_words
+returns-in-Ok-clause-few_words c =
+    let f = c.args.system.now.sets in
+    let b = c.args.faulty.now in
+    let g = c.greatest-greatest.result in
+    let lines = c.found_sets-found.new.listed.items in
+    let log = c.found_sets-found.new.solver.log in
+    let journal = merged 0 lines c.into_log.result in
+    let journal_is : journal ≡ merged 0 lines log = ap (λ (steps : List ProofStep). merged 0 lines steps) c.into_log.ensures.log in
+    of_outcome (λ outcome. All (HasFewWords (size (greatest_of f b))) (journal_in outcome)) (λ sets. Whole sets journal) (Spent journal) c.found_sets-found.result c.outcome_of.result c.outcome_of.ensures.whole c.outcome_of.ensures.spent c.outcome_of.ensures.err
+    (λ sets is.
+    let found = of_found (λ sets. IsWholeListing f (members b) g c.args.budget.now c.found_sets-found.new.budget lines log × AreInNameOrder (blocks_in lines) sets.items) c.found_sets-found.result sets is c.found_sets-found.ensures.whole in
+    listing_few f b g lines log journal c.greatest-greatest.ensures.counted journal_is found.0.short.steps)
+    (λ is. listing_few f b g lines log journal c.greatest-greatest.ensures.counted journal_is (c.found_sets-found.ensures.part is).short.steps)
