@@ -1,6 +1,7 @@
 -- Each stage of the reading of a command's words.
-use Rattle.std.proofs.Common.{◌≡◌, ◌∙◌, ap, sym, subst, codes, ℕ, List, [], ◌∷◌, Some, None, true, false, Ok, Err, inl, inr, refl, rules}
-use Rattle.clap.specs.Words.{App, Row, Rule, Text, kind_of, first_of, matches_of, is_simple_and_free, with_rule}
+use Rattle.std.proofs.Common.{◌≡◌, ◌∙◌, ap, sym, subst, codes, ℕ, List, [], ◌∷◌, ◌++◌, Some, None, true, false, Ok, Err, inl, inr, refl, rules}
+use Rattle.std.proofs.lemmas.List.{append_assoc, append-nil}
+use Rattle.clap.specs.Words.{App, Row, Rule, Text, kind_of, first_of, matches_of, is_simple_and_free}
 use Rattle.clap.specs.Walk.{is_empty}
 use Rattle.clap.specs.Kinds.{Kinds, HasKind}
 use Rattle.clap.specs.declared.error.Error.{Error}
@@ -8,7 +9,7 @@ use Rattle.clap.specs.declared.error.kind.ErrorKind.TheVariants.{OutOfMemory}
 use Rattle.cli_words.specs.Budget.{budget_of}
 use Rattle.cli_words.specs.Order.{Ordered, has_same_path}
 use Rattle.cli_words.specs.Organisations.{organisations_of}
-use Rattle.cli_words.specs.Words.{app_for, is_taken, order_by, order_in, order_among, path_checked}
+use Rattle.cli_words.specs.Words.{app_for, app_with, is_taken, order_by, order_in, order_among, path_checked, with_rules}
 use Rattle.cli_words.specs.declared.orders.Command.{Command}
 use Rattle.cli_words.specs.declared.orders.Command.TheVariants.{Query, Search, Check, CheckLrat}
 use Rattle.cli_words.specs.declared.orders.Goal.TheVariants.{Intersect, Dset, Splits, Blocking, Trial}
@@ -81,6 +82,7 @@ order_by-refused k words app a t =
     let refused : is_taken (app_for k) words ≡ false = rw (← a) t in
     rw refused refl
 
--- an app that grows by one rule
-pub rule_added : {new old app : App} {rule wanted : Rule} → new ≡ with_rule old rule → rule ≡ wanted → old ≡ app → new ≡ with_rule app wanted
-rule_added {wanted} n r o = n ∙ (ap (with_rule _) r ∙ ap (λ a. with_rule a wanted) o)
+-- rules that are added behind those of an app
+pub rules_behind : (name : Text) (before rules : List Rule) → with_rules (app_with name before) rules ≡ app_with name (before ++ rules)
+rules_behind name before [] = ap (app_with name) (sym (append-nil before))
+rules_behind name before (rule ∷ rules) = rules_behind name (before ++ rule ∷ []) rules ∙ ap (app_with name) (append_assoc before (rule ∷ []) rules)

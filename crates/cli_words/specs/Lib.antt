@@ -1,3 +1,4 @@
+pub mod Arguments
 pub mod Budget
 pub mod Numbers
 pub mod Order

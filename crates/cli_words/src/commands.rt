@@ -1,7 +1,8 @@
 //! What clap reads for each command, and the order that its matches give.
-ghost use Rattle.std.specs.Prelude.{◌≡◌, ◌≢◌, ◌⊎◌, [], ◌∷◌, true, false, map, IfOk, IfErr, codes, string_bytes, option_map};
+ghost use Rattle.std.specs.Prelude.{◌≡◌, ◌≢◌, ◌⊎◌, true, false, map, IfOk, IfErr, string_bytes, option_map};
 ghost use Rattle.clap.specs.Words.{kind_of, app_of, rule_of, found_of, rows_of, matches_of, is_simple_and_free, first_of};
-ghost use Rattle.cli_words.specs.Words.{positional as positional_rule, needed as needed_rule, optional as optional_rule, app_for, app_with, with_rules, common_options, is_taken, text_of, order_in};
+ghost use Rattle.cli_words.specs.Arguments.{rule_of_argument};
+ghost use Rattle.cli_words.specs.Words.{app_for, app_with, with_rules, is_taken, text_of, order_in};
 ghost use Rattle.cli_words.specs.Order.{order_view};
 
 use crate::orders::{Command, Goal, Order, OrderFault, Query};
@@ -9,39 +10,98 @@ use clap::error::ErrorKind;
 use clap::{Arg, ArgMatches};
 use std::alloc::{AllocError, Global};
 
-fn positional<'a>(alloc: Global, id: &'a str) -> Arg<'a>
-    ensures rule { rule_of result ≡ positional_rule id.now }
-    ensures local { result.global ≡ false }
-{
-    Arg::new(alloc, id).required(true)
+// An argument of a command, by its id.
+#[derive(Clone, Copy)]
+enum Argument<'a> {
+    // A word that must be there, by its place among these.
+    Positional(&'a str),
+    // An option that must be there.
+    Needed(&'a str),
+    // An option that may be left out.
+    Optional(&'a str),
 }
 
-fn needed<'a>(alloc: Global, id: &'a str) -> Arg<'a>
-    ensures rule { rule_of result ≡ needed_rule id.now }
-    ensures local { result.global ≡ false }
+const CONFIG: Argument<'static> = Argument::Positional("config");
+
+const CERT: Argument<'static> = Argument::Positional("cert");
+
+const ORGANISATIONS: Argument<'static> = Argument::Positional("organisations");
+
+const NODE: Argument<'static> = Argument::Needed("node");
+
+const SET: Argument<'static> = Argument::Needed("set");
+
+const FROM: Argument<'static> = Argument::Optional("from");
+
+const FAULTY: Argument<'static> = Argument::Optional("faulty");
+
+const ORGS: Argument<'static> = Argument::Optional("orgs");
+
+const FAULTY_ORGS: Argument<'static> = Argument::Optional("faulty-orgs");
+
+const BUDGET: Argument<'static> = Argument::Optional("budget");
+
+// The name of a command, and its arguments in the order in which clap places them.
+#[tactic(auto, unfolding(crate::specs::Words::app_for))]
+fn form_of<'a>(command: Command) -> (&'a str, &'a [Argument<'a>])
+    ensures { app_with result.0.now (map rule_of_argument result.1.now) ≡ app_for command }
 {
-    Arg::new(alloc, id).long(id).required(true)
+    match command {
+        Command::Query(Query::Show) => ("show", &[CONFIG]),
+        Command::Query(Query::Closure) => ("closure", &[CONFIG, NODE]),
+        Command::Query(Query::Greatest) => ("greatest", &[CONFIG, FROM, FAULTY, ORGS, FAULTY_ORGS]),
+        Command::Query(Query::Available) => ("available", &[CONFIG, SET, FROM]),
+        Command::Query(Query::Blocks) => (
+            "blocks",
+            &[CONFIG, SET, FROM, FAULTY, ORGS, FAULTY_ORGS],
+        ),
+        Command::Query(Query::Vblocks) => ("vblocks", &[CONFIG, NODE, SET]),
+        Command::Query(Query::Export) => ("export", &[CONFIG, FROM, FAULTY, ORGS, FAULTY_ORGS]),
+        Command::Search(Goal::Intersect) => (
+            "intersect",
+            &[CONFIG, CERT, FROM, FAULTY, ORGS, FAULTY_ORGS, BUDGET],
+        ),
+        Command::Search(Goal::Dset) => ("dset", &[CONFIG, CERT, SET, FROM, BUDGET]),
+        Command::Search(Goal::Splits) => (
+            "splits",
+            &[CONFIG, CERT, SET, FROM, FAULTY, ORGS, FAULTY_ORGS, BUDGET],
+        ),
+        Command::Search(Goal::Blocking) => (
+            "blocking",
+            &[CONFIG, CERT, FROM, FAULTY, ORGS, FAULTY_ORGS, BUDGET],
+        ),
+        Command::Search(Goal::Trial) => ("trial", &[ORGANISATIONS, CERT, BUDGET]),
+        Command::Check => ("check", &[CONFIG, CERT]),
+        Command::CheckLrat => (
+            "check-lrat",
+            &[CONFIG, CERT, FROM, FAULTY, ORGS, FAULTY_ORGS],
+        ),
+    }
 }
 
-fn optional<'a>(alloc: Global, id: &'a str) -> Arg<'a>
-    ensures rule { rule_of result ≡ optional_rule id.now }
+// An argument as clap reads it.
+fn read_by_clap<'a>(alloc: Global, argument: Argument<'a>) -> Arg<'a>
+    ensures rule { rule_of result ≡ rule_of_argument argument.entry }
     ensures local { result.global ≡ false }
 {
-    Arg::new(alloc, id).long(id)
+    match argument {
+        Argument::Positional(id) => Arg::new(alloc, id).required(true),
+        Argument::Needed(id) => Arg::new(alloc, id).long(id).required(true),
+        Argument::Optional(id) => Arg::new(alloc, id).long(id),
+    }
 }
 
-// The command with the options that ask about a part of the system and that name faulty nodes.
-fn with_common<'a>(
+// The command with these arguments behind its own.
+fn with_arguments<'a>(
     alloc: Global,
-    command: clap::Command<'a>,
+    mut command: clap::Command<'a>,
+    arguments: &[Argument<'a>],
 ) -> Result<clap::Command<'a>, AllocError>
-    ensures { IfOk result (λ c. app_of c ≡ with_rules (app_of command.entry) common_options) }
+    ensures { IfOk result (λ c. app_of c ≡ with_rules (app_of command.entry) (map rule_of_argument arguments.now)) }
 {
-    let command = command
-        .arg(optional(alloc, "from"))?
-        .arg(optional(alloc, "faulty"))?
-        .arg(optional(alloc, "orgs"))?
-        .arg(optional(alloc, "faulty-orgs"))?;
+    for argument in arguments {
+        command = command.arg(read_by_clap(alloc, *argument))?;
+    }
     Ok(command)
 }
 
@@ -49,152 +109,8 @@ fn with_common<'a>(
 pub fn arguments_of<'a>(alloc: Global, command: Command) -> Result<clap::Command<'a>, AllocError>
     ensures { IfOk result (λ c. app_of c ≡ app_for command) }
 {
-    match command {
-        Command::Query(Query::Show) => show_arguments(alloc),
-        Command::Query(Query::Closure) => closure_arguments(alloc),
-        Command::Query(Query::Greatest) => greatest_arguments(alloc),
-        Command::Query(Query::Available) => available_arguments(alloc),
-        Command::Query(Query::Blocks) => blocks_arguments(alloc),
-        Command::Query(Query::Vblocks) => vblocks_arguments(alloc),
-        Command::Query(Query::Export) => export_arguments(alloc),
-        Command::Search(Goal::Intersect) => intersect_arguments(alloc),
-        Command::Search(Goal::Dset) => dset_arguments(alloc),
-        Command::Search(Goal::Splits) => splits_arguments(alloc),
-        Command::Search(Goal::Blocking) => blocking_arguments(alloc),
-        Command::Search(Goal::Trial) => trial_arguments(alloc),
-        Command::Check => check_arguments(alloc),
-        Command::CheckLrat => check_lrat_arguments(alloc),
-    }
-}
-
-#[tactic(auto, unfolding(crate::specs::Words::app_for))]
-fn show_arguments<'a>(alloc: Global) -> Result<clap::Command<'a>, AllocError>
-    ensures { IfOk result (λ c. app_of c ≡ app_for (Command.Query Query.Show)) }
-{
-    clap::Command::new(alloc, "show").arg(positional(alloc, "config"))
-}
-
-#[tactic(auto, unfolding(crate::specs::Words::app_for))]
-fn closure_arguments<'a>(alloc: Global) -> Result<clap::Command<'a>, AllocError>
-    ensures { IfOk result (λ c. app_of c ≡ app_for (Command.Query Query.Closure)) }
-{
-    clap::Command::new(alloc, "closure")
-        .arg(positional(alloc, "config"))?
-        .arg(needed(alloc, "node"))
-}
-
-#[tactic(auto, unfolding(crate::specs::Words::app_for))]
-fn greatest_arguments<'a>(alloc: Global) -> Result<clap::Command<'a>, AllocError>
-    ensures { IfOk result (λ c. app_of c ≡ app_for (Command.Query Query.Greatest)) }
-{
-    let command = clap::Command::new(alloc, "greatest").arg(positional(alloc, "config"))?;
-    with_common(alloc, command)
-}
-
-#[tactic(auto, unfolding(crate::specs::Words::app_for))]
-fn available_arguments<'a>(alloc: Global) -> Result<clap::Command<'a>, AllocError>
-    ensures { IfOk result (λ c. app_of c ≡ app_for (Command.Query Query.Available)) }
-{
-    clap::Command::new(alloc, "available")
-        .arg(positional(alloc, "config"))?
-        .arg(needed(alloc, "set"))?
-        .arg(optional(alloc, "from"))
-}
-
-#[tactic(auto, unfolding(crate::specs::Words::app_for))]
-fn blocks_arguments<'a>(alloc: Global) -> Result<clap::Command<'a>, AllocError>
-    ensures { IfOk result (λ c. app_of c ≡ app_for (Command.Query Query.Blocks)) }
-{
-    let command = clap::Command::new(alloc, "blocks")
-        .arg(positional(alloc, "config"))?
-        .arg(needed(alloc, "set"))?;
-    with_common(alloc, command)
-}
-
-#[tactic(auto, unfolding(crate::specs::Words::app_for))]
-fn vblocks_arguments<'a>(alloc: Global) -> Result<clap::Command<'a>, AllocError>
-    ensures { IfOk result (λ c. app_of c ≡ app_for (Command.Query Query.Vblocks)) }
-{
-    clap::Command::new(alloc, "vblocks")
-        .arg(positional(alloc, "config"))?
-        .arg(needed(alloc, "node"))?
-        .arg(needed(alloc, "set"))
-}
-
-// A command that has the paths of a configuration and of a certificate.
-fn with_paths<'a>(alloc: Global, name: &'a str) -> Result<clap::Command<'a>, AllocError>
-    ensures { IfOk result (λ c. app_of c ≡ app_with name.now (positional_rule (codes "config") ∷ positional_rule (codes "cert") ∷ [])) }
-{
-    clap::Command::new(alloc, name)
-        .arg(positional(alloc, "config"))?
-        .arg(positional(alloc, "cert"))
-}
-
-#[tactic(auto, unfolding(crate::specs::Words::app_for))]
-fn intersect_arguments<'a>(alloc: Global) -> Result<clap::Command<'a>, AllocError>
-    ensures { IfOk result (λ c. app_of c ≡ app_for (Command.Search Goal.Intersect)) }
-{
-    let command = with_paths(alloc, "intersect")?;
-    with_common(alloc, command)?.arg(optional(alloc, "budget"))
-}
-
-#[tactic(auto, unfolding(crate::specs::Words::app_for))]
-fn dset_arguments<'a>(alloc: Global) -> Result<clap::Command<'a>, AllocError>
-    ensures { IfOk result (λ c. app_of c ≡ app_for (Command.Search Goal.Dset)) }
-{
-    with_paths(alloc, "dset")?
-        .arg(needed(alloc, "set"))?
-        .arg(optional(alloc, "from"))?
-        .arg(optional(alloc, "budget"))
-}
-
-#[tactic(auto, unfolding(crate::specs::Words::app_for))]
-fn splits_arguments<'a>(alloc: Global) -> Result<clap::Command<'a>, AllocError>
-    ensures { IfOk result (λ c. app_of c ≡ app_for (Command.Search Goal.Splits)) }
-{
-    let command = with_paths(alloc, "splits")?.arg(needed(alloc, "set"))?;
-    with_common(alloc, command)?.arg(optional(alloc, "budget"))
-}
-
-#[tactic(auto, unfolding(crate::specs::Words::app_for))]
-fn blocking_arguments<'a>(alloc: Global) -> Result<clap::Command<'a>, AllocError>
-    ensures { IfOk result (λ c. app_of c ≡ app_for (Command.Search Goal.Blocking)) }
-{
-    let command = with_paths(alloc, "blocking")?;
-    with_common(alloc, command)?.arg(optional(alloc, "budget"))
-}
-
-#[tactic(auto, unfolding(crate::specs::Words::app_for))]
-fn trial_arguments<'a>(alloc: Global) -> Result<clap::Command<'a>, AllocError>
-    ensures { IfOk result (λ c. app_of c ≡ app_for (Command.Search Goal.Trial)) }
-{
-    clap::Command::new(alloc, "trial")
-        .arg(positional(alloc, "organisations"))?
-        .arg(positional(alloc, "cert"))?
-        .arg(optional(alloc, "budget"))
-}
-
-#[tactic(auto, unfolding(crate::specs::Words::app_for))]
-fn check_arguments<'a>(alloc: Global) -> Result<clap::Command<'a>, AllocError>
-    ensures { IfOk result (λ c. app_of c ≡ app_for Command.Check) }
-{
-    with_paths(alloc, "check")
-}
-
-#[tactic(auto, unfolding(crate::specs::Words::app_for))]
-fn export_arguments<'a>(alloc: Global) -> Result<clap::Command<'a>, AllocError>
-    ensures { IfOk result (λ c. app_of c ≡ app_for (Command.Query Query.Export)) }
-{
-    let command = clap::Command::new(alloc, "export").arg(positional(alloc, "config"))?;
-    with_common(alloc, command)
-}
-
-#[tactic(auto, unfolding(crate::specs::Words::app_for))]
-fn check_lrat_arguments<'a>(alloc: Global) -> Result<clap::Command<'a>, AllocError>
-    ensures { IfOk result (λ c. app_of c ≡ app_for Command.CheckLrat) }
-{
-    let command = with_paths(alloc, "check-lrat")?;
-    with_common(alloc, command)
+    let (name, arguments) = form_of(command);
+    with_arguments(alloc, clap::Command::new(alloc, name), arguments)
 }
 
 // The matches of the words, or their refusal.
