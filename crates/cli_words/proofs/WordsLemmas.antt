@@ -1,15 +1,13 @@
 -- Each stage of the reading of a command's words.
-use Rattle.std.proofs.Common.{◌≡◌, ◌∙◌, ap, sym, subst, codes, ℕ, List, [], ◌∷◌, ◌++◌, Some, None, true, false, Ok, Err, inl, inr, refl, rules}
+use Rattle.std.proofs.Common.{◌≡◌, ◌∙◌, ap, sym, subst, List, [], ◌∷◌, ◌++◌, true, false, Ok, Err, inl, inr, refl, rules}
 use Rattle.std.proofs.lemmas.List.{append_assoc, append-nil}
-use Rattle.clap.specs.Words.{App, Row, Rule, Text, kind_of, first_of, matches_of, is_simple_and_free}
+use Rattle.clap.specs.Words.{App, Row, Rule, Text, kind_of, fault_of, matches_of, is_simple_and_free}
 use Rattle.clap.specs.Walk.{is_empty}
 use Rattle.clap.specs.Kinds.{Kinds, HasKind}
 use Rattle.clap.specs.declared.error.Error.{Error}
 use Rattle.clap.specs.declared.error.kind.ErrorKind.TheVariants.{OutOfMemory}
-use Rattle.cli_words.specs.Budget.{budget_of}
 use Rattle.cli_words.specs.Order.{Ordered, has_same_path}
-use Rattle.cli_words.specs.Organisations.{organisations_of}
-use Rattle.cli_words.specs.Words.{app_for, app_with, is_taken, order_by, order_in, order_among, path_checked, with_rules}
+use Rattle.cli_words.specs.Words.{app_for, app_with, is_taken, order_by, order_among, path_checked, with_rules}
 use Rattle.cli_words.specs.declared.orders.Command.{Command}
 use Rattle.cli_words.specs.declared.orders.Command.TheVariants.{Query, Search, Check, CheckLrat}
 use Rattle.cli_words.specs.declared.orders.Goal.TheVariants.{Intersect, Dset, Splits, Blocking, Trial}
@@ -40,47 +38,33 @@ is_stated Check app e = rw e refl
 is_stated (Query Export) app e = rw e refl
 is_stated CheckLrat app e = rw e refl
 
--- the words are taken, and these are their texts
-pub record Taken (k : Command) (words : List Text) (app : App) (rows : List Row) : Type 0 where
-  pub is : app ≡ app_for k
-  pub taken : is_taken app words ≡ true
-  pub rows_are : rows ≡ matches_of app words
+-- words in which clap finds no fault are taken
+pub taken_by : (app wanted : App) (words : List Text) → app ≡ wanted → fault_of app words ≡ [] → is_taken wanted words ≡ true
+unfolding is_taken
+taken_by app wanted words same none =
+    let found : fault_of wanted words ≡ [] = subst (λ (x : App). fault_of x words ≡ []) same none in
+    rw found refl
 
-order_by-taken : (k : Command) (words : List Text) (app : App) (rows : List Row) → Taken k words app rows → order_by k words ≡ order_among k rows
+pub refused_by : (app wanted : App) (words : List Text) (e : Error) → app ≡ wanted → HasKind (fault_of app words) e → (kind_of e ≡ OutOfMemory → ⊥) → is_taken wanted words ≡ false
+unfolding is_taken
+refused_by app wanted words e same h other =
+    let found : HasKind (fault_of wanted words) e = subst (λ (x : App). HasKind (fault_of x words) e) same h in
+    is_empty-refused (fault_of wanted words) e found other
+
+-- words that are taken have the order of their texts
+pub order_by-taken : (k : Command) (words : List Text) (rows : List Row) → is_taken (app_for k) words ≡ true → rows ≡ matches_of (app_for k) words → order_by k words ≡ order_among k rows
 unfolding order_by
-order_by-taken k words app rows t =
-    let taken : is_taken (app_for k) words ≡ true = subst (λ (x : App). is_taken x words ≡ true) t.is t.taken in
-    let whole : rows ≡ matches_of (app_for k) words = t.rows_are ∙ ap (λ (x : App). matches_of x words) t.is in
-    rw taken (ap (λ (x : List Row). order_among k x) (sym whole))
+order_by-taken k words rows taken whole = rw taken (ap (λ (x : List Row). order_among k x) (sym whole))
 
-pub order_by-unbudgeted : (k : Command) (words : List Text) (app : App) (rows : List Row) → Taken k words app rows → budget_of k (first_of (codes "budget") rows) ≡ None → order_by k words ≡ Err Words
-order_by-unbudgeted k words app rows t none = order_by-taken k words app rows t ∙ rw none refl
-
--- and this is its budget
-pub record Budgeted (k : Command) (words : List Text) (app : App) (rows : List Row) (budget : ℕ) : Type 0 where
-  pub texts : Taken k words app rows
-  pub budget_is : budget_of k (first_of (codes "budget") rows) ≡ Some budget
-
-pub order_by-uncounted : (k : Command) (words : List Text) (app : App) (rows : List Row) (budget : ℕ) → Budgeted k words app rows budget → organisations_of k (first_of (codes "organisations") rows) ≡ None → order_by k words ≡ Err Words
-order_by-uncounted k words app rows budget t none = order_by-taken k words app rows t.texts ∙ rw (t.budget_is, none) refl
-
-order_by-counted : (k : Command) (words : List Text) (app : App) (rows : List Row) (budget trial : ℕ) (o : Ordered) → Budgeted k words app rows budget → organisations_of k (first_of (codes "organisations") rows) ≡ Some trial
-    → o ≡ order_in k budget trial rows → order_by k words ≡ path_checked o
-order_by-counted k words app rows budget trial o t some e = order_by-taken k words app rows t.texts ∙ rw (t.budget_is, some) (ap path_checked (sym e))
-
-pub order_by-same : (k : Command) (words : List Text) (app : App) (rows : List Row) (budget trial : ℕ) (o : Ordered) → Budgeted k words app rows budget → organisations_of k (first_of (codes "organisations") rows) ≡ Some trial
-    → o ≡ order_in k budget trial rows → has_same_path o ≡ true → order_by k words ≡ Err SamePath
-order_by-same k words app rows budget trial o t some e same = rw (order_by-counted k words app rows budget trial o t some e, same) refl
-
-pub order_by-other : (k : Command) (words : List Text) (app : App) (rows : List Row) (budget trial : ℕ) (o : Ordered) → Budgeted k words app rows budget → organisations_of k (first_of (codes "organisations") rows) ≡ Some trial
-    → o ≡ order_in k budget trial rows → has_same_path o ≡ false → order_by k words ≡ Ok o
-order_by-other k words app rows budget trial o t some e other = rw (order_by-counted k words app rows budget trial o t some e, other) refl
-
-pub order_by-refused : (k : Command) (words : List Text) (app : App) → app ≡ app_for k → is_taken app words ≡ false → order_by k words ≡ Err Words
+pub order_by-refused : (k : Command) (words : List Text) → is_taken (app_for k) words ≡ false → order_by k words ≡ Err Words
 unfolding order_by
-order_by-refused k words app a t =
-    let refused : is_taken (app_for k) words ≡ false = rw (← a) t in
-    rw refused refl
+order_by-refused k words refused = rw refused refl
+
+pub path_checked-same : (o : Ordered) → has_same_path o ≡ true → path_checked o ≡ Err SamePath
+path_checked-same o same = rw same refl
+
+pub path_checked-other : (o : Ordered) → has_same_path o ≡ false → path_checked o ≡ Ok o
+path_checked-other o other = rw other refl
 
 -- rules that are added behind those of an app
 pub rules_behind : (name : Text) (before rules : List Rule) → with_rules (app_with name before) rules ≡ app_with name (before ++ rules)

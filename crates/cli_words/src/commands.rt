@@ -105,29 +105,29 @@ fn with_arguments<'a>(
     Ok(command)
 }
 
-/// The arguments that the command takes.
-pub fn arguments_of<'a>(alloc: Global, command: Command) -> Result<clap::Command<'a>, AllocError>
+// The arguments that the command takes.
+fn arguments_of<'a>(alloc: Global, command: Command) -> Result<clap::Command<'a>, AllocError>
     ensures { IfOk result (λ c. app_of c ≡ app_for command) }
 {
     let (name, arguments) = form_of(command);
     with_arguments(alloc, clap::Command::new(alloc, name), arguments)
 }
 
-// The matches of the words, or their refusal.
+/// The matches of a command's own words, or their refusal.
 #[tactic(auto, unfolding(crate::specs::Words::is_taken))]
 pub fn matched<'a>(
-    arguments: clap::Command<'a>,
+    alloc: Global,
+    command: Command,
     words: &'a [String],
 ) -> Result<ArgMatches<'a>, OrderFault>
-    requires { is_simple_and_free (app_of arguments) ≡ true }
-    ensures taken { IfOk result (λ m. is_taken (app_of arguments.entry) (map string_bytes words.entry.now) ≡ true) }
+    ensures taken { IfOk result (λ m. is_taken (app_for command) (map string_bytes words.entry.now) ≡ true) }
     ensures rows { IfOk result (λ m. rows_of (found_of m)
-        ≡ matches_of (app_of arguments.entry) (map string_bytes words.entry.now)) }
+        ≡ matches_of (app_for command) (map string_bytes words.entry.now)) }
     ensures err { IfErr result (λ e. (e ≡ OrderFault.Memory)
         ⊎ ((e ≡ OrderFault.Words)
-        × (is_taken (app_of arguments.entry) (map string_bytes words.entry.now) ≡ false))) }
+        × (is_taken (app_for command) (map string_bytes words.entry.now) ≡ false))) }
 {
-    match arguments.try_get_matches_from(words) {
+    match arguments_of(alloc, command)?.try_get_matches_from(words) {
         Ok(matches) => Ok(matches),
         Err(e) => Err(fault(&e)),
     }
@@ -151,13 +151,13 @@ pub fn text_at<'a>(matches: &ArgMatches<'a>, id: &str) -> Option<&'a str>
     matches.get_str(id)
 }
 
-// The text of an argument, empty where there is none.
-fn text(alloc: Global, matches: &ArgMatches<'_>, id: &str) -> Result<String, AllocError>
-    ensures { IfOk result (λ s. string_bytes s ≡ text_of id.now (rows_of (found_of matches.now))) }
+/// The first text of an argument, empty where there is none.
+pub fn text_or_empty<'a>(matches: &ArgMatches<'a>, id: &str) -> &'a str
+    ensures { result.now ≡ text_of id.now (rows_of (found_of matches.now)) }
 {
     match text_at(matches, id) {
-        Some(text) => String::from_str(alloc, text),
-        None => Ok(String::new(alloc)),
+        Some(text) => text,
+        None => "",
     }
 }
 
@@ -181,16 +181,17 @@ pub fn order_from(
     budget: u64,
     trial: u32,
     matches: &ArgMatches<'_>,
-) -> Result<Order, AllocError>
+) -> Result<Order, OrderFault>
     ensures texts { IfOk result (λ o. order_view o ≡ order_in command budget trial (rows_of (found_of matches.now))) }
     ensures command { IfOk result (λ o. o.command ≡ command) }
     ensures budget { IfOk result (λ o. o.budget ≡ budget) }
     ensures trial { IfOk result (λ o. o.trial ≡ trial) }
+    ensures memory { IfErr result (λ e. e ≡ OrderFault.Memory) }
 {
     Ok(Order {
         command,
-        config: text(alloc, matches, "config")?,
-        cert: text(alloc, matches, "cert")?,
+        config: String::from_str(alloc, text_or_empty(matches, "config"))?,
+        cert: String::from_str(alloc, text_or_empty(matches, "cert"))?,
         orgs: text_if_any(alloc, matches, "orgs")?,
         node: text_if_any(alloc, matches, "node")?,
         from: text_if_any(alloc, matches, "from")?,

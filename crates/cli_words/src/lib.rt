@@ -1,8 +1,9 @@
 //! The words of the command line, read to an order.
 #![tactic(auto)]
 
-ghost use Rattle.std.specs.Prelude.{◌≡◌, ◌⊎◌, ◌≤◌, map, Ok, Err, IfOk, IfErr, string_bytes, option_map};
-ghost use Rattle.cli_words.specs.Words.{order_by, order_of, command_named as spec_command_named};
+ghost use Rattle.std.specs.Prelude.{◌≡◌, ◌⊎◌, ◌≤◌, ℕ, map, None, Ok, Err, IfOk, IfErr, IfSome, string_bytes, option_map};
+ghost use Rattle.clap.specs.Words.{found_of, rows_of};
+ghost use Rattle.cli_words.specs.Words.{order_among, order_by, order_in, order_of, path_checked, command_named as spec_command_named};
 ghost use Rattle.cli_words.specs.Order.{order_view, has_same_path as spec_has_same_path, has_certificate as spec_has_certificate, is_path as spec_is_path};
 ghost use Rattle.cli_words.specs.declared.budget.TheConstants.{MOST_BUDGET};
 ghost use Rattle.cli_words.specs.declared.organisations.TheConstants.{MOST_ORGANISATIONS};
@@ -15,7 +16,8 @@ mod organisations;
 
 use budget::budget_of;
 pub use budget::{MOST_BUDGET, USUAL_BUDGET};
-use commands::{arguments_of, matched, order_from, text_at};
+use clap::ArgMatches;
+use commands::{matched, order_from, text_at, text_or_empty};
 pub use orders::{Command, Goal, Order, OrderFault, Query};
 pub use organisations::MOST_ORGANISATIONS;
 use organisations::organisations_of;
@@ -77,27 +79,34 @@ fn command_order(alloc: Global, command: Command, words: &[String]) -> Result<Or
     ensures few { IfOk result (λ o. o.budget ≤ MOST_BUDGET) }
     ensures organisations { IfOk result (λ o. o.command ≡ Command.Search Goal.Trial → (1 ≤ o.trial) × (o.trial ≤ MOST_ORGANISATIONS)) }
 {
-    let arguments = arguments_of(alloc, command)?;
-    let matches = matched(arguments, words)?;
-    let Some(budget) = budget_of(command, text_at(&matches, "budget")) else {
+    let matches = matched(alloc, command, words)?;
+    let Some((budget, trial)) = numbers_of(command, &matches) else {
         return Err(OrderFault::Words);
     };
-    let Some(trial) = organisations_of(command, text_at(&matches, "organisations")) else {
-        return Err(OrderFault::Words);
-    };
-    let order = order_from(alloc, command, budget, trial, &matches)?;
-    if has_same_path(&order) {
+    if has_same_path(command, &matches) {
         return Err(OrderFault::SamePath);
     }
-    Ok(order)
+    order_from(alloc, command, budget, trial, &matches)
 }
 
-fn has_same_path(order: &Order) -> bool
-    ensures { result ≡ spec_has_same_path (order_view order.now) }
+// The budget and how many organisations the trial has, if the texts of both are numbers.
+fn numbers_of(command: Command, matches: &ArgMatches<'_>) -> Option<(u64, u32)>
+    ensures none { result ≡ None → order_among command (rows_of (found_of matches.now)) ≡ Err OrderFault.Words }
+    ensures some { IfSome result (λ n. order_among command (rows_of (found_of matches.now)) ≡ path_checked (order_in command n.0 n.1 (rows_of (found_of matches.now)))) }
+    ensures few { IfSome result (λ n. n.0 ≤ MOST_BUDGET) }
+    ensures organisations { IfSome result (λ n. command ≡ Command.Search Goal.Trial → (1 ≤ n.1) × (n.1 ≤ MOST_ORGANISATIONS)) }
 {
-    has_certificate(order.command)
-        && order.command.has_configuration()
-        && (order.config == order.cert || is_path(&order.orgs, &order.cert))
+    let budget = budget_of(command, text_at(matches, "budget"));
+    budget.zip(organisations_of(command, text_at(matches, "organisations")))
+}
+
+fn has_same_path(command: Command, matches: &ArgMatches<'_>) -> bool
+    ensures { (budget trial : ℕ) → result ≡ spec_has_same_path (order_in command budget trial (rows_of (found_of matches.now))) }
+{
+    let cert = text_or_empty(matches, "cert");
+    has_certificate(command)
+        && command.has_configuration()
+        && (text_or_empty(matches, "config") == cert || is_path(text_at(matches, "orgs"), cert))
 }
 
 fn has_certificate(command: Command) -> bool
@@ -109,11 +118,11 @@ fn has_certificate(command: Command) -> bool
     )
 }
 
-fn is_path(given: &Option<String>, path: &String) -> bool
-    ensures { result ≡ spec_is_path (option_map string_bytes given.now) (string_bytes path.now) }
+fn is_path(given: Option<&str>, path: &str) -> bool
+    ensures { result ≡ spec_is_path (option_map (λ s. s.now) given.entry) path.now }
 {
     match given {
-        Some(given) => *given == *path,
+        Some(given) => given == path,
         None => false,
     }
 }
