@@ -1,13 +1,13 @@
 -- Each stage of the reading of a command's words.
-use Rattle.std.proofs.Common.{◌≡◌, ◌∙◌, ap, sym, subst, List, [], ◌∷◌, ◌++◌, true, false, Ok, Err, inl, inr, refl, rules}
+use Rattle.std.proofs.Common.{Option, ℕ, codes, ◌≡◌, ◌∙◌, ap, sym, subst, List, [], ◌∷◌, ◌++◌, true, false, Ok, Err, inl, inr, refl, rules}
 use Rattle.std.proofs.lemmas.List.{append_assoc, append-nil}
-use Rattle.clap.specs.Words.{App, Row, Rule, Text, kind_of, fault_of, matches_of, is_simple_and_free}
+use Rattle.clap.specs.Words.{App, Row, Rule, Text, kind_of, fault_of, first_of, matches_of, is_simple_and_free}
 use Rattle.clap.specs.Walk.{is_empty}
 use Rattle.clap.specs.Kinds.{Kinds, HasKind}
 use Rattle.clap.specs.declared.error.Error.{Error}
 use Rattle.clap.specs.declared.error.kind.ErrorKind.TheVariants.{OutOfMemory}
 use Rattle.cli_words.specs.Order.{Ordered, has_same_path}
-use Rattle.cli_words.specs.Words.{app_for, app_with, is_taken, order_by, order_among, path_checked, with_rules}
+use Rattle.cli_words.specs.Words.{app_for, app_with, is_taken, order_in, text_of, order_by, order_among, path_checked, with_rules}
 use Rattle.cli_words.specs.declared.orders.Command.{Command}
 use Rattle.cli_words.specs.declared.orders.Command.TheVariants.{Query, Search, Check, CheckLrat}
 use Rattle.cli_words.specs.declared.orders.Goal.TheVariants.{Intersect, Dset, Splits, Blocking, Trial}
@@ -70,3 +70,9 @@ path_checked-other o other = rw other refl
 pub rules_behind : (name : Text) (before rules : List Rule) → with_rules (app_with name before) rules ≡ app_with name (before ++ rules)
 rules_behind name before [] = ap (app_with name) (sym (append-nil before))
 rules_behind name before (rule ∷ rules) = rules_behind name (before ++ rule ∷ []) rules ∙ ap (app_with name) (append_assoc before (rule ∷ []) rules)
+
+-- an order by its texts
+pub order_by_texts : (k : Command) (budget trial : ℕ) (rows : List Row) {config cert : Text} {orgs node from faulty faulty_orgs set : Option Text} → config ≡ text_of (codes "config") rows → cert ≡ text_of (codes "cert") rows
+    → orgs ≡ first_of (codes "orgs") rows → node ≡ first_of (codes "node") rows → from ≡ first_of (codes "from") rows → faulty ≡ first_of (codes "faulty") rows → faulty_orgs ≡ first_of (codes "faulty-orgs") rows → set ≡ first_of (codes "set") rows
+    → record { command = k; config = config; cert = cert; orgs = orgs; node = node; from = from; faulty = faulty; faulty_orgs = faulty_orgs; set = set; budget = budget; trial = trial } ≡ order_in k budget trial rows
+order_by_texts k budget trial rows a b c d e f g h = rw (a, b, c, d, e, f, g, h) refl

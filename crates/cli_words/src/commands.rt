@@ -21,6 +21,7 @@ enum Argument<'a> {
     Optional(&'a str),
 }
 
+// The arguments that the commands have.
 const CONFIG: Argument<'static> = Argument::Positional("config");
 
 const CERT: Argument<'static> = Argument::Positional("cert");
@@ -114,7 +115,6 @@ fn arguments_of<'a>(alloc: Global, command: Command) -> Result<clap::Command<'a>
 }
 
 /// The matches of a command's own words, or their refusal.
-#[tactic(auto, unfolding(crate::specs::Words::is_taken))]
 pub fn matched<'a>(
     alloc: Global,
     command: Command,
