@@ -110,7 +110,8 @@ fn found_sets(
 {
     if run(alloc, system, faulty, greatest, solver, listed, budget)? {
         let sets = sets_of(alloc, listed)?;
-        return Ok(Some(rising(sets)));
+        let ordered = rising(sets);
+        return Ok(Some(ordered));
     }
     Ok(None)
 }
