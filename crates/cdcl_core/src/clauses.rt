@@ -59,11 +59,12 @@ impl Clauses {
     fn with_guesses(alloc: Global, count: usize) -> Result<Clauses, AllocError>
         ensures { IfOk result (λ clauses. clauses ≡ []) }
     {
+        let guesses = vec![in alloc; 0; count.saturating_mul(2)]?;
         Ok(Clauses {
             arena: Vec::new(alloc),
             places: Vec::new(alloc),
             dense: 0,
-            guesses: vec![in alloc; 0; count.saturating_mul(2)]?,
+            guesses,
         })
     }
 

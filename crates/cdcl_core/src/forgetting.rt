@@ -153,9 +153,9 @@ fn delete(search: &mut Search, gone: &[u64]) -> Result<(), AllocError>
     ensures unchanged { OnErr result (HasLogged search.old search.new) }
 {
     let alloc = *search.reasons.allocator();
-    let clauses = search.clauses.all_but(alloc, gone)?;
-    let memory = search.memory.all_but(alloc, gone)?;
     let lists = WatchLists::new(alloc, 2 * (search.vars as usize + 1))?;
+    let memory = search.memory.all_but(alloc, gone)?;
+    let clauses = search.clauses.all_but(alloc, gone)?;
     search.log.push_deletion(search.last, gone)?;
     search.clauses = clauses;
     search.memory = memory;

@@ -34,11 +34,14 @@ impl Guide {
         requires { vars < 2 ^ 31 }
         ensures { IfOk result (λ guide. IsGuide vars guide) }
     {
+        let marks = Marks::new(alloc, vars)?;
+        let order = Order::new(alloc, vars)?;
+        let minimiser = Minimiser::new(alloc, vars)?;
         Ok(Guide {
-            order: Order::new(alloc, vars)?,
-            marks: Marks::new(alloc, vars)?,
+            order,
+            marks,
             base: 0,
-            minimiser: Minimiser::new(alloc, vars)?,
+            minimiser,
             restarts: Restarts::new(),
         })
     }
@@ -131,11 +134,14 @@ impl Minimiser {
     fn new(alloc: Global, vars: u32) -> Result<Minimiser, AllocError>
         requires { vars < 2 ^ 31 }
     {
+        let met = Marks::new(alloc, vars)?;
+        let implied = Marks::new(alloc, vars)?;
+        let refused = Marks::new(alloc, vars)?;
         Ok(Minimiser {
             levels: Vec::new(alloc),
-            met: Marks::new(alloc, vars)?,
-            implied: Marks::new(alloc, vars)?,
-            refused: Marks::new(alloc, vars)?,
+            met,
+            implied,
+            refused,
             waiting: Vec::new(alloc),
             tried: Vec::new(alloc),
         })

@@ -17,14 +17,13 @@ impl Heap {
     pub fn new(alloc: Global, vars: u32) -> Result<Heap, AllocError>
         requires { vars < 2 ^ 31 }
     {
-        let mut variables = Vec::with_capacity(alloc, vars as usize)?;
-        let mut places = Vec::with_capacity(alloc, vars as usize + 1)?;
-        places.push(0)?;
+        let mut variables = vec![in alloc; 0; vars as usize]?;
+        let mut places = vec![in alloc; 0; vars as usize + 1]?;
         let mut x = 0;
         while x < vars {
+            variables[x as usize] = x + 1;
             x += 1;
-            variables.push(x)?;
-            places.push(x as usize)?;
+            places[x as usize] = x as usize;
         }
         Ok(Heap {
             variables,

@@ -96,15 +96,16 @@ impl Links {
     fn new(alloc: Global, vars: u32) -> Result<Links, AllocError>
         requires { vars < 2 ^ 31 }
     {
-        let mut before = vec![in alloc; 0; 1]?;
-        let mut after = vec![in alloc; 1; 1]?;
-        let mut stamps = vec![in alloc; 0; 1]?;
+        let room = vars as usize + 1;
+        let mut before = vec![in alloc; 0; room]?;
+        let mut after = vec![in alloc; 0; room]?;
+        let mut stamps = vec![in alloc; 0; room]?;
         let mut x = 0;
         while x < vars {
-            before.push(x)?;
+            after[x as usize] = x + 1;
             x += 1;
-            after.push(if x < vars { x + 1 } else { 0 })?;
-            stamps.push(x as u64)?;
+            before[x as usize] = x - 1;
+            stamps[x as usize] = x as u64;
         }
         Ok(Links {
             before,
