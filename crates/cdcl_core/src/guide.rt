@@ -222,17 +222,18 @@ impl Minimiser {
         }
         self.waiting.clear();
         self.tried.clear();
-        self.waiting.push(place)?;
+        let mut next = place;
         let mut left = reasons.len();
         while left > 0 {
             left -= 1;
-            let Some(next) = self.waiting.pop() else {
-                return Ok(true);
-            };
             let clause = clauses.under(at_reason(reasons, next));
             if !self.looks_on(clause, reasons, places, marks, next)? {
                 self.give_up(trail, next);
                 return Ok(false);
+            }
+            match self.waiting.pop() {
+                Some(waiting) => next = waiting,
+                None => return Ok(true),
             }
         }
         Ok(false)
