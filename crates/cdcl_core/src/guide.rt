@@ -5,6 +5,7 @@ ghost use Rattle.std.specs.Prelude.{◌≡◌, ◌<◌, ◌+◌, ◌^◌, AllPai
 ghost use Rattle.cdcl_core.specs.Guides.{IsGuide};
 
 use crate::clauses::Clauses;
+use crate::entries::entry_or;
 use crate::marks::Marks;
 use crate::order::Order;
 use crate::restarts::Restarts;
@@ -166,9 +167,9 @@ impl Minimiser {
         self.implied.clear();
         self.refused.clear();
         for x in variables {
-            let place = at(places, *x as usize);
+            let place = entry_or(places, *x as usize, 0);
             if place < last {
-                self.met.add(at_level(&self.levels, place));
+                self.met.add(entry_or(&self.levels, place, 0) as usize);
             }
         }
         Ok(())
@@ -193,7 +194,8 @@ impl Minimiser {
         self.met.clear();
         let mut count = 0u32;
         for m in lits {
-            let level = at_level(&self.levels, at(places, m.variable() as usize));
+            let place = entry_or(places, m.variable() as usize, 0);
+            let level = entry_or(&self.levels, place, 0) as usize;
             if !self.met.has(level) {
                 self.met.add(level);
                 count = count.saturating_add(1);
@@ -214,7 +216,7 @@ impl Minimiser {
     ) -> Result<bool, AllocError>
         requires { AllPairs (λ e f. e.0 < f.0) clauses.now }
     {
-        if at_reason(reasons, place) == 0 {
+        if entry_or(reasons, place, 0) == 0 {
             return Ok(false);
         }
         if place < trail.len() && self.implied.has(trail[place].variable() as usize) {
@@ -226,7 +228,7 @@ impl Minimiser {
         let mut left = reasons.len();
         while left > 0 {
             left -= 1;
-            let clause = clauses.under(at_reason(reasons, next));
+            let clause = clauses.under(entry_or(reasons, next, 0));
             if !self.looks_on(clause, reasons, places, marks, next)? {
                 self.give_up(trail, next);
                 return Ok(false);
@@ -250,12 +252,12 @@ impl Minimiser {
     ) -> Result<bool, AllocError> {
         for m in clause {
             let x = m.variable() as usize;
-            let place = at(places, x);
-            let level = at_level(&self.levels, place);
+            let place = entry_or(places, x, 0);
+            let level = entry_or(&self.levels, place, 0) as usize;
             if place == own || level == 0 || marks.has(x) || self.implied.has(x) {
                 continue;
             }
-            if at_reason(reasons, place) == 0 || self.refused.has(x) || !self.met.has(level) {
+            if entry_or(reasons, place, 0) == 0 || self.refused.has(x) || !self.met.has(level) {
                 return Ok(false);
             }
             self.implied.add(x);
@@ -273,29 +275,5 @@ impl Minimiser {
         if place < trail.len() {
             self.refused.add(trail[place].variable() as usize);
         }
-    }
-}
-
-/// The entry at a place, 0 where there is none.
-fn at(places: &[usize], x: usize) -> usize {
-    match places.get(x) {
-        Some(place) => *place,
-        None => 0,
-    }
-}
-
-/// The level of a place, 0 where it is not known.
-fn at_level(levels: &[u32], place: usize) -> usize {
-    match levels.get(place) {
-        Some(level) => *level as usize,
-        None => 0,
-    }
-}
-
-/// The reason of a place, 0 where there is none.
-fn at_reason(reasons: &[u64], place: usize) -> u64 {
-    match reasons.get(place) {
-        Some(reason) => *reason,
-        None => 0,
     }
 }

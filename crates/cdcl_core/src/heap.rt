@@ -2,6 +2,7 @@
 //! said of it but that it is safe.
 ghost use Rattle.std.specs.Prelude.{◌≡◌, ℕ, ◌+◌, ◌<◌, ◌≤◌, ◌^◌, Some, length};
 
+use crate::entries::entry_or;
 use std::alloc::{AllocError, Global};
 
 /// Variables, none of a greater score than the one at half its place, and where each stands, from 1 on.
@@ -35,7 +36,7 @@ impl Heap {
     /// Puts a variable in, where it is not. O(log n).
     pub fn insert(&mut self, x: u32, scores: &[u64]) {
         let at = self.size;
-        if place_of(&self.places, x) == 0 && at < self.variables.len() {
+        if entry_or(&self.places, x as usize, 0) == 0 && at < self.variables.len() {
             self.variables[at] = x;
             self.size = at + 1;
             set_place(&mut self.places, x, at + 1);
@@ -45,7 +46,7 @@ impl Heap {
 
     /// Moves a variable whose score was raised. O(log n).
     pub fn raised(&mut self, x: u32, scores: &[u64]) {
-        let place = place_of(&self.places, x);
+        let place = entry_or(&self.places, x as usize, 0);
         if place > 0 {
             rise(&mut self.variables, &mut self.places, scores, place - 1);
         }
@@ -68,14 +69,6 @@ impl Heap {
     }
 }
 
-/// Where a variable stands, from 1 on; 0 where it does not.
-fn place_of(places: &[usize], x: u32) -> usize {
-    match places.get(x as usize) {
-        Some(place) => *place,
-        None => 0,
-    }
-}
-
 /// Notes where a variable stands.
 fn set_place(places: &mut [usize], x: u32, place: usize)
     ensures { length places.new ≡ length places.old }
@@ -88,10 +81,7 @@ fn set_place(places: &mut [usize], x: u32, place: usize)
 /// The score of the variable at a place.
 fn score_at(variables: &[u32], scores: &[u64], at: usize) -> u64 {
     match variables.get(at) {
-        Some(x) => match scores.get(*x as usize) {
-            Some(score) => *score,
-            None => 0,
-        },
+        Some(x) => entry_or(scores, *x as usize, 0),
         None => 0,
     }
 }

@@ -8,6 +8,7 @@ ghost use Rattle.lrat_model.specs.Clauses.{has_id};
 ghost use Rattle.cdcl_core.specs.Log.{least_live, most_live};
 ghost use Rattle.cdcl_core.specs.Remembering.{IsChosen};
 
+use crate::entries::entry_or;
 use std::alloc::{AllocError, Global};
 
 const FEWEST: usize = 500;
@@ -126,10 +127,10 @@ impl Memory {
     fn least_cost(&self, alloc: Global) -> Result<u32, AllocError> {
         let counts = self.counts(alloc)?;
         let mut least = MOST_COST;
-        let mut count = count_at(&counts, least);
+        let mut count = entry_or(&counts, least as usize, 0);
         while least > LEAST_COST && count < MOST {
             least -= 1;
-            count = count.saturating_add(count_at(&counts, least));
+            count = count.saturating_add(entry_or(&counts, least as usize, 0));
         }
         Ok(least)
     }
@@ -197,7 +198,7 @@ impl Memory {
             let stays = !is_among(gone, id);
             put(&mut ids, id, stays)?;
             if stays {
-                costs.push(cost_at(&self.costs, place))?;
+                costs.push(entry_or(&self.costs, place, 0))?;
             }
             place += 1;
         }
@@ -218,22 +219,6 @@ fn put(ids: &mut Vec<u64>, id: u64, is_one: bool) -> Result<(), AllocError>
         ids.push(id)?;
     }
     Ok(())
-}
-
-/// The cost at a place, 0 where there is none.
-fn cost_at(costs: &[u32], place: usize) -> u32 {
-    match costs.get(place) {
-        Some(cost) => *cost,
-        None => 0,
-    }
-}
-
-/// How many lemmas have a cost.
-fn count_at(counts: &[usize], cost: u32) -> usize {
-    match counts.get(cost as usize) {
-        Some(count) => *count,
-        None => 0,
-    }
 }
 
 /// A copy in which numbers do not fall.

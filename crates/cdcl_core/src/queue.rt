@@ -4,6 +4,7 @@
 ghost use Rattle.std.specs.Prelude.{◌≡◌, ℕ, ◌<◌, ◌≤◌, ◌^◌, false, IfSome};
 ghost use Rattle.lrat_model.specs.Literal.{Plus, Minus, has};
 
+use crate::entries::entry_or;
 use crate::order::is_open;
 use lrat_model::Lit;
 use partial_assignment::Assignment;
@@ -119,8 +120,8 @@ impl Links {
 
     /// Takes a variable out of its place.
     fn unlink(&mut self, x: u32) {
-        let before = entry(&self.before, x);
-        let after = entry(&self.after, x);
+        let before = entry_or(&self.before, x as usize, 0);
+        let after = entry_or(&self.after, x as usize, 0);
         set(&mut self.after, before, after);
         set(&mut self.before, after, before);
         if after == 0 {
@@ -146,10 +147,7 @@ impl Links {
 
     /// The stamp of a variable.
     fn stamp_of(&self, x: u32) -> u64 {
-        match self.stamps.get(x as usize) {
-            Some(stamp) => *stamp,
-            None => 0,
-        }
+        entry_or(&self.stamps, x as usize, 0)
     }
 
     /// A variable lost its value.
@@ -174,7 +172,7 @@ impl Links {
             if is_open(assignment, x) {
                 return Some(x);
             }
-            x = entry(&self.before, x);
+            x = entry_or(&self.before, x as usize, 0);
             left -= 1;
         }
         None
@@ -191,14 +189,6 @@ fn first_before(links: &Links, trail: &[Lit], reasons: &[u64], stamp: u64) -> us
         place += 1;
     }
     trail.len()
-}
-
-/// The entry of a variable, 0 where it has none.
-fn entry(links: &[u32], x: u32) -> u32 {
-    match links.get(x as usize) {
-        Some(link) => *link,
-        None => 0,
-    }
 }
 
 /// Sets the entry of a variable.
