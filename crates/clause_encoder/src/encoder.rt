@@ -29,7 +29,7 @@ use std::alloc::{AllocError, Global};
 use thiserror::Error;
 
 /// Why there is no formula.
-#[derive(Clone, Copy, Debug, PartialEq, Eq, Error)]
+#[derive(Clone, Copy, Debug, Error)]
 pub enum EncodeError {
     /// It would have so many variables, more than `MOST_VARS`.
     #[error("the formula has {0} variables")]

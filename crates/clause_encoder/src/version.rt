@@ -1,7 +1,7 @@
 //! The versions of the formula.
 
 /// How often a gate is written.
-#[derive(Clone, Copy, Debug, PartialEq, Eq)]
+#[derive(Clone, Copy, PartialEq, Eq)]
 pub enum Version {
     /// Each time that it is wanted.
     One,
