@@ -15,6 +15,7 @@ ghost use Rattle.clause_encoder.specs.Written.{circuit_in, AreWritable};
 ghost use Rattle.clause_encoder.specs.declared.version.Version.{Version};
 
 use crate::circuits::Circuits;
+use crate::clauses::Clauses;
 use crate::count::count_vars;
 use crate::limits::MOST_VARS;
 use crate::marks::Marks;
@@ -77,8 +78,17 @@ fn encode_within(
     let second = variables_of(alloc, greatest, n, 1 + members)?;
     let mut marks = Marks::new(alloc, vars + 2)?;
     let start = 1 + members + members;
-    let clauses = formula_clauses(
-        alloc, version, &mut marks, &first, &second, start, nodes, circuits,
+    let mut clauses = Clauses::new(alloc);
+    formula_clauses(
+        alloc,
+        version,
+        &mut clauses,
+        &mut marks,
+        &first,
+        &second,
+        start,
+        nodes,
+        circuits,
     )?;
     Ok(clauses.into_store())
 }
