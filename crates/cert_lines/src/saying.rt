@@ -25,12 +25,10 @@ pub fn digits_in(text: &[u8]) -> Option<&[u8]>
     ensures none { result ≡ None → digest_in text.now ≡ None }
 {
     let mut words = Words::of(text);
-    let word = words.next()?;
-    let digits = words.next()?;
-    if words.next().is_some() || word != b"config".as_slice() {
-        return None;
+    match (words.next(), words.next(), words.next()) {
+        (Some(word), Some(digits), None) if word == b"config".as_slice() => Some(digits),
+        _ => None,
     }
-    Some(digits)
 }
 
 /// A number of variables: 0, or what is written as an id is.
@@ -48,15 +46,15 @@ pub fn counts_in(text: &[u8]) -> Option<Counts>
     ensures { result ≡ counts_in text.now }
 {
     let mut words = Words::of(text);
-    let word = words.next()?;
-    let vars = words.next()?;
-    let clauses = words.next()?;
-    if words.next().is_some() || word != b"formula".as_slice() {
-        return None;
+    match (words.next(), words.next(), words.next(), words.next()) {
+        (Some(word), Some(vars), Some(clauses), None) if word == b"formula".as_slice() => {
+            Some(Counts {
+                vars: number(vars)?,
+                clauses: read_id(clauses)?,
+            })
+        }
+        _ => None,
     }
-    let vars = number(vars)?;
-    let clauses = read_id(clauses)?;
-    Some(Counts { vars, clauses })
 }
 
 /// The step that this line says, whatever its fault as a step line `BadLine`.
