@@ -49,9 +49,10 @@ fn list_from(
     system: &System,
     kind: ListKind,
     subject: Subject,
-) -> Result<State, AllocError>
+) -> Result<State, CertError>
     requires { IsSubject system.now subject }
-    ensures { IfOk result (λ s. s ≡ State.Going (Place.AtList subject (no_listing system.now kind subject))) }
+    ensures ok { IfOk result (λ s. s ≡ State.Going (Place.AtList subject (no_listing system.now kind subject))) }
+    ensures err { IfErr result (λ e. e ≡ CertError.Memory) }
 {
     let listing = no_listing(alloc, system, kind, &subject)?;
     Ok(State::Going(Place::AtList(subject, listing)))
@@ -71,10 +72,10 @@ pub fn any_kind_line(
     ensures err { IfErr result (λ e. (e ≡ CertError.Memory) ⊎ (any_kind_line system.now subject line text.now ≡ Err e)) }
 {
     if text == b"kind blocking".as_slice() {
-        return Ok(list_from(alloc, system, ListKind::Whole, subject)?);
+        return list_from(alloc, system, ListKind::Whole, subject);
     }
     if text == b"kind partial-blocking".as_slice() {
-        return Ok(list_from(alloc, system, ListKind::Partial, subject)?);
+        return list_from(alloc, system, ListKind::Partial, subject);
     }
     kind_line(line, text, subject)
 }

@@ -1,18 +1,18 @@
 //! The lines of lists.
-ghost use Rattle.std.specs.Prelude.{◌≡◌, ◌⊎◌, Some, None, is_some, IfSome, IfOk, IfErr, IsErrOf, Ok, Err};
+ghost use Rattle.std.specs.Prelude.{◌≡◌, ◌⊎◌, Some, None, is_some, IfSome, IfOk, IfErr, IsErrOf, OnOk, Ok, Err};
 ghost use Rattle.cert_lines.specs.Words.{words_of, names_in};
-ghost use Rattle.certificate_file.specs.Acceptance.{listed_by, numbered_in, set_line, list_line};
+ghost use Rattle.certificate_file.specs.Acceptance.{listed_by, numbered_in, set_line, after_list_step, list_text, list_line};
 ghost use Rattle.certificate_file.specs.Known.{IsList};
 
 use crate::list_sets::list_set;
-use crate::list_steps::{list_end, list_step};
+use crate::list_steps::{after_list_step, list_end, list_step};
 use crate::lists::nodes_of;
 use crate::parts::within;
-use crate::places::{Listing, State, Subject};
+use crate::places::{Listing, Place, State, Subject};
 use cert_lines::{CertError, Words, follows, is_name, step_in};
 use fbas_core::System;
 use list_journal::Listed;
-use lrat_model::StepFault;
+use lrat_model::{Progress, StepFault};
 use lrat_text::read_id;
 use std::alloc::Global;
 
@@ -57,8 +57,8 @@ fn numbered_in(text: &[u8]) -> Option<(u64, Words<'_>)>
         return None;
     }
     let mut names = Words::of(text);
-    names.next()?;
-    names.next()?;
+    names.next();
+    names.next();
     Some((id, names))
 }
 
@@ -66,26 +66,51 @@ fn numbered_in(text: &[u8]) -> Option<(u64, Words<'_>)>
 fn set_line(
     alloc: Global,
     system: &System,
-    subject: Subject,
-    listing: Listing,
+    subject: &Subject,
+    listing: &mut Listing,
     line: u64,
     which: Listed,
     id: u64,
     names: &mut Words<'_>,
-) -> Result<State, CertError>
-    requires known { IsList system.now subject listing }
+) -> Result<(), CertError>
+    requires known { IsList system.now subject.now listing.old }
     requires names { names_in names.old ≡ Some names.old }
     ensures unread { IsErrOf result CertError.Read → ⊥ }
-    ensures ok { IfOk result (λ s. set_line system.now subject listing line which (record { id = id; names = names.old }) ≡ Ok s) }
-    ensures err { IfErr result (λ e. (e ≡ CertError.Memory) ⊎ (set_line system.now subject listing line which (record { id = id; names = names.old }) ≡ Err e)) }
+    ensures ok { OnOk result (set_line system.now subject.now listing.old line which (record { id = id; names = names.old }) ≡ Ok (State.Going (Place.AtList subject.now listing.new))) }
+    ensures err { IfErr result (λ e. (e ≡ CertError.Memory) ⊎ (set_line system.now subject.now listing.old line which (record { id = id; names = names.old }) ≡ Err e)) }
 {
     let last = listing.checker.last();
     if id <= last {
         return Err(CertError::Step(line, StepFault::IdOrder(last, id)));
     }
     let named = nodes_of(system, line, names)?;
-    let set = within(&subject, line, named)?;
+    let set = within(subject, line, named)?;
     list_set(alloc, system, subject, listing, line, which, id, set)
+}
+
+/// A line of a list before its end: a quorum, a minimal blocking set, or a step, which may refute.
+fn list_text(
+    alloc: Global,
+    system: &System,
+    subject: &Subject,
+    listing: &mut Listing,
+    line: u64,
+    text: &[u8],
+) -> Result<Progress, CertError>
+    requires { IsList system.now subject.now listing.old }
+    ensures unread { IsErrOf result CertError.Read → ⊥ }
+    ensures sets { result ≡ Ok Progress.Refuted → listing.new.sets ≡ listing.old.sets }
+    ensures ok { IfOk result (λ p. list_text system.now subject.now listing.old line text.now (listed_by (words_of text.now)) ≡ Ok (after_list_step subject.now listing.new p)) }
+    ensures err { IfErr result (λ e. (e ≡ CertError.Memory) ⊎ (list_text system.now subject.now listing.old line text.now (listed_by (words_of text.now)) ≡ Err e)) }
+{
+    let Some(which) = listed_by(text) else {
+        return list_step(listing, line, step_in(alloc, line, text)?);
+    };
+    let Some((id, mut names)) = numbered_in(text) else {
+        return Err(CertError::BadLine(line));
+    };
+    set_line(alloc, system, subject, listing, line, which, id, &mut names)?;
+    Ok(Progress::Going)
 }
 
 /// A line of a list: a quorum, a minimal blocking set, a step, or the end. A set costs what its test does, a step its literals
@@ -94,7 +119,7 @@ pub fn list_line(
     alloc: Global,
     system: &System,
     subject: Subject,
-    listing: Listing,
+    mut listing: Listing,
     line: u64,
     text: &[u8],
 ) -> Result<State, CertError>
@@ -106,12 +131,11 @@ pub fn list_line(
     if text == b"end".as_slice() {
         return list_end(subject, listing, line);
     }
-    let Some(which) = listed_by(text) else {
-        let step = step_in(alloc, line, text)?;
-        return list_step(subject, listing, line, step);
-    };
-    let Some((id, mut names)) = numbered_in(text) else {
-        return Err(CertError::BadLine(line));
-    };
-    set_line(alloc, system, subject, listing, line, which, id, &mut names)
+    match list_text(alloc, system, &subject, &mut listing, line, text) {
+        Ok(progress) => Ok(State::Going(after_list_step(subject, listing, progress))),
+        Err(fault) => {
+            drop(listing);
+            Err(fault)
+        }
+    }
 }

@@ -1,13 +1,15 @@
 //! Listed sets: quorums, and minimal blocking sets.
-ghost use Rattle.std.specs.Prelude.{◌≡◌, ◌⊎◌, ◌<◌, ◌&&◌, length, IfOk, IfErr, IsErrOf, Ok, Err};
+ghost use Rattle.std.specs.Prelude.{◌≡◌, ◌⊎◌, ◌<◌, ◌&&◌, length, IfOk, IfErr, IsErrOf, OnOk, Ok, Err};
 ghost use Rattle.fbas_model.specs.Nodes.{members, ◌⊆◌, size};
 ghost use Rattle.lrat_model.specs.Ranges.{IsInRange};
 ghost use Rattle.list_journal.specs.Listed.{clause_for};
 ghost use Rattle.list_journal.specs.declared.kinds.Listed.TheVariants.{Quorum, Blocking};
 ghost use Rattle.certificate_file.specs.Acceptance.{asks_new, is_covered, right_set, new_set, list_set, with_block};
 ghost use Rattle.certificate_file.specs.Known.{IsList, IsPartSet};
+ghost use Rattle.certificate_file.specs.declared.places.Place.TheVariants.{AtList};
+ghost use Rattle.certificate_file.specs.declared.places.State.TheVariants.{Going};
 
-use crate::places::{Listing, Place, State, Subject};
+use crate::places::{Listing, Subject};
 use cert_lines::CertError;
 use fbas_core::System;
 use list_journal::{ListKind, Listed, SetList, clause_of, is_blocking, is_least};
@@ -16,54 +18,49 @@ use lrat_model::Lit;
 use name_set::NodeSet;
 use std::alloc::{AllocError, Global};
 
-/// The set, where it is a quorum once the faulty nodes are deleted.
-fn right_quorum(listing: &Listing, line: u64, set: NodeSet) -> Result<NodeSet, CertError>
-    requires same_n { length set ≡ length listing.now.part.system.sets }
+/// That the set is a quorum once the faulty nodes are deleted.
+fn right_quorum(listing: &Listing, line: u64, set: &NodeSet) -> Result<(), CertError>
+    requires same_n { length set.now ≡ length listing.now.part.system.sets }
     requires same_faulty { length listing.now.part.faulty ≡ length listing.now.part.system.sets }
     ensures unread { IsErrOf result CertError.Read → ⊥ }
-    ensures is { IfOk result (λ u. u ≡ set) }
-    ensures value { result ≡ right_set listing.now line Quorum set }
+    ensures ok { OnOk result (right_set listing.now line Quorum set.now ≡ Ok set.now) }
+    ensures err { IfErr result (λ e. right_set listing.now line Quorum set.now ≡ Err e) }
 {
-    if !listing.part.system.is_quorum(&set, &listing.part.faulty) {
+    if !listing.part.system.is_quorum(set, &listing.part.faulty) {
         return Err(CertError::NotQuorum(line));
     }
-    Ok(set)
+    Ok(())
 }
 
-/// The set, where it is a minimal blocking set once the faulty nodes are deleted. The cost is that of `shrink` for each of its
+/// That the set is a minimal blocking set once the faulty nodes are deleted. The cost is that of `shrink` for each of its
 /// nodes.
-fn right_block(listing: &Listing, line: u64, set: NodeSet) -> Result<NodeSet, CertError>
-    requires same_n { length set ≡ length listing.now.part.system.sets }
+fn right_block(listing: &Listing, line: u64, set: &NodeSet) -> Result<(), CertError>
+    requires same_n { length set.now ≡ length listing.now.part.system.sets }
     requires same_faulty { length listing.now.part.faulty ≡ length listing.now.part.system.sets }
     ensures unread { IsErrOf result CertError.Read → ⊥ }
-    ensures is { IfOk result (λ u. u ≡ set) }
-    ensures value { result ≡ right_set listing.now line Blocking set }
+    ensures ok { OnOk result (right_set listing.now line Blocking set.now ≡ Ok set.now) }
+    ensures err { IfErr result (λ e. right_set listing.now line Blocking set.now ≡ Err e) }
 {
     let part = &listing.part;
     let n = part.system.len();
     let mut copy = NodeSet::new(n);
     let mut scratch = NodeSet::new(n);
-    if !is_blocking(&part.system, &part.faulty, &set, &mut scratch) {
+    if !is_blocking(&part.system, &part.faulty, set, &mut scratch) {
         return Err(CertError::NotBlocking(line));
     }
-    if !is_least(&part.system, &part.faulty, &set, &mut copy, &mut scratch) {
+    if !is_least(&part.system, &part.faulty, set, &mut copy, &mut scratch) {
         return Err(CertError::NotMinimal(line));
     }
-    Ok(set)
+    Ok(())
 }
 
-/// The set, where it is what it is listed for.
-fn right_set(
-    listing: &Listing,
-    line: u64,
-    which: Listed,
-    set: NodeSet,
-) -> Result<NodeSet, CertError>
-    requires same_n { length set ≡ length listing.now.part.system.sets }
+/// That the set is what it is listed for.
+fn right_set(listing: &Listing, line: u64, which: Listed, set: &NodeSet) -> Result<(), CertError>
+    requires same_n { length set.now ≡ length listing.now.part.system.sets }
     requires same_faulty { length listing.now.part.faulty ≡ length listing.now.part.system.sets }
     ensures unread { IsErrOf result CertError.Read → ⊥ }
-    ensures is { IfOk result (λ u. u ≡ set) }
-    ensures value { result ≡ right_set listing.now line which set }
+    ensures ok { OnOk result (right_set listing.now line which set.now ≡ Ok set.now) }
+    ensures err { IfErr result (λ e. right_set listing.now line which set.now ≡ Err e) }
 {
     match which {
         Listed::Quorum => right_quorum(listing, line, set),
@@ -128,28 +125,28 @@ fn with_block(sets: &mut SetList, which: Listed, set: NodeSet) -> Result<(), All
 pub fn list_set(
     alloc: Global,
     system: &System,
-    subject: Subject,
-    mut listing: Listing,
+    subject: &Subject,
+    listing: &mut Listing,
     line: u64,
     which: Listed,
     id: u64,
     set: NodeSet,
-) -> Result<State, CertError>
-    requires known { IsList system.now subject listing }
-    requires above { listing.checker.database.last < id }
-    requires set { IsPartSet system.now subject.nodes set }
+) -> Result<(), CertError>
+    requires known { IsList system.now subject.now listing.old }
+    requires above { listing.old.checker.database.last < id }
+    requires set { IsPartSet system.now subject.now.nodes set }
     ensures unread { IsErrOf result CertError.Read → ⊥ }
-    ensures ok { IfOk result (λ s. list_set subject listing line which id set ≡ Ok s) }
-    ensures err { IfErr result (λ e. (e ≡ CertError.Memory) ⊎ (list_set subject listing line which id set ≡ Err e)) }
+    ensures ok { OnOk result (list_set subject.now listing.old line which id set ≡ Ok (Going (AtList subject.now listing.new))) }
+    ensures err { IfErr result (λ e. (e ≡ CertError.Memory) ⊎ (list_set subject.now listing.old line which id set ≡ Err e)) }
 {
     let cut = system.cut(&set, &subject.nodes);
-    let right = right_set(&listing, line, which, cut)?;
-    let clause = new_clause(alloc, &listing, line, which, id, &right)?;
+    right_set(listing, line, which, &cut)?;
+    let clause = new_clause(alloc, listing, line, which, id, &cut)?;
     listing.checker.give(id, &clause)?;
     with_block(&mut listing.sets, which, set)?;
     let Some(units) = listing.units.checked_add(1) else {
         return Err(CertError::Memory);
     };
     listing.units = units;
-    Ok(State::Going(Place::AtList(subject, listing)))
+    Ok(())
 }

@@ -2,7 +2,7 @@
 ghost use Rattle.std.specs.Prelude.{◌≡◌, ◌⊎◌, ◌&&◌, ℕ, length, All, IfOk, IfErr, IsErrOf, Ok, Err};
 ghost use Rattle.lrat_model.specs.Steps.{step_of};
 ghost use Rattle.certificate_file.specs.Acceptance.{and_then, literal_in, is_old_step, after_list_step, list_step, list_end};
-ghost use Rattle.certificate_file.specs.Known.{IsList};
+ghost use Rattle.certificate_file.specs.declared.places.Subject.{Subject};
 
 use crate::partial::{adds_covered, counted, with_literal};
 use crate::places::{Accepted, Answer, Listing, Place, State, Subject};
@@ -32,19 +32,14 @@ fn is_old_step(listing: &Listing, step: &Step) -> bool
     }
 }
 
-/// The step taken: the empty lemma ends a whole list, whose sets are then put in order.
-fn take_list_step(
-    subject: Subject,
-    mut listing: Listing,
-    line: u64,
-    step: &Step,
-) -> Result<State, CertError>
-    requires { (n : ℕ) × All (λ s. length s ≡ n) listing.sets }
+/// The step taken: where it led.
+fn take_list_step(listing: &mut Listing, line: u64, step: &Step) -> Result<Progress, CertError>
     ensures unread { IsErrOf result CertError.Read → ⊥ }
-    ensures ok { IfOk result (λ s. list_step subject listing line (step_of step.now) ≡ Ok s) }
-    ensures err { IfErr result (λ e. (e ≡ CertError.Memory) ⊎ (list_step subject listing line (step_of step.now) ≡ Err e)) }
+    ensures sets { listing.new.sets ≡ listing.old.sets }
+    ensures ok { IfOk result (λ p. (s : Subject) → list_step s listing.old line (step_of step.now) ≡ Ok (after_list_step s listing.new p)) }
+    ensures err { IfErr result (λ e. (e ≡ CertError.Memory) ⊎ ((s : Subject) → list_step s listing.old line (step_of step.now) ≡ Err e)) }
 {
-    let is_old = is_old_step(&listing, step);
+    let is_old = is_old_step(listing, step);
     match listing.checker.step(step) {
         Ok(progress) => {
             if is_old {
@@ -54,41 +49,47 @@ fn take_list_step(
                 return Err(CertError::Memory);
             };
             listing.units = units;
-            Ok(State::Going(after_list_step(subject, listing, progress)))
+            Ok(progress)
         }
         Err(StepFault::Memory) => Err(CertError::Memory),
         Err(fault) => Err(CertError::Step(line, fault)),
     }
 }
 
-/// The place of the line after a step.
+/// A step of a list: where it led.
+pub fn list_step(listing: &mut Listing, line: u64, step: Step) -> Result<Progress, CertError>
+    ensures unread { IsErrOf result CertError.Read → ⊥ }
+    ensures sets { listing.new.sets ≡ listing.old.sets }
+    ensures ok { IfOk result (λ p. (s : Subject) → and_then (list_step s listing.old line) (literal_in listing.old.kind line (step_of step)) ≡ Ok (after_list_step s listing.new p)) }
+    ensures err { IfErr result (λ e. (e ≡ CertError.Memory) ⊎ ((s : Subject) → and_then (list_step s listing.old line) (literal_in listing.old.kind line (step_of step)) ≡ Err e)) }
+{
+    let literal = literal_in(listing.kind, line, step)?;
+    take_list_step(listing, line, &literal)
+}
+
+/// The place of the line after a step: the empty lemma ends a whole list, whose sets are then put in order.
 pub fn after_list_step(subject: Subject, listing: Listing, progress: Progress) -> Place
-    requires { (n : ℕ) × All (λ s. length s ≡ n) listing.sets }
+    requires { progress ≡ Progress.Refuted → (n : ℕ) × All (λ s. length s ≡ n) listing.sets }
     ensures { State.Going result ≡ after_list_step subject listing progress }
 {
     match progress {
         Progress::Going => Place::AtList(subject, listing),
-        Progress::Refuted => Place::AtEnd(Accepted {
-            header: subject.header,
-            answer: Answer::Blocking(listing.sets.ordered()),
-        }),
+        Progress::Refuted => {
+            let Listing {
+                kind: _,
+                part,
+                checker,
+                sets,
+                units: _,
+            } = listing;
+            drop(part);
+            drop(checker);
+            Place::AtEnd(Accepted {
+                header: subject.header,
+                answer: Answer::Blocking(sets.ordered()),
+            })
+        }
     }
-}
-
-/// A step of a list.
-pub fn list_step(
-    subject: Subject,
-    listing: Listing,
-    line: u64,
-    step: Step,
-) -> Result<State, CertError>
-    requires { (n : ℕ) × All (λ s. length s ≡ n) listing.sets }
-    ensures unread { IsErrOf result CertError.Read → ⊥ }
-    ensures ok { IfOk result (λ s. and_then (list_step subject listing line) (literal_in listing.kind line (step_of step)) ≡ Ok s) }
-    ensures err { IfErr result (λ e. (e ≡ CertError.Memory) ⊎ (and_then (list_step subject listing line) (literal_in listing.kind line (step_of step)) ≡ Err e)) }
-{
-    let literal = literal_in(listing.kind, line, step)?;
-    take_list_step(subject, listing, line, &literal)
 }
 
 /// The end of a list: a whole one has come to the empty lemma before.
@@ -96,11 +97,14 @@ pub fn list_end(subject: Subject, listing: Listing, line: u64) -> Result<State, 
     ensures unread { IsErrOf result CertError.Read → ⊥ }
     ensures value { result ≡ list_end listing.kind subject listing line }
 {
-    match listing.kind {
+    let kind = listing.kind;
+    let units = listing.units;
+    drop(listing);
+    match kind {
         ListKind::Whole => Err(CertError::NotRefuted(line)),
         ListKind::Partial => Ok(State::Done(Accepted {
             header: subject.header,
-            answer: Answer::PartialBlocking(listing.units),
+            answer: Answer::PartialBlocking(units),
         })),
     }
 }

@@ -40,8 +40,13 @@ fn next_line<D: Desk>(
     ensures faults { ReadFails (D.faults desk.old) (D.faults desk.new) (IsErrOf result CertError.Read) }
 {
     let line = lines.number();
-    let text = lines.line(alloc, desk)?;
-    take_line(alloc, system, digest, place, line, &text)
+    match lines.line(alloc, desk) {
+        Ok(text) => take_line(alloc, system, digest, place, line, &text),
+        Err(fault) => {
+            drop(place);
+            Err(fault)
+        }
+    }
 }
 
 /// What is so after the next line. Where steps may stand, it is taken with the steps behind it, to the first line that begins as

@@ -113,10 +113,13 @@ impl Proof {
                 header,
                 answer: Answer::Refutation,
             }),
-            Proof::List(subject, _, _, sets) => Place::AtEnd(Accepted {
-                header: subject.header,
-                answer: Answer::Blocking(sets.ordered()),
-            }),
+            Proof::List(subject, _, part, sets) => {
+                drop(part);
+                Place::AtEnd(Accepted {
+                    header: subject.header,
+                    answer: Answer::Blocking(sets.ordered()),
+                })
+            }
         }
     }
 }
@@ -203,11 +206,19 @@ pub fn next_steps<D: Desk>(
         mut units,
     } = steps;
     let mut checker = checker.opening();
-    match take_steps(alloc, lines, desk, reader, &proof, &mut checker, &mut units)? {
-        Some((line, text)) => {
+    match take_steps(alloc, lines, desk, reader, &proof, &mut checker, &mut units) {
+        Ok(Some((line, text))) => {
             let place = proof.place(IdleChecker::closing(checker), units);
             take_line(alloc, system, digest, place, line, &text)
         }
-        None => Ok(State::Going(proof.end())),
+        Ok(None) => {
+            drop(checker);
+            Ok(State::Going(proof.end()))
+        }
+        Err(fault) => {
+            drop(checker);
+            drop(proof);
+            Err(fault)
+        }
     }
 }

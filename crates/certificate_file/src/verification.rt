@@ -148,11 +148,12 @@ pub fn check_lrat<D: Desk>(
     ensures rest { IsTrue D.tells → D.state desk.new ≡ with_left Which.Cert (left_of Which.Cert (D.state desk.new)) (D.state desk.old) }
     ensures faults { ReadFails (D.faults desk.old) (D.faults desk.new) (IsErrOf result CertError.Read) }
 {
+    let mut lines = Lines::start(alloc)?;
     let subject = subject_from(system, header);
     let (checker, _) = formula_of(alloc, system, &subject)?;
     let mut checker = checker.opening();
-    let mut lines = Lines::start(alloc)?;
     let mut reader = StepReader::new(alloc);
-    check_proof(&mut lines, desk, &mut reader, &mut checker)?;
-    Ok(())
+    let verified = check_proof(&mut lines, desk, &mut reader, &mut checker);
+    drop(checker);
+    verified
 }

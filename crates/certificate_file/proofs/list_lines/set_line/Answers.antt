@@ -31,16 +31,16 @@ line_of_set s k l which id sets v above is =
 
 pub list_set-requires-clause-set : goal.list_set-requires-clause-set
 list_set-requires-clause-set c =
-    part_set c.args.system.now c.args.subject c.args.line c.args.names.now c.in_ok-set.set c.requires.known.subject
-    (named_set c.args.subject c.args.line c.args.system.now.names c.args.names.now c.in_ok-named.named c.in_ok-set.set c.requires.names c.in_ok-named.ensures.value c.in_ok-set.ensures.value)
+    part_set c.args.system.now c.args.subject.now c.args.line c.args.names.now c.in_ok-set.set c.requires.known.subject
+    (named_set c.args.subject.now c.args.line c.args.system.now.names c.args.names.now c.in_ok-named.named c.in_ok-set.set c.requires.names c.in_ok-named.ensures.value c.in_ok-set.ensures.value)
 
 pub returns-clause-ok : goal.returns-clause-ok
 returns-clause-ok c =
     let f = c.args.system.now in
-    let s = c.args.subject in
-    let k = c.args.listing in
+    let s = c.args.subject.now in
+    let k = c.args.listing.now in
     let l = c.args.line in
     let above : k.checker.database.last < c.args.id = omega (arith, c.last-last.ensures.value, c.if-id-last.false) in
     let is = named_set s l f.names c.args.names.now c.in_ok-named.named c.in_ok-set.set c.requires.names c.in_ok-named.ensures.value c.in_ok-set.ensures.value in
     let same = line_of_set s k l c.args.which c.args.id (and_then (within s l) (nodes_of f.names l c.args.names.now)) c.in_ok-set.set above is in
-    IfOk-weaker c.list_set.result _ _ (λ state e. same ∙ e) c.list_set.ensures.ok
+    IfOk-weaker c.list_set.result _ _ (λ _ e. same ∙ e) c.list_set.ensures.ok

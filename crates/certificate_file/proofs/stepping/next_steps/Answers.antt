@@ -10,7 +10,7 @@ pub take_line-requires : goal.take_line-requires
 take_line-requires g c =
     let f = c.args.system.now in
     let p = c.args.steps.proof in
-    let known = rw c.in-Some.is at c.in_ok-line.ensures.known in
+    let known = rw c.in-Ok-Some.field-0-is at c.in-Ok-Some.ensures.known in
     let first = same_checking (checking_of c.opening-checker.result) c.args.steps.checker c.opening-checker.ensures.rule c.opening-checker.ensures.vars c.opening-checker.ensures.database in
     let last = same_checking c.closing.result (checking_of c.take_steps.new.checker) c.closing.ensures.rule c.closing.ensures.vars c.closing.ensures.database in
     let begun = subst (λ (x : Checking). IsKnown f (place_of p x c.args.steps.units)) (sym first) c.requires.known in
@@ -20,10 +20,10 @@ take_line-requires g c =
 pub end-requires : goal.end-requires
 end-requires g c = sized_sets c.args.system.now c.args.steps.proof c.args.steps.checker c.args.steps.units c.requires.known
 
-pub returns-in-None-clause-known : goal.returns-in-None-clause-known
-returns-in-None-clause-known g c =
+pub returns-in-Ok-None-clause-known : goal.returns-in-Ok-None-clause-known
+returns-in-Ok-None-clause-known g c =
     let f = c.args.system.now in
     let p = c.args.steps.proof in
     let first = same_checking (checking_of c.opening-checker.result) c.args.steps.checker c.opening-checker.ensures.rule c.opening-checker.ensures.vars c.opening-checker.ensures.database in
     let begun = subst (λ (x : Checking). IsKnown f (place_of p x c.args.steps.units)) (sym first) c.requires.known in
-    subst (λ (x : Place). IsKnown f x) (sym c.end.ensures) (c.in_ok-line.ensures.shown (rw c.in-None.is refl) f begun)
+    subst (λ (x : Place). IsKnown f x) (sym c.end.ensures) (c.in-Ok-None.ensures.shown (rw c.in-Ok-None.field-0-is refl) f begun)

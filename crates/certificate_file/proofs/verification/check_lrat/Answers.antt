@@ -1,4 +1,5 @@
 use Rattle.std.proofs.Common.{rules, ◌≡◌, ◌≤◌, ℕ, Err, inl, inr, sym, ◌∙◌, subst}
+use Rattle.std.proofs.lemmas.Result.{IfOk-weaker, IfErr-weaker}
 use Rattle.desk_io.specs.State.{left_of}
 use Rattle.desk_io.specs.declared.Which.TheVariants.{Cert}
 use Rattle.clause_encoder.specs.declared.limits.TheConstants.{MOST_VARS}
@@ -10,14 +11,14 @@ pub returns-in_err-checker-clause-err : goal.returns-in_err-checker-clause-err
 returns-in_err-checker-clause-err g c =
     let bytes = left_of Cert (g.D.Desk.state c.args.desk.now) in
     let e = c.in_err-checker.field-0.0 in
-    let r : c.from_residual.result ≡ Err e = search rules in
+    let r : c.from_residual-in_err-checker.result ≡ Err e = search rules in
     rw r (λ tells. elim c.in_err-checker.ensures.err [
       | inl memory ↦ inl memory
       | inr large ↦ inr (inr (verified-large c.args.system.now c.args.header.now c.subject_from-subject.result bytes e c.subject_from-subject.ensures.value large.0 large.1))
     ])
 
-pub returns-in_err-check_proof-clause-err : goal.returns-in_err-check_proof-clause-err
-returns-in_err-check_proof-clause-err g c =
+pub returns-clause-err : goal.returns-clause-err
+returns-clause-err g c =
     let f = c.args.system.now in
     let h = c.args.header.now in
     let bytes = left_of Cert (g.D.Desk.state c.args.desk.now) in
@@ -27,18 +28,16 @@ returns-in_err-check_proof-clause-err g c =
     let lines = c.in_ok-lines.lines in
     let opened = formula_opened f h s idle opening c.subject_from-subject.ensures.value c.in_ok-checker.ensures.ok c.opening-checker.ensures.rule c.opening-checker.ensures.vars c.opening-checker.ensures.database in
     let small : opening.vars ≤ MOST_VARS = subst (λ (n : ℕ). n ≤ MOST_VARS) (sym c.opening-checker.ensures.vars) c.in_ok-checker.ensures.small in
-    let e = c.in_err-check_proof.field-0.0 in
-    let r : c.from_residual-in_err-check_proof.result ≡ Err e = search rules in
-    rw r (λ tells. elim (c.in_err-check_proof.ensures.err tells) [
+    IfErr-weaker c.check_proof-verified.result _ _ (λ e told tells. elim (told tells) [
       | inl memory ↦ inl memory
       | inr other ↦ elim other [
         | inl read ↦ inr (inl read)
         | inr fault ↦ inr (inr (verified-small f h (checking_of opening) lines.number lines.unread bytes opened small c.in_ok-lines.ensures.number c.in_ok-lines.ensures.unread ∙ fault))
       ]
-    ])
+    ]) c.check_proof-verified.ensures.err
 
 pub returns-clause-ok : goal.returns-clause-ok
-returns-clause-ok g c = λ tells.
+returns-clause-ok g c = IfOk-weaker c.check_proof-verified.result _ _ (λ _ ok tells.
     let f = c.args.system.now in
     let h = c.args.header.now in
     let bytes = left_of Cert (g.D.Desk.state c.args.desk.now) in
@@ -48,7 +47,7 @@ returns-clause-ok g c = λ tells.
     let lines = c.in_ok-lines.lines in
     let opened = formula_opened f h s idle opening c.subject_from-subject.ensures.value c.in_ok-checker.ensures.ok c.opening-checker.ensures.rule c.opening-checker.ensures.vars c.opening-checker.ensures.database in
     let small : opening.vars ≤ MOST_VARS = subst (λ (n : ℕ). n ≤ MOST_VARS) (sym c.opening-checker.ensures.vars) c.in_ok-checker.ensures.small in
-    verified-small f h (checking_of opening) lines.number lines.unread bytes opened small c.in_ok-lines.ensures.number c.in_ok-lines.ensures.unread ∙ c.in_ok-check_proof.ensures.ok tells
+    verified-small f h (checking_of opening) lines.number lines.unread bytes opened small c.in_ok-lines.ensures.number c.in_ok-lines.ensures.unread ∙ ok tells) c.check_proof-verified.ensures.ok
 
 pub returns-clause-shows : goal.returns-clause-shows
 returns-clause-shows g c =
@@ -58,4 +57,4 @@ returns-clause-shows g c =
     let idle = c.in_ok-checker.checker in
     let opening = c.opening-checker.result in
     let opened = formula_opened f h s idle opening c.subject_from-subject.ensures.value c.in_ok-checker.ensures.ok c.opening-checker.ensures.rule c.opening-checker.ensures.vars c.opening-checker.ensures.database in
-    c.in_ok-check_proof.ensures.shows f h (opened_known f h s (checking_of opening) c.subject_from-subject.ensures.value c.subject_from-subject.ensures.fits opened)
+    IfOk-weaker c.check_proof-verified.result _ _ (λ _ shows. shows f h (opened_known f h s (checking_of opening) c.subject_from-subject.ensures.value c.subject_from-subject.ensures.fits opened)) c.check_proof-verified.ensures.shows
