@@ -1,12 +1,15 @@
--- A search that has not begun.
-use Rattle.std.specs.Prelude.{◌≡◌, ◌↔◌, [], length}
+-- A search that has not begun, and how one ends.
+use Rattle.std.specs.Prelude.{◌≡◌, ◌↔◌, ℕ, [], length, All}
 use Rattle.fbas_model.specs.Nodes.{Table, members}
 use Rattle.fbas_model.specs.Fbas.{Fbas, Intersects, IsGreatestQuorum, all_nodes}
 use Rattle.greatest_quorum.specs.Greatest.{greatest_of}
 use Rattle.lrat_model.specs.Clauses.{IsUnsatisfiable}
 use Rattle.lrat_model.specs.Runs.{formula_database}
-use Rattle.quorum_questions.specs.Evidence.{vars_of, clauses_of, IsSize}
+use Rattle.lrat_text.specs.Texts.{HasNumbers}
+use Rattle.quorum_questions.specs.Evidence.{vars_of, clauses_of, IsSize, IsRefutation, IsWitness, IsSpent}
 use Rattle.quorum_questions.specs.declared.searching.Search.{Search}
+use Rattle.quorum_questions.specs.declared.searching.End.{End}
+use Rattle.quorum_questions.specs.declared.searching.End.TheVariants.{Told, Refuted, Spent}
 
 -- the solver holds the intersection formula once b is deleted, and has logged nothing
 pub record IsStarted (f : Fbas) (b : Table) (s : Search) : Type 0 where
@@ -18,3 +21,9 @@ pub record IsStarted (f : Fbas) (b : Table) (s : Search) : Type 0 where
   pub places : length s.map.greatest ≡ length f
   pub greatest : IsGreatestQuorum f (members b) (all_nodes f) (members s.map.greatest)
   pub size : IsSize f b s.size
+
+-- what the end of a search shows, where the numbers of its log are in range, as they are once the solver hands it out
+abbrev pub Ends : Fbas → Table → ℕ → Search → End → Type 0
+Ends f b budget s (Told pair) = IsWitness f b pair
+Ends f b budget s Refuted = All HasNumbers s.solver.log → IsRefutation f b budget s.solver.log s.size
+Ends f b budget s Spent = All HasNumbers s.solver.log → IsSpent f b budget s.solver.log s.size

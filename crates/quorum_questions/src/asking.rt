@@ -1,14 +1,14 @@
 //! The questions.
-ghost use Rattle.std.specs.Prelude.{◌≡◌, ℕ, ◌<◌, ◌≤◌, length, IsTrue, ◌↔◌, Err, IfOk, OnOk};
+ghost use Rattle.std.specs.Prelude.{◌≡◌, ℕ, ◌<◌, ◌≤◌, length, IsTrue, ◌↔◌, Err, IfOk, IfErr, OnOk};
 ghost use Rattle.fbas_model.specs.Nodes.{members};
 ghost use Rattle.fbas_model.specs.Fbas.{Available, AreUnmet};
 ghost use Rattle.clause_encoder.specs.declared.limits.TheConstants.{MOST_VARS};
 ghost use Rattle.fbas_model.specs.Restriction.{union};
 ghost use Rattle.quorum_questions.specs.Evidence.{vars_of, Shows};
+ghost use Rattle.quorum_questions.specs.Searching.{IsStarted};
 
 use crate::answers::{Answer, AskError};
-use crate::searching::{Search, start, values_of, witness};
-use cdcl_core::{Budget, Verdict};
+use crate::searching::{End, Search, end_of, start};
 use fbas_core::System;
 use greatest_quorum::available;
 use name_set::NodeSet;
@@ -34,19 +34,33 @@ pub fn intersect(
     ensures small { OnOk result (vars_of system.now.sets faulty.now ≤ MOST_VARS) }
     ensures too_large { (vars : ℕ) → result ≡ Err (AskError.TooLarge vars) → (vars ≡ vars_of system.now.sets faulty.now) × (MOST_VARS < vars) }
 {
-    let Search {
-        mut solver,
-        map,
-        size,
-    } = start(alloc, system, faulty)?;
-    let mut units = Budget::of(budget);
-    match solver.solve(&mut units)? {
-        Verdict::Sat => {
-            let values = values_of(alloc, &solver, size.vars)?;
-            Ok(Answer::No(witness(system, faulty, &map, &values)))
-        }
-        Verdict::Unsat => Ok(Answer::Yes(solver.into_log(), size)),
-        Verdict::Spent => Ok(Answer::Spent(solver.into_log(), size)),
+    match start(alloc, system, faulty) {
+        Ok(search) => answer(alloc, system, faulty, search, budget),
+        Err(error) => Err(error),
+    }
+}
+
+/// What a search that has not begun finds within the budget. The solver is borrowed until its log is all that is wanted of it.
+fn answer(
+    alloc: Global,
+    system: &System,
+    faulty: &NodeSet,
+    mut search: Search,
+    budget: u64,
+) -> Result<Answer, AskError>
+    requires same_n { length faulty.now ≡ length system.now.sets }
+    requires few { budget ≤ MOST_UNITS }
+    requires started { IsStarted system.now.sets faulty.now search }
+    ensures shows { IfOk result (Shows system.now.sets faulty.now budget) }
+    ensures memory { IfErr result (λ error. error ≡ AskError.Memory) }
+{
+    let end = end_of(alloc, system, faulty, &mut search, budget);
+    let log = search.solver.into_log();
+    match end {
+        Ok(End::Told(pair)) => Ok(Answer::No(pair)),
+        Ok(End::Refuted) => Ok(Answer::Yes(log, search.size)),
+        Ok(End::Spent) => Ok(Answer::Spent(log, search.size)),
+        Err(error) => Err(error),
     }
 }
 

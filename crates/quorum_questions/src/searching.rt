@@ -1,5 +1,5 @@
 //! The search for an assignment that tells two quorums which share no node.
-ghost use Rattle.std.specs.Prelude.{◌≡◌, ℕ, ◌<◌, length, Err, IfOk};
+ghost use Rattle.std.specs.Prelude.{◌≡◌, ℕ, ◌<◌, ◌≤◌, length, Err, IfOk, IfErr};
 ghost use Rattle.lrat_model.specs.Clauses.{numbered, Satisfies};
 ghost use Rattle.fbas_model.specs.Nodes.{members};
 ghost use Rattle.fbas_model.specs.Fbas.{IsGreatestQuorum, all_nodes};
@@ -8,10 +8,11 @@ ghost use Rattle.clause_encoder.specs.Formula.{formula_clauses};
 ghost use Rattle.clause_encoder.specs.declared.limits.TheConstants.{MOST_VARS};
 ghost use Rattle.clause_encoder.specs.Meaning.{value_of};
 ghost use Rattle.quorum_questions.specs.Evidence.{vars_of, IsWitness};
-ghost use Rattle.quorum_questions.specs.Searching.{IsStarted};
+ghost use Rattle.quorum_questions.specs.Searching.{IsStarted, Ends};
+ghost use Rattle.quorum_questions.specs.declared.asking.TheConstants.{MOST_UNITS};
 
 use crate::answers::{AskError, Size, no_formula};
-use cdcl_core::Solver;
+use cdcl_core::{Budget, Solver, Verdict};
 use clause_encoder::{VarMap, Version, encode};
 use fbas_core::System;
 use greatest_quorum::greatest;
@@ -20,6 +21,7 @@ use std::alloc::{AllocError, Global};
 use witness_pair::{Pair, make_pair};
 
 /// A solver over the intersection formula, what the formula's variables stand for, and its size.
+#[derive(Drop)]
 pub struct Search {
     pub solver: Solver,
     pub map: VarMap,
@@ -46,8 +48,60 @@ pub fn start(alloc: Global, system: &System, faulty: &NodeSet) -> Result<Search,
     }
 }
 
+/// How a search within a budget ended.
+#[derive(Drop)]
+pub enum End {
+    /// The assignment that was found tells two quorums which share no node.
+    Told(Pair),
+    /// The formula is refuted.
+    Refuted,
+    /// The budget is spent.
+    Spent,
+}
+
+/// Runs a search that has not begun, and says how it ended.
+pub fn end_of(
+    alloc: Global,
+    system: &System,
+    faulty: &NodeSet,
+    search: &mut Search,
+    budget: u64,
+) -> Result<End, AskError>
+    requires same_n { length faulty.now ≡ length system.now.sets }
+    requires few { budget ≤ MOST_UNITS }
+    requires started { IsStarted system.now.sets faulty.now search.old }
+    ensures ends { IfOk result (Ends system.now.sets faulty.now budget search.new) }
+    ensures memory { IfErr result (λ error. error ≡ AskError.Memory) }
+{
+    let mut units = Budget::of(budget);
+    match search.solver.solve(&mut units) {
+        Ok(Verdict::Sat) => told(alloc, system, faulty, search),
+        Ok(Verdict::Unsat) => Ok(End::Refuted),
+        Ok(Verdict::Spent) => Ok(End::Spent),
+        Err(_) => Err(AskError::Memory),
+    }
+}
+
+/// The end of a search that found an assignment.
+fn told(alloc: Global, system: &System, faulty: &NodeSet, search: &Search) -> Result<End, AskError>
+    requires same_n { length faulty.now ≡ length system.now.sets }
+    requires places { length search.now.map.greatest ≡ length system.now.sets }
+    requires greatest { IsGreatestQuorum system.now.sets (members faulty.now) (all_nodes system.now.sets) (members search.now.map.greatest) }
+    requires vars { search.now.size.vars ≡ search.now.solver.vars }
+    requires valued { length search.now.solver.values ≡ search.now.size.vars }
+    requires count { search.now.map.count ≡ search.now.size.vars }
+    requires satisfied { Satisfies (value_of search.now.solver.values) (numbered 1 (formula_clauses Two system.now.sets faulty.now search.now.map.greatest)) }
+    ensures ends { (budget : ℕ) → IfOk result (Ends system.now.sets faulty.now budget search.now) }
+    ensures memory { IfErr result (λ error. error ≡ AskError.Memory) }
+{
+    match values_of(alloc, &search.solver, search.size.vars) {
+        Ok(values) => Ok(End::Told(witness(system, faulty, &search.map, &values))),
+        Err(_) => Err(AskError::Memory),
+    }
+}
+
 /// The value of each variable: linear in their number.
-pub fn values_of(alloc: Global, solver: &Solver, vars: u64) -> Result<Vec<bool>, AllocError>
+fn values_of(alloc: Global, solver: &Solver, vars: u64) -> Result<Vec<bool>, AllocError>
     requires vars { vars ≡ solver.now.vars }
     requires valued { length solver.now.values ≡ vars }
     ensures { IfOk result (λ values. values.items ≡ solver.now.values) }
@@ -60,7 +114,7 @@ pub fn values_of(alloc: Global, solver: &Solver, vars: u64) -> Result<Vec<bool>,
 }
 
 /// The two quorums that a satisfying assignment tells.
-pub fn witness(system: &System, faulty: &NodeSet, map: &VarMap, values: &[bool]) -> Pair
+fn witness(system: &System, faulty: &NodeSet, map: &VarMap, values: &[bool]) -> Pair
     requires same_n { length faulty.now ≡ length system.now.sets }
     requires places { length map.now.greatest ≡ length system.now.sets }
     requires greatest { IsGreatestQuorum system.now.sets (members faulty.now) (all_nodes system.now.sets) (members map.now.greatest) }

@@ -1,3 +1,4 @@
+use Rattle.std.proofs.Common.{rules}
 use Rattle.fbas_model.specs.Nodes.{members}
 use Rattle.clause_encoder.specs.declared.version.Version.TheVariants.{Two}
 use Rattle.quorum_questions.proofs.Witnesses.{no_fault}
@@ -9,3 +10,10 @@ unreachable-requires c =
     let b = c.args.faulty.now in
     no_fault f (members b) (members c.pair-first.result.0) (members c.pair-first.result.1) c.in-Err.field-0
     (c.pair-first.ensures.quorums Two f b c.requires.greatest c.requires.satisfied) c.in-Err.ensures.fault
+
+pub returns : goal.returns
+returns c = record {
+  apart = c.in-Ok.ensures.pair;
+  first = search rules;
+  second = search rules;
+}
