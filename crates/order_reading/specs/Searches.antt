@@ -45,6 +45,13 @@ header_named f orgs o = do
   faulty ← faulty_named f orgs o
   Ok (record { from = from; faulty = cut_within f from faulty })
 
+-- the part of the system that an order with this goal means, and the nodes of it that are deleted
+abbrev pub header_by_goal : Goal → System → List Org → Ordered → Result Header Early
+header_by_goal goal f orgs o = do
+  from ← from_named f o.from
+  named ← deleted_by goal f orgs o
+  Ok (record { from = from; faulty = cut_within f from named })
+
 -- what an order with this goal asks of the system of a configuration's bytes
 abbrev pub search_of : Goal → System → List ℕ → List Org → Ordered → Result Search Early
 search_of goal f config orgs o = do

@@ -30,7 +30,9 @@ pub fn read_file<D: Desk>(
     ensures reads { IsTrue D.tells → OnlyReads (D.state desk.old) (D.state desk.new) }
     ensures faults { ReadFails (D.faults desk.old) (D.faults desk.new) (IsErrOf result Early.Read) }
 {
-    desk.begin(which, name).map_err(|_| Early::Read)?;
+    let Ok(()) = desk.begin(which, name) else {
+        return Err(Early::Read);
+    };
     match read_all(alloc, desk, which, MAX_FILE) {
         Ok(bytes) => Ok(bytes),
         Err(ReadError::Longer) => Err(Early::Told(says(alloc, Status::ConfigRefused, too_long)?)),

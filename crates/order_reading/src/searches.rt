@@ -5,8 +5,9 @@ ghost use Rattle.fbas_model.specs.Fbas.{Intersects};
 ghost use Rattle.cli_words.specs.Order.{order_view, has_configuration};
 ghost use Rattle.cli_words.specs.declared.budget.TheConstants.{MOST_BUDGET};
 ghost use Rattle.order_reading.specs.Questions.{set_named as set_by_option, faulty_named as faulty_by_options};
-ghost use Rattle.order_reading.specs.Searches.{deleted_by, nobody as spec_nobody, cut_within as spec_cut_within, search_of, trial_of, FitsSearch};
+ghost use Rattle.order_reading.specs.Searches.{deleted_by, nobody as spec_nobody, cut_within as spec_cut_within, header_by_goal, search_of, trial_of, FitsSearch};
 ghost use Rattle.hex.specs.Hex.{IsBytes};
+ghost use Rattle.sha2.specs.Sha256.{sha256};
 ghost use Rattle.cert_writer.specs.Promises.{IsHeader};
 ghost use Rattle.certificate_file.specs.Known.{FitsHeader};
 ghost use Rattle.order_reading.specs.Reading.{Gives, IsRefusal};
@@ -120,8 +121,52 @@ fn look(digest: &[u8; 32])
     hand(digest);
 }
 
-/// What an order with this goal asks of the system of a configuration. The names are read in the order of the options `--from`,
-/// `--faulty`, `--faulty-orgs`, `--set`.
+// The part that an order with this goal means, and the nodes of it that are deleted. The names are read in the order of the options
+// `--from`, `--faulty`, `--faulty-orgs`, `--set`.
+fn header_asked(
+    alloc: Global,
+    goal: Goal,
+    order: &Order,
+    system: &System,
+    orgs: &Orgs,
+) -> Result<Header, Early>
+    requires { All (λ org. length org.members ≡ length system.now.names) orgs.now }
+    ensures gives { Gives result (header_by_goal goal system.now orgs.now (order_view order.now)) }
+    ensures refused { IfErr result IsRefusal }
+    ensures fits { IfOk result (IsHeader system.now) }
+{
+    let from = from_named(alloc, system, &order.from)?;
+    let named = deleted(alloc, goal, system, orgs, order)?;
+    Ok(header_of(system, from, named))
+}
+
+// The search with this header, which nothing can refuse any more.
+fn search_with(
+    alloc: Global,
+    goal: Goal,
+    order: &Order,
+    system: System,
+    config: &[u8],
+    header: Header,
+) -> Result<Search, AllocError>
+    ensures value { IfOk result (λ s. s ≡ record { goal = goal; path = (order_view order.now).cert; whole = system; digest = sha256 config.now; header = header; budget = order.now.budget }) }
+    ensures long { length (sha256 config.now) ≡ 32 }
+    ensures bytes { IsBytes (sha256 config.now) }
+{
+    let digest = digest(config);
+    look(&digest);
+    let path = Word::of(alloc, &order.cert)?;
+    Ok(Search {
+        goal,
+        path,
+        whole: system,
+        digest,
+        header,
+        budget: order.budget,
+    })
+}
+
+/// What an order with this goal asks of the system of a configuration.
 pub fn search_asked(
     alloc: Global,
     goal: Goal,
@@ -137,20 +182,8 @@ pub fn search_asked(
     ensures refused { IfErr result IsRefusal }
     ensures fits { IfOk result FitsSearch }
 {
-    let from = from_named(alloc, &system, &order.from)?;
-    let named = deleted(alloc, goal, &system, orgs, order)?;
-    let header = header_of(&system, from, named);
-    let path = Word::of(alloc, &order.cert)?;
-    let digest = digest(config);
-    look(&digest);
-    Ok(Search {
-        goal,
-        path,
-        whole: system,
-        digest,
-        header,
-        budget: order.budget,
-    })
+    let header = header_asked(alloc, goal, order, &system, orgs)?;
+    Ok(search_with(alloc, goal, order, system, config, header)?)
 }
 
 /// What a trial asks of the system of its configuration's text, in which every two quorums share a node. It is the whole system
@@ -167,15 +200,5 @@ pub fn trial_search(
     ensures fits { IfOk result FitsSearch }
 {
     let header = header_of(&system, None, nobody(&system));
-    let path = Word::of(alloc, &order.cert)?;
-    let digest = digest(config);
-    look(&digest);
-    Ok(Search {
-        goal: Goal::Trial,
-        path,
-        whole: system,
-        digest,
-        header,
-        budget: order.budget,
-    })
+    search_with(alloc, Goal::Trial, order, system, config, header)
 }

@@ -1,6 +1,8 @@
-use Rattle.std.proofs.Common.{◌≡◌, ◌∙◌, ap, length}
+use Rattle.std.proofs.Common.{◌≡◌, ◌∙◌, ap, length, subst, sym}
+use Rattle.std.proofs.lemmas.Result.{IfOk-weaker}
 use Rattle.fbas_model.specs.Nodes.{Table, members}
 use Rattle.certificate_file.specs.declared.places.Header.{Header}
+use Rattle.order_reading.specs.Searches.{FitsSearch}
 use Rattle.order_reading.proofs.Cuts.{meets_in_whole}
 use Rattle.order_reading.proofs.searches.trial_search.Goals as goal
 
@@ -8,10 +10,10 @@ pub returns-clause-fits : goal.returns-clause-fits
 returns-clause-fits c =
     let h : Header = c.header_of-header.result in
     let faulty : h.faulty ≡ c.nobody.result = ap (λ (x : Header). x.faulty) c.header_of-header.ensures.value in
-    record {
+    IfOk-weaker c.search_with.result _ _ (λ search is. subst FitsSearch (sym is) (record {
       header = c.header_of-header.ensures.fits;
-      long = c.look.ensures.long;
-      bytes = c.look.ensures.bytes;
+      long = c.search_with.ensures.long;
+      bytes = c.search_with.ensures.bytes;
       few = c.requires.few;
       meets = λ _. meets_in_whole c.args.system h (ap (λ (x : Header). x.from) c.header_of-header.ensures.value) (ap (λ (t : Table). length t) faulty ∙ c.nobody.ensures.places) (ap members faulty ∙ c.nobody.ensures.empty) c.requires.meets;
-    }
+    })) c.search_with.ensures.value
