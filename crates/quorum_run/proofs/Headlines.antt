@@ -1,5 +1,5 @@
 -- What is so where a search prints its answer.
-use Rattle.std.proofs.Common.{◌≡◌, ◌⊎◌, ◌↔◌, inl, inr, IsTrue, Bool, true, false, ℕ, List, [], ◌++◌, Some, Result, Ok, Err, refl, sym, ◌∙◌, ap, subst, codes}
+use Rattle.std.proofs.Common.{◌≡◌, ◌⊎◌, ◌↔◌, inl, inr, IsTrue, Bool, true, false, ℕ, List, [], ◌++◌, Some, Result, Ok, refl, sym, ◌∙◌, ap, subst, codes}
 use Rattle.std.proofs.lemmas.List.{append_assoc, append-nil}
 use Rattle.std.proofs.lemmas.Slice.Eq.{bytes_eq-Decides}
 use Rattle.fbas_model.specs.Nodes.{Table}
@@ -8,12 +8,10 @@ use Rattle.lrat_model.specs.Steps.{ProofStep}
 use Rattle.quorum_questions.specs.declared.answers.Size.{Size}
 use Rattle.quorum_questions.specs.declared.answers.Answer.{Answer as Shown}
 use Rattle.quorum_questions.specs.declared.answers.Answer.TheVariants.{Yes as together, No as apart, Spent as spent}
-use Rattle.blocking_lists.specs.declared.outcome.ListOutcome.{ListOutcome}
 use Rattle.blocking_lists.specs.declared.outcome.ListOutcome.TheVariants.{Whole as whole_list, Spent as part_of_list}
 use Rattle.desk_io.specs.State.{Files, DeskState, with_file}
 use Rattle.certificate_file.specs.Acceptance.{checked}
 use Rattle.cert_writer.specs.Finding.{Finds}
-use Rattle.cert_writer.specs.Listing.{FindsList}
 use Rattle.cli_words.specs.Words.{order_of}
 use Rattle.cli_words.specs.declared.orders.Goal.{Goal}
 use Rattle.cli_words.specs.declared.orders.Goal.TheVariants.{Intersect, Dset, Splits, Blocking, Trial}

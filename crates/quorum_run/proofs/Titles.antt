@@ -1,5 +1,5 @@
 -- The certificates of what is found begin with the title of version 2.
-use Rattle.std.proofs.Common.{◌≡◌, ℕ, List, [], ◌∷◌, ◌++◌, codes, refl, sym, subst}
+use Rattle.std.proofs.Common.{ℕ, List, [], ◌∷◌, ◌++◌, codes, refl, sym, subst}
 use Rattle.hex.specs.Hex.{encode_lower}
 use Rattle.fbas_model.specs.Names.{Name}
 use Rattle.list_journal.specs.declared.kinds.ListKind.TheVariants as kind

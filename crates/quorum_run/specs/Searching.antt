@@ -1,8 +1,11 @@
 -- What is ready to be put at the end of a search.
-use Rattle.std.specs.Prelude.{◌≡◌, ℕ, [], false}
+use Rattle.std.specs.Prelude.{◌≡◌, ℕ, [], false, Result, Ok}
 use Rattle.fbas_model.specs.Nodes.{Table}
 use Rattle.fbas_model.specs.Systems.{System}
 use Rattle.cli_words.specs.declared.orders.Goal.{Goal}
+use Rattle.std.specs.declared.alloc.AllocError.{AllocError}
+use Rattle.order_reading.specs.declared.reply.Reply.{Reply}
+use Rattle.quorum_run.specs.declared.found.Found.{Found as Finding}
 use Rattle.quorum_run.specs.Finding.{FoundShows}
 use Rattle.quorum_run.specs.Replies.{Replies, RepliesTooLarge}
 use Rattle.quorum_run.specs.declared.searching.Held.{Held}
@@ -18,3 +21,9 @@ pub record FitsHeld (goal : Goal) (part : System) (deleted : Table) (budget : �
 abbrev pub FitsReady : Goal → System → Table → ℕ → Ready → Type 0
 FitsReady goal part deleted budget (Found h) = FitsHeld goal part deleted budget h
 FitsReady goal part deleted budget (TooLarge reply) = RepliesTooLarge part deleted reply
+
+-- what was found and what was replied, with a writer that has written nothing
+pub record IsHeld (found : Finding) (reply : Result Reply AllocError) (ready : Ready) : Type 0 where
+  pub said : Reply
+  pub replied : reply ≡ Ok said
+  pub is : ready ≡ Found (record { found = found; reply = said; writer = record { held = []; failed = false } })

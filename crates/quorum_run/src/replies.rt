@@ -147,17 +147,20 @@ fn dset_line(status: Status) -> &'static str
     }
 }
 
-/// Whether a set is dispensable, by the answer to whether every two quorums share a node.
+/// Whether a set is dispensable, by what a search found with it deleted.
 pub fn dset_answer(
     alloc: Global,
     part: &System,
     is_available: bool,
     unmet: &NodeSet,
-    answer: &Reply,
+    budget: u64,
+    found: &Answer,
 ) -> Result<Reply, AllocError>
-    requires { length unmet.now ≡ length part.now.sets }
-    ensures { IfOk result (λ a. a ≡ spec_dset part.now.names is_available unmet.now answer.now) }
+    requires places { length unmet.now ≡ length part.now.sets }
+    requires written { CanBeWritten (length part.now.sets) found.now }
+    ensures { IfOk result (λ a. a ≡ spec_dset part.now.names is_available unmet.now (spec_intersect part.now.names budget found.now)) }
 {
+    let answer = intersect_answer(alloc, part, budget, found)?;
     let status = dset_status(is_available, answer.status);
     let mut text = available_lines(alloc, part, is_available, unmet)?;
     text.extend_from_slice(answer.text.bytes())?;

@@ -10,7 +10,7 @@ ghost use Rattle.quorum_questions.specs.declared.asking.TheConstants.{MOST_UNITS
 ghost use Rattle.quorum_run.specs.Finding.{cert_over, IsWritable};
 ghost use Rattle.quorum_run.specs.Putting.{put_whole, PutsSome, LacksPlace};
 ghost use Rattle.quorum_run.specs.Printing.{PrintsSearch, PrintsSearchPart, LacksForSearch};
-ghost use Rattle.quorum_run.specs.Searching.{FitsReady, FitsHeld};
+ghost use Rattle.quorum_run.specs.Searching.{FitsReady, FitsHeld, IsHeld};
 ghost use Rattle.order_reading.specs.Searches.{FitsSearch};
 ghost use Rattle.order_reading.specs.Status.{is_answer};
 
@@ -44,16 +44,19 @@ pub enum Ready {
     TooLarge(Reply),
 }
 
-// What was found, with the memory that writing it wants.
-fn hold(alloc: Global, found: Found, reply: Reply) -> Result<Ready, AllocError>
-    ensures { IfOk result (λ ready. ready ≡ Ready.Found (record { found = found; reply = reply; writer = record { held = []; failed = false } })) }
+// What was found, with the memory that writing it wants. What is replied comes as it was made, so that what was found is held
+// over no other want of memory.
+fn hold(alloc: Global, found: Found, reply: Result<Reply, AllocError>) -> Result<Ready, AllocError>
+    ensures { IfOk result (IsHeld found reply) }
 {
-    let writer = CertWriter::start(alloc)?;
-    Ok(Ready::Found(Held {
-        found,
-        reply,
-        writer,
-    }))
+    match (reply, CertWriter::start(alloc)) {
+        (Ok(reply), Ok(writer)) => Ok(Ready::Found(Held {
+            found,
+            reply,
+            writer,
+        })),
+        _ => Err(AllocError),
+    }
 }
 
 fn too_large(alloc: Global, vars: u64) -> Result<Ready, AllocError>
@@ -77,7 +80,7 @@ fn intersect_ready(
     what_is_shown_is_found();
     match intersect(alloc, part, faulty, budget) {
         Ok(found) => {
-            let reply = intersect_answer(alloc, part, budget, &found)?;
+            let reply = intersect_answer(alloc, part, budget, &found);
             hold(alloc, Found::Shared(found), reply)
         }
         Err(AskError::TooLarge(vars)) => too_large(alloc, vars),
@@ -100,7 +103,7 @@ fn splits_ready(
     what_is_shown_is_found();
     match intersect(alloc, part, faulty, budget) {
         Ok(found) => {
-            let reply = splits_answer(alloc, part, budget, &found)?;
+            let reply = splits_answer(alloc, part, budget, &found);
             hold(alloc, Found::Shared(found), reply)
         }
         Err(AskError::TooLarge(vars)) => too_large(alloc, vars),
@@ -117,8 +120,7 @@ fn dset_ready(alloc: Global, part: &System, set: &NodeSet, budget: u64) -> Resul
     what_is_shown_is_found();
     match dset(alloc, part, set, budget) {
         Ok((is_available, unmet, found)) => {
-            let answer = intersect_answer(alloc, part, budget, &found)?;
-            let reply = dset_answer(alloc, part, is_available, &unmet, &answer)?;
+            let reply = dset_answer(alloc, part, is_available, &unmet, budget, &found);
             hold(alloc, Found::Shared(found), reply)
         }
         Err(AskError::TooLarge(vars)) => too_large(alloc, vars),
@@ -139,7 +141,7 @@ fn blocking_ready(
     let _ = part.len();
     let mut units = Budget::of(budget);
     let found = list(alloc, part, faulty, &mut units)?;
-    let reply = blocking_answer(alloc, part, budget, &found)?;
+    let reply = blocking_answer(alloc, part, budget, &found);
     hold(alloc, Found::Listed(found), reply)
 }
 
@@ -159,7 +161,7 @@ fn trial_ready(
     what_is_shown_is_found();
     match intersect(alloc, part, faulty, budget) {
         Ok(found) => {
-            let reply = trial_answer(alloc, part, budget, &found)?;
+            let reply = trial_answer(alloc, part, budget, &found);
             hold(alloc, Found::Shared(found), reply)
         }
         Err(AskError::TooLarge(vars)) => too_large(alloc, vars),

@@ -1,20 +1,23 @@
-use Rattle.std.proofs.Common.{refl, ◌∙◌, ap, sym, subst, Err}
+use Rattle.std.proofs.Common.{◌≡◌, Result, IfOk, refl, ◌∙◌, ap, sym, subst, Err}
 use Rattle.std.proofs.lemmas.Result.{IfOk-weaker}
 use Rattle.cli_words.specs.declared.orders.Goal.TheVariants.{Intersect}
+use Rattle.std.specs.declared.alloc.AllocError.{AllocError}
+use Rattle.order_reading.specs.declared.reply.Reply.{Reply}
+use Rattle.quorum_run.specs.Replies.{intersect_answer}
 use Rattle.quorum_run.specs.declared.searching.Ready.{Ready}
 use Rattle.quorum_run.specs.Searching.{FitsReady}
 use Rattle.quorum_run.proofs.Replied.{too_large_fits, written_there}
 use Rattle.quorum_run.proofs.searching.intersect_ready.Goals as goal
 
-pub intersect_answer-requires : goal.intersect_answer-requires
-intersect_answer-requires c =
+pub intersect_answer-reply-requires : goal.intersect_answer-reply-requires
+intersect_answer-reply-requires c =
     let same = sym c.len.ensures.names ∙ c.len.ensures.sets in
     written_there _ _ c.in-Ok.found same (c.what_is_shown_is_found.ensures.written c.args.part.now c.args.faulty.now c.args.budget c.in-Ok.found same c.in-Ok.ensures.shows)
 
-pub returns-in_ok-reply-in-Ok : goal.returns-in_ok-reply-in-Ok
-returns-in_ok-reply-in-Ok c = IfOk-weaker c.hold.result _ _ (λ ready is. subst (λ (r : Ready). FitsReady Intersect c.args.part.now c.args.faulty.now c.args.budget r) (sym is) (record {
+pub returns-in-Ok : goal.returns-in-Ok
+returns-in-Ok c = IfOk-weaker c.hold.result _ _ (λ ready held. subst (λ (r : Ready). FitsReady Intersect c.args.part.now c.args.faulty.now c.args.budget r) (sym held.is) (record {
   shows = c.in-Ok.ensures.shows;
-  replies = c.in_ok-reply-in-Ok.ensures;
+  replies = subst (λ (r : Result Reply AllocError). IfOk r (λ (a : Reply). a ≡ intersect_answer c.args.part.now.names c.args.budget c.in-Ok.found)) held.replied c.intersect_answer-reply.ensures;
   fresh = refl;
 })) c.hold.ensures
 
