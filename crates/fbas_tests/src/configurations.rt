@@ -1,6 +1,6 @@
 //! What no clause says: that calls succeed, and rows whose answers come from the rules by hand.
 
-use crate::shared::same;
+use crate::shared::{equal, numbered, same, system_of};
 use fbas_core::System;
 use name_set::NodeSet;
 use node_json::ConfigFault::{
@@ -8,21 +8,30 @@ use node_json::ConfigFault::{
     TooManyNodes,
 };
 use node_json::SetFault::{Inner, Shape, Threshold, Validators};
-use node_json::{ConfigFault, SetFault, read_config};
+use node_json::{ConfigFault, read_config};
 use std::alloc::{AllocError, Global};
 use std::process::Abort;
 
 // The fault of a text, or none where it is read.
 fn fault_of(alloc: Global, text: &[u8]) -> Option<ConfigFault> {
-    match read_config(alloc, text) {
-        Ok(_) => None,
-        Err(fault) => Some(fault),
-    }
+    read_config(alloc, text).err()
 }
 
-// Fails the test where the faults differ.
-fn same_fault(rt: &impl Abort, found: Option<ConfigFault>, want: Option<ConfigFault>, at: &str) {
-    assert_eq!(rt; found, want, "at {at}");
+// Fails the test where the text has another fault.
+fn wants_fault(rt: &impl Abort, alloc: Global, text: &[u8], want: Option<ConfigFault>, at: &str) {
+    equal(rt, &fault_of(alloc, text), &want, at);
+}
+
+// The same of a text that was made for the test.
+fn wants_fault_of_made(
+    rt: &impl Abort,
+    alloc: Global,
+    text: Result<String, AllocError>,
+    want: Option<ConfigFault>,
+    at: &str,
+) {
+    let text = text.expect(rt, "memory");
+    wants_fault(rt, alloc, text.as_bytes(), want, at);
 }
 
 // Node x, whose quorum set is the text.
@@ -52,34 +61,50 @@ static TEXTS: [(&str, Option<ConfigFault>); 14] = [
 
 #[test]
 fn finds_the_first_fault(rt: HostRuntime) {
+    let alloc = rt.alloc();
     for (text, fault) in TEXTS.iter() {
-        same_fault(&rt, fault_of(rt.alloc(), text.as_bytes()), *fault, text);
+        wants_fault(&rt, alloc, text.as_bytes(), *fault, text);
     }
-    let found = fault_of(rt.alloc(), &[0x5b, 0xff, 0x5d]);
-    same_fault(&rt, found, Some(NotJson), "bytes that are no text");
+    let bytes = [0x5b, 0xff, 0x5d];
+    wants_fault(&rt, alloc, &bytes, Some(NotJson), "bytes that are no text");
 }
 
-static SETS: [(&str, Option<SetFault>); 14] = [
-    ("[]", Some(Shape)),
-    ("{}", Some(Threshold)),
-    ("{\"threshold\":-1}", Some(Threshold)),
-    ("{\"threshold\":1.0}", Some(Threshold)),
-    ("{\"threshold\":18446744073709551616}", Some(Threshold)),
-    ("{\"threshold\":1,\"threshold\":\"1\"}", Some(Threshold)),
-    ("{\"threshold\":null,\"validators\":{}}", Some(Threshold)),
+static SETS: [(&str, Option<ConfigFault>); 14] = [
+    ("[]", Some(BadQuorumSet(0, Shape))),
+    ("{}", Some(BadQuorumSet(0, Threshold))),
+    ("{\"threshold\":-1}", Some(BadQuorumSet(0, Threshold))),
+    ("{\"threshold\":1.0}", Some(BadQuorumSet(0, Threshold))),
+    (
+        "{\"threshold\":18446744073709551616}",
+        Some(BadQuorumSet(0, Threshold)),
+    ),
+    (
+        "{\"threshold\":1,\"threshold\":\"1\"}",
+        Some(BadQuorumSet(0, Threshold)),
+    ),
+    (
+        "{\"threshold\":null,\"validators\":{}}",
+        Some(BadQuorumSet(0, Threshold)),
+    ),
     (
         "{\"threshold\":1,\"validators\":{},\"innerQuorumSets\":1}",
-        Some(Validators),
+        Some(BadQuorumSet(0, Validators)),
     ),
     (
         "{\"threshold\":1,\"validators\":[\"a\",\"b c\"]}",
-        Some(Validators),
+        Some(BadQuorumSet(0, Validators)),
     ),
-    ("{\"threshold\":1,\"innerQuorumSets\":{}}", Some(Inner)),
-    ("{\"threshold\":1,\"innerQuorumSets\":[null]}", Some(Shape)),
+    (
+        "{\"threshold\":1,\"innerQuorumSets\":{}}",
+        Some(BadQuorumSet(0, Inner)),
+    ),
+    (
+        "{\"threshold\":1,\"innerQuorumSets\":[null]}",
+        Some(BadQuorumSet(0, Shape)),
+    ),
     (
         "{\"threshold\":1,\"innerQuorumSets\":[{\"threshold\":1,\"innerQuorumSets\":1},{}]}",
-        Some(Inner),
+        Some(BadQuorumSet(0, Inner)),
     ),
     (
         "{\"threshold\":18446744073709551615,\"validators\":null,\"innerQuorumSets\":null}",
@@ -88,110 +113,63 @@ static SETS: [(&str, Option<SetFault>); 14] = [
     ("{\"thres\\u0068old\":0}", None),
 ];
 
-// The fault of node x with that quorum set.
-fn set_fault(alloc: Global, set: &str) -> Result<Option<ConfigFault>, AllocError> {
-    let text = with_set(alloc, set)?;
-    Ok(fault_of(alloc, text.as_bytes()))
-}
-
 #[test]
 fn finds_the_first_fault_of_a_quorum_set(rt: HostRuntime) {
     for (set, fault) in SETS.iter() {
-        let want = fault.map(|f| BadQuorumSet(0, f));
-        same_fault(
-            &rt,
-            set_fault(rt.alloc(), set).expect(&rt, "memory"),
-            want,
-            set,
-        );
+        let text = with_set(rt.alloc(), set);
+        wants_fault_of_made(&rt, rt.alloc(), text, *fault, set);
     }
 }
 
 // A text, so often the one piece, the middle, and as often the other piece.
 fn nested(
     alloc: Global,
-    n: u64,
+    n: usize,
     open: &str,
     middle: &str,
     close: &str,
 ) -> Result<String, AllocError> {
-    let mut text = String::from_str(alloc, "")?;
-    for _ in 0..n {
-        text.push_str(open)?;
-    }
+    let mut text = open.repeat(alloc, n)?;
     text.push_str(middle)?;
-    for _ in 0..n {
-        text.push_str(close)?;
-    }
+    text.push_str(&close.repeat(alloc, n)?)?;
     Ok(text)
 }
 
-// The fault of a quorum set with so many inside one another.
-fn fault_of_inners(alloc: Global, inners: u64) -> Result<Option<ConfigFault>, AllocError> {
+// Node x, whose quorum set has so many inside one another.
+fn inners(alloc: Global, n: usize) -> Result<String, AllocError> {
     let open = "{\"threshold\":1,\"innerQuorumSets\":[";
-    let set = nested(alloc, inners, open, "{\"threshold\":1}", "]}")?;
-    set_fault(alloc, &set)
-}
-
-// The fault of so many arrays inside one another.
-fn fault_of_arrays(alloc: Global, arrays: u64) -> Result<Option<ConfigFault>, AllocError> {
-    let text = nested(alloc, arrays, "[", "", "]")?;
-    Ok(fault_of(alloc, text.as_bytes()))
+    let set = nested(alloc, n, open, "{\"threshold\":1}", "]}")?;
+    with_set(alloc, &set)
 }
 
 #[test]
 fn reads_as_deep_as_the_limits(rt: HostRuntime) {
-    for (inners, fault) in [(31, None), (32, Some(TooDeep(0)))] {
-        same_fault(
-            &rt,
-            fault_of_inners(rt.alloc(), inners).expect(&rt, "memory"),
-            fault,
-            "inners",
-        );
+    let alloc = rt.alloc();
+    for (n, fault) in [(31, None), (32, Some(TooDeep(0)))] {
+        wants_fault_of_made(&rt, alloc, inners(alloc, n), fault, "inners");
     }
-    for (arrays, fault) in [(127, NotNode(0)), (128, NotJson)] {
-        same_fault(
-            &rt,
-            fault_of_arrays(rt.alloc(), arrays).expect(&rt, "memory"),
-            Some(fault),
-            "arrays",
-        );
+    for (n, fault) in [(127, NotNode(0)), (128, NotJson)] {
+        let arrays = nested(alloc, n, "[", "", "]");
+        wants_fault_of_made(&rt, alloc, arrays, Some(fault), "arrays");
     }
 }
 
 // Node x with a quorum set of so many validators: names from n0 on, or the same name each time.
-fn many(alloc: Global, n: u64, distinct: bool) -> Result<String, AllocError> {
-    let mut text = String::from_str(
-        alloc,
-        "[{\"publicKey\":\"x\",\"quorumSet\":{\"threshold\":1,\"validators\":[\"x\"",
-    )?;
-    for i in 1..n {
-        let name = if distinct { i } else { 0 };
-        text.push_str(format!(in alloc; ",\"n{name}\"")?.as_str())?;
-    }
-    text.push_str("]}}]")?;
-    Ok(text)
-}
-
-fn fault_of_many(alloc: Global, n: u64, distinct: bool) -> Result<Option<ConfigFault>, AllocError> {
-    let text = many(alloc, n, distinct)?;
-    Ok(fault_of(alloc, text.as_bytes()))
+fn many(alloc: Global, n: u64, are_alike: bool) -> Result<String, AllocError> {
+    let head = "[{\"publicKey\":\"x\",\"quorumSet\":{\"threshold\":1,\"validators\":[\"x\"";
+    numbered(alloc, (head, "]}}]"), (",\"n", "\""), n, are_alike)
 }
 
 #[test]
 fn reads_as_many_as_the_limits(rt: HostRuntime) {
-    for (n, distinct, fault) in [
-        (16_384, true, None),
-        (16_385, true, Some(TooManyNodes(16_385))),
-        (1_000_000, false, None),
-        (1_000_001, false, Some(TooManyEntries(1_000_001))),
+    let alloc = rt.alloc();
+    for (n, are_alike, fault) in [
+        (16_384, false, None),
+        (16_385, false, Some(TooManyNodes(16_385))),
+        (1_000_000, true, None),
+        (1_000_001, true, Some(TooManyEntries(1_000_001))),
     ] {
-        same_fault(
-            &rt,
-            fault_of_many(rt.alloc(), n, distinct).expect(&rt, "memory"),
-            fault,
-            "many",
-        );
+        wants_fault_of_made(&rt, alloc, many(alloc, n, are_alike), fault, "many");
     }
 }
 
@@ -231,10 +209,11 @@ fn quorums(alloc: Global, system: &System) -> Result<String, AllocError> {
 
 #[test]
 fn reads_a_network(rt: HostRuntime) {
-    let system = read_config(rt.alloc(), NETWORK.as_bytes()).expect(&rt, "a system");
-    let found = places(rt.alloc(), &system);
+    let alloc = rt.alloc();
+    let system = system_of(&rt, alloc, NETWORK);
+    let found = places(alloc, &system);
     same(&rt, found, "Some(0) Some(1) Some(2) Some(3)");
-    same(&rt, quorums(rt.alloc(), &system), "false true false");
+    same(&rt, quorums(alloc, &system), "false true false");
 }
 
 static PRINTED: [(ConfigFault, &str); 12] = [

@@ -23,24 +23,36 @@ fn of(
     })
 }
 
+/// A quorum set of eight entries, of which the last is one inside it.
+fn with_innermost(alloc: Global) -> Result<QuorumSet, AllocError>
+    ensures { IfOk result (λ q. all_entries q ≡ 8) }
+{
+    let mut innermost = Vec::new(alloc);
+    innermost.push(of(alloc, 1, &[5, 5, 5], Vec::new(alloc))?)?;
+    of(alloc, 0, &[2, 3, 3, 2], innermost)
+}
+
 /// A quorum set with inner ones, of which the second has one inside it.
 fn nested(alloc: Global) -> Result<QuorumSet, AllocError>
     ensures { IfOk result (λ q. all_entries q < 2 ^ 32) }
 {
-    let mut innermost = Vec::new(alloc);
-    innermost.push(of(alloc, 1, &[5, 5, 5], Vec::new(alloc))?)?;
     let mut inner = Vec::new(alloc);
     inner.push(of(alloc, 1, &[0, 1], Vec::new(alloc))?)?;
-    inner.push(of(alloc, 0, &[2, 3, 3, 2], innermost)?)?;
+    inner.push(with_innermost(alloc)?)?;
     inner.push(of(alloc, 1, &[], Vec::new(alloc))?)?;
     of(alloc, 7, &[1, 2, 1], inner)
+}
+
+/// Finds it all, behind what was found before.
+fn find(alloc: Global, found: &mut Vec<Finding>) -> Result<(), AllocError> {
+    nested(alloc)?.findings(alloc, found)
 }
 
 /// What is found in it, behind what was found before.
 fn found(alloc: Global) -> Result<String, AllocError> {
     let mut found = Vec::new(alloc);
     found.push(Finding::Repeated(vec![in alloc; 4]?, 9))?;
-    nested(alloc)?.findings(alloc, &mut found)?;
+    find(alloc, &mut found)?;
     format!(in alloc; "{found:?}")
 }
 

@@ -1,8 +1,8 @@
 //! Names in the words of a command line.
 
-ghost use Rattle.std.specs.Prelude.{◌≡◌, length, IfSome};
+ghost use Rattle.std.specs.Prelude.{◌≡◌, length};
 
-use crate::shared::same;
+use crate::shared::{names_of, same};
 use name_set::{NameFault, Names, read_name, read_names};
 use std::alloc::{AllocError, Global};
 
@@ -12,25 +12,6 @@ fn marks(text: &str, names: &Names) -> Result<(bool, bool, bool), NameFault>
 {
     let nodes = read_names(text.as_bytes(), names)?;
     Ok((nodes.has(0), nodes.has(1), nodes.has(2)))
-}
-
-/// The names A, B~ and C.
-fn names(alloc: Global) -> Option<Names>
-    ensures { IfSome result (λ names. length names ≡ 3) }
-{
-    let mut list = Vec::new(alloc);
-    for name in ["C", "A", "B~"] {
-        list.push(Vec::from_slice(alloc, name.as_bytes()).ok()?)
-            .ok()?;
-    }
-    if list.len() != 3 {
-        return None;
-    }
-    let names = Names::of(list).ok()?;
-    if names.len() != 3 {
-        return None;
-    }
-    Some(names)
 }
 
 /// What the text is as a list of names, and as a name.
@@ -56,8 +37,9 @@ static LISTS: [(&str, &str); 9] = [
 
 #[test]
 fn lists_name_nodes_or_their_first_fault(rt: HostRuntime) {
-    let names = names(rt.alloc()).expect(&rt, "names");
+    let alloc = rt.alloc();
+    let names = names_of(&rt, alloc, &["C", "A", "B~"], 3);
     for (text, want) in LISTS.iter() {
-        same(&rt, read(rt.alloc(), text, &names), want);
+        same(&rt, read(alloc, text, &names), want);
     }
 }

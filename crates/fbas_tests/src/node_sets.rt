@@ -1,8 +1,8 @@
 //! What no clause says: worked rows, sets that end anywhere in a word, and sets of other widths.
 
-ghost use Rattle.std.specs.Prelude.{◌≡◌, ◌*◌, ◌≤◌, ◌<◌, length, IfSome};
+ghost use Rattle.std.specs.Prelude.{◌≡◌, ◌*◌, ◌≤◌, ◌<◌, length};
 
-use crate::shared::same;
+use crate::shared::{equal, names_of, same};
 use name_set::{MOST_WORDS, Names, NodeSet, NodeWords, cmp_sets};
 use std::alloc::{AllocError, Global};
 use std::process::Abort;
@@ -71,12 +71,9 @@ fn sets_are_plain_sets(rt: HostRuntime) {
     set.put(3);
     set.put(1);
     let mut other = NodeSet::new(4);
+    let alloc = rt.alloc();
     for (step, want) in STEPS.iter().enumerate() {
-        same(
-            &rt,
-            changed(rt.alloc(), &mut other, &set, step as u32),
-            want,
-        );
+        same(&rt, changed(alloc, &mut other, &set, step as u32), want);
     }
 }
 
@@ -156,17 +153,29 @@ fn parts_all<const W: usize>(set: &NodeWords<W>, all: &NodeWords<W>, n: u32) -> 
     [apart, counted, within, whole, equal, others.same(set)]
 }
 
-/// Shows that sets of W words are plain sets of numbers below `n`.
-fn show<const W: usize>(rt: &impl Abort, n: u32)
+/// Whether sets of W words are plain sets of numbers below `n`.
+fn are_plain<const W: usize>(n: u32) -> (bool, [bool; 5], [bool; 6])
     requires fits { n ≤ 64 * W }
     requires few { W ≤ MOST_WORDS }
 {
     let set = thirds::<W>(n);
     let mut all = set.copy();
     all.fill();
-    assert!(rt; are_thirds(&set, n), "{n}");
-    assert_eq!(rt; lies_in_all(&set, &all, n), [true; 5], "{n}");
-    assert_eq!(rt; parts_all(&set, &all, n), [true; 6], "{n}");
+    (
+        are_thirds(&set, n),
+        lies_in_all(&set, &all, n),
+        parts_all(&set, &all, n),
+    )
+}
+
+/// Shows that they are.
+fn show<const W: usize>(rt: &impl Abort, n: u32)
+    requires fits { n ≤ 64 * W }
+    requires few { W ≤ MOST_WORDS }
+{
+    let found = (n, are_plain::<W>(n));
+    let want = (n, (true, [true; 5], [true; 6]));
+    equal(rt, &found, &want, "the numbers below");
 }
 
 #[test]
@@ -204,26 +213,7 @@ fn in_turn() -> [(bool, bool); 4] {
 
 #[test]
 fn sets_are_ordered_as_lists(rt: HostRuntime) {
-    assert_eq!(rt; in_turn(), [(true, true); 4]);
-}
-
-/// The names B, a, ab and b.
-fn names(alloc: Global) -> Option<Names>
-    ensures { IfSome result (λ names. length names ≡ 4) }
-{
-    let mut list = Vec::new(alloc);
-    for name in ["b", "ab", "b", "a", "B", "ab"] {
-        list.push(Vec::from_slice(alloc, name.as_bytes()).ok()?)
-            .ok()?;
-    }
-    if list.len() != 6 {
-        return None;
-    }
-    let names = Names::of(list).ok()?;
-    if names.len() != 4 {
-        return None;
-    }
-    Some(names)
+    equal(&rt, &in_turn(), &[(true, true); 4], "sets in turn");
 }
 
 /// The names in order, and the places of some.
@@ -243,7 +233,8 @@ fn placed(alloc: Global, names: &Names) -> Result<String, AllocError>
 
 #[test]
 fn names_are_sorted_and_found(rt: HostRuntime) {
-    let names = names(rt.alloc()).expect(&rt, "names");
+    let alloc = rt.alloc();
+    let names = names_of(&rt, alloc, &["b", "ab", "b", "a", "B", "ab"], 4);
     let want = "[[66], [97], [97, 98], [98]] [Some(0), Some(1), Some(2), Some(3), None]";
-    same(&rt, placed(rt.alloc(), &names), want);
+    same(&rt, placed(alloc, &names), want);
 }

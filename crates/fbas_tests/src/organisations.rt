@@ -2,27 +2,27 @@
 
 ghost use Rattle.std.specs.Prelude.{◌≡◌, All, length};
 
-use crate::shared::same;
+use crate::shared::{equal, numbered, same, system_of};
 use fbas_core::System;
 use name_set::NameFault;
 use node_json::OrgFault::{BadOrg, DuplicateOrg, NotJson, NotOrgs, TooManyOrgs};
-use node_json::{OrgFault, Orgs, read_config, read_ids, read_orgs};
+use node_json::{OrgFault, Orgs, read_ids, read_orgs};
 use std::alloc::{AllocError, Global};
 use std::process::Abort;
 
 const NODES: &str = "[{\"publicKey\":\"a\"},{\"publicKey\":\"b\"},{\"publicKey\":\"c\"}]";
 
-// The fault of a text, or none where it is read.
-fn fault_of(alloc: Global, text: &str, system: &System) -> Option<OrgFault> {
-    match read_orgs(alloc, text.as_bytes(), system) {
-        Ok(_) => None,
-        Err(fault) => Some(fault),
-    }
-}
-
-// Fails the test where the faults differ.
-fn same_fault(rt: &impl Abort, found: Option<OrgFault>, want: Option<OrgFault>, at: &str) {
-    assert_eq!(rt; found, want, "at {at}");
+// Fails the test where the text has another fault, or none where none is wanted.
+fn wants_fault(
+    rt: &impl Abort,
+    alloc: Global,
+    system: &System,
+    text: &str,
+    want: Option<OrgFault>,
+    at: &str,
+) {
+    let found = read_orgs(alloc, text.as_bytes(), system).err();
+    equal(rt, &found, &want, at);
 }
 
 static TEXTS: [(&str, Option<OrgFault>); 12] = [
@@ -54,9 +54,10 @@ static TEXTS: [(&str, Option<OrgFault>); 12] = [
 
 #[test]
 fn finds_the_first_fault(rt: HostRuntime) {
-    let system = read_config(rt.alloc(), NODES.as_bytes()).expect(&rt, "a system");
+    let alloc = rt.alloc();
+    let system = system_of(&rt, alloc, NODES);
     for (text, fault) in TEXTS.iter() {
-        same_fault(&rt, fault_of(rt.alloc(), text, &system), *fault, text);
+        wants_fault(&rt, alloc, &system, text, *fault, text);
     }
 }
 
@@ -102,9 +103,10 @@ fn read(alloc: Global, system: &System, text: &str, ids: &str) -> Result<String,
 
 #[test]
 fn finds_the_members_of_a_list_or_its_first_fault(rt: HostRuntime) {
-    let system = read_config(rt.alloc(), NODES.as_bytes()).expect(&rt, "a system");
+    let alloc = rt.alloc();
+    let system = system_of(&rt, alloc, NODES);
     for (text, ids, want) in LISTS.iter() {
-        same(&rt, read(rt.alloc(), &system, text, ids), want);
+        same(&rt, read(alloc, &system, text, ids), want);
     }
 }
 
@@ -128,30 +130,29 @@ fn has_no_organisations_without_a_file(rt: HostRuntime) {
 
 // So many organisations, each with an id of its own.
 fn many(alloc: Global, n: u64) -> Result<String, AllocError> {
-    let mut text = String::from_str(alloc, "[{\"id\":\"o0\"}")?;
-    for i in 1..n {
-        text.push_str(format!(in alloc; ",{{\"id\":\"o{i}\"}}")?.as_str())?;
-    }
-    text.push_str("]")?;
-    Ok(text)
+    let ends = ("[{\"id\":\"o0\"}", "]");
+    numbered(alloc, ends, (",{\"id\":\"o", "\"}"), n, false)
 }
 
-fn fault_of_many(alloc: Global, system: &System, n: u64) -> Result<Option<OrgFault>, AllocError> {
-    let text = many(alloc, n)?;
-    Ok(fault_of(alloc, &text, system))
+// Fails the test where so many have another fault.
+fn wants_fault_of_many(
+    rt: &impl Abort,
+    alloc: Global,
+    system: &System,
+    n: u64,
+    want: Option<OrgFault>,
+) {
+    let text = many(alloc, n).expect(rt, "memory");
+    wants_fault(rt, alloc, system, &text, want, "many");
 }
 
 #[test]
 fn reads_as_many_as_the_limit(rt: HostRuntime) {
-    let system = read_config(rt.alloc(), NODES.as_bytes()).expect(&rt, "a system");
-    for (n, fault) in [(4096, None), (4097, Some(TooManyOrgs(4097)))] {
-        same_fault(
-            &rt,
-            fault_of_many(rt.alloc(), &system, n).expect(&rt, "memory"),
-            fault,
-            "many",
-        );
-    }
+    let alloc = rt.alloc();
+    let system = system_of(&rt, alloc, NODES);
+    wants_fault_of_many(&rt, alloc, &system, 4096, None);
+    let fault = Some(TooManyOrgs(4097));
+    wants_fault_of_many(&rt, alloc, &system, 4097, fault);
 }
 
 static PRINTED: [(OrgFault, &str); 5] = [

@@ -6,6 +6,7 @@ ghost use Rattle.fbas_model.specs.QuorumSets.{IsBelow, all_entries, depth};
 ghost use Rattle.fbas_model.specs.Systems.{IsWithin, entries_in};
 ghost use Rattle.fbas_plain.specs.Plain.{IsWellFormed};
 
+use crate::shared::equal;
 use fbas_core::System;
 use fbas_plain::{
     available, has_choice_within, has_choice_within_either, intersects, is_quorum, meets_quorums,
@@ -146,7 +147,7 @@ fn quorum_set(
     rt: &impl Abort,
     alloc: Global,
     n: u32,
-    choices: Choices,
+    choices: &Choices,
 ) -> Result<QuorumSet, AllocError>
     ensures { IfOk result (IsBelow n) }
 {
@@ -161,7 +162,7 @@ fn node(
     rt: &impl Abort,
     alloc: Global,
     n: u32,
-    choices: Option<Choices>,
+    choices: &Option<Choices>,
 ) -> Result<Option<QuorumSet>, AllocError>
     ensures { IfOk result (λ set. IfSome set (IsBelow n)) }
 {
@@ -182,7 +183,7 @@ fn system(
     assert!(rt; nodes.len() <= 4);
     let mut sets = Vec::new(alloc);
     for choices in nodes {
-        sets.push(node(rt, alloc, nodes.len() as u32, *choices)?)?;
+        sets.push(node(rt, alloc, nodes.len() as u32, choices)?)?;
     }
     Ok(sets)
 }
@@ -206,7 +207,7 @@ static CHOICES: [(Choices, u32, bool); 12] = [
 fn met(
     rt: &impl Abort,
     alloc: Global,
-    choices: Choices,
+    choices: &Choices,
     u: u32,
 ) -> Result<(bool, bool), AllocError> {
     let set = quorum_set(rt, alloc, 4, choices)?;
@@ -217,8 +218,8 @@ fn met(
 #[test]
 fn choices_take_entries_at_different_places(rt: HostRuntime) {
     for (choices, u, want) in CHOICES.iter() {
-        let found = met(&rt, rt.alloc(), *choices, *u).expect(&rt, "memory");
-        assert_eq!(rt; found, (*want, *want));
+        let found = met(&rt, rt.alloc(), choices, *u);
+        equal(&rt, &found, &Ok((*want, *want)), "choices in a set");
     }
 }
 
@@ -408,12 +409,17 @@ fn found(
     ))
 }
 
+/// Fails the test where something else is found.
+fn wants_found(rt: &impl Abort, alloc: Global, at: usize, example: &Example) {
+    let found = (at, found(rt, alloc, example));
+    let want = (true, example.all_meet, example.rest_is_quorum);
+    equal(rt, &found, &(at, Ok(want)), "an example");
+}
+
 #[test]
 fn definitions_say_what_was_meant(rt: HostRuntime) {
     for (at, example) in EXAMPLES.iter().enumerate() {
-        let found = found(&rt, rt.alloc(), example).expect(&rt, "memory");
-        let want = (true, example.all_meet, example.rest_is_quorum);
-        assert_eq!(rt; found, want, "example {at}");
+        wants_found(&rt, rt.alloc(), at, example);
     }
 }
 
@@ -515,15 +521,26 @@ fn agree(system: &System, sets: &[Option<QuorumSet>]) -> bool
     true
 }
 
-/// Whether the fast calls and the plain ones agree on the system with these thresholds.
+/// The system with these thresholds. Of a long contract it keeps what the next call wants.
+fn system_of_family(
+    rt: &impl Abort,
+    alloc: Global,
+    thresholds: [u64; 3],
+) -> Result<System, AllocError>
+    ensures { IfOk result (λ system. length system.sets ≡ 3) }
+{
+    let names = names(rt, alloc)?;
+    System::of(alloc, names, family(alloc, thresholds)?)
+}
+
+/// Whether the fast calls and the plain ones agree on it.
 fn agree_on_family(
     rt: &impl Abort,
     alloc: Global,
     thresholds: [u64; 3],
 ) -> Result<bool, AllocError> {
     let sets = family(alloc, thresholds)?;
-    let names = names(rt, alloc)?;
-    let system = System::of(alloc, names, family(alloc, thresholds)?)?;
+    let system = system_of_family(rt, alloc, thresholds)?;
     Ok(agree(&system, &sets))
 }
 
@@ -531,7 +548,12 @@ fn agree_on_family(
 fn fast_calls_agree(rt: HostRuntime) {
     for code in 0..125 {
         let thresholds = [code % 5, code / 5 % 5, code / 25];
-        let agree = agree_on_family(&rt, rt.alloc(), thresholds).expect(&rt, "memory");
-        assert!(rt; agree, "{thresholds:?}");
+        let agree = agree_on_family(&rt, rt.alloc(), thresholds);
+        equal(
+            &rt,
+            &(thresholds, agree),
+            &(thresholds, Ok(true)),
+            "thresholds",
+        );
     }
 }

@@ -1,8 +1,9 @@
 //! Quorum sets, whose choices are counted by places.
 
-ghost use Rattle.std.specs.Prelude.{◌≡◌, ◌<◌, length, IfOk, All};
+ghost use Rattle.std.specs.Prelude.{◌≡◌, ◌<◌, length, IfOk, OnOk, All};
 ghost use Rattle.fbas_model.specs.QuorumSets.{IsBelow};
 
+use crate::shared::equal;
 use name_set::NodeSet;
 use quorum_set::QuorumSet;
 use std::alloc::{AllocError, Global};
@@ -37,14 +38,28 @@ fn set(marks: [bool; 4]) -> NodeSet
     set
 }
 
+fn push(
+    alloc: Global,
+    inner: &mut Vec<QuorumSet>,
+    threshold: u64,
+    nodes: &[u32],
+) -> Result<(), AllocError>
+    requires nodes { All (λ w. w < 4) nodes.now }
+    requires inner { All (IsBelow 4) inner.old.items }
+    ensures { OnOk result (All (IsBelow 4) inner.new.items) }
+{
+    inner.push(of(alloc, threshold, nodes, Vec::new(alloc))?)?;
+    Ok(())
+}
+
 /// Three of node 0, of node 1 twice, and of three inner quorum sets.
 fn worked(alloc: Global) -> Result<QuorumSet, AllocError>
     ensures { IfOk result (IsBelow 4) }
 {
     let mut inner = Vec::new(alloc);
-    inner.push(of(alloc, 1, &[2, 3], Vec::new(alloc))?)?;
-    inner.push(of(alloc, 0, &[0], Vec::new(alloc))?)?;
-    inner.push(of(alloc, 3, &[0, 1], Vec::new(alloc))?)?;
+    push(alloc, &mut inner, 1, &[2, 3])?;
+    push(alloc, &mut inner, 0, &[0])?;
+    push(alloc, &mut inner, 3, &[0, 1])?;
     of(alloc, 3, &[0, 1, 1], inner)
 }
 
@@ -108,7 +123,8 @@ static PARTS: [([bool; 4], [bool; 4], bool); 6] = [
 fn choices_are_counted_by_places(rt: HostRuntime) {
     let quorum_set = worked(rt.alloc()).expect(&rt, "memory");
     for (part, rest, want) in PARTS.iter() {
-        assert_eq!(rt; met(&quorum_set, *part, *rest), (*want, *want, *want));
+        let found = met(&quorum_set, *part, *rest);
+        equal(&rt, &found, &(*want, *want, *want), "a part and the rest");
     }
-    assert_eq!(rt; mentioned(&quorum_set), 4);
+    equal(&rt, &mentioned(&quorum_set), &4, "the nodes mentioned");
 }

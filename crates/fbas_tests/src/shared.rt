@@ -1,10 +1,72 @@
 //! What the tests share.
 
-use std::alloc::AllocError;
+ghost use Rattle.std.specs.Prelude.{◌≡◌, length};
+
+use fbas_core::System;
+use name_set::Names;
+use node_json::read_config;
+use std::alloc::{AllocError, Global};
+use std::fmt::Debug;
 use std::process::Abort;
 
-/// Fails the test where the texts differ, or memory is wanting. It stands apart, so that the tests have no branches of it.
+/// Fails the test where the values differ. It stands apart, so that the tests have no branches of it.
+pub fn equal<T: PartialEq + Debug>(rt: &impl Abort, found: &T, want: &T, at: &str) {
+    assert_eq!(rt; *found, *want, "at {at}");
+}
+
+/// Fails the test where the texts differ, or memory is wanting.
 pub fn same(rt: &impl Abort, found: Result<String, AllocError>, want: &str) {
     let found = found.expect(rt, "memory");
-    assert_eq!(rt; found.as_str(), want);
+    equal(rt, &found.as_str(), &want, "a text");
+}
+
+/// The system of a configuration.
+pub fn system_of(rt: &impl Abort, alloc: Global, config: &str) -> System {
+    read_config(alloc, config.as_bytes()).expect(rt, "a system")
+}
+
+fn listed(alloc: Global, names: &[&str]) -> Result<Vec<Vec<u8>>, AllocError> {
+    let mut list = Vec::new(alloc);
+    for name in names {
+        list.push(Vec::from_slice(alloc, name.as_bytes())?)?;
+    }
+    Ok(list)
+}
+
+/// The names of a list, which are so many.
+pub fn names_of(rt: &impl Abort, alloc: Global, list: &[&str], n: u32) -> Names
+    ensures { length result ≡ n }
+{
+    let list = listed(alloc, list).expect(rt, "memory");
+    assert!(rt; list.len() < 100);
+    let names = Names::of(list).expect(rt, "memory");
+    assert!(rt; names.len() == n);
+    names
+}
+
+fn push_numbered(
+    alloc: Global,
+    text: &mut String,
+    (front, back): (&str, &str),
+    number: u64,
+) -> Result<(), AllocError> {
+    text.push_str(&format!(in alloc; "{front}{number}{back}")?)
+}
+
+/// A text of a head, a piece for each number from 1 on and below `n`, and a tail. A piece has its number between the two sides, or 0
+/// where the pieces are alike.
+pub fn numbered(
+    alloc: Global,
+    (head, tail): (&str, &str),
+    sides: (&str, &str),
+    n: u64,
+    are_alike: bool,
+) -> Result<String, AllocError> {
+    let mut text = String::from_str(alloc, head)?;
+    for i in 1..n {
+        let number = if are_alike { 0 } else { i };
+        push_numbered(alloc, &mut text, sides, number)?;
+    }
+    text.push_str(tail)?;
+    Ok(text)
 }

@@ -4,12 +4,12 @@ ghost use Rattle.std.specs.Prelude.{◌≡◌, length, IfOk, IfSome};
 ghost use Rattle.fbas_model.specs.Nodes.{members};
 ghost use Rattle.fbas_model.specs.Fbas.{IsClosed};
 
-use crate::shared::same;
+use crate::shared::{equal, same, system_of};
 use fbas_core::System;
 use greatest_quorum::{blocks, minimal_block, minimal_quorum};
 use name_set::{NameFault, NodeSet, read_names};
-use node_json::read_config;
 use std::alloc::{AllocError, Global};
+use std::process::Abort;
 
 const TWO_OF_THREE: &str =
     r#"[{"publicKey":"a","quorumSet":{"threshold":2,"validators":["a","b","c"]}},{"publicKey":"b","quorumSet":{"threshold":2,"validators":["a","b","c"]}},{"publicKey":"c","quorumSet":{"threshold":2,"validators":["a","b","c"]}}]"#;
@@ -35,9 +35,9 @@ fn set_of(system: &System, list: &str) -> Result<NodeSet, NameFault>
 // Whether the node b is the minimal quorum that is found in both.
 fn is_minimal_quorum(system: &System) -> Result<bool, NameFault> {
     let mut quorum = set_of(system, "a,b")?;
-    let faulty = set_of(system, "")?;
     let minimal = set_of(system, "b")?;
-    let mut scratch = set_of(system, "")?;
+    let faulty = NodeSet::new(system.len());
+    let mut scratch = NodeSet::new(system.len());
     if !system.is_quorum(&quorum, &faulty) {
         return Ok(false);
     }
@@ -47,16 +47,16 @@ fn is_minimal_quorum(system: &System) -> Result<bool, NameFault> {
 
 #[test]
 fn a_minimal_quorum_of_a_repeated_entry(rt: HostRuntime) {
-    let system = read_config(rt.alloc(), REPEATED_ENTRY.as_bytes()).expect(&rt, "a system");
-    assert_eq!(rt; is_minimal_quorum(&system), Ok(true));
+    let system = system_of(&rt, rt.alloc(), REPEATED_ENTRY);
+    equal(&rt, &is_minimal_quorum(&system), &Ok(true), "a quorum");
 }
 
 // Whether b and c are a minimal blocking set without a.
 fn is_minimal_block(system: &System) -> Result<bool, NameFault> {
     let mut set = set_of(system, "b,c")?;
     let faulty = set_of(system, "a")?;
-    let minimal = set_of(system, "b,c")?;
-    let mut scratch = set_of(system, "")?;
+    let minimal = set.copy();
+    let mut scratch = NodeSet::new(system.len());
     if set.meets(&faulty) || !blocks(system, &set, &faulty, &mut scratch) {
         return Ok(false);
     }
@@ -66,8 +66,8 @@ fn is_minimal_block(system: &System) -> Result<bool, NameFault> {
 
 #[test]
 fn a_minimal_blocking_set_of_two_of_three(rt: HostRuntime) {
-    let system = read_config(rt.alloc(), TWO_OF_THREE.as_bytes()).expect(&rt, "a system");
-    assert_eq!(rt; is_minimal_block(&system), Ok(true));
+    let system = system_of(&rt, rt.alloc(), TWO_OF_THREE);
+    equal(&rt, &is_minimal_block(&system), &Ok(true), "a blocking set");
 }
 
 // The trust closure of the node that has the name.
@@ -86,6 +86,14 @@ fn closure_is(system: &System, name: &str, members: &str) -> Result<bool, NameFa
     let closure = closure_of_name(system, name)?;
     let want = set_of(system, members)?;
     Ok(closure.same(&want))
+}
+
+// Fails the test where the trust closure of a node is not its list.
+fn wants_closures(rt: &impl Abort, alloc: Global, config: &str, closures: &[(&str, &str)]) {
+    let system = system_of(rt, alloc, config);
+    for (name, members) in closures {
+        equal(rt, &closure_is(&system, name, members), &Ok(true), name);
+    }
 }
 
 // The system restricted to the trust closure of the node, and the list cut to it.
@@ -107,18 +115,14 @@ fn is_quorum(system: &System, list: &str, faulty: &NodeSet) -> Result<bool, Name
 
 #[test]
 fn a_closure_leaves_out_who_is_not_mentioned(rt: HostRuntime) {
-    let system = read_config(rt.alloc(), TWO_PAIRS.as_bytes()).expect(&rt, "a system");
-    for (name, members) in [("a", "a,b"), ("d", "c,d"), ("bb", "bb")] {
-        assert_eq!(rt; closure_is(&system, name, members), Ok(true));
-    }
+    let closures = [("a", "a,b"), ("d", "c,d"), ("bb", "bb")];
+    wants_closures(&rt, rt.alloc(), TWO_PAIRS, &closures);
 }
 
 #[test]
 fn a_closure_goes_through_bad_thresholds(rt: HostRuntime) {
-    let system = read_config(rt.alloc(), CHAIN.as_bytes()).expect(&rt, "a system");
-    for (name, members) in [("e", "a,b,c,d,e"), ("b", "a,b"), ("a", "a")] {
-        assert_eq!(rt; closure_is(&system, name, members), Ok(true));
-    }
+    let closures = [("e", "a,b,c,d,e"), ("b", "a,b"), ("a", "a")];
+    wants_closures(&rt, rt.alloc(), CHAIN, &closures);
 }
 
 // Whether the set is the list.
@@ -132,7 +136,7 @@ fn is_list(system: &System, set: &NodeSet, list: &str) -> Result<bool, NameFault
 fn pair_shown(part: &System, faulty: &NodeSet) -> Result<(bool, bool, bool), NameFault>
     requires { length faulty.now ≡ length part.now.sets }
 {
-    let none = set_of(part, "")?;
+    let none = NodeSet::new(part.len());
     let is_cut = is_list(part, faulty, "d")?;
     let without = is_quorum(part, "c", faulty)?;
     Ok((is_cut, without, is_quorum(part, "c", &none)?))
@@ -146,9 +150,9 @@ fn second_pair(alloc: Global, system: &System) -> Option<(bool, bool, bool)> {
 
 #[test]
 fn a_pair_alone_keeps_its_quorums(rt: HostRuntime) {
-    let system = read_config(rt.alloc(), TWO_PAIRS.as_bytes()).expect(&rt, "a system");
+    let system = system_of(&rt, rt.alloc(), TWO_PAIRS);
     let found = second_pair(rt.alloc(), &system);
-    assert_eq!(rt; found, Some((true, true, false)));
+    equal(&rt, &found, &Some((true, true, false)), "a pair");
 }
 
 // Whether the faulty nodes of a part of three nodes are b, its entries, its nodes without a quorum set, and its names.
@@ -175,7 +179,7 @@ fn behind_c(alloc: Global, system: &System) -> Result<String, AllocError> {
 
 #[test]
 fn a_chain_is_cut_behind_a_node(rt: HostRuntime) {
-    let system = read_config(rt.alloc(), CHAIN.as_bytes()).expect(&rt, "a system");
+    let system = system_of(&rt, rt.alloc(), CHAIN);
     let want = "Ok(true) 3 1 [[97], [98], [99]]";
     same(&rt, behind_c(rt.alloc(), &system), want);
 }
