@@ -10,7 +10,7 @@ ghost use Rattle.std.specs.Prelude.{◌≡◌, ◌<◌, length};
 
 mod systems;
 
-use crate::systems::{read_system, run_system, system_call_of};
+use crate::systems::{SystemCall, read_system, run_system, system_call_of};
 use anyhow::{Context, Result, bail};
 use name_set::NodeSet;
 use std::env;
@@ -33,20 +33,27 @@ enum Call {
     Members,
 }
 
+/// The calls by their names.
+static CALLS: [(&str, Call); 10] = [
+    ("nothing", Call::Nothing),
+    ("has", Call::Has),
+    ("least", Call::Least),
+    ("count", Call::Count),
+    ("meets", Call::Meets),
+    ("minus", Call::Minus),
+    ("join", Call::Join),
+    ("copy", Call::Copy),
+    ("copy_from", Call::Become),
+    ("members", Call::Members),
+];
+
 fn call_of(word: &str) -> Result<Call> {
-    Ok(match word {
-        "nothing" => Call::Nothing,
-        "has" => Call::Has,
-        "least" => Call::Least,
-        "count" => Call::Count,
-        "meets" => Call::Meets,
-        "minus" => Call::Minus,
-        "join" => Call::Join,
-        "copy" => Call::Copy,
-        "copy_from" => Call::Become,
-        "members" => Call::Members,
-        _ => bail!("no such call"),
-    })
+    for (name, call) in CALLS.iter() {
+        if *name == word {
+            return Ok(*call);
+        }
+    }
+    bail!("no such call")
 }
 
 /// The multiples of 3 among the nodes.
@@ -108,22 +115,53 @@ fn run(call: Call, rounds: u32) -> u64 {
     sum
 }
 
-fn main(rt: HostRuntime) -> Result<()> {
+/// A call of sets or of the system, and how many times it is made.
+#[derive(Clone, Copy)]
+enum Task {
+    Sets(Call, u32),
+    System(SystemCall, u32),
+}
+
+fn rounds_of(word: Option<&str>) -> Result<u32> {
+    let Some(word) = word else {
+        bail!("how many rounds?");
+    };
+    Ok(word.parse().context("rounds are a number")?)
+}
+
+fn task_of(first: Option<&str>, second: Option<&str>, third: Option<&str>) -> Result<Task> {
+    let Some(call) = first else {
+        bail!("which call?");
+    };
+    if call != "system" {
+        let rounds = rounds_of(second)?;
+        return Ok(Task::Sets(call_of(call)?, rounds));
+    }
+    let Some(call) = second else {
+        bail!("which call of the system?");
+    };
+    let rounds = rounds_of(third)?;
+    Ok(Task::System(system_call_of(call)?, rounds))
+}
+
+/// The task that the words of the command line give.
+fn asked(rt: HostRuntime) -> Result<Task> {
     let mut words = env::args(&rt)?;
     words.next();
-    let mut call = words.next().context("which call?")?;
-    let of_system = call.as_str() == "system";
-    if of_system {
-        call = words.next().context("which call of the system?")?;
+    let (first, second, third) = (words.next(), words.next(), words.next());
+    task_of(first.as_deref(), second.as_deref(), third.as_deref())
+}
+
+/// Does what is asked for, and gives the sum.
+fn sum_of_task(rt: HostRuntime, task: Task) -> Result<u64> {
+    match task {
+        Task::Sets(call, rounds) => Ok(run(call, rounds)),
+        Task::System(call, rounds) => Ok(run_system(call, &read_system(rt)?, rounds)),
     }
-    let rounds = words.next().context("how many rounds?")?;
-    let rounds: u32 = rounds.parse().context("rounds are a number")?;
-    let sum = if of_system {
-        let system = read_system(rt)?;
-        run_system(system_call_of(call.as_str())?, &system, rounds)
-    } else {
-        run(call_of(call.as_str())?, rounds)
-    };
+}
+
+fn main(rt: HostRuntime) -> Result<()> {
+    let sum = sum_of_task(rt, asked(rt)?)?;
     println!(rt; "{sum}")?;
     Ok(())
 }

@@ -8,7 +8,7 @@ use fbas_model::MOST_NODES;
 use greatest_quorum::{blocks, greatest};
 use name_set::NodeSet;
 use node_json::read_config;
-use std::io::{BufReader, Read};
+use std::io::Read;
 
 /// What is timed.
 #[derive(Clone, Copy)]
@@ -29,13 +29,17 @@ pub fn system_call_of(word: &str) -> Result<SystemCall> {
     })
 }
 
+/// The bytes on standard input.
+fn read_input(rt: HostRuntime) -> Result<Vec<u8>> {
+    let mut bytes = Vec::new(rt.alloc());
+    rt.reader().read_to_end(&mut bytes)?;
+    Ok(bytes)
+}
+
 /// The system of the configuration on standard input.
 pub fn read_system(rt: HostRuntime) -> Result<System> {
-    let alloc = rt.alloc();
-    let mut input = BufReader::new(alloc, rt.reader())?;
-    let mut bytes = Vec::new(alloc);
-    input.read_to_end(&mut bytes)?;
-    match read_config(alloc, &bytes) {
+    let bytes = read_input(rt)?;
+    match read_config(rt.alloc(), &bytes) {
         Ok(system) => Ok(system),
         Err(_) => bail!("no configuration"),
     }
