@@ -1,46 +1,14 @@
 //! The checker, step by step.
 
-use crate::shared::{TWO_OF_TWO, addition, deletion, lits, same};
-use clause_store::Store;
+use crate::shared::{TWO_OF_TWO, added, addition, checker, deleted, deletion, equal, lits, same};
 use lrat_checker::{IdleChecker, Rule};
 use lrat_model::{Progress, StepFault};
 use std::alloc::{AllocError, Global};
+use std::process::Abort;
 
-fn checker(alloc: Global) -> Result<IdleChecker, AllocError> {
-    let mut checker = IdleChecker::start(alloc, Store::new(alloc), 8, Rule::Rup)?;
-    for numbers in TWO_OF_TWO.iter() {
-        let clause = lits(alloc, numbers)?;
-        let last = checker.last();
-        if last < 16 && clause.iter().all(|l| l.variable() <= 8) {
-            checker.give(last + 1, &clause)?;
-        }
-    }
-    Ok(checker)
-}
-
-fn shown(alloc: Global, answer: Result<Progress, StepFault>) -> Result<String, AllocError> {
-    match answer {
-        Ok(progress) => format!(in alloc; "{progress:?}"),
-        Err(fault) => format!(in alloc; "{fault}"),
-    }
-}
-
-/// What the checker answers to the addition of a lemma.
-fn added(
-    alloc: Global,
-    checker: &mut IdleChecker,
-    id: u64,
-    numbers: &[i32],
-    hints: &[i64],
-) -> Result<String, AllocError> {
-    let step = addition(alloc, id, numbers, hints)?;
-    shown(alloc, checker.step(&step))
-}
-
-/// What the checker answers to the deletion of these clauses.
-fn deleted(alloc: Global, checker: &mut IdleChecker, ids: &[u64]) -> Result<String, AllocError> {
-    let step = deletion(alloc, 1, ids)?;
-    shown(alloc, checker.step(&step))
+// A checker of the formula.
+fn two_of_two(rt: &impl Abort, alloc: Global) -> IdleChecker {
+    checker(alloc, &TWO_OF_TWO, 8, Rule::Rup).expect(rt, "memory")
 }
 
 // One checker takes these in turn: a fault leaves no literal true, and no id behind.
@@ -59,17 +27,19 @@ static STEPS: [(u64, &[i32], &[i64], &str); 12] = [
     (20, &[], &[17, 1, 10, 8], "Refuted"),
 ];
 
+/// Fails the test where a step has another answer. The checker is lent, so that what is proved of the loop does not carry it.
+fn wants_steps(rt: &impl Abort, alloc: Global, checker: &mut IdleChecker) {
+    for (id, numbers, hints, want) in STEPS.iter() {
+        same(rt, added(alloc, checker, *id, numbers, hints), want);
+    }
+    equal(rt, &checker.last(), &20, "the last id");
+}
+
 #[test]
 fn steps_of_two_of_two(rt: HostRuntime) {
-    let mut checker = checker(rt.alloc()).expect(&rt, "memory");
-    for (id, numbers, hints, want) in STEPS.iter() {
-        same(
-            &rt,
-            added(rt.alloc(), &mut checker, *id, numbers, hints),
-            want,
-        );
-    }
-    assert_eq!(rt; checker.last(), 20);
+    let alloc = rt.alloc();
+    let mut checker = two_of_two(&rt, alloc);
+    wants_steps(&rt, alloc, &mut checker);
 }
 
 fn is_going(answer: Result<Progress, StepFault>) -> bool {
@@ -97,10 +67,21 @@ fn delete_each(
     Ok(true)
 }
 
+/// Whether the checker takes the addition of a lemma.
+fn add(
+    alloc: Global,
+    checker: &mut IdleChecker,
+    id: u64,
+    numbers: &[i32],
+    hints: &[i64],
+) -> Result<bool, AllocError> {
+    let step = addition(alloc, id, numbers, hints)?;
+    Ok(is_going(checker.step(&step)))
+}
+
 /// Whether the checker takes the lemma -1 of the formula.
 fn add_first(alloc: Global, checker: &mut IdleChecker) -> Result<bool, AllocError> {
-    let lemma = addition(alloc, 17, &[-1], &[7, 6, 3, 4, 2])?;
-    Ok(is_going(checker.step(&lemma)))
+    add(alloc, checker, 17, &[-1], &[7, 6, 3, 4, 2])
 }
 
 #[derive(Clone, Copy)]
@@ -131,40 +112,54 @@ fn is_covered(
     Ok(checker.covers(id, &list))
 }
 
-/// Whether the change is taken, and then whether clauses below the id cover the one list and the other.
+/// Whether clauses below the id cover the one list and the other.
+fn are_covered(alloc: Global, checker: &IdleChecker, id: u64) -> Result<(bool, bool), AllocError> {
+    let one = is_covered(alloc, checker, id, &[8, -1])?;
+    Ok((one, is_covered(alloc, checker, id, &[-4, -2, 7])?))
+}
+
+/// Whether the change is taken, and then whether clauses below the id cover the lists.
 fn covered_since(
     alloc: Global,
     checker: &mut IdleChecker,
     change: Change,
     id: u64,
-) -> Result<String, AllocError> {
+) -> Result<(bool, bool, bool), AllocError> {
     let taken = make(alloc, checker, change)?;
-    let one = is_covered(alloc, checker, id, &[8, -1])?;
-    let two = is_covered(alloc, checker, id, &[-4, -2, 7])?;
-    format!(in alloc; "{taken} {one} {two}")
+    let (one, two) = are_covered(alloc, checker, id)?;
+    Ok((taken, one, two))
+}
+
+static CHANGES: [(Change, u64, (bool, bool, bool)); 5] = [
+    (Change::Nothing, 18, (true, false, true)),
+    (Change::Lemma, 18, (true, true, true)),
+    (Change::Nothing, 17, (true, false, true)),
+    (Change::Deletions(1, 17), 18, (true, true, false)),
+    (Change::Deletions(17, 18), 18, (true, false, false)),
+];
+
+/// Fails the test where other lists are covered.
+fn wants_covered(rt: &impl Abort, alloc: Global, checker: &mut IdleChecker) {
+    checker.expect_covers(alloc);
+    for (change, id, want) in CHANGES.iter() {
+        let found = covered_since(alloc, checker, *change, *id);
+        equal(rt, &found, &Ok(*want), "covered after a change");
+    }
 }
 
 // The index learns of lemmas that are added, and of clauses that are deleted.
 #[test]
 fn covered_after_changes(rt: HostRuntime) {
     let alloc = rt.alloc();
-    let mut checker = checker(alloc).expect(&rt, "memory");
-    checker.expect_covers(alloc);
-    for (change, id, want) in [
-        (Change::Nothing, 18, "true false true"),
-        (Change::Lemma, 18, "true true true"),
-        (Change::Nothing, 17, "true false true"),
-        (Change::Deletions(1, 17), 18, "true true false"),
-        (Change::Deletions(17, 18), 18, "true false false"),
-    ] {
-        same(&rt, covered_since(alloc, &mut checker, change, id), want);
-    }
+    let mut checker = two_of_two(&rt, alloc);
+    wants_covered(&rt, alloc, &mut checker);
 }
 
 /// The lemma -1 from itself under this id, and then this id is deleted: whether the checker takes both.
 fn renew(alloc: Global, checker: &mut IdleChecker, id: u32) -> Result<bool, AllocError> {
-    let lemma = addition(alloc, u64::from(id) + 1, &[-1], &[i64::from(id)])?;
-    Ok(is_going(checker.step(&lemma)) && delete(alloc, checker, u64::from(id))?)
+    let at = u64::from(id);
+    let hints = [i64::from(id)];
+    Ok(add(alloc, checker, at + 1, &[-1], &hints)? && delete(alloc, checker, at)?)
 }
 
 fn renew_all(alloc: Global, checker: &mut IdleChecker) -> Result<bool, AllocError> {
@@ -176,19 +171,23 @@ fn renew_all(alloc: Global, checker: &mut IdleChecker) -> Result<bool, AllocErro
     Ok(true)
 }
 
-/// The lemma -1, which is then renewed 500 times, and the empty lemma from the last of them.
-fn renewed_to_the_end(alloc: Global, checker: &mut IdleChecker) -> Result<String, AllocError> {
-    let first = add_first(alloc, checker)?;
-    let renewed = renew_all(alloc, checker)?;
-    let last = added(alloc, checker, 518, &[], &[517, 1, 10, 8])?;
-    format!(in alloc; "{first} {renewed} {last}")
+/// Whether the checker takes the lemma -1, and renews it 500 times.
+fn renewed(alloc: Global, checker: &mut IdleChecker) -> Result<bool, AllocError> {
+    Ok(add_first(alloc, checker)? && renew_all(alloc, checker)?)
+}
+
+// The empty lemma follows from the last of them.
+fn wants_renewed(rt: &impl Abort, alloc: Global, checker: &mut IdleChecker) {
+    equal(rt, &renewed(alloc, checker), &Ok(true), "renewed");
+    let last = added(alloc, checker, 518, &[], &[517, 1, 10, 8]);
+    same(rt, last, "Refuted");
 }
 
 #[test]
 fn a_thousand_steps(rt: HostRuntime) {
-    let mut checker = checker(rt.alloc()).expect(&rt, "memory");
-    let shown = renewed_to_the_end(rt.alloc(), &mut checker);
-    same(&rt, shown, "true true Refuted");
+    let alloc = rt.alloc();
+    let mut checker = two_of_two(&rt, alloc);
+    wants_renewed(&rt, alloc, &mut checker);
 }
 
 static DELETIONS: [([u64; 2], &str); 4] = [
@@ -207,17 +206,22 @@ fn covered(alloc: Global, checker: &IdleChecker) -> Result<String, AllocError> {
     format!(in alloc; "{below_4} {below_5} {below_17}")
 }
 
+/// Fails the test where a deletion has another answer, a lemma is taken whose hint is deleted, or other lists are covered.
+fn wants_deleted(rt: &impl Abort, alloc: Global, checker: &mut IdleChecker) {
+    for (ids, want) in DELETIONS.iter() {
+        same(rt, deleted(alloc, checker, ids), want);
+    }
+    let shown = added(alloc, checker, 17, &[-1], &[7, 6, 3, 4, 2]);
+    same(rt, shown, "no-such-clause 7");
+    same(rt, covered(alloc, checker), "false true true");
+    // and by the index
+    checker.expect_covers(alloc);
+    same(rt, covered(alloc, checker), "false true true");
+}
+
 #[test]
 fn deleted_and_covered(rt: HostRuntime) {
     let alloc = rt.alloc();
-    let mut checker = checker(alloc).expect(&rt, "memory");
-    for (ids, want) in DELETIONS.iter() {
-        same(&rt, deleted(alloc, &mut checker, ids), want);
-    }
-    let shown = added(alloc, &mut checker, 17, &[-1], &[7, 6, 3, 4, 2]);
-    same(&rt, shown, "no-such-clause 7");
-    same(&rt, covered(alloc, &checker), "false true true");
-    // and by the index
-    checker.expect_covers(alloc);
-    same(&rt, covered(alloc, &checker), "false true true");
+    let mut checker = two_of_two(&rt, alloc);
+    wants_deleted(&rt, alloc, &mut checker);
 }

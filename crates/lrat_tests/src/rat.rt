@@ -1,11 +1,10 @@
 //! RAT steps on the formula of three nodes that each need two of the three, as steps and hint by hint.
 ghost use Rattle.std.specs.Prelude.{◌≡◌, None, IfOk, OnOk};
 
-use crate::shared::{addition, deletion, lits, same};
-use clause_store::Store;
-use lrat_checker::{Checker, IdleChecker, Rule, StepFault};
-use lrat_model::Progress;
+use crate::shared::{added, answered, checker, deleted, lits, same};
+use lrat_checker::{Checker, IdleChecker, Rule};
 use std::alloc::{AllocError, Global};
+use std::process::Abort;
 
 // Its 53 clauses, over 36 variables.
 static TWO_OF_THREE: [&[i32]; 53] = [
@@ -64,38 +63,6 @@ static TWO_OF_THREE: [&[i32]; 53] = [
     &[-6, 36],
 ];
 
-// A checker of the formula.
-fn checker(alloc: Global, rule: Rule) -> Result<IdleChecker, AllocError> {
-    let mut checker = IdleChecker::start(alloc, Store::new(alloc), 36, rule)?;
-    for numbers in TWO_OF_THREE.iter() {
-        let clause = lits(alloc, numbers)?;
-        let last = checker.last();
-        if last < 53 && clause.iter().all(|l| l.variable() <= 36) {
-            checker.give(last + 1, &clause)?;
-        }
-    }
-    Ok(checker)
-}
-
-fn shown(alloc: Global, answer: Result<Progress, StepFault>) -> Result<String, AllocError> {
-    match answer {
-        Ok(progress) => format!(in alloc; "{progress:?}"),
-        Err(fault) => format!(in alloc; "{fault}"),
-    }
-}
-
-// What is answered to the addition, as a step.
-fn at_once(
-    alloc: Global,
-    checker: &mut IdleChecker,
-    id: u64,
-    numbers: &[i32],
-    hints: &[i64],
-) -> Result<String, AllocError> {
-    let step = addition(alloc, id, numbers, hints)?;
-    shown(alloc, checker.step(&step))
-}
-
 // What is answered to the addition, hint by hint.
 fn streamed(
     alloc: Global,
@@ -118,13 +85,13 @@ fn streamed(
             }
         }
     }
-    shown(alloc, checker.finish_add())
+    answered(alloc, checker.finish_add())
 }
 
 // What is answered to an addition after the formula, as a step.
 fn whole(alloc: Global, rule: Rule, numbers: &[i32], hints: &[i64]) -> Result<String, AllocError> {
-    let mut checker = checker(alloc, rule)?;
-    at_once(alloc, &mut checker, 54, numbers, hints)
+    let mut checker = checker(alloc, &TWO_OF_THREE, 36, rule)?;
+    added(alloc, &mut checker, 54, numbers, hints)
 }
 
 // The same, hint by hint.
@@ -134,7 +101,7 @@ fn in_parts(
     numbers: &[i32],
     hints: &[i64],
 ) -> Result<String, AllocError> {
-    let mut checker = checker(alloc, rule)?.opening();
+    let mut checker = checker(alloc, &TWO_OF_THREE, 36, rule)?.opening();
     streamed(alloc, &mut checker, 54, numbers, hints)
 }
 
@@ -170,12 +137,6 @@ fn additions_with_groups(rt: HostRuntime) {
     }
 }
 
-// What is answered to the deletion of clauses.
-fn deleted(alloc: Global, checker: &mut IdleChecker, ids: &[u64]) -> Result<String, AllocError> {
-    let step = deletion(alloc, 1, ids)?;
-    shown(alloc, checker.step(&step))
-}
-
 // One checker takes these in turn: an addition has an id, a deletion has none. Clauses that come and go need a group each, or
 // none.
 static STEPS: [(u64, &[i32], &[i64], &[u64], &str); 11] = [
@@ -192,23 +153,32 @@ static STEPS: [(u64, &[i32], &[i64], &[u64], &str); 11] = [
     (58, &[9, -2, -7], &[], &[], "Going"),
 ];
 
-fn answers(alloc: Global) -> Result<String, AllocError> {
-    let mut checker = checker(alloc, Rule::Rat)?;
-    let mut differ = String::new(alloc);
-    for (id, numbers, hints, ids, want) in STEPS.iter() {
-        let found = if *id == 0 {
-            deleted(alloc, &mut checker, ids)?
-        } else {
-            at_once(alloc, &mut checker, *id, numbers, hints)?
-        };
-        if found.as_str() != *want {
-            differ.push_str(&found)?;
-        }
+// What is answered to a step of these.
+fn answer(
+    alloc: Global,
+    checker: &mut IdleChecker,
+    id: u64,
+    numbers: &[i32],
+    hints: &[i64],
+    ids: &[u64],
+) -> Result<String, AllocError> {
+    if id == 0 {
+        deleted(alloc, checker, ids)
+    } else {
+        added(alloc, checker, id, numbers, hints)
     }
-    Ok(differ)
+}
+
+// Fails the test where a step has another answer.
+fn wants_steps(rt: &impl Abort, alloc: Global, checker: &mut IdleChecker) {
+    for (id, numbers, hints, ids, want) in STEPS.iter() {
+        same(rt, answer(alloc, checker, *id, numbers, hints, ids), want);
+    }
 }
 
 #[test]
 fn clauses_that_come_and_go(rt: HostRuntime) {
-    same(&rt, answers(rt.alloc()), "");
+    let alloc = rt.alloc();
+    let mut checker = checker(alloc, &TWO_OF_THREE, 36, Rule::Rat).expect(&rt, "memory");
+    wants_steps(&rt, alloc, &mut checker);
 }

@@ -1,7 +1,12 @@
 //! What the tests share.
+ghost use Rattle.std.specs.Prelude.{◌≡◌, ◌<◌, ◌^◌, true};
+ghost use Rattle.lrat_model.specs.Ranges.{IsInRange};
 
-use lrat_model::{Lit, Step};
+use clause_store::Store;
+use lrat_checker::{IdleChecker, Rule};
+use lrat_model::{Lit, Progress, Step, StepFault};
 use std::alloc::{AllocError, Global};
+use std::fmt::Debug;
 use std::process::Abort;
 
 /// The formula of two nodes that each need both: its 16 clauses, over 8 variables.
@@ -35,10 +40,93 @@ pub fn lits(alloc: Global, numbers: &[i32]) -> Result<Vec<Lit>, AllocError> {
     Ok(lits)
 }
 
-/// Fails the test where the texts differ, or memory is wanting. It stands apart, so that the tests have no branches of it.
+/// Fails the test where the values differ. It stands apart, so that the tests have no branches of it.
+pub fn equal<T: PartialEq + Debug>(rt: &impl Abort, found: &T, want: &T, at: &str) {
+    assert_eq!(rt; *found, *want, "at {at}");
+}
+
+/// Fails the test where the texts differ, or memory is wanting.
 pub fn same(rt: &impl Abort, found: Result<String, AllocError>, want: &str) {
     let found = found.expect(rt, "memory");
-    assert_eq!(rt; found.as_str(), want);
+    equal(rt, &found.as_str(), &want, "a text");
+}
+
+/// Whether each variable is one of the first.
+pub fn are_in_range(lits: &[Lit], vars: u64) -> bool
+    ensures { result ≡ true → IsInRange vars lits.now }
+{
+    lits.iter().all(|l| l.variable() as u64 <= vars)
+}
+
+// Gives a clause to a checker of so many variables, under the next id.
+fn give(checker: &mut IdleChecker, vars: u64, clause: &[Lit]) -> Result<(), AllocError>
+    requires { checker.old.vars ≡ vars }
+    ensures { checker.new.vars ≡ vars }
+{
+    let last = checker.last();
+    if last < 100 && are_in_range(clause, vars) {
+        checker.give(last + 1, clause)?;
+    }
+    Ok(())
+}
+
+// Gives clauses to a checker of so many variables.
+fn give_all(
+    alloc: Global,
+    checker: &mut IdleChecker,
+    vars: u64,
+    clauses: &[&[i32]],
+) -> Result<(), AllocError>
+    requires { checker.old.vars ≡ vars }
+{
+    for numbers in clauses {
+        give(checker, vars, &lits(alloc, numbers)?)?;
+    }
+    Ok(())
+}
+
+/// A checker of these clauses over so many variables.
+pub fn checker(
+    alloc: Global,
+    clauses: &[&[i32]],
+    vars: u64,
+    rule: Rule,
+) -> Result<IdleChecker, AllocError>
+    requires { vars < 2 ^ 31 }
+{
+    let mut checker = IdleChecker::start(alloc, Store::new(alloc), vars, rule)?;
+    give_all(alloc, &mut checker, vars, clauses)?;
+    Ok(checker)
+}
+
+/// What is said of an answer of the checker.
+pub fn answered(alloc: Global, answer: Result<Progress, StepFault>) -> Result<String, AllocError> {
+    match answer {
+        Ok(progress) => format!(in alloc; "{progress:?}"),
+        Err(fault) => format!(in alloc; "{fault}"),
+    }
+}
+
+/// What the checker answers to the addition of a lemma.
+pub fn added(
+    alloc: Global,
+    checker: &mut IdleChecker,
+    id: u64,
+    numbers: &[i32],
+    hints: &[i64],
+) -> Result<String, AllocError> {
+    let step = addition(alloc, id, numbers, hints)?;
+    answered(alloc, checker.step(&step))
+}
+
+/// What the checker answers to the deletion of the clauses under these ids.
+pub fn deleted(
+    alloc: Global,
+    checker: &mut IdleChecker,
+    ids: &[u64],
+) -> Result<String, AllocError> {
+    let step = deletion(alloc, 1, ids)?;
+    answered(alloc, checker.step(&step))
 }
 
 /// The addition of a lemma.

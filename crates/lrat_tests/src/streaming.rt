@@ -1,21 +1,19 @@
 //! Additions to the checker, hint by hint.
-ghost use Rattle.std.specs.Prelude.{◌≡◌, None, IfOk};
+ghost use Rattle.std.specs.Prelude.{◌≡◌, None};
 
-use crate::shared::same;
-use clause_store::Store;
+use crate::shared::{checker, same};
 use lrat_checker::{Checker, Rule};
-use lrat_model::Lit;
 use std::alloc::{AllocError, Global};
+use std::process::Abort;
+
+static CLAUSES: [&[i32]; 3] = [&[1], &[-1, 2], &[-2]];
 
 /// A checker of the clauses 1, -1 2 and -2.
-fn checker(alloc: Global) -> Result<Checker, AllocError>
-    ensures { IfOk result (λ checker. checker.open_addition ≡ None) }
+fn started(rt: &impl Abort, alloc: Global) -> Checker
+    ensures { result.open_addition ≡ None }
 {
-    let mut checker = Checker::start(alloc, Store::new(alloc), 2, Rule::Rup)?;
-    checker.give(1, &[Lit::of(1)])?;
-    checker.give(2, &[Lit::of(-1), Lit::of(2)])?;
-    checker.give(3, &[Lit::of(-2)])?;
-    Ok(checker)
+    let idle = checker(alloc, &CLAUSES, 2, Rule::Rup).expect(rt, "memory");
+    idle.opening()
 }
 
 /// What is answered to the addition of the empty lemma.
@@ -56,10 +54,18 @@ static ADDITIONS: [(u64, &[i64], &str); 7] = [
     (4, &[1, 2, 3], "id-order 4 4"),
 ];
 
+// Fails the test where an addition has another answer.
+fn wants_additions(rt: &impl Abort, alloc: Global, checker: &mut Checker)
+    requires { checker.old.open_addition ≡ None }
+{
+    for (id, hints, want) in ADDITIONS.iter() {
+        same(rt, streamed(alloc, checker, *id, hints), want);
+    }
+}
+
 #[test]
 fn hints_one_by_one(rt: HostRuntime) {
-    let mut checker = checker(rt.alloc()).expect(&rt, "memory");
-    for (id, hints, want) in ADDITIONS.iter() {
-        same(&rt, streamed(rt.alloc(), &mut checker, *id, hints), want);
-    }
+    let alloc = rt.alloc();
+    let mut checker = started(&rt, alloc);
+    wants_additions(&rt, alloc, &mut checker);
 }

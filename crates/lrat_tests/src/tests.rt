@@ -1,21 +1,15 @@
 //! Tests of the solver, whose logs are fed to the checker and written.
-ghost use Rattle.std.specs.Prelude.{◌≡◌, true, ◌+◌, ◌≤◌, ◌<◌, ◌^◌, IfOk, OnOk};
+ghost use Rattle.std.specs.Prelude.{◌≡◌, ◌+◌, ◌≤◌, ◌<◌, ◌^◌, IfOk, OnOk};
 ghost use Rattle.lrat_model.specs.Literal.{variable_of};
-ghost use Rattle.lrat_model.specs.Ranges.{AreInRange, IsInRange};
+ghost use Rattle.lrat_model.specs.Ranges.{AreInRange};
 
-use crate::shared::{TWO_OF_TWO, lits, same};
+use crate::shared::{TWO_OF_TWO, are_in_range, lits, same};
 use cdcl_core::{Budget, Solver, Verdict};
 use clause_store::Store;
 use lrat_checker::{IdleChecker, Rule};
 use lrat_model::{Lit, Progress};
-use lrat_text::write_lent;
+use lrat_text::{Log, write_lent};
 use std::alloc::{AllocError, Global};
-
-fn are_in_range(lits: &[Lit], vars: u64) -> bool
-    ensures { result ≡ true → IsInRange vars lits.now }
-{
-    lits.iter().all(|l| l.variable() as u64 <= vars)
-}
 
 // The clauses, under the ids from 1 on.
 fn store(alloc: Global, clauses: &[&[i32]], vars: u64) -> Result<Store, AllocError>
@@ -32,14 +26,6 @@ fn store(alloc: Global, clauses: &[&[i32]], vars: u64) -> Result<Store, AllocErr
         store.push(last + 1, &clause)?;
     }
     Ok(store)
-}
-
-// Its clauses stand here alone, so that what is proved of the test does not carry them.
-fn two_of_two(alloc: Global) -> Result<Store, AllocError>
-    ensures range { IfOk result (λ store. AreInRange 8 store.held) }
-    ensures few { IfOk result (λ store. store.last ≤ 100) }
-{
-    store(alloc, &TWO_OF_TWO, 8)
 }
 
 // Searches. Of the contract of `solve` it keeps what the next call wants, so that a test of many calls is cheap to prove.
@@ -61,27 +47,31 @@ fn give(solver: &mut Solver, l: Lit) -> Result<u64, AllocError>
     solver.add(&[l])
 }
 
-// Whether the checker takes each step of the log, and the empty lemma last.
-fn is_refutation(
-    alloc: Global,
-    store: Store,
-    vars: u64,
-    solver: &Solver,
-) -> Result<bool, AllocError>
-    requires small { vars < 2 ^ 31 }
-    requires range { AreInRange vars store.held }
-{
-    let mut checker = IdleChecker::start(alloc, store, vars, Rule::Rup)?;
-    let mut progress = Progress::Going;
-    let log = solver.log();
+// Whether the checker takes each step of a log, and the empty lemma last.
+fn is_refuted(alloc: Global, checker: &mut IdleChecker, log: &Log) -> Result<bool, AllocError> {
+    let mut answer = Ok(Progress::Going);
     for place in 0..log.len() {
         let step = log.step(place).to_step(alloc)?;
-        match checker.step(&step) {
-            Ok(next) => progress = next,
-            Err(_) => return Ok(false),
+        answer = checker.step(&step);
+        if answer.is_err() {
+            break;
         }
     }
-    Ok(progress == Progress::Refuted)
+    Ok(matches!(answer, Ok(Progress::Refuted)))
+}
+
+// The same of a checker of these clauses.
+fn is_refutation(
+    alloc: Global,
+    clauses: &[&[i32]],
+    vars: u64,
+    log: &Log,
+) -> Result<bool, AllocError>
+    requires { vars < 2 ^ 31 }
+{
+    let store = store(alloc, clauses, vars)?;
+    let mut checker = IdleChecker::start(alloc, store, vars, Rule::Rup)?;
+    is_refuted(alloc, &mut checker, log)
 }
 
 // A solver of these clauses.
@@ -119,36 +109,48 @@ fn two_searches(alloc: Global, solver: &mut Solver) -> Result<String, AllocError
     format!(in alloc; "{first:?} {logged} {second:?}")
 }
 
-#[test]
-fn two_of_two_is_refuted_within_its_budget(rt: HostRuntime) {
-    let alloc = rt.alloc();
-    let store = two_of_two(alloc).expect(&rt, "memory");
-    let mut solver = Solver::start(alloc, &store, 8).expect(&rt, "memory");
-    same(&rt, two_searches(alloc, &mut solver), "Spent 0 Unsat");
-    assert!(rt; is_refutation(alloc, store, 8, &solver).expect(&rt, "memory"));
+// The same of a solver of two of two, and whether its log is a refutation.
+fn two_searches_checked(alloc: Global, solver: &mut Solver) -> Result<String, AllocError>
+    requires { solver.old.database.last ≤ 100 }
+{
+    let shown = two_searches(alloc, solver)?;
+    let is_refuted = is_refutation(alloc, &TWO_OF_TWO, 8, solver.log())?;
+    format!(in alloc; "{shown} {is_refuted}")
 }
 
-// A search with no budget, and the lines of the steps that it logged.
+// A solver is owned by a function that does nothing else, since what is proved of a function carries it from call to call.
+fn of_two_of_two(alloc: Global) -> Result<String, AllocError> {
+    let mut solver = started(alloc, &TWO_OF_TWO, 8)?;
+    two_searches_checked(alloc, &mut solver)
+}
+
+#[test]
+fn two_of_two_is_refuted_within_its_budget(rt: HostRuntime) {
+    same(&rt, of_two_of_two(rt.alloc()), "Spent 0 Unsat true");
+}
+
+// Two empty clauses.
+static EMPTY: [&[i32]; 2] = [&[], &[]];
+
+// A search with no budget, the lines of the steps that it logged, and whether they are a refutation of two empty clauses.
 fn search_at_no_cost(alloc: Global, solver: &mut Solver) -> Result<String, AllocError>
     requires { solver.old.database.last ≤ 100 }
 {
     let mut none = Budget::of(0);
     let verdict = solve(solver, &mut none)?;
     let lines = lines(alloc, solver)?;
-    format!(in alloc; "{verdict:?}\n{lines}")
+    let is_refuted = is_refutation(alloc, &EMPTY, 0, solver.log())?;
+    format!(in alloc; "{verdict:?}\n{lines}{is_refuted}")
+}
+
+fn of_empty_clauses(alloc: Global) -> Result<String, AllocError> {
+    let mut solver = started(alloc, &EMPTY, 0)?;
+    search_at_no_cost(alloc, &mut solver)
 }
 
 #[test]
 fn empty_clauses_are_refuted_at_no_cost(rt: HostRuntime) {
-    let alloc = rt.alloc();
-    let store = store(alloc, &[&[], &[]], 0).expect(&rt, "memory");
-    let mut solver = Solver::start(alloc, &store, 0).expect(&rt, "memory");
-    same(
-        &rt,
-        search_at_no_cost(alloc, &mut solver),
-        "Unsat\n3 0 1 0\n",
-    );
-    assert!(rt; is_refutation(alloc, store, 0, &solver).expect(&rt, "memory"));
+    same(&rt, of_empty_clauses(rt.alloc()), "Unsat\n3 0 1 0\ntrue");
 }
 
 // A search, and the values of the first two variables.
@@ -162,13 +164,20 @@ fn assignment(alloc: Global, solver: &mut Solver) -> Result<String, AllocError>
     format!(in alloc; "{verdict:?} {first} {second}")
 }
 
-#[test]
-fn an_assignment_is_told(rt: HostRuntime) {
-    let mut solver = started(rt.alloc(), &[&[1, 2], &[-1]], 2).expect(&rt, "memory");
-    same(&rt, assignment(rt.alloc(), &mut solver), "Sat false true");
+// The second of two variables is true, and the first is not.
+static ONE_MODEL: [&[i32]; 2] = [&[1, 2], &[-1]];
+
+fn of_one_model(alloc: Global) -> Result<String, AllocError> {
+    let mut solver = started(alloc, &ONE_MODEL, 2)?;
+    assignment(alloc, &mut solver)
 }
 
-// A search, the id of a clause that is given then, another search, and what is left of the budget.
+#[test]
+fn an_assignment_is_told(rt: HostRuntime) {
+    same(&rt, of_one_model(rt.alloc()), "Sat false true");
+}
+
+// A search, the id of a clause that is given then, another search, what is left of the budget, and how many steps were logged.
 fn given_between(
     alloc: Global,
     solver: &mut Solver,
@@ -183,24 +192,37 @@ fn given_between(
     let first = solve(solver, &mut budget)?;
     let id = give(solver, l)?;
     let second = solve(solver, &mut budget)?;
-    format!(in alloc; "{first:?} {id} {second:?} {}", budget.left())
+    let (left, logged) = (budget.left(), solver.log().len());
+    format!(in alloc; "{first:?} {id} {second:?} {left} {logged}")
+}
+
+fn given_to(
+    alloc: Global,
+    clauses: &[&[i32]],
+    vars: u64,
+    units: u64,
+    l: Lit,
+) -> Result<String, AllocError>
+    requires small { vars < 2 ^ 31 }
+    requires units { units ≤ 100 }
+    requires range { variable_of l ≤ vars }
+{
+    let mut solver = started(alloc, clauses, vars)?;
+    given_between(alloc, &mut solver, units, l)
 }
 
 // A clause that is given after a search is held from then on.
 #[test]
 fn a_clause_is_given_between_two_searches(rt: HostRuntime) {
-    let alloc = rt.alloc();
-    let mut solver = started(alloc, &[&[1, 2], &[-1]], 2).expect(&rt, "memory");
-    let shown = given_between(alloc, &mut solver, 100, Lit::negative(2));
-    same(&rt, shown, "Sat 3 Unsat 100");
+    let shown = given_to(rt.alloc(), &ONE_MODEL, 2, 100, Lit::negative(2));
+    same(&rt, shown, "Sat 3 Unsat 100 1");
 }
+
+static REFUTED: [&[i32]; 2] = [&[1], &[-1]];
 
 // What is refuted stays so at no cost, whatever is given later.
 #[test]
 fn a_refutation_is_final(rt: HostRuntime) {
-    let alloc = rt.alloc();
-    let mut solver = started(alloc, &[&[1], &[-1]], 1).expect(&rt, "memory");
-    let shown = given_between(alloc, &mut solver, 0, Lit::positive(1));
-    same(&rt, shown, "Unsat 4 Unsat 0");
-    assert_eq!(rt; solver.log().len(), 1);
+    let shown = given_to(rt.alloc(), &REFUTED, 1, 0, Lit::positive(1));
+    same(&rt, shown, "Unsat 4 Unsat 0 1");
 }

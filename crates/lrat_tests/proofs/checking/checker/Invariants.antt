@@ -1,5 +1,0 @@
-use Rattle.std.proofs.Common.{◌≡◌}
-use Rattle.lrat_tests.proofs.checking.checker.Given as goal
-
-abbrev pub invariant-loop-numbers : goal.invariant-loop-numbers
-invariant-loop-numbers l = l.checker.vars ≡ 8
