@@ -5,6 +5,8 @@
 //! numbers of its nodes.
 #![tactic(auto)]
 
+ghost use Rattle.std.specs.Prelude.{◌≤◌, IfOk};
+
 mod printing;
 
 use crate::printing::{counts_of, print_quorums, print_sets};
@@ -16,7 +18,7 @@ use name_set::NodeSet;
 use node_json::read_config;
 use std::alloc::Global;
 use std::env;
-use std::io::{BufReader, Read};
+use std::io::Read;
 
 /// The most units that may be asked for.
 const MOST_UNITS: u64 = 1_000_000_000;
@@ -38,13 +40,17 @@ fn shown_by(word: Option<&str>) -> Result<Shown> {
     }
 }
 
+/// The bytes on standard input.
+fn read_input(rt: HostRuntime) -> Result<Vec<u8>> {
+    let mut bytes = Vec::new(rt.alloc());
+    rt.reader().read_to_end(&mut bytes)?;
+    Ok(bytes)
+}
+
 /// The system of the configuration on standard input.
 fn read_system(rt: HostRuntime) -> Result<System> {
-    let alloc = rt.alloc();
-    let mut input = BufReader::new(alloc, rt.reader())?;
-    let mut bytes = Vec::new(alloc);
-    input.read_to_end(&mut bytes)?;
-    match read_config(alloc, &bytes) {
+    let bytes = read_input(rt)?;
+    match read_config(rt.alloc(), &bytes) {
         Ok(system) => Ok(system),
         Err(_) => bail!("no configuration"),
     }
@@ -77,21 +83,41 @@ fn print_outcome(rt: HostRuntime, outcome: &ListOutcome, shown: Shown, left: u64
     }
 }
 
-fn main(rt: HostRuntime) -> Result<()> {
-    let mut words = env::args(&rt)?;
-    words.next();
-    let Some(units) = words.next() else {
+fn units_of(word: Option<&str>) -> Result<u64>
+    ensures { IfOk result (λ units. units ≤ MOST_UNITS) }
+{
+    let Some(word) = word else {
         bail!("how many units?");
     };
-    let units: u64 = units.parse().context("the units")?;
+    let units: u64 = word.parse().context("the units")?;
     if units > MOST_UNITS {
         bail!("too many units");
     }
-    let word = words.next();
-    let shown = shown_by(word.as_deref())?;
-    let system = read_system(rt)?;
+    Ok(units)
+}
+
+/// The units and what is printed, by the words of the command line.
+fn asked(rt: HostRuntime) -> Result<(u64, Shown)>
+    ensures { IfOk result (λ asked. asked.0 ≤ MOST_UNITS) }
+{
+    let mut words = env::args(&rt)?;
+    words.next();
+    let (first, second) = (words.next(), words.next());
+    let units = units_of(first.as_deref())?;
+    Ok((units, shown_by(second.as_deref())?))
+}
+
+/// Lists the sets of a system, and prints what was found.
+fn show_list(rt: HostRuntime, system: &System, units: u64, shown: Shown) -> Result<()>
+    requires { units ≤ MOST_UNITS }
+{
     let mut budget = Budget::of(units);
     let faulty = NodeSet::new(system.len());
-    let outcome = list(rt.alloc(), &system, &faulty, &mut budget)?;
+    let outcome = list(rt.alloc(), system, &faulty, &mut budget)?;
     print_outcome(rt, &outcome, shown, budget.left())
+}
+
+fn main(rt: HostRuntime) -> Result<()> {
+    let (units, shown) = asked(rt)?;
+    show_list(rt, &read_system(rt)?, units, shown)
 }
