@@ -118,17 +118,6 @@ fn two_searches_checked(alloc: Global, solver: &mut Solver) -> Result<String, Al
     format!(in alloc; "{shown} {is_refuted}")
 }
 
-// A solver is owned by a function that does nothing else, since what is proved of a function carries it from call to call.
-fn of_two_of_two(alloc: Global) -> Result<String, AllocError> {
-    let mut solver = started(alloc, &TWO_OF_TWO, 8)?;
-    two_searches_checked(alloc, &mut solver)
-}
-
-#[test]
-fn two_of_two_is_refuted_within_its_budget(rt: HostRuntime) {
-    same(&rt, of_two_of_two(rt.alloc()), "Spent 0 Unsat true");
-}
-
 // Two empty clauses.
 static EMPTY: [&[i32]; 2] = [&[], &[]];
 
@@ -141,16 +130,6 @@ fn search_at_no_cost(alloc: Global, solver: &mut Solver) -> Result<String, Alloc
     let lines = lines(alloc, solver)?;
     let is_refuted = is_refutation(alloc, &EMPTY, 0, solver.log())?;
     format!(in alloc; "{verdict:?}\n{lines}{is_refuted}")
-}
-
-fn of_empty_clauses(alloc: Global) -> Result<String, AllocError> {
-    let mut solver = started(alloc, &EMPTY, 0)?;
-    search_at_no_cost(alloc, &mut solver)
-}
-
-#[test]
-fn empty_clauses_are_refuted_at_no_cost(rt: HostRuntime) {
-    same(&rt, of_empty_clauses(rt.alloc()), "Unsat\n3 0 1 0\ntrue");
 }
 
 // A search, and the values of the first two variables.
@@ -166,16 +145,6 @@ fn assignment(alloc: Global, solver: &mut Solver) -> Result<String, AllocError>
 
 // The second of two variables is true, and the first is not.
 static ONE_MODEL: [&[i32]; 2] = [&[1, 2], &[-1]];
-
-fn of_one_model(alloc: Global) -> Result<String, AllocError> {
-    let mut solver = started(alloc, &ONE_MODEL, 2)?;
-    assignment(alloc, &mut solver)
-}
-
-#[test]
-fn an_assignment_is_told(rt: HostRuntime) {
-    same(&rt, of_one_model(rt.alloc()), "Sat false true");
-}
 
 // A search, the id of a clause that is given then, another search, what is left of the budget, and how many steps were logged.
 fn given_between(
@@ -196,25 +165,71 @@ fn given_between(
     format!(in alloc; "{first:?} {id} {second:?} {left} {logged}")
 }
 
-fn given_to(
+/// What is asked of a solver.
+#[derive(Clone, Copy)]
+enum Asked {
+    /// Two searches, of two of two.
+    TwoSearches,
+    /// A search with no budget, of two empty clauses.
+    NoCost,
+    /// A search, and the values of two variables.
+    Assignment,
+    /// A literal that is given between two searches with so many units.
+    Given(Lit, u64),
+}
+
+// What is asked of a solver over so many variables.
+fn shown(alloc: Global, solver: &mut Solver, vars: u64, asked: Asked) -> Result<String, AllocError>
+    requires few { solver.old.database.last ≤ 100 }
+    requires vars { solver.old.vars ≡ vars }
+{
+    match asked {
+        Asked::TwoSearches => two_searches_checked(alloc, solver),
+        Asked::NoCost => search_at_no_cost(alloc, solver),
+        Asked::Assignment if vars == 2 => assignment(alloc, solver),
+        Asked::Given(l, units) if units <= 100 && u64::from(l.variable()) <= vars => {
+            given_between(alloc, solver, units, l)
+        }
+        _ => String::from_str(alloc, "out of range"),
+    }
+}
+
+// The same of a solver of these clauses. It is owned here alone, since what is proved of a function carries it from call to call.
+fn asked_of(
     alloc: Global,
     clauses: &[&[i32]],
     vars: u64,
-    units: u64,
-    l: Lit,
+    asked: Asked,
 ) -> Result<String, AllocError>
-    requires small { vars < 2 ^ 31 }
-    requires units { units ≤ 100 }
-    requires range { variable_of l ≤ vars }
+    requires { vars < 2 ^ 31 }
 {
     let mut solver = started(alloc, clauses, vars)?;
-    given_between(alloc, &mut solver, units, l)
+    shown(alloc, &mut solver, vars, asked)
+}
+
+#[test]
+fn two_of_two_is_refuted_within_its_budget(rt: HostRuntime) {
+    let shown = asked_of(rt.alloc(), &TWO_OF_TWO, 8, Asked::TwoSearches);
+    same(&rt, shown, "Spent 0 Unsat true");
+}
+
+#[test]
+fn empty_clauses_are_refuted_at_no_cost(rt: HostRuntime) {
+    let shown = asked_of(rt.alloc(), &EMPTY, 0, Asked::NoCost);
+    same(&rt, shown, "Unsat\n3 0 1 0\ntrue");
+}
+
+#[test]
+fn an_assignment_is_told(rt: HostRuntime) {
+    let shown = asked_of(rt.alloc(), &ONE_MODEL, 2, Asked::Assignment);
+    same(&rt, shown, "Sat false true");
 }
 
 // A clause that is given after a search is held from then on.
 #[test]
 fn a_clause_is_given_between_two_searches(rt: HostRuntime) {
-    let shown = given_to(rt.alloc(), &ONE_MODEL, 2, 100, Lit::negative(2));
+    let given = Asked::Given(Lit::negative(2), 100);
+    let shown = asked_of(rt.alloc(), &ONE_MODEL, 2, given);
     same(&rt, shown, "Sat 3 Unsat 100 1");
 }
 
@@ -223,6 +238,7 @@ static REFUTED: [&[i32]; 2] = [&[1], &[-1]];
 // What is refuted stays so at no cost, whatever is given later.
 #[test]
 fn a_refutation_is_final(rt: HostRuntime) {
-    let shown = given_to(rt.alloc(), &REFUTED, 1, 0, Lit::positive(1));
+    let given = Asked::Given(Lit::positive(1), 0);
+    let shown = asked_of(rt.alloc(), &REFUTED, 1, given);
     same(&rt, shown, "Unsat 4 Unsat 0 1");
 }
