@@ -1,6 +1,8 @@
 //! Lists of minimal blocking sets: what `blocking` prints, that `check` accepts what it wrote, and what `check` says of others.
-use crate::certificates::{DIGEST_OF_THREE, of_kind, shared_of_kind};
-use crate::desks::{Files, Left, run_over, same, text_of, wants_checked, wants_left, wants_made};
+use crate::certificates::{DIGEST_OF_THREE, shared_of_kind};
+use crate::desks::{
+    Files, Left, run_over, same, text_of, wants_checked, wants_left, wants_of_kind,
+};
 use crate::systems::{TWO_OF_THREE, TWO_PAIRS};
 use quorum_run::Status;
 use std::alloc::{AllocError, Global};
@@ -102,69 +104,68 @@ fn a_list_without_a_budget_has_an_empty_certificate(rt: HostRuntime) {
     );
 }
 
-// A kind, the lines of a list for two of three, and what is said of it.
-static LIST_CERTIFICATES: [(&str, &str, Status, &str); 9] = [
+// The lines of a list for two of three, and what is said of it.
+static LISTS_OF_THREE: [(&str, Status, &str); 7] = [
     (
-        "blocking",
         "q 1 a b\nq 2 a c\nq 3 b c\nb 4 a b\nb 5 a c\nb 6 b c\n7 -1 0 4 5 3 0\n8 0 7 1 2 6 0\nend\n",
         Status::Yes,
         "accepted blocking 3\nfrom\nfaulty\nset a b\nset a c\nset b c\n",
     ),
     (
-        "blocking",
         "q 1 a b\nq 2 a c\nq 3 b c\nb 4 a b\nb 5 a c\n7 -1 0 4 5 3 0\n8 0 7 1 2 6 0\nend\n",
         Status::CertRefused,
         "refused step 12 no-such-clause 6\n",
     ),
     (
-        "blocking",
         "q 1 a b\nq 2 a c\nq 3 b c\nb 4 a b\nb 5 a c\nb 6 a b\n7 -1 0 4 5 3 0\n8 0 7 1 2 6 0\nend\n",
         Status::CertRefused,
         "refused not-new 11\n",
     ),
     (
-        "partial-blocking",
-        "q 1 a b\nend\n",
-        Status::Unknown,
-        "accepted partial-blocking 1\nfrom\nfaulty\n",
-    ),
-    (
-        "partial-blocking",
-        "q 1 a b\nq 2 a b c\nend\n",
-        Status::CertRefused,
-        "refused not-new 7\n",
-    ),
-    (
-        "blocking",
         "b 1 a\nend\n",
         Status::CertRefused,
         "refused not-blocking 6\n",
     ),
     (
-        "blocking",
         "b 1 a b c\nend\n",
         Status::CertRefused,
         "refused not-minimal 6\n",
     ),
     (
-        "blocking",
         "q 1 a\nend\n",
         Status::CertRefused,
         "refused not-quorum 6\n",
     ),
     (
-        "blocking",
         "q 1 a b\nq 1 a c\nend\n",
         Status::CertRefused,
         "refused step 7 id-order 1 1\n",
     ),
 ];
 
+// The same of lists that are not whole.
+static PARTIAL_LISTS_OF_THREE: [(&str, Status, &str); 2] = [
+    (
+        "q 1 a b\nend\n",
+        Status::Unknown,
+        "accepted partial-blocking 1\nfrom\nfaulty\n",
+    ),
+    (
+        "q 1 a b\nq 2 a b c\nend\n",
+        Status::CertRefused,
+        "refused not-new 7\n",
+    ),
+];
+
 #[test]
 fn check_accepts_a_list_and_names_the_first_fault(rt: HostRuntime) {
-    let (alloc, config) = (rt.alloc(), TWO_OF_THREE.as_bytes());
-    for (kind, body, status, text) in LIST_CERTIFICATES.iter() {
-        let cert = of_kind(alloc, DIGEST_OF_THREE, kind, body);
-        wants_made(&rt, alloc, config, cert, *status, text);
-    }
+    let (alloc, three) = (rt.alloc(), (TWO_OF_THREE, DIGEST_OF_THREE));
+    wants_of_kind(&rt, alloc, three, "blocking", &LISTS_OF_THREE);
+    wants_of_kind(
+        &rt,
+        alloc,
+        three,
+        "partial-blocking",
+        &PARTIAL_LISTS_OF_THREE,
+    );
 }

@@ -23,12 +23,7 @@ pub const PAIR_OF_THREE: &str =
 
 /// A certificate with this title for the configuration with this digest, with these lines behind it.
 fn titled(alloc: Global, title: &str, digest: &str, lines: &str) -> Result<String, AllocError> {
-    let mut cert = String::from_str(alloc, title)?;
-    cert.push_str("\nconfig ")?;
-    cert.push_str(digest)?;
-    cert.push_str("\n")?;
-    cert.push_str(lines)?;
-    Ok(cert)
+    format!(in alloc; "{title}\nconfig {digest}\n{lines}")
 }
 
 /// A certificate of version 1 for the configuration with this digest, with these lines behind it.
@@ -38,11 +33,7 @@ pub fn certificate(alloc: Global, digest: &str, lines: &str) -> Result<String, A
 
 /// The lines of this kind for the whole configuration and no faulty nodes, with this body.
 fn lines_of_kind(alloc: Global, kind: &str, body: &str) -> Result<String, AllocError> {
-    let mut lines = String::from_str(alloc, "from\nfaulty\nkind ")?;
-    lines.push_str(kind)?;
-    lines.push_str("\n")?;
-    lines.push_str(body)?;
-    Ok(lines)
+    format!(in alloc; "from\nfaulty\nkind {kind}\n{body}")
 }
 
 /// A certificate of version 1 of this kind for the whole configuration with this digest and no faulty nodes, with this body.

@@ -1,10 +1,7 @@
 //! What `check-lrat` says of another solver's proof.
-use crate::desks::{Files, run_over};
+use crate::desks::{Files, wants, wants_each};
 use crate::systems::{ORG, TWO_OF_TWO};
 use quorum_run::Status;
-use std::alloc::{AllocError, Global};
-use std::process::Abort;
-use std::str::from_utf8;
 
 // Proofs over two of two, and what is said of them: behind a comment, without the last line feed, behind lines without a word and
 // with one that is not looked at behind the empty lemma, of the formula's clauses without hints, an empty file, a proof that ends early, a
@@ -80,46 +77,24 @@ static LINES: [(&str, Status, &str); 6] = [
     ("check-lrat config nowhere", Status::ReadFault, ""),
 ];
 
-// What is said over two of two and a proof.
-fn said(alloc: Global, line: &str, proof: &str) -> Result<String, AllocError> {
-    let held = Files {
+// Two of two, and a proof.
+fn held<'a>(proof: &'a str) -> Files<'a> {
+    Files {
         config: TWO_OF_TWO.as_bytes(),
         cert: proof.as_bytes(),
         orgs: ORG.as_bytes(),
-    };
-    let left = run_over(alloc, line, &held, 7, Vec::new(alloc))?;
-    let text = from_utf8(&left.out).unwrap_or("no text");
-    format!(in alloc; "{:?} {text}", left.status)
-}
-
-fn wanted(alloc: Global, status: Status, text: &str) -> Result<String, AllocError> {
-    format!(in alloc; "{status:?} {text}")
-}
-
-// Fails unless this is said. It stands apart, so that the tests have no branches of it.
-fn wants_said(
-    rt: &impl Abort,
-    alloc: Global,
-    line: &str,
-    proof: &str,
-    (status, text): (Status, &str),
-) {
-    let found = said(alloc, line, proof).expect(rt, "memory");
-    let want = wanted(alloc, status, text).expect(rt, "memory");
-    assert_eq!(rt; found, want);
+    }
 }
 
 #[test]
 fn a_proof_is_verified_or_refused_by_its_first_fault(rt: HostRuntime) {
     let line = "check-lrat config cert";
     for (proof, status, text) in PROOFS.iter() {
-        wants_said(&rt, rt.alloc(), line, proof, (*status, *text));
+        wants(&rt, rt.alloc(), line, &held(proof), *status, text);
     }
 }
 
 #[test]
 fn a_proof_is_one_of_the_part_that_the_options_name(rt: HostRuntime) {
-    for (line, status, text) in LINES.iter() {
-        wants_said(&rt, rt.alloc(), line, "8 0 1 2 3 0\n", (*status, *text));
-    }
+    wants_each(&rt, rt.alloc(), &held("8 0 1 2 3 0\n"), &LINES);
 }

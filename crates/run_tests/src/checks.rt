@@ -5,7 +5,7 @@ use crate::certificates::{
     DIGEST_OF_HALF, DIGEST_OF_NONE, DIGEST_OF_THREE, DIGEST_OF_TWO, PAIR, certificate, of_kind,
     shared_of_kind,
 };
-use crate::desks::{CHECK, Files, said, same, told, wants_checked, wants_made};
+use crate::desks::{CHECK, Files, said, same, told, wants_checked, wants_made, wants_of_kind};
 use crate::systems::{TWO_OF_THREE, TWO_OF_TWO, half_of_two_hundred};
 use quorum_run::Status;
 use std::alloc::{AllocError, Global};
@@ -165,11 +165,8 @@ static REFUTATIONS_OF_TWO: [(&str, Status, &str); 13] = [
 
 #[test]
 fn check_accepts_a_refutation_and_names_the_first_fault(rt: HostRuntime) {
-    let (alloc, config) = (rt.alloc(), TWO_OF_TWO.as_bytes());
-    for (body, status, text) in REFUTATIONS_OF_TWO.iter() {
-        let cert = of_kind(alloc, DIGEST_OF_TWO, "refutation", body);
-        wants_made(&rt, alloc, config, cert, *status, text);
-    }
+    let two = (TWO_OF_TWO, DIGEST_OF_TWO);
+    wants_of_kind(&rt, rt.alloc(), two, "refutation", &REFUTATIONS_OF_TWO);
 }
 
 // The steps of a refutation of two of two over the formula of version 2.
@@ -291,9 +288,6 @@ static PARTIALS_OF_TWO: [(&str, Status, &str); 4] = [
 
 #[test]
 fn check_counts_the_units_of_a_partial_certificate(rt: HostRuntime) {
-    let (alloc, config) = (rt.alloc(), TWO_OF_TWO.as_bytes());
-    for (body, status, text) in PARTIALS_OF_TWO.iter() {
-        let cert = of_kind(alloc, DIGEST_OF_TWO, "partial", body);
-        wants_made(&rt, alloc, config, cert, *status, text);
-    }
+    let two = (TWO_OF_TWO, DIGEST_OF_TWO);
+    wants_of_kind(&rt, rt.alloc(), two, "partial", &PARTIALS_OF_TWO);
 }

@@ -4,6 +4,7 @@
 //! functions of their own that return a text, and a test has no `?`.
 ghost use Rattle.std.specs.Prelude.{◌<◌};
 
+use crate::certificates::of_kind;
 use desk_io::{Call, MemDesk};
 use quorum_run::{Status, run};
 use std::alloc::{AllocError, Global};
@@ -191,11 +192,15 @@ pub fn told(alloc: Global, line: &str, held: &Files, piece: usize) -> Result<Str
     said(alloc, line, left.status, &left.out)
 }
 
+fn equal(rt: &impl Abort, found: &str, want: &str) {
+    assert_eq!(rt; found, want);
+}
+
 /// Fails the test where the texts differ, or memory is wanting.
 pub fn same(rt: &impl Abort, found: Result<String, AllocError>, want: Result<String, AllocError>) {
     let found = found.expect(rt, "memory");
     let want = want.expect(rt, "memory");
-    assert_eq!(rt; found, want);
+    equal(rt, &found, &want);
 }
 
 /// Fails unless what is left of the command line is this status and this text.
@@ -221,6 +226,21 @@ pub fn wants(rt: &impl Abort, alloc: Global, line: &str, held: &Files, status: S
         told(alloc, line, held, 7),
         said(alloc, line, status, text.as_bytes()),
     );
+}
+
+/// Fails unless each command line ends with its status and its text, all over the same files.
+pub fn wants_each(rt: &impl Abort, alloc: Global, held: &Files, rows: &[(&str, Status, &str)]) {
+    for (line, status, text) in rows {
+        wants(rt, alloc, line, held, *status, text);
+    }
+}
+
+/// The same, each over a configuration of its own.
+pub fn wants_over(rt: &impl Abort, alloc: Global, rows: &[(&str, &str, Status, &str)]) {
+    for (config, line, status, text) in rows {
+        let held = Files::of(config.as_bytes());
+        wants(rt, alloc, line, &held, *status, text);
+    }
 }
 
 /// The line that checks the certificate.
@@ -250,4 +270,19 @@ pub fn wants_made(
 ) {
     let cert = cert.expect(rt, "memory");
     wants_checked(rt, alloc, config, cert.as_bytes(), status, text);
+}
+
+/// Fails unless `check` of each certificate of this kind, which has its body, ends with its status and its text. The digest is that of
+/// the configuration.
+pub fn wants_of_kind(
+    rt: &impl Abort,
+    alloc: Global,
+    (config, digest): (&str, &str),
+    kind: &str,
+    rows: &[(&str, Status, &str)],
+) {
+    for (body, status, text) in rows {
+        let cert = of_kind(alloc, digest, kind, body);
+        wants_made(rt, alloc, config.as_bytes(), cert, *status, text);
+    }
 }

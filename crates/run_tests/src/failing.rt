@@ -299,7 +299,15 @@ fn count_of(run: &Run, held: &Files, whole: &Left, call: Call) -> u64 {
     }
 }
 
-// Each call of the run fails once. The certificate that it writes, if it writes one, is accepted.
+// Each call of the run fails once: `whole` is what is left where none fails.
+fn wants_calls(rt: &impl Abort, alloc: Global, run: &Run, held: &Files, whole: &Left) {
+    for call in CALLS.iter() {
+        let want = counted(alloc, run.line, *call, count_of(run, held, whole, *call));
+        same(rt, calls_of(alloc, run.line, held, whole, *call), want);
+    }
+}
+
+// The same of a run whose certificate, if it writes one, is accepted.
 fn wants_run(rt: &impl Abort, alloc: Global, run: &Run) {
     let held = Files {
         config: run.config.as_bytes(),
@@ -310,10 +318,7 @@ fn wants_run(rt: &impl Abort, alloc: Global, run: &Run) {
     if let Some((status, accepted)) = run.written {
         wants_checked(rt, alloc, held.config, &whole.cert, status, accepted);
     }
-    for call in CALLS.iter() {
-        let want = counted(alloc, run.line, *call, count_of(run, &held, &whole, *call));
-        same(rt, calls_of(alloc, run.line, &held, &whole, *call), want);
-    }
+    wants_calls(rt, alloc, run, &held, &whole);
 }
 
 #[test]

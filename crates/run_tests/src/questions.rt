@@ -1,6 +1,8 @@
 //! What the plain questions and `export` answer, and which words are no order.
 use crate::certificates::{DIGEST_OF_PAIRS, certificate};
-use crate::desks::{Files, run_over, run_words, said, same, wants, wants_made};
+use crate::desks::{
+    Files, run_over, run_words, said, same, wants, wants_each, wants_made, wants_over,
+};
 use crate::systems::{
     LARGE_THRESHOLD, ORG, REPEATED, TWO_OF_THREE, TWO_OF_TWO, TWO_PAIRS, UNDECLARED, ZERO_INSIDE,
     half_of_two_hundred, organisations, rotated_half_of_two_hundred,
@@ -24,16 +26,8 @@ static NO_ORDERS: [(&str, Status, &str); 6] = [
 
 #[test]
 fn words_that_are_no_order_and_missing_files_end_the_program(rt: HostRuntime) {
-    for (line, status, text) in NO_ORDERS.iter() {
-        wants(
-            &rt,
-            rt.alloc(),
-            line,
-            &Files::of(TWO_OF_THREE.as_bytes()),
-            *status,
-            text,
-        );
-    }
+    let held = Files::of(TWO_OF_THREE.as_bytes());
+    wants_each(&rt, rt.alloc(), &held, &NO_ORDERS);
 }
 
 // What is said of no word at all.
@@ -99,27 +93,28 @@ static PLAIN: [(&str, &str, Status, &str); 9] = [
 
 #[test]
 fn plain_questions_are_answered(rt: HostRuntime) {
-    for (config, line, status, text) in PLAIN.iter() {
-        wants(
-            &rt,
-            rt.alloc(),
-            line,
-            &Files::of(config.as_bytes()),
-            *status,
-            text,
-        );
-    }
+    wants_over(&rt, rt.alloc(), &PLAIN);
 }
+
+// Words over three organisations, and the answers.
+static BLOCKED: [(&str, Status, &str); 2] = [
+    (
+        "blocks config --set p1,p2,q1",
+        Status::No,
+        "blocks no\nquorum p3 q2 q3 r1 r2 r3\n",
+    ),
+    (
+        "blocks config --set=p1,p2,q1,q2",
+        Status::Yes,
+        "blocks yes\n",
+    ),
+];
 
 #[test]
 fn a_set_blocks_organisations_or_leaves_a_quorum(rt: HostRuntime) {
     let config = organisations(rt.alloc()).expect(&rt, "memory");
     let held = Files::of(config.as_bytes());
-    let text = "blocks no\nquorum p3 q2 q3 r1 r2 r3\n";
-    let line = "blocks config --set p1,p2,q1";
-    wants(&rt, rt.alloc(), line, &held, Status::No, text);
-    let line = "blocks config --set=p1,p2,q1,q2";
-    wants(&rt, rt.alloc(), line, &held, Status::Yes, "blocks yes\n");
+    wants_each(&rt, rt.alloc(), &held, &BLOCKED);
 }
 
 // Words with names, over two of three, and the answers.
@@ -174,16 +169,8 @@ static NAMED: [(&str, Status, &str); 10] = [
 
 #[test]
 fn names_on_the_command_line_are_read_to_their_first_fault(rt: HostRuntime) {
-    for (line, status, text) in NAMED.iter() {
-        wants(
-            &rt,
-            rt.alloc(),
-            line,
-            &Files::of(TWO_OF_THREE.as_bytes()),
-            *status,
-            text,
-        );
-    }
+    let held = Files::of(TWO_OF_THREE.as_bytes());
+    wants_each(&rt, rt.alloc(), &held, &NAMED);
 }
 
 // Words over two pairs that speak of the trust closure of a node, and the answers.
@@ -214,16 +201,8 @@ static CLOSED: [(&str, Status, &str); 6] = [
 
 #[test]
 fn questions_are_asked_of_a_trust_closure(rt: HostRuntime) {
-    for (line, status, text) in CLOSED.iter() {
-        wants(
-            &rt,
-            rt.alloc(),
-            line,
-            &Files::of(TWO_PAIRS.as_bytes()),
-            *status,
-            text,
-        );
-    }
+    let held = Files::of(TWO_PAIRS.as_bytes());
+    wants_each(&rt, rt.alloc(), &held, &CLOSED);
 }
 
 #[test]
@@ -288,36 +267,30 @@ fn questions_are_asked_of_organisations(rt: HostRuntime) {
 }
 
 // Configurations, words, and the formula that `export` writes.
-static EXPORTED: [(&str, &str, &str); 3] = [
+static EXPORTED: [(&str, &str, Status, &str); 3] = [
     (
         TWO_OF_TWO,
         "export config",
+        Status::Yes,
         "c config d5ccec4a141b4b11eb0b80bb62d235f24e373c62aa2fa9f6fb33f6b1e2871f41\nc from\nc faulty\nc 1 a p\nc 2 a q\nc 3 b p\nc 4 b q\np cnf 6 12\n1 2 0\n3 4 0\n-1 -3 0\n-2 -4 0\n-5 1 0\n-5 2 0\n-1 5 0\n-2 5 0\n-6 3 0\n-6 4 0\n-3 6 0\n-4 6 0\n",
     ),
     (
         TWO_OF_THREE,
         "export config --faulty a",
+        Status::Yes,
         "c config f823e204944abcff32c8dadffba2a0178a590a613358f9a6f271b651cd4e6fbb\nc from\nc faulty a\nc 1 a b\nc 2 a c\nc 3 b b\nc 4 b c\np cnf 6 10\n1 2 0\n3 4 0\n-1 -3 0\n-2 -4 0\n-5 1 2 0\n-1 5 0\n-2 5 0\n-6 3 4 0\n-3 6 0\n-4 6 0\n",
     ),
     (
         "[]",
         "export config",
+        Status::Yes,
         "c config 4f53cda18c2baa0c0354bb5f9a3ecbe5ed12ab4d8e11ba873c2f11161202b945\nc from\nc faulty\np cnf 0 2\n0\n0\n",
     ),
 ];
 
 #[test]
 fn export_writes_the_formula(rt: HostRuntime) {
-    for (config, line, text) in EXPORTED.iter() {
-        wants(
-            &rt,
-            rt.alloc(),
-            line,
-            &Files::of(config.as_bytes()),
-            Status::Yes,
-            text,
-        );
-    }
+    wants_over(&rt, rt.alloc(), &EXPORTED);
 }
 
 // Whether `export` of half of two hundred writes this line.

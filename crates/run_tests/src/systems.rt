@@ -40,18 +40,23 @@ pub const ORG: &str = r#"[{"id":"A","validators":["a","zz"]}]"#;
 const TWO_OF_THREE_PAIRS: &str =
     r#"{"threshold":2,"validators":[],"innerQuorumSets":[{"threshold":2,"validators":["p1","p2","p3"]},{"threshold":2,"validators":["q1","q2","q3"]},{"threshold":2,"validators":["r1","r2","r3"]}]}"#;
 
+// A node, behind a comma where it is not the first.
+fn push_node(
+    alloc: Global,
+    config: &mut String,
+    name: &str,
+    quorum_set: &str,
+) -> Result<(), AllocError> {
+    let front = if config.len() > 1 { "," } else { "" };
+    let node = format!(in alloc; "{front}{{\"publicKey\":\"{name}\",\"quorumSet\":{quorum_set}}}")?;
+    config.push_str(&node)
+}
+
 /// A configuration of these nodes, which all have one quorum set.
 pub fn alike(alloc: Global, names: &[&str], quorum_set: &str) -> Result<String, AllocError> {
     let mut config = String::from_str(alloc, "[")?;
     for name in names {
-        if config.len() > 1 {
-            config.push_str(",")?;
-        }
-        config.push_str(r#"{"publicKey":""#)?;
-        config.push_str(name)?;
-        config.push_str(r#"","quorumSet":"#)?;
-        config.push_str(quorum_set)?;
-        config.push_str("}")?;
+        push_node(alloc, &mut config, name, quorum_set)?;
     }
     config.push_str("]")?;
     Ok(config)
@@ -93,17 +98,23 @@ pub fn rotated_half_of_two_hundred(alloc: Global) -> Result<Vec<u8>, AllocError>
     half(alloc, true)
 }
 
+// The node of this number, which needs 100 of all from the first on.
+fn push_half(config: &mut Vec<u8>, number: u8, first: u8) -> Result<(), AllocError> {
+    if number != 0 {
+        config.push(b',')?;
+    }
+    config.extend_from_slice(br#"{"publicKey":"#)?;
+    push_name(config, number)?;
+    config.extend_from_slice(br#","quorumSet":{"threshold":100,"validators":["#)?;
+    push_names(config, first)?;
+    config.extend_from_slice(b"]}}")?;
+    Ok(())
+}
+
 fn half(alloc: Global, is_rotated: bool) -> Result<Vec<u8>, AllocError> {
     let mut config = Vec::from_slice(alloc, b"[")?;
     for number in 0..200 {
-        if number != 0 {
-            config.push(b',')?;
-        }
-        config.extend_from_slice(br#"{"publicKey":"#)?;
-        push_name(&mut config, number)?;
-        config.extend_from_slice(br#","quorumSet":{"threshold":100,"validators":["#)?;
-        push_names(&mut config, if is_rotated { number } else { 0 })?;
-        config.extend_from_slice(b"]}}")?;
+        push_half(&mut config, number, if is_rotated { number } else { 0 })?;
     }
     config.push(b']')?;
     Ok(config)

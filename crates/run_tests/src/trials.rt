@@ -1,5 +1,5 @@
 //! What the trial answers, and that its certificates are accepted for the configuration that it stands for.
-use crate::desks::{Files, run_over, wants, wants_checked, wants_left};
+use crate::desks::{Files, run_over, wants_checked, wants_each, wants_left};
 use crate::questions::USAGE;
 use crate::systems::trial;
 use quorum_run::Status;
@@ -71,7 +71,5 @@ static REFUSED: [(&str, Status, &str); 4] = [
 
 #[test]
 fn trials_of_none_and_of_too_many_organisations_are_refused(rt: HostRuntime) {
-    for (line, status, text) in REFUSED.iter() {
-        wants(&rt, rt.alloc(), line, &Files::of(b""), *status, text);
-    }
+    wants_each(&rt, rt.alloc(), &Files::of(b""), &REFUSED);
 }
