@@ -6,7 +6,7 @@
 //! 100 hints, and counts its numbers.
 #![tactic(auto)]
 
-ghost use Rattle.std.specs.Prelude.{◌≡◌, ◌<◌, ◌^◌};
+ghost use Rattle.std.specs.Prelude.{◌≡◌, ◌<◌, ◌^◌, IfOk};
 ghost use Rattle.std.specs.Bool.{OnTrue};
 ghost use Rattle.lrat_model.specs.Ranges.{IsInRange};
 
@@ -95,7 +95,49 @@ fn is_covered(checker: &IdleChecker, step: &Step) -> bool {
     }
 }
 
-/// Takes the formula and then each step. Where `asks` is so, each lemma is asked about first.
+/// Takes a step behind the formula. Where `asks` is so, a lemma is asked about first.
+fn take(checker: &mut IdleChecker, counts: &mut Counts, step: &Step, asks: bool) -> Result<()>
+    ensures { checker.new.vars ≡ checker.old.vars }
+{
+    if asks && is_covered(checker, step) {
+        counts.covered = counts.covered.saturating_add(1);
+    }
+    checker.step(step)?;
+    counts.count(step);
+    Ok(())
+}
+
+/// Takes the formula and then each step.
+fn take_all<R: BufRead>(
+    alloc: Global,
+    input: &mut R,
+    checker: &mut IdleChecker,
+    vars: u64,
+    given: u64,
+    asks: bool,
+) -> Result<Counts>
+    requires { checker.old.vars ≡ vars }
+{
+    let mut counts = Counts {
+        additions: 0,
+        deletions: 0,
+        covered: 0,
+    };
+    let mut line = Vec::new(alloc);
+    for number in 0..u64::MAX {
+        let Some(step) = next_step(alloc, input, &mut line)? else {
+            break;
+        };
+        if number < given {
+            give(checker, vars, &step)?;
+        } else {
+            take(checker, &mut counts, &step, asks)?;
+        }
+    }
+    Ok(counts)
+}
+
+/// Starts a checker, which is lent to what takes the formula and the steps.
 fn check_all<R: BufRead>(
     alloc: Global,
     input: &mut R,
@@ -105,31 +147,11 @@ fn check_all<R: BufRead>(
 ) -> Result<Counts>
     requires { vars < 2 ^ 31 }
 {
-    let mut counts = Counts {
-        additions: 0,
-        deletions: 0,
-        covered: 0,
-    };
     let mut checker = IdleChecker::start(alloc, Store::new(alloc), vars, Rule::Rat)?;
     if asks {
         checker.expect_covers(alloc);
     }
-    let mut line = Vec::new(alloc);
-    for number in 0..u64::MAX {
-        let Some(step) = next_step(alloc, input, &mut line)? else {
-            break;
-        };
-        if number < given {
-            give(&mut checker, vars, &step)?;
-        } else {
-            if asks && is_covered(&checker, &step) {
-                counts.covered = counts.covered.saturating_add(1);
-            }
-            checker.step(&step)?;
-            counts.count(&step);
-        }
-    }
-    Ok(counts)
+    take_all(alloc, input, &mut checker, vars, given, asks)
 }
 
 /// Makes a log of lemmas of 20 literals and 100 hints, and gives its length and how many literals and hints it has.
@@ -175,27 +197,51 @@ fn show_log(rt: &HostRuntime, count: &str) -> Result<()> {
     Ok(())
 }
 
-fn main(rt: HostRuntime) -> Result<()> {
-    let alloc = rt.alloc();
-    let mut words = env::args(&rt)?;
-    words.next();
-    let (first, second) = (words.next(), words.next());
-    let asks = words.next().is_some();
-    let counts = match (first.as_deref(), second.as_deref()) {
-        (Some("log"), Some(count)) => return show_log(&rt, count),
-        (Some(vars), Some(given)) => {
-            let mut input = BufReader::new(alloc, rt.reader())?;
-            let vars: u64 = vars.parse().context("the number of variables")?;
-            let given: u64 = given.parse().context("the number of clauses")?;
-            if vars > MOST_VARIABLE {
-                bail!("too many variables");
-            }
-            check_all(alloc, &mut input, vars, given, asks)?
-        }
-        _ => read_all(alloc, &mut BufReader::new(alloc, rt.reader())?)?,
-    };
+/// The number of variables.
+fn variables_of(word: &str) -> Result<u64>
+    ensures { IfOk result (λ vars. vars < 2 ^ 31) }
+{
+    let vars: u64 = word.parse().context("the number of variables")?;
+    if vars > MOST_VARIABLE {
+        bail!("too many variables");
+    }
+    Ok(vars)
+}
+
+/// Reads the formula and the steps, and checks them.
+fn check_input(rt: &HostRuntime, vars: &str, given: &str, asks: bool) -> Result<Counts> {
+    let vars = variables_of(vars)?;
+    let given: u64 = given.parse().context("the number of clauses")?;
+    let mut input = BufReader::new(rt.alloc(), rt.reader())?;
+    check_all(rt.alloc(), &mut input, vars, given, asks)
+}
+
+/// Only reads the steps.
+fn read_input(rt: &HostRuntime) -> Result<Counts> {
+    let mut input = BufReader::new(rt.alloc(), rt.reader())?;
+    read_all(rt.alloc(), &mut input)
+}
+
+/// The counts, as three lines.
+fn show_counts(rt: &HostRuntime, counts: Counts) -> Result<()> {
     println!(rt; "additions {}", counts.additions)?;
     println!(rt; "deletions {}", counts.deletions)?;
     println!(rt; "covered {}", counts.covered)?;
     Ok(())
+}
+
+fn run(rt: &HostRuntime, first: Option<&str>, second: Option<&str>, asks: bool) -> Result<()> {
+    match (first, second) {
+        (Some("log"), Some(count)) => show_log(rt, count),
+        (Some(vars), Some(given)) => show_counts(rt, check_input(rt, vars, given, asks)?),
+        _ => show_counts(rt, read_input(rt)?),
+    }
+}
+
+fn main(rt: HostRuntime) -> Result<()> {
+    let mut words = env::args(&rt)?;
+    words.next();
+    let (first, second) = (words.next(), words.next());
+    let asks = words.next().is_some();
+    run(&rt, first.as_deref(), second.as_deref(), asks)
 }

@@ -1,5 +1,5 @@
 use Rattle.std.proofs.Common.{◌≡◌}
-use Rattle.lrat_bench.proofs.check_all.Given as goal
+use Rattle.lrat_bench.proofs.take_all.Given as goal
 
 abbrev pub invariant-loop-number : goal.invariant-loop-number
 invariant-loop-number g l = l.checker.vars ≡ l.vars
