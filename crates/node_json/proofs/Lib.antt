@@ -3,6 +3,7 @@ mod SeenNames
 pub mod NameSets
 pub mod JsonNumbers
 pub mod Trees
+pub mod KeyReading
 pub mod SetReading
 pub mod NodeReading
 mod Gathering

@@ -1,5 +1,5 @@
 -- The loop over the nodes, step by step, and what comes before it.
-use Rattle.std.proofs.Common.{◌≡◌, ℕ, ◌+◌, ◌<◌, List, [], ◌∷◌, ◌++◌, length, drop, get_or, map, Option, Some, None, Result, Ok, Err, Bool, true, false, not, refl, sym, ap, ◌∙◌, append_assoc}
+use Rattle.std.proofs.Common.{◌≡◌, ℕ, ◌+◌, ◌<◌, List, [], ◌∷◌, ◌++◌, length, drop, get_or, map, Option, Some, None, Result, Ok, Err, Bool, true, false, not, refl, sym, ap, ◌∙◌, append_assoc, codes}
 use Rattle.std.proofs.lemmas.Bool.{false_from_ne_true}
 use Rattle.std.proofs.lemmas.List.{at_drop_more, map-append}
 use Rattle.std.proofs.lemmas.List.Sums.{fold-append}
@@ -7,14 +7,15 @@ use Rattle.std.proofs.lemmas.Str.{IsUtf8-from_is_utf8, is_utf8-from_IsUtf8}
 use Rattle.std.specs.BTreeSet.{insert_key}
 use Rattle.std.specs.Str.{IsUtf8, is_utf8}
 use Rattle.serde_json.specs.Data.{Data, Items, item}
-use Rattle.serde_json.specs.Find.{as_array}
+use Rattle.serde_json.specs.Find.{as_array, get}
 use Rattle.serde_json.specs.Read.{read}
 use Rattle.node_json.specs.Tree.{Tree, view, items_view}
 use Rattle.node_json.specs.Named as spec
+use Rattle.fbas_model.specs.declared.TheConstants.{MOST_LEVELS}
 use Rattle.fbas_model.specs.Names.{Name, name_cmp, is_among}
 use Rattle.node_json.specs.NamesInOrder.{in_order, with_names}
 use Rattle.node_json.proofs.NamesInOrder.{is_among-in_order}
-use Rattle.node_json.specs.Reading.{after, tree_of, nodes_of, nodes_in, nodes_from, node_of, node_key_of, node_set_of}
+use Rattle.node_json.specs.Reading.{after, or_missing, set_of, tree_of, nodes_of, nodes_in, nodes_from, node_of, node_key_of, node_set_of}
 use Rattle.node_json.specs.View.{node_view, nodes_view}
 use Rattle.node_json.specs.declared.faults.ConfigFault.{ConfigFault}
 use Rattle.node_json.specs.declared.faults.ConfigFault.TheVariants.{NotJson, NotNodes, Duplicate}
@@ -45,6 +46,11 @@ nodes_in-no_array d a = rw a refl
 pub nodes_in-array : (d : Data) (ds : Items) → as_array d ≡ Some ds → nodes_in d ≡ nodes_from 0 [] ds
 unfolding nodes_in
 nodes_in-array d ds a = rw a refl
+
+-- ---- the quorum set of a node
+
+pub node_set-read : (i : ℕ) (d set : Data) (r : Result spec.NamedSet ConfigFault) → or_missing (get (codes "quorumSet") d) ≡ Some set → set_of i MOST_LEVELS set ≡ r → node_set_of i d ≡ after Some r
+node_set-read i d set r m e = rw (m, e) refl
 
 -- ---- the keys
 

@@ -1,5 +1,5 @@
 -- Quorum sets by numbers, and how many entries they have.
-use Rattle.std.proofs.Common.{◌≡◌, ℕ, ◌+◌, ◌≤◌, ◌<◌, List, [], ◌∷◌, ◌++◌, slice_index_or, length, map, take, drop, refl, sym, ap, ◌∙◌, arith}
+use Rattle.std.proofs.Common.{◌≡◌, ℕ, ◌+◌, ◌≤◌, ◌<◌, List, [], ◌∷◌, ◌++◌, slice_index_or, length, map, take, drop, get_or, refl, sym, ap, ap₂, ◌∙◌, arith}
 use Rattle.std.proofs.Math.ListN.{drop_of_length-le}
 use Rattle.std.proofs.lemmas.List.{take_all, take_more, map-append}
 use Rattle.std.proofs.lemmas.Simd.{map-map}
@@ -12,6 +12,11 @@ use Rattle.node_json.specs.Configuration.{number_of, nodes_then, numbered, all_n
 use Rattle.node_json.specs.Named as spec
 use Rattle.node_json.specs.View.{names_view, sets_in, set_view, sets_view}
 use Rattle.node_json.specs.declared.quorum_sets.NamedSet.{NamedSet}
+
+-- what a function makes of one more item
+pub mapped_more : {X Y : Type 0} (f : X → Y) (xs : List X) (i : ℕ) (x : X) (ys more : List Y) (y : Y) → i < length xs → x ≡ get_or xs i x → y ≡ f x → more ≡ ys ++ y ∷ [] → ys ≡ map f (take i xs) → more ≡ map f (take (i + 1) xs)
+mapped_more f xs i x ys more y h is e m inv =
+    m ∙ ap₂ (λ zs z. zs ++ z ∷ []) inv (e ∙ ap f is) ∙ sym (ap (map f) (take_more xs i x h) ∙ map-append f (take i xs) (get_or xs i x ∷ []))
 
 -- the numbers of one more name
 pub numbers_more : (names : List Name) (list : List (Bor (List ℕ))) (i : ℕ) (d : Bor (List ℕ)) → i < length list

@@ -1,11 +1,15 @@
-use Rattle.std.proofs.Common.{◌≡◌, ◌∙◌, ap, sym, map, rules}
+use Rattle.std.proofs.Common.{◌≡◌, ◌∙◌, ap, sym, map, rules, arith}
 use Rattle.node_json.specs.Configuration.{numbered, number_of}
 use Rattle.node_json.specs.Named.{named_set}
 use Rattle.node_json.specs.View.{names_view, set_view, sets_view}
 use Rattle.node_json.specs.declared.quorum_sets.NamedSet.{the_lemmas}
 use Rattle.node_json.specs.declared.quorum_sets.NamedSet.TheViews.{out-NamedSet}
-use Rattle.node_json.proofs.Numbering.{numbered_end}
+use Rattle.node_json.proofs.Numbering.{mapped_more, numbered_end}
 use Rattle.node_json.proofs.system.+numbered_set.Goals as goal
+
+pub loop-one-preserved : goal.loop-one-preserved
+loop-one-preserved t c =
+    mapped_more (λ s. numbered c.args.names.now (set_view s)) c.deref-one-items.result.now c.loop-one.one-index c.one-item.result c.loop-one.inner.items c.push.new.self.items c.in_ok-numbered_set.field-0 (omega arith) c.one-item.is c.in_ok-numbered_set.ensures c.in_ok-push.ensures.items c.loop-one.invariant
 
 pub returns : goal.returns
 returns t c =

@@ -1,7 +1,14 @@
 use Rattle.std.proofs.Common.{◌<◌, length, ap, ◌∙◌, arith}
-use Rattle.node_json.proofs.Placing.{placed, unplaced}
+use Rattle.std.proofs.lemmas.List.{take_all}
+use Rattle.node_json.proofs.Placing.{sets_by, placed, unplaced}
 use Rattle.node_json.proofs.system.placed_sets.Goals as goal
 use Rattle.node_json.proofs.system.placed_sets.Goals.{in-Some+in-Some-1, in-Some+in-None-1, in_default+in-Some-1, in_default+in-None-1}
+
+pub loop-node-init : goal.loop-node-init
+loop-node-init c = c.in_ok-sets.ensures
+
+pub returns : goal.returns
+returns c = c.loop-node.invariant ∙ ap (sets_by c.args.names.now) (take_all c.loop-node.node-index c.args.nodes.now (omega arith))
 
 pub loop-node-preserved : goal.loop-node-preserved
 loop-node-preserved c =
