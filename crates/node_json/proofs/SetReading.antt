@@ -1,17 +1,24 @@
 -- How a quorum set's reading goes on, step by step.
-use Rattle.std.proofs.Common.{◌≡◌, ℕ, zero, suc, ◌+◌, ◌-◌, ◌<◌, ◌≤◌, length, drop, get_or, arith, List, [], ◌∷◌, ◌++◌, refl, sym, ap, ◌∙◌, true, false, Some, None, Result, Ok, Err}
+use Rattle.std.proofs.Common.{◌≡◌, ℕ, zero, suc, ◌+◌, ◌-◌, ◌<◌, ◌≤◌, length, drop, get_or, arith, rules, Vec, Global, List, [], ◌∷◌, ◌++◌, refl, sym, ap, ◌∙◌, true, false, Some, None, Result, Ok, Err}
 use Rattle.std.proofs.Math.ListN.{drop_of_length-le}
 use Rattle.std.proofs.lemmas.List.{at_drop_more}
 use Rattle.serde_json.specs.Data.{Data, Items, item}
 use Rattle.node_json.specs.Tree.{Tree, view, items_view}
+use denote.Ref.{Bor}
 use Rattle.fbas_model.specs.Names.{Name}
 use Rattle.node_json.specs.Named as spec
 use Rattle.node_json.specs.Reading.{after, set_by, set_of, sets_by, is_object, threshold_of, validators_of, inner_by}
-use Rattle.node_json.specs.View.{set_view, sets_view}
+use Rattle.node_json.specs.View.{names_view, set_view, sets_view}
 use Rattle.node_json.specs.declared.faults.ConfigFault.{ConfigFault}
 use Rattle.node_json.specs.declared.faults.ConfigFault.TheVariants.{BadQuorumSet}
 use Rattle.node_json.specs.declared.faults.SetFault.TheVariants.{Shape, Threshold, Validators}
-use Rattle.node_json.specs.declared.quorum_sets.NamedSet.{NamedSet}
+use Rattle.node_json.specs.declared.quorum_sets.NamedSet.{NamedSet, the_lemmas}
+use Rattle.node_json.specs.declared.quorum_sets.NamedSet.TheViews.{roll-NamedSet}
+
+-- the set that is made of what was read
+pub set_view-made : (n : ℕ) (validators : Vec (Bor (List ℕ)) Global) (inner : Vec NamedSet Global)
+    → set_view (roll-NamedSet (record { threshold = n; validators = validators; inner = inner })) ≡ spec.named_set n (names_view validators.items) (sets_view inner.items)
+set_view-made n validators inner = search (rules, the_lemmas)
 
 -- the sets, with those read before them in front
 abbrev pub sets_before : List NamedSet → spec.NamedSets → spec.NamedSets
@@ -60,6 +67,13 @@ sets_loop one all done more s xs i v h is e m inv =
     let rest = items_view (drop (i + 1) xs) in
     inv ∙ at_drop_more (λ vs. after (sets_before done) (sets_by one (items_view vs))) xs i v h ∙ ap (λ w. after (sets_before done) (sets_by one (item (view w) rest))) (sym is)
     ∙ sets_by-one one done s (view v) rest e ∙ ap (λ ss. after (sets_before ss) (sets_by one rest)) (sym m)
+
+-- an item that has a fault is the first
+pub sets_fault : (one : Data → Result spec.NamedSet ConfigFault) (all : Result spec.NamedSets ConfigFault) (done : List NamedSet) (xs : List Tree) (i : ℕ) (v : Tree) (e : ConfigFault) → i < length xs → v ≡ get_or xs i v
+    → one (view v) ≡ Err e → all ≡ after (sets_before done) (sets_by one (items_view (drop i xs))) → all ≡ Err e
+sets_fault one all done xs i v e h is fault inv =
+    inv ∙ at_drop_more (λ vs. after (sets_before done) (sets_by one (items_view vs))) xs i v h
+    ∙ ap (λ w. after (sets_before done) (sets_by one (item (view w) (items_view (drop (i + 1) xs))))) (sym is) ∙ rw fault refl
 
 pub sets_end : (one : Data → Result spec.NamedSet ConfigFault) (all : Result spec.NamedSets ConfigFault) (done : List NamedSet) (xs : List Tree) (i : ℕ) → length xs ≤ i
     → all ≡ after (sets_before done) (sets_by one (items_view (drop i xs))) → all ≡ Ok (sets_view done)
