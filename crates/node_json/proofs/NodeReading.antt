@@ -67,6 +67,9 @@ is_duplicate i seen done d k new ek e s not_new =
     let known : not (is_among k (keys_of done)) ≡ false = sym (is_new seen done k new e s) ∙ not_new in
     rw (ek, known) refl
 
+pub node_of-key_fault : (i : ℕ) (earlier : List Name) (d : Data) (e : ConfigFault) → node_key_of i d ≡ Err e → node_of i earlier d ≡ Err e
+node_of-key_fault i earlier d e fault = rw fault refl
+
 pub node_of-read : (i : ℕ) (earlier : List Name) (d : Data) (k : Name) (o : Option spec.NamedSet) → node_key_of i d ≡ Ok k → not (is_among k earlier) ≡ true → node_set_of i d ≡ Ok o
     → node_of i earlier d ≡ Ok (record { key = k; quorum_set = o })
 node_of-read i earlier d k o ek new es = rw (ek, new, es) refl

@@ -64,6 +64,9 @@ all_sized names orgs = All-map (λ (org : spec.Org). length org.members ≡ leng
 pub is_new : (seen earlier : List Name) (id : Name) (new : Bool) → new ≡ not (is_among id seen) → seen ≡ in_order earlier → new ≡ not (is_among id earlier)
 is_new seen earlier id new e s = e ∙ ap (λ ks. not (is_among id ks)) s ∙ ap not (is_among-in_order id earlier)
 
+pub org_of-no_id : (i : ℕ) (earlier : List Name) (d : Data) (e : OrgFault) → org_id_of i d ≡ Err e → org_of i earlier d ≡ Err e
+org_of-no_id i earlier d e fault = rw fault refl
+
 pub org_of-known : (i : ℕ) (earlier : List Name) (d : Data) (id : Name) → org_id_of i d ≡ Ok id → not (is_among id earlier) ≡ false → org_of i earlier d ≡ Err (DuplicateOrg i)
 org_of-known i earlier d id ok known = rw (ok, known) refl
 

@@ -6,7 +6,7 @@ use Rattle.node_json.specs.declared.faults.OrgFault.TheVariants.{DuplicateOrg}
 use Rattle.node_json.specs.Organisations.{org_of}
 use Rattle.node_json.specs.OrgsView.{named_org_view, named_ids}
 use Rattle.node_json.specs.View.{names_view}
-use Rattle.node_json.proofs.OrgReading.{is_new, org_of-read, org_of-known, org_of-no_validators, orgs_loop, orgs_fault, seen_loop, apart_loop, then-none, apart-none}
+use Rattle.node_json.proofs.OrgReading.{is_new, org_of-read, org_of-no_id, org_of-known, org_of-no_validators, orgs_loop, orgs_fault, seen_loop, apart_loop, then-none, apart-none}
 use Rattle.node_json.proofs.named_orgs.read_items.Goals as goal
 
 pub loop-i-init : goal.loop-i-init
@@ -15,6 +15,13 @@ loop-i-init c = (
   rw (c.new-seen.ensures.empty, c.new-orgs.ensures.items) refl,
   rw c.new-orgs.ensures.items apart-none,
 )
+
+pub returns-in_err-id-clause-err : goal.returns-in_err-id-clause-err
+returns-in_err-id-clause-err c =
+    let done = c.loop-i.orgs.items in
+    let v = c.index-items-i.result in
+    let r : c.from_residual.result ≡ Err c.in_err-id.field-0.0 = search rules in
+    rw r (inr (orgs_fault _ done c.args.items.now c.loop-i.i v (omega arith) c.index-items-i.is c.loop-i.invariant.0 _ (org_of-no_id c.loop-i.i (named_ids done) (view v) _ c.in_err-id.ensures)))
 
 pub returns-then-not-branch-clause-err : goal.returns-then-not-branch-clause-err
 returns-then-not-branch-clause-err c =

@@ -5,7 +5,7 @@ use Rattle.node_json.specs.declared.nodes.NamedNode.{NamedNode}
 use Rattle.node_json.specs.declared.faults.ConfigFault.TheVariants.{Duplicate}
 use Rattle.node_json.specs.Reading.{node_of}
 use Rattle.node_json.specs.View.{names_view, node_view}
-use Rattle.node_json.proofs.NodeReading.{keys_of, nodes_loop, node_of-read, node_of-set_fault, is_new, is_duplicate, nodes_fault, seen_loop}
+use Rattle.node_json.proofs.NodeReading.{keys_of, nodes_loop, node_of-key_fault, node_of-read, node_of-set_fault, is_new, is_duplicate, nodes_fault, seen_loop}
 use Rattle.node_json.proofs.Gathering.{nodes_gathered}
 use Rattle.node_json.proofs.nodes.read_items.Goals as goal
 
@@ -25,6 +25,13 @@ loop-i-preserved c =
       seen_loop _ (names_view c.add_name.new.names.keys) done c.push.new.self.items n c.in_ok-push.ensures.items c.in_ok-add_name.ensures.added c.loop-i.invariant.1,
       nodes_gathered _ c.loop-i.names c.add.new.self c.node_set.new.names done c.push.new.self.items n c.in_ok-push.ensures.items c.in_ok-add.ensures c.in_ok-quorum_set.ensures.gathered c.loop-i.invariant.2,
     )
+
+pub returns-in_err-key-clause-err : goal.returns-in_err-key-clause-err
+returns-in_err-key-clause-err c =
+    let v = c.index-items-i.result in
+    let done = c.loop-i.nodes.items in
+    let r : c.from_residual.result ≡ Err c.in_err-key.field-0.0 = search rules in
+    rw r (inr (nodes_fault _ done c.args.items.now c.loop-i.i v _ (omega arith) c.index-items-i.is (node_of-key_fault c.loop-i.i (keys_of done) (view v) _ c.in_err-key.ensures) c.loop-i.invariant.0))
 
 pub returns-then-not-branch-clause-err : goal.returns-then-not-branch-clause-err
 returns-then-not-branch-clause-err c =
