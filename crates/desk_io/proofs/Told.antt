@@ -20,6 +20,6 @@ none_due call (x ∷ xs) due none = let empty : length (x ∷ xs) ≡ 0 = search
 pub told_plain : {T E : Type 0} (r : Result T E) (told P : Type 0) (call : Call) (listed : List (Call × ℕ)) → OnErr r (IsDue call listed ⊎ P) → OnErr r (told → IsTrue (length listed == 0) → P)
 told_plain (Ok x) told P call listed h = tt
 told_plain (Err e) told P call listed h = λ _ none. elim h [
-    | inl due ↦ absurd (none_due call listed due none)
-    | inr p ↦ p
-  ]
+  | inl due ↦ absurd (none_due call listed due none)
+  | inr p ↦ p
+]

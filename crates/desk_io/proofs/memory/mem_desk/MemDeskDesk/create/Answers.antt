@@ -1,4 +1,5 @@
-use Rattle.std.proofs.Common.{List, subst, inl, inr}
+use Rattle.std.proofs.Common.{List, Bool, ap, subst, inl, inr}
+use Rattle.desk_io.specs.MemDesk.{state_of}
 use Rattle.desk_io.specs.Entries.{Entry, IsFirst, IsMissing}
 use Rattle.desk_io.proofs.EntriesLemmas.{created_at, files_of-missing, missing_names, first_names}
 use Rattle.desk_io.proofs.memory.mem_desk.MemDeskDesk.create.Goals as goal
@@ -32,3 +33,6 @@ returns-in_default-clause-fails c = elim c.in_default.branch [
       let missing : IsMissing c.args.self.now.files.items c.args.name.now = subst (λ (es : List Entry). IsMissing es c.args.name.now) c.deref.ensures.value w.in_default.ensures in
       inr (files_of-missing c.args.self.now.files.items c.args.name.now missing, missing_names c.args.self.now.files.items c.args.name.now missing)
 ]
+
+pub returns-in_default-clause-failed : goal.returns-in_default-clause-failed
+returns-in_default-clause-failed c = ap (λ (plain : Bool). record (state_of c.args.self.now) { plain = plain }) c.count-fails.ensures.plain

@@ -1,6 +1,7 @@
-use Rattle.std.proofs.Common.{◌≡◌, ◌-◌, [], ℕ, Some, None, length, take, sym, subst, arith, ◌∙◌}
+use Rattle.std.proofs.Common.{◌≡◌, ◌-◌, [], Bool, ap, ℕ, Some, None, length, take, sym, subst, arith, ◌∙◌}
 use Rattle.std.proofs.Math.ListN.{set}
 use Rattle.std.proofs.lemmas.List.{length-take-le}
+use Rattle.desk_io.specs.MemDesk.{state_of}
 use Rattle.desk_io.specs.Entries.{Entry, IsOpen}
 use Rattle.desk_io.proofs.EntriesLemmas.{put_at, open_after, open_less, can_append, open_named}
 use Rattle.desk_io.proofs.memory.mem_desk.MemDeskDesk.put.Goals as goal
@@ -62,3 +63,6 @@ pub returns-in-Cert-Some-clause-created : goal.returns-in-Cert-Some-clause-creat
 returns-in-Cert-Some-clause-created c = λ _.
     let opened = c.args.self.now.created_open c.in-Cert-Some.i c.in-Cert-Some.is-1 in
     rw c.in-Cert-Some.is-1 (open_named c.args.self.now.files.items c.args.self.now.room c.in-Cert-Some.i opened)
+
+pub returns-in_default-clause-failed : goal.returns-in_default-clause-failed
+returns-in_default-clause-failed c = ap (λ (plain : Bool). record (state_of c.args.self.now) { plain = plain }) c.count-fails.ensures.plain
