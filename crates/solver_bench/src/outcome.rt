@@ -11,6 +11,7 @@ use fbas_core::System;
 use greatest_quorum::greatest;
 use lrat_checker::IdleChecker;
 use lrat_model::{Progress, Rule};
+use lrat_text::Log;
 use name_set::NodeSet;
 use std::alloc::{AllocError, Global};
 use trial_network::Trial;
@@ -32,27 +33,26 @@ pub struct Outcome {
     pub model: Vec<bool>,
 }
 
-/// Whether the checker takes each step of the log, and the empty lemma last.
-fn is_refutation(
-    alloc: Global,
-    store: Store,
-    vars: u64,
-    solver: &Solver,
-) -> Result<bool, AllocError>
+/// Whether the checker takes each step of a log, and the empty lemma last.
+fn is_refuted(alloc: Global, checker: &mut IdleChecker, log: &Log) -> Result<bool, AllocError> {
+    let mut answer = Ok(Progress::Going);
+    for place in 0..log.len() {
+        let step = log.step(place).to_step(alloc)?;
+        answer = checker.step(&step);
+        if answer.is_err() {
+            break;
+        }
+    }
+    Ok(matches!(answer, Ok(Progress::Refuted)))
+}
+
+/// The same of a checker of these clauses.
+fn is_refutation(alloc: Global, store: Store, vars: u64, log: &Log) -> Result<bool, AllocError>
     requires small { vars < 2 ^ 31 }
     requires range { AreInRange vars store.held }
 {
     let mut checker = IdleChecker::start(alloc, store, vars, Rule::Rat)?;
-    let mut progress = Progress::Going;
-    let log = solver.log();
-    for place in 0..log.len() {
-        let step = log.step(place).to_step(alloc)?;
-        match checker.step(&step) {
-            Ok(next) => progress = next,
-            Err(_) => return Ok(false),
-        }
-    }
-    Ok(progress == Progress::Refuted)
+    is_refuted(alloc, &mut checker, log)
 }
 
 /// Searches within a budget, and gives the verdict and how many lemmas with a literal there are. Of the contract of `solve` it
@@ -81,7 +81,7 @@ fn searched(
 {
     let clauses = store.last();
     let (verdict, lemmas) = search(solver, units)?;
-    let is_refuted = is_refutation(alloc, store, vars, solver)?;
+    let is_refuted = is_refutation(alloc, store, vars, solver.log())?;
     let model = model_of(alloc, solver, vars, verdict)?;
     Ok(Outcome {
         variables: vars,
@@ -93,6 +93,22 @@ fn searched(
     })
 }
 
+/// Searches with a solver of its own, which is let go in one place.
+fn solved(alloc: Global, store: Store, vars: u64, units: u64) -> Result<Outcome, AllocError>
+    requires small { vars < 2 ^ 31 }
+    requires range { AreInRange vars store.held }
+    requires room { store.last + units + 1 < 2 ^ 63 }
+{
+    match Solver::start(alloc, &store, vars) {
+        Ok(mut solver) => {
+            let outcome = searched(alloc, store, vars, &mut solver, units);
+            drop(solver);
+            outcome
+        }
+        Err(fault) => Err(fault),
+    }
+}
+
 /// Solves a formula within a budget, and checks the log.
 fn solve(alloc: Global, store: Store, vars: u64, units: u64) -> Result<Outcome>
     requires small { vars < 2 ^ 31 }
@@ -102,8 +118,7 @@ fn solve(alloc: Global, store: Store, vars: u64, units: u64) -> Result<Outcome>
     if store.last() > MOST_CLAUSES {
         bail!("too many clauses");
     }
-    let mut solver = Solver::start(alloc, &store, vars)?;
-    Ok(searched(alloc, store, vars, &mut solver, units)?)
+    Ok(solved(alloc, store, vars, units)?)
 }
 
 /// The value of each variable after `Sat`, else none.

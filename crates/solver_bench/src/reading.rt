@@ -24,17 +24,24 @@ fn read_header(text: &str) -> Result<u64>
 {
     for line in text.lines() {
         if let Some(rest) = line.strip_prefix("p cnf ") {
-            let Some(word) = rest.split_whitespace().next() else {
-                bail!("how many variables?");
-            };
-            let vars: u64 = word.parse().context("the number of variables")?;
-            if vars >= 1 << 31 {
-                bail!("too many variables");
-            }
-            return Ok(vars);
+            return variables_of(rest);
         }
     }
     bail!("no line 'p cnf'");
+}
+
+/// The first number behind the words of the header.
+fn variables_of(rest: &str) -> Result<u64>
+    ensures { IfOk result (λ vars. vars < 2 ^ 31) }
+{
+    let Some(word) = rest.split_whitespace().next() else {
+        bail!("how many variables?");
+    };
+    let vars: u64 = word.parse().context("the number of variables")?;
+    if vars >= 1 << 31 {
+        bail!("too many variables");
+    }
+    Ok(vars)
 }
 
 /// The clauses of all lines but comments and the header.
