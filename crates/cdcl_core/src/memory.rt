@@ -9,6 +9,7 @@ ghost use Rattle.cdcl_core.specs.Log.{least_live, most_live};
 ghost use Rattle.cdcl_core.specs.Remembering.{IsChosen};
 
 use crate::entries::entry_or;
+use crate::uses::Uses;
 use std::alloc::{AllocError, Global};
 
 const FEWEST: usize = 500;
@@ -20,12 +21,13 @@ const LEAST_COST: u32 = 3;
 
 const MOST_COST: u32 = 400;
 
-/// The ids of the lemmas that are held and have a literal, which rise, and what each costs; how many deletions there
-/// were; and how many lemmas are to be live before the next is tried.
+/// The ids of the lemmas that are held and have a literal, which rise, and what each costs; which of them were used of
+/// late; how many deletions there were; and how many lemmas are to be live before the next is tried.
 #[derive(Drop)]
 pub struct Memory {
     pub ids: Vec<u64>,
     pub costs: Vec<u32>,
+    pub uses: Uses,
     pub deletions: u64,
     pub due: usize,
 }
@@ -39,17 +41,19 @@ impl Memory {
         Memory {
             ids: Vec::new(alloc),
             costs: Vec::new(alloc),
+            uses: Uses::new(alloc),
             deletions: 0,
             due: 0,
         }
     }
 
-    /// One lemma more, of this cost.
-    pub fn note(&mut self, id: u64, cost: u32) -> Result<(), AllocError>
+    /// One lemma more, of this cost, which came from those of these hints. Linear in these.
+    pub fn note(&mut self, id: u64, cost: u32, hints: &[i64]) -> Result<(), AllocError>
         ensures ids { OnOk result (self.new.ids.items ≡ self.old.ids.items ++ id ∷ []) }
         ensures deletions { self.new.deletions ≡ self.old.deletions }
         ensures unchanged { OnErr result (self.new.ids.items ≡ self.old.ids.items) }
     {
+        self.uses.see(id, hints)?;
         self.costs.push(cost.min(MOST_COST))?;
         self.ids.push(id)?;
         Ok(())
@@ -138,12 +142,23 @@ impl Memory {
     /// How many lemmas have each cost.
     fn counts(&self, alloc: Global) -> Result<Vec<usize>, AllocError> {
         let mut counts = vec![in alloc; 0usize; MOST_COST as usize + 1]?;
-        for cost in &self.costs {
-            if let Some(count) = counts.get_mut(*cost as usize) {
+        let mut place = 0;
+        while place < self.ids.len() {
+            if let Some(count) = counts.get_mut(self.cost_now(place) as usize) {
                 *count = count.saturating_add(1);
             }
+            place += 1;
         }
         Ok(counts)
+    }
+
+    /// What the lemma at a place costs now: nothing while it is used.
+    fn cost_now(&self, place: usize) -> u32 {
+        if self.uses.are_late(entry_or(&self.ids, place, 0)) {
+            0
+        } else {
+            entry_or(&self.costs, place, 0)
+        }
     }
 
     /// The oldest lemmas that cost this or more and are not needed, at most 1,000.
@@ -177,10 +192,7 @@ impl Memory {
     fn has_from(&self, place: usize, least: u32) -> bool
         ensures { least ≡ 0 → result ≡ true }
     {
-        match self.costs.get(place) {
-            Some(cost) => *cost >= least,
-            None => true,
-        }
+        self.cost_now(place) >= least
     }
 
     /// What is left when these lemmas are deleted.
@@ -190,6 +202,7 @@ impl Memory {
         ensures ids { IfOk result (λ memory. memory.ids.items ≡ filter (λ k. not (has_id gone.now k)) self.now.ids.items) }
         ensures deletions { IfOk result (λ memory. memory.deletions ≡ self.now.deletions + 1) }
     {
+        let uses = self.uses.copy(alloc)?;
         let mut ids = Vec::new(alloc);
         let mut costs = Vec::new(alloc);
         let mut place = 0;
@@ -205,6 +218,7 @@ impl Memory {
         Ok(Memory {
             ids,
             costs,
+            uses,
             deletions: self.deletions + 1,
             due: 0,
         })

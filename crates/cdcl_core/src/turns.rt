@@ -10,7 +10,7 @@ const SHORT: u64 = 500;
 const LONG: u64 = 1000;
 
 /// In one turn of so many the order is tried whose lemmas had more literals.
-const TURNS: u64 = 16;
+const TURNS: u64 = 24;
 
 /// Over how many lemmas a mean goes.
 const LEMMAS: u64 = 1000;
