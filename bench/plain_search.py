@@ -17,7 +17,7 @@ import re
 import subprocess
 import sys
 
-CRATES = ["lrat_model", "lrat_text", "clause_store", "partial_assignment", "cdcl_core"]
+CRATES = ["lrat_model", "lrat_text", "clause_store", "partial_assignment", "search_guide", "cdcl_core"]
 # what of a crate the search uses, where that is not all
 PARTS = {"lrat_model": ["lit"], "lrat_text": ["arena", "entry", "lent", "log"]}
 ROOTS = {
@@ -84,6 +84,7 @@ mod lrat_model;
 mod lrat_text;
 mod clause_store;
 mod partial_assignment;
+mod search_guide;
 mod cdcl_core;
 use kit::*;
 

@@ -5,11 +5,9 @@ ghost use Rattle.std.specs.Prelude.{◌≡◌, ◌<◌, ◌+◌, ◌^◌, AllPai
 ghost use Rattle.cdcl_core.specs.Guides.{IsGuide};
 
 use crate::clauses::Clauses;
-use crate::entries::entry_or;
 use crate::marks::Marks;
-use crate::order::Order;
-use crate::restarts::Restarts;
 use lrat_model::Lit;
+use search_guide::{Order, Restarts, entry_or};
 use std::alloc::{AllocError, Global};
 
 const FEW_LEVELS: u32 = 3;

@@ -8,8 +8,7 @@ ghost use Rattle.lrat_model.specs.Clauses.{has_id};
 ghost use Rattle.cdcl_core.specs.Log.{least_live, most_live};
 ghost use Rattle.cdcl_core.specs.Remembering.{IsChosen};
 
-use crate::entries::entry_or;
-use crate::uses::Uses;
+use search_guide::{Uses, entry_or};
 use std::alloc::{AllocError, Global};
 
 const FEWEST: usize = 500;
@@ -142,12 +141,10 @@ impl Memory {
     /// How many lemmas have each cost.
     fn counts(&self, alloc: Global) -> Result<Vec<usize>, AllocError> {
         let mut counts = vec![in alloc; 0usize; MOST_COST as usize + 1]?;
-        let mut place = 0;
-        while place < self.ids.len() {
+        for place in 0..self.ids.len() {
             if let Some(count) = counts.get_mut(self.cost_now(place) as usize) {
                 *count = count.saturating_add(1);
             }
-            place += 1;
         }
         Ok(counts)
     }

@@ -1,5 +1,5 @@
 use Rattle.cdcl_core.specs.Searching.{HasSame, IsSearching}
-use Rattle.cdcl_core.specs.Trail.{open_count}
+use Rattle.search_guide.specs.Open.{open_count}
 use Rattle.cdcl_core.proofs.search.Search.descend.Given as goal
 
 abbrev pub invariant-turns : goal.invariant-turns

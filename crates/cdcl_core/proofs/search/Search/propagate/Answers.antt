@@ -2,7 +2,8 @@ use Rattle.std.proofs.Common.{◌≡◌, ◌+◌, ◌*◌, ◌++◌, [], ◌∙�
 use Rattle.lrat_model.specs.Literal.{Literal, Plus}
 use Rattle.cdcl_core.specs.declared.watches.Pair.{Pair}
 use Rattle.cdcl_core.specs.Search.{IsState}
-use Rattle.cdcl_core.specs.Trail.{InRange, open_count}
+use Rattle.cdcl_core.specs.Trail.{InRange}
+use Rattle.search_guide.specs.Open.{open_count}
 use Rattle.cdcl_core.specs.Watches.{AreKept, IsQueued, IsWatched}
 use Rattle.cdcl_core.proofs.OpenCounts.{open_count-append}
 use Rattle.cdcl_core.proofs.Runs.{written_back, each_id}
