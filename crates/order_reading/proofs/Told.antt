@@ -1,5 +1,5 @@
 -- What is told early.
-use Rattle.std.proofs.Common.{◌≡◌, ◌⊎◌, inl, inr, ℕ, nat_le, length, Bool, true, false, List, Option, Some, None, Result, Ok, Err, sym, ◌∙◌, ap, subst, if◌then◌else◌}
+use Rattle.std.proofs.Common.{◌≡◌, ◌⊎◌, inl, inr, ℕ, nat_le, length, Bool, true, false, List, Option, Some, None, Result, Ok, Err, ◌∙◌, ap, subst, if◌then◌else◌}
 use Rattle.fbas_model.specs.Systems.{System}
 use Rattle.node_json.specs.Configuration.{system_of}
 use Rattle.node_json.specs.declared.faults.ConfigFault.{ConfigFault}
@@ -10,12 +10,12 @@ use Rattle.cli_words.specs.declared.orders.Command.{Command}
 use Rattle.cli_words.specs.declared.orders.Command.TheVariants.{Check, CheckLrat}
 use Rattle.cli_words.specs.declared.orders.OrderFault.{OrderFault}
 use Rattle.cli_words.specs.declared.orders.OrderFault.TheVariants as fault
-use Rattle.report.specs.Lines.{Text, usage}
+use Rattle.report.specs.Lines.{Text}
 use Rattle.order_reading.specs.declared.reply.Reply.{Reply as Answer}
-use Rattle.order_reading.specs.declared.status.Status.TheVariants.{Usage, ConfigRefused}
+use Rattle.order_reading.specs.declared.status.Status.TheVariants.{ConfigRefused}
 use Rattle.order_reading.specs.declared.early.Early.{Early}
 use Rattle.order_reading.specs.declared.early.Early.TheVariants.{Told, Read, Memory}
-use Rattle.order_reading.specs.Answers.{or_words_refused, file_in, max_file, is_told, system_in, or_config_refused}
+use Rattle.order_reading.specs.Answers.{or_words_refused, refused_words, file_in, max_file, is_told, system_in, or_config_refused}
 use Rattle.order_reading.specs.Meaning.{MeansYes, OfWords, NamesAccepted, NamesVerified, YesMeans, IsCheck, IsCheckLrat, IsTold}
 
 pub YesMeans-weaker : (A B : Type 0) (e : Early) → (A → B) → YesMeans A e → YesMeans B e
@@ -62,9 +62,9 @@ accepted_by words files check m = by_command words files Check m (subst IsCheck 
 pub verified_by : (words : List (List ℕ)) (files : Files) → IsCheckLrat (order_of words) → WordsMean words files → NamesVerified words files
 verified_by words files check m = by_command words files CheckLrat m (subst IsCheckLrat m.taken check)
 
-pub words_refused : (r : Result Ordered OrderFault) (a : Answer) → (fault.Words ≡ fault.Memory) ⊎ (r ≡ Err fault.Words) → a ≡ record { status = Usage; text = usage } → or_words_refused r ≡ Err (Told a)
-words_refused r a (inl memory) said = absurd (let k = memory in cc)
-words_refused r a (inr words) said = ap or_words_refused words ∙ ap (λ (x : Answer). Err (Told x)) (sym said)
+pub words_refused : (r : Result Ordered OrderFault) (e : OrderFault) (a : Answer) → (e ≡ fault.Memory) ⊎ (r ≡ Err e) → refused_words e ≡ Told a → or_words_refused r ≡ Err (Told a)
+words_refused r e a (inl memory) said = absurd (let k = ap refused_words memory in cc)
+words_refused r e a (inr words) said = ap or_words_refused words ∙ ap (λ (x : Early). Err x) said
 
 held_within : (text : Text) (held bytes : List ℕ) (within : Bool) → (if within then Ok held else Err (Told (record { status = ConfigRefused; text = text }))) ≡ Ok bytes → Some held ≡ Some bytes
 held_within text held bytes true e = cc

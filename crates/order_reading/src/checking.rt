@@ -78,7 +78,11 @@ fn check_begun<D: Desk>(
     ensures faults { ReadFails (D.faults desk.old) (D.faults desk.new) (IsErrOf result Early.Read) }
 {
     match certificate_file::check(alloc, system, &digest(config), desk) {
-        Ok(accepted) => Ok(accept(alloc, system, &accepted)?),
+        Ok(accepted) => {
+            let reply = accept(alloc, system, &accepted);
+            drop(accepted);
+            Ok(reply?)
+        }
         Err(CertError::Read) => Err(Early::Read),
         Err(CertError::Memory) => Err(Early::Memory),
         Err(fault) => Ok(refuse(alloc, system, &fault)?),

@@ -8,7 +8,7 @@ ghost use Rattle.cli_words.specs.declared.budget.TheConstants.{MOST_BUDGET};
 ghost use Rattle.cli_words.specs.declared.organisations.TheConstants.{MOST_ORGANISATIONS};
 ghost use Rattle.report.specs.Lines.{config_refused, orgs_refused};
 ghost use Rattle.node_json.specs.Organisations.{orgs_of};
-ghost use Rattle.order_reading.specs.Answers.{words_of, asked_of, or_words_refused, order_asked, file_asked, trial_asked, config_asked, command_asked, query_asked, verify_asked, is_told, system_in, or_orgs_refused, orgs_given, FitsAsked};
+ghost use Rattle.order_reading.specs.Answers.{words_of, asked_of, or_words_refused, order_asked, refused_words, file_asked, trial_asked, config_asked, command_asked, query_asked, verify_asked, is_told, system_in, or_orgs_refused, orgs_given, FitsAsked};
 ghost use Rattle.order_reading.specs.Meaning.{HasVerified, MeansYes, OfConfig, OfFile, OfWords, YesMeans, IsTold, IsUsage};
 ghost use Rattle.order_reading.specs.Reading.{Fails, Gives, GivesReading, IsRefusal, IsAnswer};
 ghost use Rattle.order_reading.specs.Status.{is_answer};
@@ -38,6 +38,22 @@ pub enum Asked {
     Search(Search),
 }
 
+// The answer to words that are refused.
+fn refuse_words(alloc: Global, fault: OrderFault) -> Result<Reply, AllocError>
+    ensures says { IfOk result (λ a. refused_words fault ≡ Early.Told a) }
+    ensures usage { IfOk result (λ a. a.status ≡ Status.Usage) }
+{
+    match fault {
+        OrderFault::Words => says(
+            alloc,
+            Status::Usage,
+            "usage: quorum_cli COMMAND\nshow CONFIG\nclosure CONFIG --node NAME\ngreatest CONFIG [COMMON]\nintersect CONFIG CERT [COMMON] [--budget UNITS]\navailable CONFIG --set NAMES [--from NAME]\ndset CONFIG CERT --set NAMES [--from NAME] [--budget UNITS]\nblocks CONFIG --set NAMES [COMMON]\nvblocks CONFIG --node NAME --set NAMES\nsplits CONFIG CERT --set NAMES [COMMON] [--budget UNITS]\nblocking CONFIG CERT [COMMON] [--budget UNITS]\ncheck CONFIG CERT\nexport CONFIG [COMMON]\ntrial N CERT [--budget UNITS]\ncheck-lrat CONFIG LRAT [COMMON]\nCOMMON: --from NAME --faulty NAMES --orgs ORGS --faulty-orgs IDS\n",
+        ),
+        OrderFault::SamePath => says(alloc, Status::Usage, "usage same-path\n"),
+        OrderFault::Memory => Err(AllocError),
+    }
+}
+
 // The order of the words, or their refusal.
 fn order_in(alloc: Global, words: &[String]) -> Result<Order, Early>
     ensures ok { IfOk result (λ o. order_of (words_of words.now) ≡ Ok (order_view o)) }
@@ -48,17 +64,7 @@ fn order_in(alloc: Global, words: &[String]) -> Result<Order, Early>
 {
     match cli_words::order(alloc, words) {
         Ok(order) => Ok(order),
-        Err(OrderFault::Words) => Err(Early::Told(says(
-            alloc,
-            Status::Usage,
-            "usage: quorum_cli COMMAND\nshow CONFIG\nclosure CONFIG --node NAME\ngreatest CONFIG [COMMON]\nintersect CONFIG CERT [COMMON] [--budget UNITS]\navailable CONFIG --set NAMES [--from NAME]\ndset CONFIG CERT --set NAMES [--from NAME] [--budget UNITS]\nblocks CONFIG --set NAMES [COMMON]\nvblocks CONFIG --node NAME --set NAMES\nsplits CONFIG CERT --set NAMES [COMMON] [--budget UNITS]\nblocking CONFIG CERT [COMMON] [--budget UNITS]\ncheck CONFIG CERT\nexport CONFIG [COMMON]\ntrial N CERT [--budget UNITS]\ncheck-lrat CONFIG LRAT [COMMON]\nCOMMON: --from NAME --faulty NAMES --orgs ORGS --faulty-orgs IDS\n",
-        )?)),
-        Err(OrderFault::SamePath) => Err(Early::Told(says(
-            alloc,
-            Status::Usage,
-            "usage same-path\n",
-        )?)),
-        Err(OrderFault::Memory) => Err(Early::Memory),
+        Err(fault) => Err(Early::Told(refuse_words(alloc, fault)?)),
     }
 }
 
@@ -159,8 +165,13 @@ fn ask<D: Desk>(
     ensures reads { IsTrue D.tells → OnlyReads (D.state desk.old) (D.state desk.new) }
     ensures faults { ReadFails (D.faults desk.old) (D.faults desk.new) (IsErrOf result Early.Read) }
 {
-    let orgs = orgs_for(alloc, &system, desk, &order.orgs)?;
-    ask_about(alloc, query, order, system, config, &orgs)
+    match orgs_for(alloc, &system, desk, &order.orgs) {
+        Ok(orgs) => ask_about(alloc, query, order, system, config, &orgs),
+        Err(early) => {
+            drop(system);
+            Err(early)
+        }
+    }
 }
 
 // What an order with this goal asks over a configuration that was read.
@@ -229,12 +240,14 @@ fn command<D: Desk>(
 {
     match order.command {
         Command::Check => {
-            let reply = check(alloc, &system, config, desk, &order.cert)?;
-            Err(Early::Told(reply))
+            let reply = check(alloc, &system, config, desk, &order.cert);
+            drop(system);
+            Err(Early::Told(reply?))
         }
         Command::CheckLrat => {
-            let reply = verify_by(alloc, order, &system, desk)?;
-            Err(Early::Told(reply))
+            let reply = verify_by(alloc, order, &system, desk);
+            drop(system);
+            Err(Early::Told(reply?))
         }
         Command::Query(query) => ask(alloc, query, order, system, config, desk),
         Command::Search(goal) => seek(alloc, goal, order, system, config, desk),
@@ -288,12 +301,13 @@ fn over_file<D: Desk>(alloc: Global, order: &Order, desk: &mut D) -> Result<Aske
 }
 
 // What a trial asks. Its configuration's text is in no file.
-fn over_trial(alloc: Global, order: &Order) -> Result<Asked, AllocError>
+fn over_trial(alloc: Global, order: &Order) -> Result<Asked, Early>
     requires few { order.now.budget ≤ MOST_BUDGET }
     requires some { 1 ≤ order.now.trial }
     requires organisations { order.now.trial ≤ MOST_ORGANISATIONS }
     ensures gives { IfOk result (λ asked. trial_asked (order_view order.now) ≡ Ok asked) }
     ensures fits { IfOk result FitsAsked }
+    ensures failing { IfErr result (λ e. e ≡ Early.Memory) }
 {
     let Trial { text, system } = Trial::of(alloc, order.trial)?;
     let search = trial_search(alloc, order, system, text.as_bytes())?;
@@ -316,7 +330,7 @@ fn carry_out<D: Desk>(alloc: Global, order: &Order, desk: &mut D) -> Result<Aske
     if order.command.has_configuration() {
         return over_file(alloc, order, desk);
     }
-    Ok(over_trial(alloc, order)?)
+    over_trial(alloc, order)
 }
 
 /// What the words ask, which begin with the program's name, or the early answer.
@@ -335,5 +349,8 @@ pub fn ask_by_words<D: Desk>(alloc: Global, words: &[String], desk: &mut D) -> R
     ensures faults { ReadFails (D.faults desk.old) (D.faults desk.new) (IsErrOf result Early.Read) }
 {
     let order = order_in(alloc, words)?;
-    carry_out(alloc, &order, desk)
+    let asked = carry_out(alloc, &order, desk);
+    // let go as a whole: at the end of the scope it would be part by part
+    drop(order);
+    asked
 }

@@ -3,7 +3,6 @@ use Rattle.std.proofs.lemmas.Bool.{false≢true}
 use Rattle.cli_words.specs.Order.{has_configuration}
 use Rattle.cli_words.specs.declared.orders.Command.TheVariants.{Search as ByCommand}
 use Rattle.cli_words.specs.declared.orders.Goal.{Goal}
-use Rattle.order_reading.specs.declared.searches.Search.{Search}
 use Rattle.order_reading.specs.Searches.{FitsSearch}
 use Rattle.order_reading.proofs.searches.search_asked.Goals as goal
 
