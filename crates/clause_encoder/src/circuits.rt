@@ -1,5 +1,5 @@
 //! The circuits of the nodes. Many nodes of a network have equal quorum sets: each different circuit is kept once.
-ghost use Rattle.std.specs.Prelude.{◌≡◌, ℕ, ◌<◌, length, slice_index_or, IfOk};
+ghost use Rattle.std.specs.Prelude.{◌≡◌, ℕ, ◌<◌, [], All, length, slice_index_or, IfOk, OnOk};
 ghost use Rattle.fbas_model.specs.Nodes.{members, ◌∈◌};
 ghost use Rattle.threshold_circuit.specs.Views.{circuit_view};
 ghost use Rattle.clause_encoder.specs.Formula.{circuit_at};
@@ -55,11 +55,7 @@ impl Circuits {
     {
         let mut different = IndexSet::new(alloc);
         let mut kinds = Vec::new(alloc);
-        for v in 0..system.len() {
-            let circuit = node_circuit(alloc, system, faulty, greatest, v)?;
-            let (kind, _) = different.insert_full(circuit)?;
-            kinds.push(kind as u32)?;
-        }
+        add_nodes(alloc, system, faulty, greatest, &mut different, &mut kinds)?;
         Ok(Circuits { different, kinds })
     }
 
@@ -86,4 +82,30 @@ impl Circuits {
     {
         &self.different.as_slice()[kind]
     }
+}
+
+/// Adds each node's kind, and the circuits that no node before has.
+fn add_nodes(
+    alloc: Global,
+    system: &System,
+    faulty: &NodeSet,
+    greatest: &NodeSet,
+    different: &mut IndexSet<Circuit>,
+    kinds: &mut Vec<u32>,
+) -> Result<(), AllocError>
+    requires faulty { length faulty.now ≡ length system.now.sets }
+    requires greatest { length greatest.now ≡ length system.now.sets }
+    requires no_circuit { different.old.keys ≡ [] }
+    requires no_kind { kinds.old.items ≡ [] }
+    ensures n { OnOk result (length kinds.new.items ≡ length system.now.sets) }
+    ensures below { OnOk result (All (λ k. k < length different.new.keys) kinds.new.items) }
+    ensures circuits { OnOk result ((v : ℕ) → v ∈ members greatest.now → circuit_in (record { different = different.new.keys; kinds = kinds.new.items }) v ≡ circuit_at system.now.sets faulty.now greatest.now v) }
+    ensures writable { OnOk result (AreWritable (length system.now.sets) different.new.keys) }
+{
+    for v in 0..system.len() {
+        let circuit = node_circuit(alloc, system, faulty, greatest, v)?;
+        let (kind, _) = different.insert_full(circuit)?;
+        kinds.push(kind as u32)?;
+    }
+    Ok(())
 }

@@ -1,5 +1,5 @@
 //! How many variables a formula has, before anything of it is written.
-ghost use Rattle.std.specs.Prelude.{◌≡◌, ◌+◌, ◌*◌, ◌<◌, ◌≤◌, ◌^◌, All, IfOk, OnOk, length};
+ghost use Rattle.std.specs.Prelude.{◌≡◌, ◌+◌, ◌*◌, ◌<◌, ◌≤◌, ◌^◌, [], All, IfOk, OnOk, length};
 ghost use Rattle.fbas_model.specs.declared.TheConstants.{MOST_NODES, MOST_ENTRIES};
 ghost use Rattle.threshold_circuit.specs.Circuits.{HasThresholds, all_inputs};
 ghost use Rattle.threshold_circuit.specs.Gates.{gate_variables};
@@ -79,6 +79,31 @@ fn count_node(
     Ok(free)
 }
 
+/// The same of these nodes in order, behind which no gate stands yet.
+fn count_nodes(
+    alloc: Global,
+    shared: &mut SharedGates,
+    known: &mut Known,
+    next: u64,
+    nodes: &[u32],
+    circuits: &Circuits,
+) -> Result<u64, AllocError>
+    requires no_gates { gates_in shared.old ≡ [] }
+    requires same_kinds { length known.old ≡ length circuits.now.different }
+    requires known { AreKnown (gates_in shared.old) circuits.now known.old }
+    requires nodes { All (λ v. v < length circuits.now.kinds) nodes.now }
+    requires writable { AreWritable (length circuits.now.kinds) circuits.now.different }
+    requires room { next + variables_of (circuit_in circuits.now) nodes.now < 2 ^ 63 }
+    ensures { IfOk result (λ n. n ≡ (side_clauses shared.old.version (λ v. v) (circuit_in circuits.now) (side_from next) nodes.now).after.next) }
+{
+    let mut free = next;
+    for node in nodes {
+        let kind = circuits.kind(*node);
+        free = count_node(alloc, shared, known, free, kind, circuits)?;
+    }
+    Ok(free)
+}
+
 /// The same of a side whose gates begin at `next`: linear in the nodes and in the entries of the different circuits, on
 /// average.
 fn count_side(
@@ -95,12 +120,7 @@ fn count_side(
 {
     let mut shared = SharedGates::new(alloc, version);
     let mut known = Known::new(alloc, circuits.len())?;
-    let mut free = next;
-    for node in nodes {
-        let kind = circuits.kind(*node);
-        free = count_node(alloc, &mut shared, &mut known, free, kind, circuits)?;
-    }
-    Ok(free)
+    count_nodes(alloc, &mut shared, &mut known, next, nodes, circuits)
 }
 
 /// How many variables the formula over these members has: linear in the members and in the entries of their different

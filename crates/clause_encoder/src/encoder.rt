@@ -93,6 +93,35 @@ fn encode_within(
     Ok(clauses.into_store())
 }
 
+/// The formula over these nodes and circuits, and what its variables stand for: O(n and the formula).
+fn encode_over(
+    alloc: Global,
+    version: Version,
+    greatest: &NodeSet,
+    n: u32,
+    nodes: &[u32],
+    circuits: &Circuits,
+) -> Result<(Store, VarMap), EncodeError>
+    requires n { n ≡ length greatest.now }
+    requires few { n ≤ MOST_NODES }
+    requires nodes { nodes.now ≡ listed_from 0 greatest.now }
+    requires same_n { length circuits.now.kinds ≡ n }
+    requires writable { AreWritable n circuits.now.different }
+    ensures store { IfOk result (λ r. r.0 ≡ formula_database (formula_over version (side_a greatest.now) (side_b greatest.now) (1 + size greatest.now + size greatest.now) (circuit_in circuits.now) nodes.now).clauses) }
+    ensures variables { IfOk result (λ r. (r.1.greatest ≡ greatest.now) × (r.1.count + 1 ≡ (formula_over version (λ v. v) (λ v. v) (1 + length nodes.now + length nodes.now) (circuit_in circuits.now) nodes.now).after.next)) }
+    ensures small { IfOk result (λ r. r.1.count ≤ MOST_VARS) }
+    ensures few { IfOk result (λ r. r.0.last ≤ MOST_CLAUSES) }
+    ensures too_large { (vars : ℕ) → result ≡ Err (TooLarge vars) → (vars + 1 ≡ (formula_over version (λ v. v) (λ v. v) (1 + length nodes.now + length nodes.now) (circuit_in circuits.now) nodes.now).after.next) × (MOST_VARS < vars) }
+{
+    let vars = count_vars(alloc, version, nodes, circuits)?;
+    if vars > MOST_VARS {
+        return Err(EncodeError::TooLarge(vars));
+    }
+    let store = encode_within(alloc, version, greatest, n, vars as u32, nodes, circuits)?;
+    let map = VarMap::of(greatest, vars);
+    Ok((store, map))
+}
+
 /// The intersection formula of a system after deletion of its faulty nodes, and what its variables stand for. It is
 /// satisfiable exactly where two quorums share no node; a satisfying assignment tells two such quorums, and every two such
 /// quorums are told by one.
@@ -130,13 +159,7 @@ pub fn encode(
     let n = system.len();
     let nodes = members_of(alloc, greatest)?;
     let circuits = Circuits::of(alloc, system, faulty, greatest)?;
-    let vars = count_vars(alloc, version, &nodes, &circuits)?;
-    if vars > MOST_VARS {
-        return Err(EncodeError::TooLarge(vars));
-    }
-    let store = encode_within(alloc, version, greatest, n, vars as u32, &nodes, &circuits)?;
-    let map = VarMap::of(greatest, vars);
-    Ok((store, map))
+    encode_over(alloc, version, greatest, n, &nodes, &circuits)
 }
 
 /// In both versions: where the greatest quorum is that which the deletion of the faulty nodes leaves, no assignment makes

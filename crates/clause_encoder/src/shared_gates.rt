@@ -60,7 +60,8 @@ impl SharedGates {
         match self.version {
             Version::One => Ok(()),
             Version::Two => {
-                self.gates.insert(circuit.copy(alloc)?, variable)?;
+                let key = circuit.copy(alloc)?;
+                self.gates.insert(key, variable)?;
                 Ok(())
             }
         }

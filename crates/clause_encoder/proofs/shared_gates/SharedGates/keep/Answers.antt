@@ -12,11 +12,11 @@ use Rattle.clause_encoder.proofs.shared_gates.SharedGates.keep.Goals as goal
 
 pub returns-in_ok-insert-in-Two-clause-gates : goal.returns-in_ok-insert-in-Two-clause-gates
 returns-in_ok-insert-in-Two-clause-gates c =
-    let key = c.in_ok-copy-in-Two.field-0 in
+    let key = c.in_ok-key-in-Two.key in
     let map = c.args.self.now.gates in
     let gates = gates_in c.args.self.now in
-    let none : get own.ghosts.eq map key ≡ None = among_is key map.entries ∙ (ap (variable_among gates) c.in_ok-copy-in-Two.ensures ∙ c.requires) in
+    let none : get own.ghosts.eq map key ≡ None = among_is key map.entries ∙ (ap (variable_among gates) c.in_ok-key-in-Two.ensures ∙ c.requires) in
     ap gates_of (c.in_ok-insert-in-Two.ensures.entries ∙ insert_entry-new own.ghosts.eq map key c.args.variable none)
     ∙ gates_more map.entries key c.args.variable
-    ∙ ap (λ (d : Circuit). gates ++ record { circuit = d; variable = c.args.variable } ∷ []) c.in_ok-copy-in-Two.ensures
+    ∙ ap (λ (d : Circuit). gates ++ record { circuit = d; variable = c.args.variable } ∷ []) c.in_ok-key-in-Two.ensures
     ∙ ap (λ (v : Version). one_gate_more v gates (circuit_view c.args.circuit.now) c.args.variable) (sym c.in-Two.is)

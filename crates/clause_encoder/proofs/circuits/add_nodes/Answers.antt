@@ -6,10 +6,10 @@ use Rattle.threshold_circuit.specs.declared.Circuit.{Circuit}
 use Rattle.threshold_circuit.specs.contracts.CircuitPartialEq.TheImpl as own
 use Rattle.clause_encoder.specs.Formula.{circuit_at}
 use Rattle.clause_encoder.proofs.CircuitTables.{filled_none, filled_more}
-use Rattle.clause_encoder.proofs.circuits.Circuits.of.Goals as goal
+use Rattle.clause_encoder.proofs.circuits.add_nodes.Goals as goal
 
 pub loop-v-init : goal.loop-v-init
-loop-v-init c = filled_none (length c.args.system.now.sets) (members c.args.greatest.now) (circuit_at c.args.system.now.sets c.args.faulty.now c.args.greatest.now) _ _ c.new-different.ensures.empty c.new-kinds.ensures.items
+loop-v-init c = filled_none (length c.args.system.now.sets) (members c.args.greatest.now) (circuit_at c.args.system.now.sets c.args.faulty.now c.args.greatest.now) _ _ c.requires.no_circuit c.requires.no_kind
 
 pub loop-v-preserved : goal.loop-v-preserved
 loop-v-preserved c =
