@@ -33,6 +33,10 @@ nothing_kept es c none = sym (ap (joined es) none ∙ joined_end es)
 pub always_kept : (es : Inputs) (c : Circuit) → c ≡ Always → es ≡ joined es (undecided (input (circuit_view c) end_of_gate))
 always_kept es c is = nothing_kept es c (ap (λ (d : Circuit). undecided (input (circuit_view d) end_of_gate)) is)
 
+-- an input that is always true lowers the threshold by one
+pub always_one : (c : Circuit) → c ≡ Always → always_count (input (circuit_view c) end_of_gate) ≡ 1
+always_one c is = ap (λ (d : Circuit). always_count (input (circuit_view d) end_of_gate)) is
+
 pub never_kept : (es : Inputs) (c : Circuit) → c ≡ Never → es ≡ joined es (undecided (input (circuit_view c) end_of_gate))
 never_kept es c is = nothing_kept es c (ap (λ (d : Circuit). undecided (input (circuit_view d) end_of_gate)) is)
 
