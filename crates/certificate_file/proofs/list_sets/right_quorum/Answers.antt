@@ -13,3 +13,6 @@ returns-clause-ok c =
     let part = c.args.listing.now.part in
     let counted = by_counting part.system.sets part.faulty c.args.set.now c.is_quorum.result c.requires.same_faulty c.requires.same_n c.is_quorum.ensures in
     rw (sym counted ∙ c.if-not-is_quorum.false) refl
+
+pub returns-then-not-is_quorum-clause-ok : goal.returns-then-not-is_quorum-clause-ok
+returns-then-not-is_quorum-clause-ok c = tt

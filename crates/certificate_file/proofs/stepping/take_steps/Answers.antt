@@ -4,11 +4,12 @@ use Rattle.desk_io.specs.declared.Which.TheVariants.{Cert}
 use Rattle.fbas_model.specs.Systems.{System}
 use Rattle.lrat_checker.specs.Checking.{Stepping}
 use Rattle.cert_lines.specs.Lines.{lines_of}
-use Rattle.certificate_file.specs.Acceptance.{check_lines}
+use Rattle.certificate_file.specs.Acceptance.{and_then, take_line, check_lines}
 use Rattle.certificate_file.specs.Known.{IsKnown}
 use Rattle.certificate_file.specs.Streamed.{place_of, end_of, checking_of}
 use Rattle.certificate_file.specs.declared.places.State.TheVariants.{Going}
-use Rattle.certificate_file.proofs.Steps.{check_lines-taken, check_lines-refused}
+use Rattle.certificate_file.proofs.Desks.{rest_then, plain_then, fails_then, fails_on, fails_unread, same_fault, not_read}
+use Rattle.certificate_file.proofs.Steps.{check_lines-line, check_lines-fault, check_lines-taken, check_lines-refused}
 use Rattle.certificate_file.proofs.StreamLaws.{read_line, known_after}
 use Rattle.certificate_file.proofs.stepping.take_steps.Goals as goal
 
@@ -17,24 +18,91 @@ returns-in-Some-clause-known g c = λ f k.
     let same = rw c.in-Some.is at c.in_ok-text.ensures.same in
     subst (λ (x : Stepping). IsKnown f (place_of c.args.proof.now (checking_of x) c.steps.units)) (sym same) (c.steps.invariant.known f k)
 
-pub returns-in_err-take_read-in-None-clause-err : goal.returns-in_err-take_read-in-None-clause-err
-returns-in_err-take_read-in-None-clause-err g c =
+pub returns-in-Some-clause-text : goal.returns-in-Some-clause-text
+returns-in-Some-clause-text g c = λ tells f d.
+    let p = c.args.proof.now in
+    let l = c.steps.lines.number in
+    let place = place_of p (checking_of c.steps.checker) c.steps.units in
+    let ls = lines_of (c.steps.lines.unread ++ left_of Cert (g.D.Desk.state c.steps.desk)) in
+    let more = lines_of (c.line_or_step.new.lines.unread ++ left_of Cert (g.D.Desk.state c.line_or_step.new.desk)) in
+    let same = rw c.in-Some.is at c.in_ok-text.ensures.same in
+    let told = rw c.in-Some.is at c.in_ok-text.ensures.text in
+    c.steps.invariant.same tells f d
+    ∙ check_lines-line f d l place ls more c.in-Some.text.items (told tells)
+    ∙ ap (λ (n : ℕ). and_then (λ s. check_lines f d n s more) (take_line f d place l c.in-Some.text.items)) (sym c.in_ok-text.ensures.number)
+    ∙ ap (λ (n : ℕ). and_then (λ s. check_lines f d c.line_or_step.new.lines.number s more) (take_line f d place n c.in-Some.text.items)) (sym c.number-line.ensures)
+    ∙ ap (λ (x : Stepping). and_then (λ s. check_lines f d c.line_or_step.new.lines.number s more) (take_line f d (place_of p (checking_of x) c.steps.units) c.number-line.result c.in-Some.text.items)) (sym same)
+
+pub returns-in-Some-clause-rest : goal.returns-in-Some-clause-rest
+returns-in-Some-clause-rest g c = λ tells.
+    rest_then (g.D.Desk.state c.args.desk.now) (g.D.Desk.state c.steps.desk) (g.D.Desk.state c.line_or_step.new.desk) (c.steps.invariant.rest tells) (c.in_ok-text.ensures.rest tells)
+
+pub returns-in-Some-clause-faults : goal.returns-in-Some-clause-faults
+returns-in-Some-clause-faults g c =
+    fails_then (g.D.Desk.faults c.args.desk.now) (g.D.Desk.faults c.steps.desk) (g.D.Desk.faults c.line_or_step.new.desk) _ _ c.steps.invariant.writes c.steps.invariant.reads (λ is. absurd (not_read is)) (λ is. absurd (not_read is)) c.in_ok-text.ensures.faults
+
+pub returns-in_err-text : goal.returns-in_err-text
+returns-in_err-text g c =
+    let p = c.args.proof.now in
+    let place = place_of p (checking_of c.steps.checker) c.steps.units in
+    let ls = lines_of (c.steps.lines.unread ++ left_of Cert (g.D.Desk.state c.steps.desk)) in
+    let so_far = c.steps.invariant in
+    let failed = c.in_err-text.ensures in
+    let e = c.in_err-text.field-0.0 in
+    let r : c.from_residual.result ≡ Err e = search rules in
+    rw r (record {
+      closed = tt;
+      known = tt;
+      shown = λ is. absurd cc;
+      text = tt;
+      end = λ is. absurd cc;
+      few = tt;
+      number = tt;
+      taken = tt;
+      err = λ tells. elim (failed.err tells) [
+        | inl memory ↦ inl memory
+        | inr other ↦ elim other [
+          | inl read ↦ inr (inl read)
+          | inr fault ↦ inr (inr (λ f d. so_far.same tells f d ∙ check_lines-fault f d c.steps.lines.number place ls e fault))
+        ]
+      ];
+      plain = λ is tells plain. failed.plain (same_fault e is) tells (plain_then (g.D.Desk.state c.args.desk.now) (g.D.Desk.state c.steps.desk) (so_far.rest tells) plain);
+      rest = λ tells. rest_then (g.D.Desk.state c.args.desk.now) (g.D.Desk.state c.steps.desk) (g.D.Desk.state c.line_or_step.new.desk) (so_far.rest tells) (failed.rest tells);
+      faults = fails_on (g.D.Desk.faults c.args.desk.now) (g.D.Desk.faults c.steps.desk) (g.D.Desk.faults c.line_or_step.new.desk) e so_far.writes so_far.reads failed.faults;
+    })
+
+pub returns-in_err-take_read-in-None : goal.returns-in_err-take_read-in-None
+returns-in_err-take_read-in-None g c =
     let p = c.args.proof.now in
     let l = c.steps.lines.number in
     let place = place_of p (checking_of c.steps.checker) c.steps.units in
     let ls = lines_of (c.steps.lines.unread ++ left_of Cert (g.D.Desk.state c.steps.desk)) in
     let more = lines_of (c.line_or_step.new.lines.unread ++ left_of Cert (g.D.Desk.state c.line_or_step.new.desk)) in
     let told = c.in_ok-text.ensures.step (rw c.in-None.is refl) in
+    let failed = c.in_err-take_read-in-None.ensures in
     let e = c.in_err-take_read-in-None.field-0.0 in
     let r : c.from_residual-in_err-take_read-in-None.result ≡ Err e = search rules in
-    rw r (λ tells. elim c.in_err-take_read-in-None.ensures.err [
-      | inl memory ↦ inl memory
-      | inr fault ↦ inr (inr (λ f d.
-          c.steps.invariant.same tells f d
-          ∙ check_lines-refused f d l place ls more told.0 e (told.2 tells)
-          (read_line f d p c.is_part-is_part.result c.steps.checker c.line_or_step.new.checker c.steps.units l c.number-line.result c.line_or_step.new.reader.words told.0 (Err e)
-          c.in_ok-text.ensures.rule c.in_ok-text.ensures.vars c.in_ok-text.ensures.database c.number-line.ensures c.is_part-is_part.ensures told.1 told.3 fault)))
-    ])
+    rw r (record {
+      closed = tt;
+      known = tt;
+      shown = λ is. absurd cc;
+      text = tt;
+      end = λ is. absurd cc;
+      few = tt;
+      number = tt;
+      taken = tt;
+      err = λ tells. elim failed.err [
+        | inl memory ↦ inl memory
+        | inr fault ↦ inr (inr (λ f d.
+            c.steps.invariant.same tells f d
+            ∙ check_lines-refused f d l place ls more told.0 e (told.2 tells)
+            (read_line f d p c.is_part-is_part.result c.steps.checker c.line_or_step.new.checker c.steps.units l c.number-line.result c.line_or_step.new.reader.words told.0 (Err e)
+            c.in_ok-text.ensures.rule c.in_ok-text.ensures.vars c.in_ok-text.ensures.database c.number-line.ensures c.is_part-is_part.ensures told.1 told.3 fault)))
+      ];
+      plain = λ is. absurd (failed.unread (same_fault e is));
+      rest = λ tells. rest_then (g.D.Desk.state c.args.desk.now) (g.D.Desk.state c.steps.desk) (g.D.Desk.state c.line_or_step.new.desk) (c.steps.invariant.rest tells) (c.in_ok-text.ensures.rest tells);
+      faults = fails_unread (g.D.Desk.faults c.args.desk.now) (g.D.Desk.faults c.steps.desk) (g.D.Desk.faults c.line_or_step.new.desk) _ e c.steps.invariant.writes c.steps.invariant.reads c.in_ok-text.ensures.faults failed.unread;
+    })
 
 pub steps-preserved : goal.steps-preserved
 steps-preserved g c =
@@ -58,9 +126,9 @@ steps-preserved g c =
           c.steps.invariant.same tells f d
           ∙ check_lines-taken f d l place ls more told.0 next (told.2 tells) (took f d)
           ∙ ap (λ (x : ℕ). check_lines f d x next more) (sym c.in_ok-text.ensures.number);
-      rest = search rules;
-      writes = search rules;
-      reads = search rules;
+      rest = λ tells. rest_then (g.D.Desk.state c.args.desk.now) (g.D.Desk.state c.steps.desk) (g.D.Desk.state c.line_or_step.new.desk) (c.steps.invariant.rest tells) (c.in_ok-text.ensures.rest tells);
+      writes = c.in_ok-text.ensures.faults.writes ∙ c.steps.invariant.writes;
+      reads = c.in_ok-text.ensures.faults.none not_read ∙ c.steps.invariant.reads;
     }
 
 pub returns-in-Refuted-clause-shown : goal.returns-in-Refuted-clause-shown
@@ -87,3 +155,11 @@ returns-in-Refuted-clause-end g c = λ _ tells f d.
     (read_line f d p c.is_part-is_part.result c.steps.checker c.line_or_step.new.checker c.steps.units l c.number-line.result c.line_or_step.new.reader.words told.0 _
     c.in_ok-text.ensures.rule c.in_ok-text.ensures.vars c.in_ok-text.ensures.database c.number-line.ensures c.is_part-is_part.ensures told.1 told.3 came)
     ∙ ap (λ (x : ℕ). check_lines f d x (Going (end_of p)) more) (sym c.in_ok-text.ensures.number)
+
+pub returns-in-Refuted-clause-rest : goal.returns-in-Refuted-clause-rest
+returns-in-Refuted-clause-rest g c = λ tells.
+    rest_then (g.D.Desk.state c.args.desk.now) (g.D.Desk.state c.steps.desk) (g.D.Desk.state c.line_or_step.new.desk) (c.steps.invariant.rest tells) (c.in_ok-text.ensures.rest tells)
+
+pub returns-in-Refuted-clause-faults : goal.returns-in-Refuted-clause-faults
+returns-in-Refuted-clause-faults g c =
+    fails_then (g.D.Desk.faults c.args.desk.now) (g.D.Desk.faults c.steps.desk) (g.D.Desk.faults c.line_or_step.new.desk) _ _ c.steps.invariant.writes c.steps.invariant.reads (λ is. absurd (not_read is)) (λ is. absurd (not_read is)) c.in_ok-text.ensures.faults

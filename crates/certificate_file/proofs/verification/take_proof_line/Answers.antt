@@ -8,22 +8,35 @@ use Rattle.certificate_file.specs.Streamed.{checking_of}
 use Rattle.certificate_file.specs.Known.{AreSteps}
 use Rattle.certificate_file.specs.Verification.{after_lemma, proof_lines}
 use Rattle.certificate_file.proofs.VerificationLaws.{line_known, proof_lines-taken, proof_lines-refused, proof_lines-ended, proof_lines-bad, proof_line-read, proof_line-passed}
+use Rattle.certificate_file.proofs.Desks.{fails_as, fails_on, fails_unread, same_fault, not_read}
 use Rattle.certificate_file.proofs.verification.take_proof_line.Goals as goal
 
-pub returns-in_err-proof_line-clause-err : goal.returns-in_err-proof_line-clause-err
-returns-in_err-proof_line-clause-err g c =
+pub returns-in_err-proof_line : goal.returns-in_err-proof_line
+returns-in_err-proof_line g c =
     let l = c.args.lines.now.number in
     let now = checking_of c.args.checker.now in
     let texts = texts_of (c.args.lines.now.unread ++ left_of Cert (g.D.Desk.state c.args.desk.now)) in
+    let failed = c.in_err-proof_line.ensures in
     let e = c.in_err-proof_line.field-0.0 in
     let r : c.from_residual.result ≡ Err e = search rules in
-    rw r (λ tells. elim (c.in_err-proof_line.ensures.err tells) [
-      | inl memory ↦ inl memory
-      | inr other ↦ elim other [
-        | inl read ↦ inr (inl read)
-        | inr bad ↦ inr (inr (proof_lines-bad l now texts e bad))
-      ]
-    ])
+    rw r (record {
+      closed = tt;
+      known = tt;
+      ok = tt;
+      few = tt;
+      number = tt;
+      taken = tt;
+      err = λ tells. elim (failed.err tells) [
+        | inl memory ↦ inl memory
+        | inr other ↦ elim other [
+          | inl read ↦ inr (inl read)
+          | inr bad ↦ inr (inr (proof_lines-bad l now texts e bad))
+        ]
+      ];
+      plain = λ is. failed.plain (same_fault e is);
+      rest = failed.rest;
+      faults = fails_on (g.D.Desk.faults c.args.desk.now) (g.D.Desk.faults c.args.desk.now) (g.D.Desk.faults c.proof_line.new.desk) e refl refl failed.faults;
+    })
 
 pub returns-in-End-clause-err : goal.returns-in-End-clause-err
 returns-in-End-clause-err g c = λ tells.
@@ -33,22 +46,35 @@ returns-in-End-clause-err g c = λ tells.
     let reads = c.in_ok-proof_line.ensures.end (rw c.in-End.is refl) tells in
     inr (inr (proof_lines-ended l now texts reads ∙ ap (λ (n : ℕ). Err (NotRefuted n)) (sym c.number-line.ensures)))
 
-pub returns-in_err-progress-in-Step-clause-err : goal.returns-in_err-progress-in-Step-clause-err
-returns-in_err-progress-in-Step-clause-err g c =
+pub returns-in_err-progress-in-Step : goal.returns-in_err-progress-in-Step
+returns-in_err-progress-in-Step g c =
     let l = c.args.lines.now.number in
     let now = checking_of c.args.checker.now in
     let texts = texts_of (c.args.lines.now.unread ++ left_of Cert (g.D.Desk.state c.args.desk.now)) in
     let more = texts_of (c.proof_line.new.lines.unread ++ left_of Cert (g.D.Desk.state c.proof_line.new.desk)) in
-    let told = c.in_ok-proof_line.ensures.step (rw c.in-Step.is refl) in
+    let read = c.in_ok-proof_line.ensures in
+    let told = read.step (rw c.in-Step.is refl) in
+    let failed = c.in_err-progress-in-Step.ensures in
     let e = c.in_err-progress-in-Step.field-0.0 in
     let r : c.from_residual-in_err-progress-in-Step.result ≡ Err e = search rules in
-    rw r (λ tells. elim c.in_err-progress-in-Step.ensures.err [
-      | inl memory ↦ inl memory
-      | inr fault ↦ inr (inr (
-          proof_lines-refused l now texts more told.0 e (told.2 tells)
-          (proof_line-read c.args.checker.now c.proof_line.new.checker l c.number-line.result c.proof_line.new.reader.words told.0 (Err e)
-          c.in_ok-proof_line.ensures.rule c.in_ok-proof_line.ensures.vars c.in_ok-proof_line.ensures.database c.number-line.ensures told.1 told.3 fault)))
-    ])
+    rw r (record {
+      closed = tt;
+      known = tt;
+      ok = tt;
+      few = tt;
+      number = tt;
+      taken = tt;
+      err = λ tells. elim failed.err [
+        | inl memory ↦ inl memory
+        | inr fault ↦ inr (inr (
+            proof_lines-refused l now texts more told.0 e (told.2 tells)
+            (proof_line-read c.args.checker.now c.proof_line.new.checker l c.number-line.result c.proof_line.new.reader.words told.0 (Err e)
+            read.rule read.vars read.database c.number-line.ensures told.1 told.3 fault)))
+      ];
+      plain = λ is. absurd (failed.unread (same_fault e is));
+      rest = read.rest;
+      faults = fails_unread (g.D.Desk.faults c.args.desk.now) (g.D.Desk.faults c.args.desk.now) (g.D.Desk.faults c.proof_line.new.desk) _ e refl refl read.faults failed.unread;
+    })
 
 pub returns-in-Passed-clause-ok : goal.returns-in-Passed-clause-ok
 returns-in-Passed-clause-ok g c = λ tells.
@@ -87,3 +113,36 @@ returns-in_ok-progress-in-Step-clause-known g c = λ f h k.
     line_known f h l (checking_of c.args.checker.now) told.0 (after_lemma (checking_of c.finish.new.checker) c.in_ok-progress-in-Step.progress) k
     (proof_line-read c.args.checker.now c.proof_line.new.checker l c.number-line.result c.proof_line.new.reader.words told.0 _
     c.in_ok-proof_line.ensures.rule c.in_ok-proof_line.ensures.vars c.in_ok-proof_line.ensures.database c.number-line.ensures told.1 told.3 c.in_ok-progress-in-Step.ensures.ok)
+
+pub returns-in-End-clause-faults : goal.returns-in-End-clause-faults
+returns-in-End-clause-faults g c = fails_as (g.D.Desk.faults c.args.desk.now) (g.D.Desk.faults c.proof_line.new.desk) _ _ (λ is. absurd (not_read is)) (λ is. absurd cc) c.in_ok-proof_line.ensures.faults
+
+pub returns-in-Passed-clause-faults : goal.returns-in-Passed-clause-faults
+returns-in-Passed-clause-faults g c = fails_as (g.D.Desk.faults c.args.desk.now) (g.D.Desk.faults c.proof_line.new.desk) _ _ (λ is. absurd (not_read is)) (λ is. absurd (not_read is)) c.in_ok-proof_line.ensures.faults
+
+pub returns-in_ok-progress-in-Step-clause-faults : goal.returns-in_ok-progress-in-Step-clause-faults
+returns-in_ok-progress-in-Step-clause-faults g c = fails_as (g.D.Desk.faults c.args.desk.now) (g.D.Desk.faults c.proof_line.new.desk) _ _ (λ is. absurd (not_read is)) (λ is. absurd (not_read is)) c.in_ok-proof_line.ensures.faults
+
+pub returns-in-Passed-clause-few : goal.returns-in-Passed-clause-few
+returns-in-Passed-clause-few g c = c.in_ok-proof_line.ensures.few (rw c.in-Passed.is (λ e. cc))
+
+pub returns-in-Passed-clause-number : goal.returns-in-Passed-clause-number
+returns-in-Passed-clause-number g c = c.in_ok-proof_line.ensures.number (rw c.in-Passed.is (λ e. cc))
+
+pub returns-in-Passed-clause-taken : goal.returns-in-Passed-clause-taken
+returns-in-Passed-clause-taken g c = c.in_ok-proof_line.ensures.taken (rw c.in-Passed.is (λ e. cc))
+
+pub returns-in_ok-progress-in-Step-clause-few : goal.returns-in_ok-progress-in-Step-clause-few
+returns-in_ok-progress-in-Step-clause-few g c = c.in_ok-proof_line.ensures.few (rw c.in-Step.is (λ e. cc))
+
+pub returns-in_ok-progress-in-Step-clause-number : goal.returns-in_ok-progress-in-Step-clause-number
+returns-in_ok-progress-in-Step-clause-number g c = c.in_ok-proof_line.ensures.number (rw c.in-Step.is (λ e. cc))
+
+pub returns-in_ok-progress-in-Step-clause-taken : goal.returns-in_ok-progress-in-Step-clause-taken
+returns-in_ok-progress-in-Step-clause-taken g c = c.in_ok-proof_line.ensures.taken (rw c.in-Step.is (λ e. cc))
+
+pub returns-in-End-clause-ok : goal.returns-in-End-clause-ok
+returns-in-End-clause-ok g c = tt
+
+pub returns-in-End-clause-known : goal.returns-in-End-clause-known
+returns-in-End-clause-known g c = tt
