@@ -1,7 +1,7 @@
 -- What a log shows still, where numbers are put behind others.
-use Rattle.std.proofs.Common.{◌≡◌, ℕ, zero, ◌+◌, ◌-◌, ◌<◌, ◌≤◌, List, [], ◌∷◌, ◌++◌, length, take, drop, map, refl, sym, ap, ◌∙◌, subst, arith, ℤ, pos, Result, Ok, Err, OnErr}
+use Rattle.std.proofs.Common.{◌≡◌, ℕ, zero, ◌-◌, ◌<◌, ◌≤◌, List, [], ◌∷◌, ◌++◌, length, drop, map, get_or, refl, sym, ap, ◌∙◌, subst, arith, ℤ, pos, Result, Ok, Err, OnErr}
 use Rattle.std.specs.Prelude.{All}
-use Rattle.std.proofs.lemmas.List.{append-nil, map-append, length-append, length-drop, drop-append-le, take-append-le, drop_all, take_all}
+use Rattle.std.proofs.lemmas.List.{append-nil, map-append, length-append, length-drop, drop-append-le, take-append-le, drop_all, take_all, length-map, get_or-map}
 use Rattle.std.proofs.lemmas.List.Elements.{All-tail, All-weaker, All-push}
 use Rattle.lrat_model.specs.Literal.{Literal}
 use Rattle.lrat_model.specs.Steps.{ProofStep, Addition, Deletion}
@@ -75,6 +75,12 @@ module _ (lits lits2 : List Literal) (short short2 : List ℕ) (wide wide2 : Lis
 
       pub all_more : IsInside (length lits2) (length short2) (length wide2) (length ids2) e → All (IsInside (length lits2) (length short2) (length wide2) (length ids2)) es2
       all_more inside = subst (All (IsInside (length lits2) (length short2) (length wide2) (length ids2))) (sym more) (All-push (IsInside (length lits2) (length short2) (length wide2) (length ids2)) es e (all_kept es all) inside)
+
+-- the step that a log shows at the place of an entry
+pub shown_at : (f : Entry → ProofStep) (es : List Entry) (steps : List ProofStep) (place : ℕ) (e : Entry) (s : ProofStep) → map f es ≡ steps → place < length steps → e ≡ get_or es place e → f e ≡ s → s ≡ get_or steps place s
+shown_at f es steps place e s all within there is =
+    let inside : place < length es = omega (arith, within, ap length all, length-map es f) in
+    sym is ∙ ap f there ∙ sym (get_or-map f es place e s inside) ∙ ap (λ (ss : List ProofStep). get_or ss place s) all
 
 pub on_err : {A E : Type 0} (r : Result A E) (P : Type 0) → P → OnErr r P
 on_err (Ok x) P p = tt

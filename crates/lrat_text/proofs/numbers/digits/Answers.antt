@@ -1,4 +1,4 @@
-use Rattle.std.proofs.Common.{◌≡◌, refl, get_or, List, ℕ}
+use Rattle.std.proofs.Common.{refl, get_or}
 use Rattle.lrat_text.proofs.DigitSums.{too_great}
 use Rattle.lrat_text.proofs.numbers.digits.Goals as goal
 

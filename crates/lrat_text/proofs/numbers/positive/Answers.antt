@@ -1,5 +1,4 @@
-use Rattle.std.proofs.Common.{◌≡◌, ◌<◌, ◌≤◌, ◌∷◌, List, ℕ, Option, Some, None, get_or, ap, sym, ◌∙◌, arith, rules}
-use Rattle.std.specs.Prelude.{IfSome}
+use Rattle.std.proofs.Common.{rules}
 use Rattle.lrat_text.proofs.DigitSums.{some_positive}
 use Rattle.lrat_text.proofs.numbers.positive.Goals as goal
 
