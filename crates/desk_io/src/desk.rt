@@ -26,12 +26,12 @@ pub enum To {
 }
 
 /// A call that reads failed. The desk has counted it among its read faults.
-#[derive(Clone, Copy, Debug, PartialEq, Eq, Error)]
+#[derive(Clone, Copy, Debug, Error)]
 #[error("a read failed")]
 pub struct ReadFailed;
 
 /// A call that writes failed. The desk has counted it among its write faults.
-#[derive(Clone, Copy, Debug, PartialEq, Eq, Error)]
+#[derive(Clone, Copy, Debug, Error)]
 #[error("a write failed")]
 pub struct WriteFailed;
 

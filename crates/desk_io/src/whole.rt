@@ -3,13 +3,14 @@ ghost use Rattle.std.specs.Prelude.{◌≡◌, ◌+◌, ◌<◌, ◌≤◌, ℕ,
 ghost use Rattle.desk_io.specs.State.{left_of, with_left, written, CannotPut};
 ghost use Rattle.desk_io.specs.Faults.{ReadFails, WriteFails};
 ghost use Rattle.desk_io.specs.declared.whole.TheConstants.{PIECE};
+ghost use Rattle.desk_io.specs.declared.whole.ReadError.TheVariants.{Failed, Memory};
 
-use crate::{Desk, To, Which, WriteFailed};
-use std::alloc::Global;
+use crate::{Desk, ReadFailed, To, Which, WriteFailed};
+use std::alloc::{AllocError, Global};
 use thiserror::Error;
 
 /// Why a file wasn't read whole.
-#[derive(Clone, Copy, Debug, PartialEq, Eq, Error)]
+#[derive(Clone, Copy, Debug, Error)]
 pub enum ReadError {
     /// A call of the desk failed.
     #[error("a read failed")]
@@ -20,6 +21,22 @@ pub enum ReadError {
     /// No memory for the bytes.
     #[error("out of memory")]
     Memory,
+}
+
+impl From<ReadFailed> for ReadError {
+    ghost from_gives = { λ _ e. e ≡ Failed };
+
+    fn from(_failed: ReadFailed) -> ReadError {
+        ReadError::Failed
+    }
+}
+
+impl From<AllocError> for ReadError {
+    ghost from_gives = { λ _ e. e ≡ Memory };
+
+    fn from(_failed: AllocError) -> ReadError {
+        ReadError::Memory
+    }
 }
 
 /// Bytes that are asked of the desk at once.
@@ -65,16 +82,14 @@ pub fn read_all<D: Desk>(
     loop {
         let room = asked(limit - bytes.len() as u64);
         let piece = &mut buffer[..room];
-        let count = desk.next(which, piece).map_err(|_| ReadError::Failed)?;
+        let count = desk.next(which, piece)?;
         if count == 0 {
             return Ok(bytes);
         }
         if count as u64 > limit - bytes.len() as u64 {
             return Err(ReadError::Longer);
         }
-        bytes
-            .extend_from_slice(&piece[..count])
-            .map_err(|_| ReadError::Memory)?;
+        bytes.extend_from_slice(&piece[..count])?;
     }
 }
 

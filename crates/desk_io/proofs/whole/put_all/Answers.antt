@@ -24,3 +24,17 @@ loop-at-preserved g c =
       writes = c.in_ok-at.ensures.cause.ok ∙ c.loop-at.invariant.writes;
       reads = c.in_ok-at.ensures.cause.reads ∙ c.loop-at.invariant.reads;
     }
+
+pub returns-clause-prefix : goal.returns-clause-prefix
+returns-clause-prefix g c = tt
+
+pub returns-clause-plain : goal.returns-clause-plain
+returns-clause-plain g c = tt
+
+pub returns-clause-faults : goal.returns-clause-faults
+returns-clause-faults g c = record {
+  later = omega (arith, c.loop-at.invariant.writes);
+  reads = c.loop-at.invariant.reads;
+  rose = λ failed. absurd (cc failed);
+  none = λ _. c.loop-at.invariant.writes;
+}
