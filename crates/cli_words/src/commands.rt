@@ -1,5 +1,5 @@
 //! What clap reads for each command, and the order that its matches give.
-ghost use Rattle.std.specs.Prelude.{◌≡◌, ◌≢◌, ◌⊎◌, true, false, map, IfOk, IfErr, string_bytes, option_map};
+ghost use Rattle.std.specs.Prelude.{◌≡◌, ◌≢◌, ◌⊎◌, true, false, map, IfOk, IfErr, OnOk, string_bytes, option_map};
 ghost use Rattle.clap.specs.Words.{kind_of, app_of, rule_of, found_of, rows_of, matches_of, is_simple_and_free, first_of};
 ghost use Rattle.cli_words.specs.Arguments.{rule_of_argument};
 ghost use Rattle.cli_words.specs.Words.{app_for, app_with, with_rules, is_taken, text_of, order_in};
@@ -161,20 +161,52 @@ pub fn text_or_empty<'a>(matches: &ArgMatches<'a>, id: &str) -> &'a str
     }
 }
 
-fn text_if_any(
+// Puts the text of an argument there, empty where there is none.
+fn put_text(
     alloc: Global,
+    slot: &mut String,
     matches: &ArgMatches<'_>,
     id: &str,
-) -> Result<Option<String>, AllocError>
-    ensures { IfOk result (λ o. option_map string_bytes o ≡ first_of id.now (rows_of (found_of matches.now))) }
+) -> Result<(), AllocError>
+    ensures { OnOk result (string_bytes slot.new ≡ text_of id.now (rows_of (found_of matches.now))) }
 {
-    match text_at(matches, id) {
-        Some(text) => Ok(Some(String::from_str(alloc, text)?)),
-        None => Ok(None),
-    }
+    *slot = String::from_str(alloc, text_or_empty(matches, id))?;
+    Ok(())
 }
 
-/// The order that the command's matches give: an option that the command lacks is among no matches.
+// Puts the text of an argument there, where there is one.
+fn put_if_any(
+    alloc: Global,
+    slot: &mut Option<String>,
+    matches: &ArgMatches<'_>,
+    id: &str,
+) -> Result<(), AllocError>
+    ensures { OnOk result (option_map string_bytes slot.new ≡ first_of id.now (rows_of (found_of matches.now))) }
+{
+    *slot = match text_at(matches, id) {
+        Some(text) => Some(String::from_str(alloc, text)?),
+        None => None,
+    };
+    Ok(())
+}
+
+// Puts the texts that the matches give: an option that the command lacks is among no matches.
+fn put_texts(alloc: Global, order: &mut Order, matches: &ArgMatches<'_>) -> Result<(), AllocError>
+    ensures { OnOk result (order_view order.new
+        ≡ order_in order.old.command order.old.budget order.old.trial (rows_of (found_of matches.now))) }
+{
+    put_text(alloc, &mut order.config, matches, "config")?;
+    put_text(alloc, &mut order.cert, matches, "cert")?;
+    put_if_any(alloc, &mut order.orgs, matches, "orgs")?;
+    put_if_any(alloc, &mut order.node, matches, "node")?;
+    put_if_any(alloc, &mut order.from, matches, "from")?;
+    put_if_any(alloc, &mut order.faulty, matches, "faulty")?;
+    put_if_any(alloc, &mut order.faulty_orgs, matches, "faulty-orgs")?;
+    put_if_any(alloc, &mut order.set, matches, "set")
+}
+
+/// The order that the command's matches give. It is made without texts and lent to what puts them there, so that it is let go
+/// in one place where memory is wanting.
 pub fn order_from(
     alloc: Global,
     command: Command,
@@ -188,17 +220,24 @@ pub fn order_from(
     ensures trial { IfOk result (λ o. o.trial ≡ trial) }
     ensures memory { IfErr result (λ e. e ≡ OrderFault.Memory) }
 {
-    Ok(Order {
+    let mut order = Order {
         command,
-        config: String::from_str(alloc, text_or_empty(matches, "config"))?,
-        cert: String::from_str(alloc, text_or_empty(matches, "cert"))?,
-        orgs: text_if_any(alloc, matches, "orgs")?,
-        node: text_if_any(alloc, matches, "node")?,
-        from: text_if_any(alloc, matches, "from")?,
-        faulty: text_if_any(alloc, matches, "faulty")?,
-        faulty_orgs: text_if_any(alloc, matches, "faulty-orgs")?,
-        set: text_if_any(alloc, matches, "set")?,
+        config: String::new(alloc),
+        cert: String::new(alloc),
+        orgs: None,
+        node: None,
+        from: None,
+        faulty: None,
+        faulty_orgs: None,
+        set: None,
         budget,
         trial,
-    })
+    };
+    match put_texts(alloc, &mut order, matches) {
+        Ok(()) => Ok(order),
+        Err(_) => {
+            drop(order);
+            Err(OrderFault::Memory)
+        }
+    }
 }

@@ -9,7 +9,7 @@ use thiserror::Error;
 /// A question about a system that is answered at once.
 ///
 /// `COMMON` stands for `--from NAME --faulty NAMES --orgs ORGS --faulty-orgs IDS`, each of which may be left out.
-#[derive(Clone, Copy, Debug, PartialEq, Eq)]
+#[derive(Clone, Copy)]
 pub enum Query {
     /// `show CONFIG`
     Show,
@@ -28,7 +28,7 @@ pub enum Query {
 }
 
 /// What a search finds out, within a budget. The evidence for the answer is written to a certificate.
-#[derive(Clone, Copy, Debug, PartialEq, Eq)]
+#[derive(Clone, Copy)]
 pub enum Goal {
     /// `intersect CONFIG CERT [COMMON] [--budget UNITS]`
     Intersect,
@@ -43,7 +43,7 @@ pub enum Goal {
 }
 
 /// What the program is to do, by the command's name and arguments.
-#[derive(Clone, Copy, Debug, PartialEq, Eq)]
+#[derive(Clone, Copy)]
 pub enum Command {
     /// A question is answered at once.
     Query(Query),
@@ -65,7 +65,7 @@ impl Command {
 }
 
 /// Why the words give no order.
-#[derive(Clone, Copy, Debug, PartialEq, Eq, Error)]
+#[derive(Clone, Copy, Debug, Error)]
 pub enum OrderFault {
     /// The words are not those of a command.
     #[error("the words are not those of a command")]

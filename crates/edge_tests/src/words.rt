@@ -1,7 +1,7 @@
 //! Which orders the words give.
 
 use crate::shared::same;
-use cli_words::{Order, order};
+use cli_words::{Command, Goal, Order, Query, order};
 use std::alloc::{AllocError, Global};
 
 /// The words of a line after the program's name, parted at each space.
@@ -14,6 +14,26 @@ fn words_of(alloc: Global, line: &str) -> Result<Vec<String>, AllocError> {
     Ok(words)
 }
 
+/// The name of a command.
+fn name_of(command: Command) -> &'static str {
+    match command {
+        Command::Query(Query::Show) => "show",
+        Command::Query(Query::Closure) => "closure",
+        Command::Query(Query::Greatest) => "greatest",
+        Command::Query(Query::Available) => "available",
+        Command::Query(Query::Blocks) => "blocks",
+        Command::Query(Query::Vblocks) => "vblocks",
+        Command::Query(Query::Export) => "export",
+        Command::Search(Goal::Intersect) => "intersect",
+        Command::Search(Goal::Dset) => "dset",
+        Command::Search(Goal::Splits) => "splits",
+        Command::Search(Goal::Blocking) => "blocking",
+        Command::Search(Goal::Trial) => "trial",
+        Command::Check => "check",
+        Command::CheckLrat => "check-lrat",
+    }
+}
+
 /// The command, the paths, and what `--node`, `--faulty` and `--set` give.
 fn shown(alloc: Global, order: &Order) -> Result<String, AllocError> {
     let paths = (order.config.as_str(), order.cert.as_str());
@@ -22,7 +42,8 @@ fn shown(alloc: Global, order: &Order) -> Result<String, AllocError> {
         order.faulty.as_deref(),
         order.set.as_deref(),
     );
-    format!(in alloc; "{:?} {paths:?} {node:?} {faulty:?} {set:?}", order.command)
+    let command = name_of(order.command);
+    format!(in alloc; "{command} {paths:?} {node:?} {faulty:?} {set:?}")
 }
 
 /// The order that a line gives, or its fault.
@@ -35,47 +56,44 @@ fn read(alloc: Global, line: &str) -> Result<String, AllocError> {
 }
 
 static ORDERS: [(&str, &str); 12] = [
-    ("show f", r#"Query(Show) ("f", "") None None None"#),
+    ("show f", r#"show ("f", "") None None None"#),
     (
         "closure f --node v",
-        r#"Query(Closure) ("f", "") Some("v") None None"#,
+        r#"closure ("f", "") Some("v") None None"#,
     ),
     (
         "greatest f --faulty a,b",
-        r#"Query(Greatest) ("f", "") None Some("a,b") None"#,
+        r#"greatest ("f", "") None Some("a,b") None"#,
     ),
     (
         "available f --set a",
-        r#"Query(Available) ("f", "") None None Some("a")"#,
+        r#"available ("f", "") None None Some("a")"#,
     ),
-    (
-        "blocks f --set=",
-        r#"Query(Blocks) ("f", "") None None Some("")"#,
-    ),
+    ("blocks f --set=", r#"blocks ("f", "") None None Some("")"#),
     (
         "blocks --set=-x --faulty b f",
-        r#"Query(Blocks) ("f", "") None Some("b") Some("-x")"#,
+        r#"blocks ("f", "") None Some("b") Some("-x")"#,
     ),
     (
         "vblocks f --node v --set a",
-        r#"Query(Vblocks) ("f", "") Some("v") None Some("a")"#,
+        r#"vblocks ("f", "") Some("v") None Some("a")"#,
     ),
-    ("check f c", r#"Check ("f", "c") None None None"#),
+    ("check f c", r#"check ("f", "c") None None None"#),
     (
         "blocking f c --faulty a",
-        r#"Search(Blocking) ("f", "c") None Some("a") None"#,
+        r#"blocking ("f", "c") None Some("a") None"#,
     ),
     (
         "trial --budget 0 100 c",
-        r#"Search(Trial) ("", "c") None None None"#,
+        r#"trial ("", "c") None None None"#,
     ),
     (
         "export f --faulty a",
-        r#"Query(Export) ("f", "") None Some("a") None"#,
+        r#"export ("f", "") None Some("a") None"#,
     ),
     (
         "check-lrat f p --faulty a",
-        r#"CheckLrat ("f", "p") None Some("a") None"#,
+        r#"check-lrat ("f", "p") None Some("a") None"#,
     ),
 ];
 
