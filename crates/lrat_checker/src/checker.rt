@@ -12,7 +12,7 @@ ghost use Rattle.lrat_checker.specs.Checking.{IsAddition};
 
 use crate::hint::lemma_fault;
 use crate::opened::Opened;
-use crate::subsets::{SubsetIndex, scan, with_clause, without};
+use crate::subsets::{SubsetIndex, forget, put_clause, scan};
 use clause_store::Store;
 use lrat_model::{Lit, Progress, Rule, Step, StepFault};
 use partial_assignment::Assignment;
@@ -119,7 +119,7 @@ impl Checker {
         ensures closed { self.new.open_addition ≡ None }
     {
         self.clauses.push(id, lits)?;
-        self.subsets = with_clause(self.subsets.take(), id, lits);
+        put_clause(&mut self.subsets, id, lits);
         Ok(())
     }
 
@@ -192,7 +192,7 @@ impl Checker {
     {
         match self.clauses.remove_all(ids) {
             Ok(()) => {
-                self.subsets = without(self.subsets.take(), self.clauses.store(), ids.len());
+                forget(&mut self.subsets, self.clauses.store(), ids.len());
                 Ok(Progress::Going)
             }
             Err(id) => Err(StepFault::NoSuchClause(id)),

@@ -152,29 +152,33 @@ impl SubsetIndex {
     }
 }
 
-/// The index with one clause more, or none where memory runs out or the clause has no literal.
-pub fn with_clause(index: Option<SubsetIndex>, id: u64, lits: &[Lit]) -> Option<SubsetIndex>
-    ensures { (held : Held) → IfSome index (AreFound held) → IfSome result (AreFound (with_clause held id lits.now)) }
+/// Puts one clause more into the index, if there is one. Where memory runs out or the clause has no literal, there is none any
+/// more. O(its literals), amortised.
+pub fn put_clause(index: &mut Option<SubsetIndex>, id: u64, lits: &[Lit])
+    ensures { (held : Held) → IfSome index.old (AreFound held) → IfSome index.new (AreFound (with_clause held id lits.now)) }
 {
-    let mut index = index?;
-    if lits.is_empty() || index.put(id, lits).is_err() {
-        return None;
+    let Some(lists) = index else {
+        return;
+    };
+    if lits.is_empty() || lists.put(id, lits).is_err() {
+        *index = None;
     }
-    Some(index)
 }
 
-/// The index after so many clauses were taken out of the store: made anew once more than half of its watches may be of
-/// clauses that are held no more. O(1), or O(literals held), amortised.
-pub fn without(index: Option<SubsetIndex>, store: &Store, removed: usize) -> Option<SubsetIndex>
-    requires { IfSome index (AreFound store.now.held) }
-    ensures { IfSome result (AreFound store.now.held) }
+/// What so many clauses that were taken out of the store leave of the index: it is made anew once more than half of its
+/// watches may be of clauses that are held no more. O(1), or O(literals held), amortised.
+pub fn forget(index: &mut Option<SubsetIndex>, store: &Store, removed: usize)
+    requires { IfSome index.old (AreFound store.now.held) }
+    ensures { IfSome index.new (AreFound store.now.held) }
 {
-    let mut index = index?;
-    index.stale = index.stale.saturating_add(removed);
-    if index.stale > index.watches / 2 {
-        return SubsetIndex::of(*index.lists.allocator(), store);
+    let Some(lists) = index else {
+        return;
+    };
+    lists.stale = lists.stale.saturating_add(removed);
+    if lists.stale > lists.watches / 2 {
+        let alloc = *lists.lists.allocator();
+        *index = SubsetIndex::of(alloc, store);
     }
-    Some(index)
 }
 
 /// Whether a clause that stands in this list and is held under a smaller id is a subset of the literals.

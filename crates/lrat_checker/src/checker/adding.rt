@@ -13,7 +13,7 @@ ghost use Rattle.lrat_checker.specs.Courses.{led, Suits, IsUnitHint};
 use super::{Checker, progress_at};
 use crate::hint::{Hinting, assume_negations};
 use crate::opened::{Course, Opened, after_group, after_unit, end_fault};
-use crate::subsets::with_clause;
+use crate::subsets::put_clause;
 use lrat_model::{Lit, Progress, Rule, StepFault};
 use rat_candidates::group_id;
 
@@ -182,7 +182,7 @@ impl Checker {
         if self.clauses.push(opened.id, &self.lits).is_err() {
             return Err(StepFault::Memory);
         }
-        self.subsets = with_clause(self.subsets.take(), opened.id, &self.lits);
+        put_clause(&mut self.subsets, opened.id, &self.lits);
         Ok(progress_at(&self.lits))
     }
 }

@@ -1,10 +1,10 @@
-use Rattle.std.proofs.Common.{◌≡◌, ◌++◌, [], ◌∷◌, List, sym, ap, ◌∙◌, subst, refl, Some}
+use Rattle.std.proofs.Common.{◌++◌, [], ◌∷◌, List, sym, ap, ◌∙◌, subst, refl, Some}
 use Rattle.lrat_model.specs.Literal.{Literal}
 use Rattle.lrat_model.specs.declared.step.Rule.TheVariants.{Rat}
 use Rattle.lrat_checker.specs.declared.opened.Course.TheVariants.{InGroup}
-use Rattle.lrat_checker.specs.Adding.{GoesOn, StopsAt}
+use Rattle.lrat_checker.specs.Adding.{GoesOn}
 use Rattle.lrat_checker.specs.Courses.{adding_of}
-use Rattle.lrat_checker.proofs.CourseLaws.{first_of, group_goes, group_halts}
+use Rattle.lrat_checker.proofs.CourseLaws.{first_of, group_goes}
 use Rattle.lrat_checker.proofs.opened.after_group.Goals as goal
 
 pub returns-clause-taken : goal.returns-clause-taken

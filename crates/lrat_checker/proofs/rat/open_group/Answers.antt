@@ -1,10 +1,5 @@
-use Rattle.std.proofs.Common.{◌≡◌, true, false, List, ℤ, sym, ◌∙◌, subst, Some, None}
-use Rattle.lrat_model.specs.Literal.{Literal, negated, has}
-use Rattle.lrat_model.specs.Alike.{Alike}
-use Rattle.lrat_model.specs.Rat.{made_false}
-use Rattle.lrat_checker.specs.Groups.{MadeFalse}
+use Rattle.std.proofs.Common.{sym}
 use Rattle.lrat_checker.proofs.RangeLaws.{range_at}
-use Rattle.lrat_checker.proofs.GroupLaws.{opens_without, opens_with}
 use Rattle.lrat_checker.proofs.rat.open_group.Goals as goal
 
 pub make_false-requires : goal.make_false-requires

@@ -1,11 +1,10 @@
-use Rattle.std.proofs.Common.{◌≡◌, sym, ap, subst, ◌∙◌, None, [], map}
-use Rattle.lrat_model.specs.Literal.{negated}
-use Rattle.lrat_model.specs.Clauses.{Held}
+use Rattle.std.proofs.Common.{◌≡◌, sym, subst, ◌∙◌, None, []}
 use Rattle.lrat_model.specs.Steps.{literal_fault}
 use Rattle.partial_assignment.specs.Assigned.{Assigned}
+use Rattle.lrat_model.specs.Steps.{Database}
+use Rattle.lrat_checker.specs.State.{IsReady}
 use Rattle.lrat_model.specs.Ranges.{IsInRange}
-use Rattle.lrat_checker.proofs.RangeLaws.{range-with_clause}
-use Rattle.lrat_checker.proofs.FaultLaws.{range-literal_fault, lemma_fault-not_memory, literals_first, where_ok}
+use Rattle.lrat_checker.proofs.FaultLaws.{range-literal_fault, lemma_fault-not_memory, literals_first}
 use Rattle.lrat_checker.proofs.checker.Checker.add.Goals as goal
 
 pub returns-in-Some-clause-memory : goal.returns-in-Some-clause-memory
@@ -18,3 +17,17 @@ give-requires-clause-range c =
     let inside = c.self.inside in
     let none : literal_fault inside.assignment.vars [] c.args.lits.now ≡ None = literals_first _ _ (sym c.in_default.ensures.fault) in
     subst (λ (a : Assigned). IsInRange a.vars c.args.lits.now) (sym c.in_default.ensures.unchanged) (range-literal_fault inside.assignment.vars [] c.args.lits.now none)
+
+pub invariant_of-self : goal.invariant_of-self
+invariant_of-self c =
+    let inside = c.self.inside in
+    let clauses = c.lemma_fault.new.clauses in
+    subst (λ (a : Assigned). IsReady (record { rule = inside.rule; clauses = clauses; assignment = a; subsets = inside.subsets; opened = inside.opened; lits = inside.lits; groups = inside.groups })) (sym c.in-Some.ensures.unchanged)
+    (subst (λ (d : Database). IsReady (record { rule = inside.rule; clauses = d; assignment = inside.assignment; subsets = inside.subsets; opened = inside.opened; lits = inside.lits; groups = inside.groups })) (sym c.in-Some.ensures.clauses) c.self.invariant)
+
+pub invariant_of-self-2 : goal.invariant_of-self-2
+invariant_of-self-2 c =
+    let inside = c.self.inside in
+    let clauses = c.lemma_fault.new.clauses in
+    subst (λ (a : Assigned). IsReady (record { rule = inside.rule; clauses = clauses; assignment = a; subsets = inside.subsets; opened = inside.opened; lits = inside.lits; groups = inside.groups })) (sym c.in_default.ensures.unchanged)
+    (subst (λ (d : Database). IsReady (record { rule = inside.rule; clauses = d; assignment = inside.assignment; subsets = inside.subsets; opened = inside.opened; lits = inside.lits; groups = inside.groups })) (sym c.in_default.ensures.clauses) c.self.invariant)

@@ -11,12 +11,11 @@ use Rattle.lrat_checker.proofs.RangeLaws.{range-without}
 use Rattle.lrat_checker.proofs.SubsetLaws.{found_without}
 use Rattle.lrat_checker.proofs.checker.Checker.delete.Goals as goal
 
-pub without-requires : goal.without-requires
-without-requires c =
+pub forget-requires : goal.forget-requires
+forget-requires c =
     let inside = c.self.inside in
-    subst (λ (d : Database). IfSome c.take.result (AreFound d.held)) (sym c.store.ensures)
-    (subst (λ index. IfSome index (AreFound c.remove_all.new.self.held)) (sym c.take.ensures.value)
-    (subst (λ (h : Held). IfSome inside.subsets (AreFound h)) (sym c.in-Ok.ensures.held) (found_without inside.subsets inside.clauses.held c.args.ids.now c.self.invariant.found)))
+    subst (λ (d : Database). IfSome inside.subsets (AreFound d.held)) (sym c.store.ensures)
+    (subst (λ (h : Held). IfSome inside.subsets (AreFound h)) (sym c.in-Ok.ensures.held) (found_without inside.subsets inside.clauses.held c.args.ids.now c.self.invariant.found))
 
 pub invariant_of-self : goal.invariant_of-self
 invariant_of-self c =
@@ -29,5 +28,5 @@ invariant_of-self c =
       literals = c.self.invariant.literals;
       suits = c.self.invariant.suits;
       in_range = subst (λ (h : Held). AreInRange vars h) (sym c.in-Ok.ensures.held) (range-without vars inside.clauses.held c.args.ids.now c.self.invariant.in_range);
-      found = subst (λ (d : Database). IfSome c.without.result (AreFound d.held)) c.store.ensures c.without.ensures;
+      found = subst (λ (d : Database). IfSome c.forget.new.index (AreFound d.held)) c.store.ensures c.forget.ensures;
     }

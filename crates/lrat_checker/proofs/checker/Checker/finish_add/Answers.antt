@@ -4,7 +4,6 @@ use Rattle.lrat_model.specs.Literal.{Literal}
 use Rattle.lrat_model.specs.Clauses.{Held, with_clause}
 use Rattle.lrat_model.specs.Steps.{Database}
 use Rattle.lrat_model.specs.Ranges.{IsInRange, AreInRange}
-use Rattle.lrat_model.specs.declared.step.StepFault.{StepFault}
 use Rattle.lrat_checker.specs.declared.opened.Opened.{Opened}
 use Rattle.lrat_checker.specs.Adding.{fault_after}
 use Rattle.lrat_checker.specs.Checking.{Stepping}
@@ -72,7 +71,20 @@ invariant_of-self-2 c =
       literals = tt;
       suits = tt;
       in_range = subst (λ (n : ℕ). AreInRange n c.push.new.self.held) (sym c.clear.ensures.vars) (subst (λ (h : Held). AreInRange vars h) (sym held) (range-with_clause vars inside.clauses.held o.id lits c.self.invariant.in_range within));
-      found = subst (λ (h : Held). IfSome c.with_clause.result (AreFound h)) (sym held)
-          (subst (λ (ls : List Literal). IfSome c.with_clause.result (AreFound (with_clause inside.clauses.held o.id ls))) c.deref-4.ensures.value
-          (c.with_clause.ensures inside.clauses.held (subst (λ x. IfSome x (AreFound inside.clauses.held)) (sym c.take.ensures.value) c.self.invariant.found)));
+      found = subst (λ (h : Held). IfSome c.put_clause.new.index (AreFound h)) (sym held)
+          (subst (λ (ls : List Literal). IfSome c.put_clause.new.index (AreFound (with_clause inside.clauses.held o.id ls))) c.deref-4.ensures.value
+          (c.put_clause.ensures inside.clauses.held c.self.invariant.found));
+    }
+
+pub invariant_of-self : goal.invariant_of-self
+invariant_of-self c =
+    let inside = c.self.inside in
+    let vars = inside.assignment.vars in
+    record {
+      nothing_true = c.clear.ensures.trues;
+      above = tt;
+      literals = tt;
+      suits = tt;
+      in_range = subst (λ (n : ℕ). AreInRange n c.end_fault.new.clauses.held) (sym c.clear.ensures.vars) (subst (λ (d : Database). AreInRange vars d.held) (sym c.in-Some.ensures.unchanged) c.self.invariant.in_range);
+      found = subst (λ (d : Database). IfSome inside.subsets (AreFound d.held)) (sym c.in-Some.ensures.unchanged) c.self.invariant.found;
     }

@@ -8,7 +8,7 @@ use Rattle.lrat_model.specs.Ranges.{IsInRange, AreInRange}
 use Rattle.lrat_model.specs.declared.step.Rule.{Rule}
 use Rattle.lrat_model.specs.declared.step.Rule.TheVariants.{Rat}
 use Rattle.lrat_checker.specs.declared.opened.Opened.{Opened}
-use Rattle.lrat_checker.specs.Adding.{GoesOn}
+use Rattle.lrat_checker.specs.Adding.{GoesOn, StopsAt}
 use Rattle.lrat_checker.specs.Checking.{Stepping}
 use Rattle.lrat_checker.specs.Courses.{adding, adding_of, Suits}
 use Rattle.lrat_checker.proofs.FaultLaws.{taken}
@@ -55,3 +55,47 @@ returns-in-Ok-clause-taken c =
     (subst (λ (ls : List Literal). GoesOn Rat c.store.result.now.held hint (Some (adding_of ls trues groups o)) (Some (adding_of ls new (groups ++ hint ∷ []) next))) c.deref.ensures.value told))) in
     subst (λ (s : Stepping). GoesOn s.rule s.database.held hint s.open_addition later) c.self.view_is
     (subst (λ (x : Option Opened). GoesOn inside.rule inside.clauses.held hint (adding lits trues groups x) later) (sym is) took)
+
+pub invariant_of-self : goal.invariant_of-self
+invariant_of-self c =
+    let inside = c.self.inside in
+    record {
+      nothing_true = c.clear.ensures.trues;
+      above = tt;
+      literals = tt;
+      suits = tt;
+      in_range = subst (λ (n : ℕ). AreInRange n inside.clauses.held) (sym c.clear.ensures.vars) c.self.invariant.in_range;
+      found = c.self.invariant.found;
+    }
+
+pub invariant_of-self-in-Err : goal.invariant_of-self-in-Err
+invariant_of-self-in-Err c =
+    let inside = c.self.inside in
+    record {
+      nothing_true = c.clear-in-Err.ensures.trues;
+      above = tt;
+      literals = tt;
+      suits = tt;
+      in_range = subst (λ (n : ℕ). AreInRange n inside.clauses.held) (sym (c.clear-in-Err.ensures.vars ∙ c.after_group.ensures.vars)) c.self.invariant.in_range;
+      found = c.self.invariant.found;
+    }
+
+pub returns-in-Err-clause-refused : goal.returns-in-Err-clause-refused
+returns-in-Err-clause-refused c = λ _.
+    let inside = c.self.inside in
+    let o = c.unwrap-opened.result in
+    let is : inside.opened ≡ Some o = cc (c.unwrap-opened.ensures) in
+    let rat : inside.rule ≡ Rat = ap (λ (s : Stepping). s.rule) c.self.view_is ∙ c.requires.rule in
+    let lits = inside.lits.items in
+    let trues = inside.assignment.trues in
+    let groups = inside.groups.items in
+    let hint = c.args.hint in
+    let fault = c.in-Err.fault in
+    let suits : Suits Rat trues groups o.course = subst (λ (r : Rule). Suits r trues groups o.course) rat (subst (λ (x : Option Opened). IfSome x (λ k. Suits inside.rule trues groups k.course)) is c.self.invariant.suits) in
+    let told : StopsAt Rat c.store.result.now.held hint (Some (adding_of c.deref.result.now trues groups o)) fault = c.in-Err.ensures.refused hint groups c.requires.names suits in
+    let stops : StopsAt inside.rule inside.clauses.held hint (Some (adding_of lits trues groups o)) fault =
+    subst (λ (r : Rule). StopsAt r inside.clauses.held hint (Some (adding_of lits trues groups o)) fault) (sym rat)
+    (subst (λ (d : Database). StopsAt Rat d.held hint (Some (adding_of lits trues groups o)) fault) c.store.ensures
+    (subst (λ (ls : List Literal). StopsAt Rat c.store.result.now.held hint (Some (adding_of ls trues groups o)) fault) c.deref.ensures.value told)) in
+    subst (λ (s : Stepping). StopsAt s.rule s.database.held hint s.open_addition fault) c.self.view_is
+    (subst (λ (x : Option Opened). StopsAt inside.rule inside.clauses.held hint (adding lits trues groups x) fault) (sym is) stops)

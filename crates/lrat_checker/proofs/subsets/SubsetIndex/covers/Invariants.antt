@@ -1,6 +1,6 @@
 use Rattle.std.proofs.Common.{◌≡◌, ℕ, ◌<◌, List, Some, false, get_or}
 use Rattle.std.specs.List.{list_any}
-use Rattle.lrat_model.specs.Literal.{Literal, Plus, IsSubset}
+use Rattle.lrat_model.specs.Literal.{Literal, IsSubset}
 use Rattle.lrat_model.specs.Clauses.{clause_at}
 use Rattle.lrat_checker.specs.Subsets.{list_at, is_watch_of}
 use Rattle.lrat_checker.proofs.subsets.SubsetIndex.covers.Given as goal

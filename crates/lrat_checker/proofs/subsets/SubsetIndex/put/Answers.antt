@@ -1,8 +1,8 @@
-use Rattle.std.proofs.Common.{◌≡◌, true, List, ℕ, Result, Ok, Err, OnOk, sym, subst}
-use Rattle.lrat_model.specs.Literal.{Literal, has}
+use Rattle.std.proofs.Common.{◌≡◌, true, sym, subst}
+use Rattle.lrat_model.specs.Literal.{has}
 use Rattle.lrat_checker.specs.declared.subsets.Watch.{Watch}
 use Rattle.lrat_checker.specs.Subsets.{IsFound}
-use Rattle.lrat_checker.proofs.SubsetLaws.{pushed, found_new, found_kept, has-at, on_ok}
+use Rattle.lrat_checker.proofs.SubsetLaws.{found_new, found_kept, has-at, on_ok}
 use Rattle.lrat_checker.proofs.subsets.SubsetIndex.put.Goals as goal
 
 pub returns-clause-found : goal.returns-clause-found

@@ -1,0 +1,13 @@
+use Rattle.std.proofs.Common.{◌≡◌, Some, sym, ◌∙◌, subst}
+use Rattle.std.specs.Prelude.{IfSome}
+use Rattle.lrat_checker.specs.Subsets.{AreFound}
+use Rattle.lrat_checker.proofs.FaultLaws.{where_ok}
+use Rattle.lrat_checker.proofs.SubsetLaws.{found_with}
+use Rattle.lrat_checker.proofs.subsets.put_clause.Goals as goal
+
+pub returns-else-is_err : goal.returns-else-is_err
+returns-else-is_err c = λ held all.
+    let was : c.args.index.now ≡ Some c.in-Some.lists = cc c.in-Some.is in
+    let ok = sym c.is_err.ensures.value ∙ c.if-is_err.false in
+    found_with held c.in-Some.lists c.put.new.self c.args.id c.args.lits.now (subst (λ o. IfSome o (AreFound held)) was all)
+    (where_ok c.put.result _ ok c.put.ensures.found) (where_ok c.put.result _ ok c.put.ensures.kept)
