@@ -39,11 +39,9 @@ names_of-nodes : (done : List NamedNode) (n : NamedNode) → all_names (nodes_vi
 names_of-nodes [] n = append-nil (names_of-node n)
 names_of-nodes (x ∷ xs) n = ap (λ (ns : List Name). names_of-node x ++ ns) (names_of-nodes xs n) ∙ sym (append_assoc (names_of-node x) (all_names (nodes_view xs)) (names_of-node n))
 
--- the names of one more node: its key, then those in its quorum set
-pub nodes_gathered : (before now keyed then : List Name) (done more : List NamedNode) (n : NamedNode) → more ≡ done ++ n ∷ [] → keyed ≡ with_names now (n.key.now ∷ [])
-    → then ≡ with_names keyed (names_if_any (option_map set_view n.quorum_set)) → now ≡ with_names before (all_names (nodes_view done)) → then ≡ with_names before (all_names (nodes_view more))
-nodes_gathered before now keyed then done more n m k t w =
-    let set_names = names_if_any (option_map set_view n.quorum_set) in
-    t ∙ ap (λ (ns : List Name). with_names ns set_names) k ∙ with_both now (n.key.now ∷ []) set_names
-    ∙ ap (λ (ns : List Name). with_names ns (names_of-node n)) w ∙ with_both before (all_names (nodes_view done)) (names_of-node n)
+-- the names of one more node
+pub nodes_gathered : (before now then : List Name) (done more : List NamedNode) (n : NamedNode) → more ≡ done ++ n ∷ [] → then ≡ with_names now (n.key.now ∷ names_if_any (option_map set_view n.quorum_set))
+    → now ≡ with_names before (all_names (nodes_view done)) → then ≡ with_names before (all_names (nodes_view more))
+nodes_gathered before now then done more n m t w =
+    t ∙ ap (λ (ns : List Name). with_names ns (names_of-node n)) w ∙ with_both before (all_names (nodes_view done)) (names_of-node n)
     ∙ ap (with_names before) (sym (ap (λ (ns : List NamedNode). all_names (nodes_view ns)) m ∙ names_of-nodes done n))

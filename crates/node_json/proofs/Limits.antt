@@ -1,5 +1,5 @@
 -- The system of nodes within the limits, and what it keeps.
-use Rattle.std.proofs.Common.{◌≡◌, ℕ, ◌<◌, ◌≤◌, List, [], ◌∷◌, length, map, fold, get_or, Option, Some, None, option_map, unwrap_or, Bool, true, false, not, cond, nat_lt, if◌then◌else◌, Ok, Err, All, IfSome, IsTrue, refl, sym, ap, subst, ◌∙◌, arith}
+use Rattle.std.proofs.Common.{◌≡◌, ℕ, ◌<◌, ◌≤◌, List, [], ◌∷◌, length, map, fold, get_or, Option, Some, None, option_map, unwrap_or, Bool, true, false, not, cond, nat_lt, if◌then◌else◌, Result, Ok, Err, All, IfSome, IsTrue, refl, sym, ap, subst, ◌∙◌, arith}
 use Rattle.std.proofs.lemmas.Bool.{lt-ltb, le-ltb, ltb-true, cond_both}
 use Rattle.std.proofs.lemmas.List.{length-map}
 use Rattle.std.proofs.lemmas.List.Elements.{All-map, All-head, All-tail}
@@ -14,7 +14,8 @@ use Rattle.fbas_model.specs.Systems.{System, IsSystem, IsWithin, entries_in}
 use Rattle.fbas_model.specs.Trees.{Entries}
 use Rattle.node_json.proofs.NamesInOrder.{names_in_order, in_order-in_order, All-in_order}
 use Rattle.node_json.specs.Configuration.{number_of, nodes_then, numbered, all_numbered, all_names, set_named, system_by, within_entries, within_nodes, system_with, system_of}
-use Rattle.node_json.specs.Reading.{nodes_of}
+use Rattle.serde_json.specs.Data.{Data}
+use Rattle.node_json.specs.Reading.{and_then, nodes_in, nodes_of}
 use Rattle.node_json.specs.Named.{NamedSet, NamedSets, named_set, no_sets, one_set, NamedNode}
 use Rattle.node_json.specs.NamesInOrder.{in_order}
 use Rattle.node_json.specs.Sound.{AreSound, IsShallow}
@@ -115,6 +116,9 @@ pub system_of-fault : (bytes : List ℕ) (e : ConfigFault) → nodes_of bytes �
 unfolding system_of
 system_of-fault bytes e h = rw h refl
 
-pub system_of-nodes : (bytes : List ℕ) (nodes : List NamedNode) → nodes_of bytes ≡ Ok nodes → system_of bytes ≡ system_with nodes
+pub system_of-tree : (bytes : List ℕ) (d : Data) → nodes_of bytes ≡ nodes_in d → system_of bytes ≡ and_then system_with (nodes_in d)
 unfolding system_of
-system_of-nodes bytes nodes h = rw h refl
+system_of-tree bytes d h = rw h refl
+
+pub nodes_in-then : (d : Data) (r : Result (List NamedNode) ConfigFault) → nodes_in d ≡ r → and_then system_with (nodes_in d) ≡ and_then system_with r
+nodes_in-then d r h = ap (and_then system_with) h

@@ -1,5 +1,5 @@
 -- The loop over the nodes, step by step, and what comes before it.
-use Rattle.std.proofs.Common.{◌≡◌, ℕ, ◌+◌, ◌<◌, List, [], ◌∷◌, ◌++◌, length, drop, get_or, map, Option, Some, None, Result, Ok, Err, Bool, true, false, not, refl, sym, ap, ◌∙◌, append_assoc, codes}
+use Rattle.std.proofs.Common.{◌≡◌, ℕ, ◌+◌, ◌<◌, List, [], ◌∷◌, ◌++◌, length, drop, get_or, map, Option, Some, None, Result, Ok, Err, true, false, not, refl, sym, ap, ◌∙◌, append_assoc, codes}
 use Rattle.std.proofs.lemmas.Bool.{false_from_ne_true}
 use Rattle.std.proofs.lemmas.List.{at_drop_more, map-append}
 use Rattle.std.proofs.lemmas.List.Sums.{fold-append}
@@ -15,7 +15,7 @@ use Rattle.fbas_model.specs.declared.TheConstants.{MOST_LEVELS}
 use Rattle.fbas_model.specs.Names.{Name, name_cmp, is_among}
 use Rattle.node_json.specs.NamesInOrder.{in_order, with_names}
 use Rattle.node_json.proofs.NamesInOrder.{is_among-in_order}
-use Rattle.node_json.specs.Reading.{after, or_missing, set_of, tree_of, nodes_of, nodes_in, nodes_from, node_of, node_key_of, node_set_of}
+use Rattle.node_json.specs.Reading.{after, and_then, unless, or_missing, set_of, tree_of, nodes_of, nodes_in, nodes_from, node_of, node_key_of, node_set_of}
 use Rattle.node_json.specs.View.{node_view, nodes_view}
 use Rattle.node_json.specs.declared.faults.ConfigFault.{ConfigFault}
 use Rattle.node_json.specs.declared.faults.ConfigFault.TheVariants.{NotJson, NotNodes, Duplicate}
@@ -57,15 +57,16 @@ node_set-read i d set r m e = rw (m, e) refl
 abbrev pub keys_of : List NamedNode → List Name
 keys_of nodes = map (λ node. node.key.now) nodes
 
--- whether the key is new, by the set of those that were seen
-pub is_new : (seen : List Name) (done : List NamedNode) (k : Name) (new : Bool) → new ≡ not (is_among k seen) → seen ≡ in_order (keys_of done) → new ≡ not (is_among k (keys_of done))
-is_new seen done k new e s = e ∙ ap (λ ks. not (is_among k ks)) s ∙ ap not (is_among-in_order k (keys_of done))
+-- an element is read alike where the keys that were seen stand in order
+pub node_of-seen : (i : ℕ) (seen earlier : List Name) (d : Data) → seen ≡ in_order earlier → node_of i seen d ≡ node_of i earlier d
+node_of-seen i seen earlier d s = ap (λ ks. node_of i ks d) s ∙ by_key (node_key_of i d)
+  where
+    by_key : (r : Result Name ConfigFault) → and_then {B = spec.NamedNode} (λ key. unless (Duplicate i) (not (is_among key (in_order earlier))) (after (λ set. record { key = key; quorum_set = set }) (node_set_of i d))) r ≡ and_then {B = spec.NamedNode} (λ key. unless (Duplicate i) (not (is_among key earlier)) (after (λ set. record { key = key; quorum_set = set }) (node_set_of i d))) r
+    by_key (Ok key) = ap (λ b. unless (Duplicate i) (not b) (after (λ set. record { key = key; quorum_set = set }) (node_set_of i d))) (is_among-in_order key earlier)
+    by_key (Err e) = refl
 
-pub is_duplicate : (i : ℕ) (seen : List Name) (done : List NamedNode) (d : Data) (k : Name) (new : Bool) → node_key_of i d ≡ Ok k → new ≡ not (is_among k seen) → seen ≡ in_order (keys_of done) → new ≡ false
-    → node_of i (keys_of done) d ≡ Err (Duplicate i)
-is_duplicate i seen done d k new ek e s not_new =
-    let known : not (is_among k (keys_of done)) ≡ false = sym (is_new seen done k new e s) ∙ not_new in
-    rw (ek, known) refl
+pub node_of-known : (i : ℕ) (earlier : List Name) (d : Data) (k : Name) → node_key_of i d ≡ Ok k → not (is_among k earlier) ≡ false → node_of i earlier d ≡ Err (Duplicate i)
+node_of-known i earlier d k ek known = rw (ek, known) refl
 
 pub node_of-key_fault : (i : ℕ) (earlier : List Name) (d : Data) (e : ConfigFault) → node_key_of i d ≡ Err e → node_of i earlier d ≡ Err e
 node_of-key_fault i earlier d e fault = rw fault refl

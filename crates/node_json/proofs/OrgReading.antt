@@ -18,8 +18,8 @@ use Rattle.node_json.specs.NamesInOrder.{in_order, with_names}
 use Rattle.node_json.proofs.NamesInOrder.{is_among-in_order}
 use Rattle.fbas_model.proofs.Marks.{length-marks}
 use Rattle.node_json.specs.Organisations as spec
-use Rattle.node_json.specs.Organisations.{org_of, org_id_of, org_validators_of, orgs_from, orgs_in, named_orgs_of, among_nodes, orgs_of}
-use Rattle.node_json.specs.Reading.{after, tree_of}
+use Rattle.node_json.specs.Organisations.{org_of, org_id_of, org_validators_of, orgs_from, orgs_in, named_orgs_of, among_nodes, orgs_of, within_orgs}
+use Rattle.node_json.specs.Reading.{after, and_then, tree_of}
 use Rattle.node_json.specs.OrgsView.{named_org_view, named_orgs_view, named_ids}
 use Rattle.node_json.specs.declared.faults.OrgFault.{OrgFault}
 use Rattle.node_json.specs.declared.faults.OrgFault.TheVariants.{NotJson, NotOrgs, DuplicateOrg, TooManyOrgs}
@@ -41,18 +41,19 @@ pub orgs_of-no_tree : (names : List Name) (bytes : List ℕ) → tree_of bytes �
 unfolding orgs_of named_orgs_of
 orgs_of-no_tree names bytes e = rw e refl
 
-pub orgs_of-fault : (names : List Name) (bytes : List ℕ) (d : Data) (e : OrgFault) → tree_of bytes ≡ Some d → orgs_in d ≡ Err e → orgs_of names bytes ≡ Err e
+pub orgs_of-tree : (names : List Name) (bytes : List ℕ) (d : Data) → tree_of bytes ≡ Some d → orgs_of names bytes ≡ after (map (among_nodes names)) (and_then within_orgs (orgs_in d))
 unfolding orgs_of named_orgs_of
-orgs_of-fault names bytes d e tree fault = rw (tree, fault) refl
+orgs_of-tree names bytes d tree = rw tree refl
 
-module _ (names : List Name) (bytes : List ℕ) (d : Data) (orgs : List spec.NamedOrg) (n : ℕ) (tree : tree_of bytes ≡ Some d) (read : orgs_in d ≡ Ok orgs) (counted : n ≡ length orgs) where
-  pub too_many_orgs : MOST_ORGS < n → orgs_of names bytes ≡ Err (TooManyOrgs n)
-  unfolding orgs_of named_orgs_of
-  too_many_orgs h = let t : nat_lt MOST_ORGS (length orgs) ≡ true = lt-ltb MOST_ORGS (length orgs) (omega arith) in rw (tree, read, t, counted) refl
+pub orgs_in-fault : (names : List Name) (d : Data) (e : OrgFault) → orgs_in d ≡ Err e → after (map (among_nodes names)) (and_then within_orgs (orgs_in d)) ≡ Err e
+orgs_in-fault names d e fault = rw fault refl
 
-  pub few_orgs : n ≤ MOST_ORGS → orgs_of names bytes ≡ Ok (map (among_nodes names) orgs)
-  unfolding orgs_of named_orgs_of
-  few_orgs h = let f : nat_lt MOST_ORGS (length orgs) ≡ false = le-ltb MOST_ORGS (length orgs) (omega arith) in rw (tree, read, f) refl
+module _ (names : List Name) (d : Data) (orgs : List spec.NamedOrg) (n : ℕ) (read : orgs_in d ≡ Ok orgs) (counted : n ≡ length orgs) where
+  pub too_many_orgs : MOST_ORGS < n → after (map (among_nodes names)) (and_then within_orgs (orgs_in d)) ≡ Err (TooManyOrgs n)
+  too_many_orgs h = let t : nat_lt MOST_ORGS (length orgs) ≡ true = lt-ltb MOST_ORGS (length orgs) (omega arith) in rw (read, t, counted) refl
+
+  pub few_orgs : n ≤ MOST_ORGS → after (map (among_nodes names)) (and_then within_orgs (orgs_in d)) ≡ Ok (map (among_nodes names) orgs)
+  few_orgs h = let f : nat_lt MOST_ORGS (length orgs) ≡ false = le-ltb MOST_ORGS (length orgs) (omega arith) in rw (read, f) refl
 
 -- each has a mark for each name
 pub all_sized : (names : List Name) (orgs : List spec.NamedOrg) → All (λ org. length org.members ≡ length names) (map (among_nodes names) orgs)

@@ -1,11 +1,11 @@
 //! The declared nodes of a configuration, by name.
 
-ghost use Rattle.std.specs.Prelude.{◌≡◌, ◌⊎◌, [], Ok, Err, Some, None, IfOk, IfErr, MatchResult, option_map};
+ghost use Rattle.std.specs.Prelude.{◌≡◌, ◌⊎◌, [], ◌∷◌, Ok, Err, Some, None, IfOk, IfErr, MatchResult, option_map};
 ghost use Rattle.node_json.specs.Configuration.{names_if_any, all_names};
 ghost use Rattle.node_json.specs.NamesInOrder.{with_names};
-ghost use Rattle.node_json.specs.Reading.{node_key_of, node_set_of, nodes_from, nodes_in};
+ghost use Rattle.node_json.specs.Reading.{node_key_of, node_set_of, node_of, nodes_from, nodes_in};
 ghost use Rattle.node_json.specs.Tree.{view, items_view};
-ghost use Rattle.node_json.specs.View.{set_view, nodes_view};
+ghost use Rattle.node_json.specs.View.{names_view, set_view, node_view, nodes_view};
 
 use crate::faults::ConfigFault;
 use crate::keys::read_key;
@@ -54,6 +54,28 @@ fn node_set<'t>(
     }
 }
 
+// Element `at`, where `keys` has those of the elements before it. Its own key is put there too.
+fn read_item<'t>(
+    alloc: Global,
+    names: &mut SeenNames<'t>,
+    keys: &mut BTreeSet<&'t str>,
+    item: &Value<'t>,
+    at: u64,
+) -> Result<NamedNode<'t>, ConfigFault>
+    ensures ok { IfOk result (λ n. node_of at (names_view keys.old.keys) (view item.now) ≡ Ok (node_view n)) }
+    ensures err { IfErr result (λ e. (e ≡ ConfigFault.Memory) ⊎ (node_of at (names_view keys.old.keys) (view item.now) ≡ Err e)) }
+    ensures seen { IfOk result (λ n. names_view keys.new.keys ≡ with_names (names_view keys.old.keys) (n.key.now ∷ [])) }
+    ensures gathered { IfOk result (λ n. names.new ≡ with_names names.old (n.key.now ∷ names_if_any (option_map set_view n.quorum_set))) }
+{
+    let key = node_key(item, at)?;
+    if !add_name(keys, key)? {
+        return Err(ConfigFault::Duplicate(at));
+    }
+    names.add(key)?;
+    let quorum_set = node_set(alloc, names, item, at)?;
+    Ok(NamedNode { key, quorum_set })
+}
+
 fn read_items<'t>(
     alloc: Global,
     names: &mut SeenNames<'t>,
@@ -64,16 +86,9 @@ fn read_items<'t>(
     ensures gathered { IfOk result (λ v. names.new ≡ with_names names.old (all_names (nodes_view v.items))) }
 {
     let mut nodes = Vec::new(alloc);
-    let mut seen = BTreeSet::new(alloc);
+    let mut keys = BTreeSet::new(alloc);
     for (i, item) in items.iter().enumerate() {
-        let at = i as u64;
-        let key = node_key(item, at)?;
-        if !add_name(&mut seen, key)? {
-            return Err(ConfigFault::Duplicate(at));
-        }
-        names.add(key)?;
-        let quorum_set = node_set(alloc, names, item, at)?;
-        nodes.push(NamedNode { key, quorum_set })?;
+        nodes.push(read_item(alloc, names, &mut keys, item, i as u64)?)?;
     }
     Ok(nodes)
 }

@@ -4,15 +4,17 @@ ghost use Rattle.std.specs.Prelude.{◌≡◌, ◌⊎◌, ◌≤◌, [], Ok, Err
 ghost use Rattle.std.specs.List.{IsDistinct};
 ghost use Rattle.std.specs.Str.{bytes_eq};
 ghost use Rattle.fbas_model.specs.Names.{marks};
-ghost use Rattle.node_json.specs.Organisations.{HasNone, among_nodes, ids_of, members_under, orgs_of};
+ghost use Rattle.node_json.specs.Organisations.{HasNone, among_nodes, ids_of, members_under, orgs_in, orgs_of, within_orgs};
 ghost use Rattle.node_json.specs.OrgsView.{named_org_view, named_orgs_view, named_ids, org_view};
+ghost use Rattle.node_json.specs.Reading.{after, and_then};
+ghost use Rattle.node_json.specs.Tree.{view};
 ghost use Rattle.node_json.specs.View.{names_view};
 
 use crate::faults::OrgFault;
 use crate::named_orgs::{NamedOrg, read_named_orgs, read_org_tree};
 use fbas_core::System;
 use fbas_model::{MOST_NODES, MOST_ORGS};
-use json::Scratch;
+use json::{Scratch, Value};
 use name_set::{Names, NodeSet};
 use std::alloc::{AllocError, Global};
 use std::collections::BTreeMap;
@@ -116,6 +118,22 @@ fn owned_orgs(alloc: Global, names: &Names, orgs: &[NamedOrg]) -> Result<Orgs, A
     Ok(Orgs { list, places })
 }
 
+// The organisations of a tree among the nodes of the names, within the limit.
+fn orgs_in_tree(alloc: Global, tree: &Value, names: &Names) -> Result<Orgs, OrgFault>
+    requires { length names.now ≤ MOST_NODES }
+    ensures ok { IfOk result (λ o. after (map (among_nodes names.now)) (and_then within_orgs (orgs_in (view tree.now))) ≡ Ok o) }
+    ensures err { IfErr result (λ e. (e ≡ OrgFault.Memory) ⊎ (after (map (among_nodes names.now)) (and_then within_orgs (orgs_in (view tree.now))) ≡ Err e)) }
+    ensures sized { IfOk result (λ o. All (λ org. length org.members ≡ length names.now) o) }
+    ensures apart { IfOk result (λ o. IsDistinct bytes_eq (ids_of o)) }
+{
+    let orgs = read_named_orgs(alloc, tree)?;
+    let n = orgs.len();
+    if n > MOST_ORGS {
+        return Err(OrgFault::TooManyOrgs(n as u64));
+    }
+    Ok(owned_orgs(alloc, names, &orgs)?)
+}
+
 /// The organisations of a file among the nodes of a system, or its first fault.
 ///
 /// The file is a JSON array of objects. Each has an `id`, a key, and may have `validators`, an array of keys; other members
@@ -136,10 +154,5 @@ pub fn read_orgs(alloc: Global, bytes: &[u8], system: &System) -> Result<Orgs, O
 {
     let mut scratch = Scratch::new(alloc);
     let tree = read_org_tree(alloc, bytes, &mut scratch)?;
-    let orgs = read_named_orgs(alloc, &tree)?;
-    let n = orgs.len();
-    if n > MOST_ORGS {
-        return Err(OrgFault::TooManyOrgs(n as u64));
-    }
-    Ok(owned_orgs(alloc, system.names(), &orgs)?)
+    orgs_in_tree(alloc, &tree, system.names())
 }

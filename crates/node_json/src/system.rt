@@ -8,9 +8,10 @@ ghost use Rattle.fbas_model.specs.Systems.{entries_in};
 ghost use Rattle.node_json.specs.Configuration.{all_names, number_of, numbered, set_named, system_with, system_of};
 ghost use Rattle.node_json.specs.Named.{NamedNode as Declared};
 ghost use Rattle.node_json.specs.NamesInOrder.{in_order};
-ghost use Rattle.node_json.specs.Reading.{nodes_of};
+ghost use Rattle.node_json.specs.Reading.{and_then, nodes_in, nodes_of};
 ghost use Rattle.node_json.specs.Sound.{AreSound};
 ghost use Rattle.node_json.specs.SystemOf.{IsSystemOf};
+ghost use Rattle.node_json.specs.Tree.{view};
 ghost use Rattle.node_json.specs.View.{names_view, set_view, nodes_view};
 
 use crate::faults::ConfigFault;
@@ -22,7 +23,7 @@ use crate::slots::Guesses;
 use crate::tree::read_tree;
 use fbas_core::System;
 use fbas_model::{MOST_ENTRIES, MOST_NODES};
-use json::Scratch;
+use json::{Scratch, Value};
 use name_set::Names;
 use quorum_set::QuorumSet;
 use std::alloc::{AllocError, Global};
@@ -157,6 +158,17 @@ fn system(alloc: Global, nodes: &[NamedNode], found: BTreeSet<&str>) -> Result<S
     Ok(system)
 }
 
+// The system of a tree.
+fn system_in_tree(alloc: Global, tree: &Value) -> Result<System, ConfigFault>
+    ensures ok { IfOk result (λ s. and_then system_with (nodes_in (view tree.now)) ≡ Ok s) }
+    ensures err { IfErr result (λ e. (e ≡ ConfigFault.Memory) ⊎ (and_then system_with (nodes_in (view tree.now)) ≡ Err e)) }
+    ensures means { IfOk result (λ s. (nodes : List Declared) × (nodes_in (view tree.now) ≡ Ok nodes) × IsSystemOf nodes s) }
+{
+    let mut names = SeenNames::new(alloc)?;
+    let nodes = read_nodes(alloc, &mut names, tree)?;
+    system(alloc, &nodes, names.in_order())
+}
+
 /// The system of a configuration, or its first fault.
 ///
 /// A configuration is a JSON array of objects. Each has a `publicKey`, and may have a `quorumSet`: an object with a
@@ -178,7 +190,5 @@ pub fn read_config(alloc: Global, bytes: &[u8]) -> Result<System, ConfigFault>
 {
     let mut scratch = Scratch::new(alloc);
     let tree = read_tree(alloc, bytes, &mut scratch)?;
-    let mut names = SeenNames::new(alloc)?;
-    let nodes = read_nodes(alloc, &mut names, &tree)?;
-    system(alloc, &nodes, names.in_order())
+    system_in_tree(alloc, &tree)
 }

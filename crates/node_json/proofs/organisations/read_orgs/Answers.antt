@@ -1,9 +1,6 @@
-use Rattle.std.proofs.Common.{◌≡◌, length, Ok, Err, map, inl, inr, rules, sym, ap, ◌∙◌, arith}
-use Rattle.std.proofs.lemmas.List.{length-map}
+use Rattle.std.proofs.Common.{◌≡◌, Err, inl, inr, rules}
 use Rattle.node_json.specs.Tree.{view}
-use Rattle.node_json.specs.Organisations.{among_nodes}
-use Rattle.node_json.specs.OrgsView.{named_org_view, named_orgs_view}
-use Rattle.node_json.proofs.OrgReading.{orgs_of-no_tree, orgs_of-fault, too_many_orgs, few_orgs, all_sized}
+use Rattle.node_json.proofs.OrgReading.{orgs_of-no_tree, orgs_of-tree}
 use Rattle.node_json.proofs.organisations.read_orgs.Goals as goal
 
 pub returns-in_err-tree-clause-err : goal.returns-in_err-tree-clause-err
@@ -14,31 +11,15 @@ returns-in_err-tree-clause-err c =
       | inr f ↦ inr (rw f.0 (orgs_of-no_tree c.args.system.now.names c.args.bytes.now f.1))
     ])
 
-pub returns-in_err-orgs-clause-err : goal.returns-in_err-orgs-clause-err
-returns-in_err-orgs-clause-err c =
-    let r : c.from_residual-in_err-orgs.result ≡ Err c.in_err-orgs.field-0.0 = search rules in
-    rw r (elim c.in_err-orgs.ensures.err [
-      | inl m ↦ inl m
-      | inr f ↦ inr (orgs_of-fault c.args.system.now.names c.args.bytes.now (view c.in_ok-tree.tree) _ c.in_ok-tree.ensures.ok f)
-    ])
-
-pub returns-then-n-gt-MOST_ORGS-clause-err : goal.returns-then-n-gt-MOST_ORGS-clause-err
-returns-then-n-gt-MOST_ORGS-clause-err c =
-    let orgs = c.in_ok-orgs.orgs.items in
-    let counted : c.len-n.result ≡ length (named_orgs_view orgs) = omega (arith, c.len-n.ensures, c.in_ok-orgs.orgs.ok.0, length-map orgs named_org_view) in
-    inr (too_many_orgs c.args.system.now.names c.args.bytes.now (view c.in_ok-tree.tree) (named_orgs_view orgs) c.len-n.result c.in_ok-tree.ensures.ok c.in_ok-orgs.ensures.ok counted c.if-n-gt-MOST_ORGS.true)
-
 pub returns-clause-ok : goal.returns-clause-ok
 returns-clause-ok c =
-    let names = c.args.system.now.names in
-    let orgs = c.in_ok-orgs.orgs.items in
-    let counted : c.len-n.result ≡ length (named_orgs_view orgs) = omega (arith, c.len-n.ensures, c.in_ok-orgs.orgs.ok.0, length-map orgs named_org_view) in
-    let made : c.in_ok-owned_orgs.field-0 ≡ map (among_nodes names) (named_orgs_view orgs) = rw (← c.names.ensures.names, ← c.deref.ensures.value) c.in_ok-owned_orgs.ensures in
-    few_orgs names c.args.bytes.now (view c.in_ok-tree.tree) (named_orgs_view orgs) c.len-n.result c.in_ok-tree.ensures.ok c.in_ok-orgs.ensures.ok counted (omega arith) ∙ ap Ok (sym made)
+    let all = orgs_of-tree c.args.system.now.names c.args.bytes.now (view c.in_ok-tree.tree) c.in_ok-tree.ensures.ok in
+    rw (all, ← c.names.ensures.names) c.orgs_in_tree.ensures.ok
+
+pub returns-clause-err : goal.returns-clause-err
+returns-clause-err c =
+    let all = orgs_of-tree c.args.system.now.names c.args.bytes.now (view c.in_ok-tree.tree) c.in_ok-tree.ensures.ok in
+    rw (all, ← c.names.ensures.names) c.orgs_in_tree.ensures.err
 
 pub returns-clause-sized : goal.returns-clause-sized
-returns-clause-sized c =
-    let names = c.args.system.now.names in
-    let orgs = c.in_ok-orgs.orgs.items in
-    let made : c.in_ok-owned_orgs.field-0 ≡ map (among_nodes names) (named_orgs_view orgs) = rw (← c.names.ensures.names, ← c.deref.ensures.value) c.in_ok-owned_orgs.ensures in
-    rw made (all_sized names (named_orgs_view orgs))
+returns-clause-sized c = rw (← c.names.ensures.names) c.orgs_in_tree.ensures.sized

@@ -1,17 +1,7 @@
-use Rattle.std.proofs.Common.{◌≡◌, List, Ok, Err, inl, inr, rules, ap, sym, ◌∙◌}
-use Rattle.std.proofs.lemmas.Result.{IfOk-weaker}
+use Rattle.std.proofs.Common.{◌≡◌, Err, inl, inr, rules}
 use Rattle.node_json.specs.Tree.{view}
-use Rattle.fbas_model.specs.Names.{Name}
-use Rattle.node_json.specs.Configuration.{all_names, system_of, system_with}
-use Rattle.node_json.specs.Named.{NamedNode}
-use Rattle.node_json.specs.NamesInOrder.{with_names}
-use Rattle.node_json.specs.Reading.{nodes_of}
-use Rattle.node_json.specs.SystemOf.{IsSystemOf}
-use Rattle.node_json.proofs.Laws.{system_with-is}
-use Rattle.node_json.specs.View.{nodes_view}
 use Rattle.node_json.proofs.NodeReading.{nodes_of-no_tree, nodes_of-tree}
-use Rattle.node_json.proofs.Soundness.{nodes_in-sound}
-use Rattle.node_json.proofs.Limits.{system_of-fault, system_of-nodes}
+use Rattle.node_json.proofs.Limits.{system_of-fault, system_of-tree}
 use Rattle.node_json.proofs.system.read_config.Goals as goal
 
 pub returns-in_err-tree-clause-err : goal.returns-in_err-tree-clause-err
@@ -22,34 +12,17 @@ returns-in_err-tree-clause-err c =
       | inr f ↦ inr (rw f.0 (system_of-fault _ _ (nodes_of-no_tree _ f.1)))
     ])
 
-pub returns-in_err-nodes-clause-err : goal.returns-in_err-nodes-clause-err
-returns-in_err-nodes-clause-err c =
-    let r : c.from_residual-in_err-nodes.result ≡ Err c.in_err-nodes.field-0.0 = search rules in
-    rw r (elim c.in_err-nodes.ensures.err [
-      | inl m ↦ inl m
-      | inr f ↦ inr (system_of-fault _ _ (nodes_of-tree _ _ c.in_ok-tree.ensures.ok ∙ f))
-    ])
-
-pub system-requires-clause-sound : goal.system-requires-clause-sound
-system-requires-clause-sound c = rw c.deref.ensures.value (nodes_in-sound (view c.in_ok-tree.tree) (nodes_view c.in_ok-nodes.nodes.items) c.in_ok-nodes.ensures.ok)
-
-pub system-requires-clause-names : goal.system-requires-clause-names
-system-requires-clause-names c = rw c.deref.ensures.value (c.in_order.ensures ∙ c.in_ok-nodes.ensures.gathered ∙ ap (λ (ns : List Name). with_names ns (all_names (nodes_view c.in_ok-nodes.nodes.items))) c.in_ok-names.ensures)
-
 pub returns-clause-ok : goal.returns-clause-ok
 returns-clause-ok c =
-    let all : system_of c.args.bytes.now ≡ system_with (nodes_view c.in_ok-nodes.nodes.items) = system_of-nodes _ _ (nodes_of-tree _ _ c.in_ok-tree.ensures.ok ∙ c.in_ok-nodes.ensures.ok) in
-    rw (all, ← c.deref.ensures.value) c.system.ensures.ok
+    let all = system_of-tree c.args.bytes.now (view c.in_ok-tree.tree) (nodes_of-tree _ _ c.in_ok-tree.ensures.ok) in
+    rw all c.system_in_tree.ensures.ok
 
 pub returns-clause-err : goal.returns-clause-err
 returns-clause-err c =
-    let all : system_of c.args.bytes.now ≡ system_with (nodes_view c.in_ok-nodes.nodes.items) = system_of-nodes _ _ (nodes_of-tree _ _ c.in_ok-tree.ensures.ok ∙ c.in_ok-nodes.ensures.ok) in
-    rw (all, ← c.deref.ensures.value) c.system.ensures.err
+    let all = system_of-tree c.args.bytes.now (view c.in_ok-tree.tree) (nodes_of-tree _ _ c.in_ok-tree.ensures.ok) in
+    rw all c.system_in_tree.ensures.err
 
 pub returns-clause-means : goal.returns-clause-means
 returns-clause-means c =
-    let nodes = nodes_view c.in_ok-nodes.nodes.items in
-    let read : nodes_of c.args.bytes.now ≡ Ok nodes = nodes_of-tree _ _ c.in_ok-tree.ensures.ok ∙ c.in_ok-nodes.ensures.ok in
-    let sound = nodes_in-sound (view c.in_ok-tree.tree) nodes c.in_ok-nodes.ensures.ok in
-    IfOk-weaker c.system.result (λ s. system_with (nodes_view c.deref.result.now) ≡ Ok s) (λ s. (ns : List NamedNode) × (nodes_of c.args.bytes.now ≡ Ok ns) × IsSystemOf ns s)
-    (λ s made. (nodes, read, system_with-is nodes s sound.apart (ap (λ ns. system_with (nodes_view ns)) (sym c.deref.ensures.value) ∙ made))) c.system.ensures.ok
+    let read = nodes_of-tree c.args.bytes.now (view c.in_ok-tree.tree) c.in_ok-tree.ensures.ok in
+    rw read c.system_in_tree.ensures.means
