@@ -78,12 +78,6 @@ pub parts_end : (l : ℕ) (front suffix part : List ℕ) (old now new : Lines) �
 parts_end l front suffix part old now new before is =
     ap (next_line l) before ∙ is ∙ ap (λ (t : List ℕ). Ok (record { text = t; more = new })) (append_assoc front suffix part)
 
--- where something is left, not nothing is
-pub something_left : (xs ys us vs : List ℕ) → xs ++ ys ≡ us ++ vs → 0 < length us → xs ++ ys ≢ []
-something_left xs ys us vs is some none =
-    let long : length (us ++ vs) ≡ 0 = sym (ap (λ (bytes : List ℕ). length bytes) is) ∙ ap (λ (bytes : List ℕ). length bytes) none in
-    omega (arith, some, long, length-append us vs)
-
 -- the same where the part ends with a line feed
 pub ended_bytes : (all old part new left : List ℕ) → all ≡ old ++ left → old ≡ part ++ 10 ∷ new → all ≡ part ++ 10 ∷ (new ++ left)
 ended_bytes all old part new left is feed = is ∙ ap (λ (xs : List ℕ). xs ++ left) feed ∙ append_assoc part (10 ∷ new) left
