@@ -1,10 +1,11 @@
 //! Why a certificate is not accepted.
 use lrat_model::StepFault;
 use std::alloc::AllocError;
+use std::fmt;
 use thiserror::Error;
 
 /// Why a certificate is not accepted: its first fault, where lines count from 1.
-#[derive(Debug, Drop, Error)]
+#[derive(Drop, Error)]
 pub enum CertError {
     /// This line is not one that may stand there.
     #[error("line {0} is not one that may stand there")]
@@ -60,6 +61,13 @@ pub enum CertError {
     /// No memory for a line or for what it says.
     #[error("out of memory")]
     Memory,
+}
+
+/// The words that it displays: nothing shows the variants by their names.
+impl fmt::Debug for CertError {
+    fn fmt<W: fmt::Write>(&self, f: &mut fmt::Formatter<W>) -> fmt::Result {
+        fmt::Display::fmt(self, f)
+    }
 }
 
 impl From<AllocError> for CertError {

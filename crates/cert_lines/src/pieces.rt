@@ -72,6 +72,7 @@ impl Pieces {
     pub fn fill<D: Desk>(&mut self, desk: &mut D) -> Result<bool, CertError>
         ensures all { OnOk result (IsTrue D.tells → self.old.unread ++ left_of Which.Cert (D.state desk.old) ≡ self.new.unread ++ left_of Which.Cert (D.state desk.new)) }
         ensures some { IfOk result (λ more. more ≡ true → 0 < length self.new.unread) }
+        ensures left { IfOk result (λ more. more ≡ true → IsTrue D.tells → 0 < length (self.old.unread ++ left_of Which.Cert (D.state desk.old))) }
         ensures none { IfOk result (λ more. more ≡ false → IsTrue D.tells → self.old.unread ++ left_of Which.Cert (D.state desk.old) ≡ []) }
         ensures part { IfOk result (λ more. more ≡ false → self.new.part ≡ []) }
         ensures err { IfErr result (λ e. e ≡ CertError.Read) }
