@@ -4,10 +4,11 @@ ghost use Rattle.std.specs.Prelude.{◌≡◌};
 ghost use Rattle.node_json.specs.declared.faults.ConfigFault.TheVariants.{Memory};
 
 use std::alloc::{AllocError, AllocFailed};
+use std::fmt;
 use thiserror::Error;
 
 /// What is wrong with a quorum set.
-#[derive(Clone, Copy, Debug, PartialEq, Eq, Error)]
+#[derive(Clone, Copy, PartialEq, Eq, Error)]
 pub enum SetFault {
     /// It is no object.
     #[error("shape")]
@@ -23,8 +24,15 @@ pub enum SetFault {
     Inner,
 }
 
+// The debug form of each fault is its text: a derived one costs much to prove, and shows no more.
+impl fmt::Debug for SetFault {
+    fn fmt<W: fmt::Write>(&self, f: &mut fmt::Formatter<W>) -> fmt::Result {
+        fmt::Display::fmt(self, f)
+    }
+}
+
 /// Why the bytes are no configuration: the first fault. Elements of the array are counted from 0.
-#[derive(Clone, Copy, Debug, PartialEq, Eq, Error)]
+#[derive(Clone, Copy, PartialEq, Eq, Error)]
 pub enum ConfigFault {
     /// The bytes are no JSON text.
     #[error("not-json")]
@@ -58,6 +66,12 @@ pub enum ConfigFault {
     Memory,
 }
 
+impl fmt::Debug for ConfigFault {
+    fn fmt<W: fmt::Write>(&self, f: &mut fmt::Formatter<W>) -> fmt::Result {
+        fmt::Display::fmt(self, f)
+    }
+}
+
 impl From<AllocError> for ConfigFault {
     ghost from_gives = { λ _ e. e ≡ Memory };
 
@@ -75,7 +89,7 @@ impl<T: Drop> From<AllocFailed<T>> for ConfigFault {
 }
 
 /// Why the bytes are no organisations: the first fault. Elements of the array are counted from 0.
-#[derive(Clone, Copy, Debug, PartialEq, Eq, Error)]
+#[derive(Clone, Copy, PartialEq, Eq, Error)]
 pub enum OrgFault {
     /// The bytes are no JSON text.
     #[error("not-json")]
@@ -95,6 +109,12 @@ pub enum OrgFault {
     /// There was too little memory.
     #[error("out of memory")]
     Memory,
+}
+
+impl fmt::Debug for OrgFault {
+    fn fmt<W: fmt::Write>(&self, f: &mut fmt::Formatter<W>) -> fmt::Result {
+        fmt::Display::fmt(self, f)
+    }
 }
 
 impl From<AllocError> for OrgFault {
