@@ -194,4 +194,5 @@ def main():
         times()
 
 
-main()
+if __name__ == "__main__":
+    main()
