@@ -1,5 +1,6 @@
 -- What is told early.
-use Rattle.std.proofs.Common.{◌≡◌, ◌⊎◌, inl, inr, ℕ, nat_le, length, Bool, true, false, List, Option, Some, None, Result, Ok, Err, ◌∙◌, ap, subst, if◌then◌else◌}
+use Rattle.std.proofs.Common.{◌≡◌, ◌≤◌, ◌<◌, ◌⊎◌, inl, inr, ℕ, nat_le, length, Bool, true, false, List, Option, Some, None, Result, Ok, Err, sym, ◌∙◌, ap, subst, if◌then◌else◌}
+use Rattle.std.proofs.lemmas.Bool.{le-leb, lt-leb}
 use Rattle.fbas_model.specs.Systems.{System}
 use Rattle.node_json.specs.Configuration.{system_of}
 use Rattle.node_json.specs.declared.faults.ConfigFault.{ConfigFault}
@@ -69,6 +70,15 @@ words_refused r e a (inr words) said = ap or_words_refused words ∙ ap (λ (x :
 held_within : (text : Text) (held bytes : List ℕ) (within : Bool) → (if within then Ok held else Err (Told (record { status = ConfigRefused; text = text }))) ≡ Ok bytes → Some held ≡ Some bytes
 held_within text held bytes true e = cc
 held_within text held bytes false e = absurd cc
+
+-- a file within the limit is read, and one past it is refused
+pub file_read : (text : Text) (file : Option (List ℕ)) (bytes : List ℕ) → file ≡ Some bytes → length bytes ≤ max_file → file_in text file ≡ Ok bytes
+file_read text file bytes held within =
+    rw held (ap {B = Result (List ℕ) Early} (λ (b : Bool). if b then Ok bytes else Err (Told (record { status = ConfigRefused; text = text }))) (le-leb (length bytes) max_file within))
+
+pub file_refused : (text : Text) (file : Option (List ℕ)) (bytes : List ℕ) (a : Answer) → file ≡ Some bytes → max_file < length bytes → a ≡ record { status = ConfigRefused; text = text } → file_in text file ≡ Err (Told a)
+file_refused text file bytes a held longer said =
+    rw held (ap {B = Result (List ℕ) Early} (λ (b : Bool). if b then Ok bytes else Err (Told (record { status = ConfigRefused; text = text }))) (lt-leb (length bytes) max_file longer) ∙ ap {B = Result (List ℕ) Early} (λ (x : Answer). Err (Told x)) (sym said))
 
 -- the bytes that were read are those of the file
 pub file_held : (text : Text) (file : Option (List ℕ)) (bytes : List ℕ) → file_in text file ≡ Ok bytes → file ≡ Some bytes

@@ -8,8 +8,9 @@ ghost use Rattle.cli_words.specs.declared.budget.TheConstants.{MOST_BUDGET};
 ghost use Rattle.cli_words.specs.declared.organisations.TheConstants.{MOST_ORGANISATIONS};
 ghost use Rattle.report.specs.Lines.{config_refused, orgs_refused};
 ghost use Rattle.node_json.specs.Organisations.{orgs_of};
-ghost use Rattle.order_reading.specs.Answers.{words_of, asked_of, or_words_refused, order_asked, refused_words, file_asked, trial_asked, config_asked, command_asked, query_asked, verify_asked, is_told, system_in, or_orgs_refused, orgs_given, FitsAsked};
+ghost use Rattle.order_reading.specs.Answers.{words_of, asked_of, or_words_refused, order_asked, refused_words, file_asked, trial_asked, config_asked, command_asked, query_asked, verify_asked, asked_about as spec_asked_about, is_told, system_in, or_orgs_refused, orgs_given, FitsAsked};
 ghost use Rattle.order_reading.specs.Meaning.{HasVerified, MeansYes, OfConfig, OfFile, OfWords, YesMeans, IsTold, IsUsage};
+ghost use Rattle.order_reading.specs.Questions.{FitsInquiry};
 ghost use Rattle.order_reading.specs.Reading.{Fails, Gives, GivesReading, IsRefusal, IsAnswer};
 ghost use Rattle.order_reading.specs.Status.{is_answer};
 
@@ -130,6 +131,17 @@ fn orgs_for<D: Desk>(
     orgs_in(alloc, system, &bytes)
 }
 
+// The part that an inquiry is about, and its question.
+fn asked_about(alloc: Global, system: System, inquiry: Inquiry) -> Result<Asked, AllocError>
+    requires { FitsInquiry system inquiry }
+    ensures gives { IfOk result (λ asked. asked ≡ spec_asked_about system inquiry) }
+    ensures fits { IfOk result FitsAsked }
+{
+    let Inquiry { closure, question } = inquiry;
+    let part = part_of(alloc, system, &closure)?;
+    Ok(Asked::Question(part, question))
+}
+
 // What an order with this question asks of a part of the system, once the organisations were read.
 fn ask_about(
     alloc: Global,
@@ -144,9 +156,13 @@ fn ask_about(
     ensures refused { IfErr result IsRefusal }
     ensures fits { IfOk result FitsAsked }
 {
-    let Inquiry { closure, question } = question_asked(alloc, query, order, &system, config, orgs)?;
-    let part = part_of(alloc, system, &closure)?;
-    Ok(Asked::Question(part, question))
+    match question_asked(alloc, query, order, &system, config, orgs) {
+        Ok(inquiry) => Ok(asked_about(alloc, system, inquiry)?),
+        Err(early) => {
+            drop(system);
+            Err(early)
+        }
+    }
 }
 
 // What an order with this question asks over a configuration that was read.
@@ -192,9 +208,17 @@ fn seek<D: Desk>(
     ensures reads { IsTrue D.tells → OnlyReads (D.state desk.old) (D.state desk.new) }
     ensures faults { ReadFails (D.faults desk.old) (D.faults desk.new) (IsErrOf result Early.Read) }
 {
-    let orgs = orgs_for(alloc, &system, desk, &order.orgs)?;
-    let search = search_asked(alloc, goal, order, system, config, &orgs)?;
-    Ok(Asked::Search(search))
+    match orgs_for(alloc, &system, desk, &order.orgs) {
+        Ok(orgs) => {
+            let search = search_asked(alloc, goal, order, system, config, &orgs);
+            drop(orgs);
+            Ok(Asked::Search(search?))
+        }
+        Err(early) => {
+            drop(system);
+            Err(early)
+        }
+    }
 }
 
 // What `check-lrat` says over a configuration that was read. The organisations and the names are read before the proof.
@@ -214,8 +238,9 @@ fn verify_by<D: Desk>(
     ensures faults { ReadFails (D.faults desk.old) (D.faults desk.new) (IsErrOf result Early.Read) }
 {
     let orgs = orgs_for(alloc, system, desk, &order.orgs)?;
-    let header = header_named(alloc, system, &orgs, order)?;
-    verify(alloc, system, &header, desk, &order.cert)
+    let header = header_named(alloc, system, &orgs, order);
+    drop(orgs);
+    verify(alloc, system, &header?, desk, &order.cert)
 }
 
 // What a command asks over a configuration that was read.

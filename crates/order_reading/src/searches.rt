@@ -182,8 +182,13 @@ pub fn search_asked(
     ensures refused { IfErr result IsRefusal }
     ensures fits { IfOk result FitsSearch }
 {
-    let header = header_asked(alloc, goal, order, &system, orgs)?;
-    Ok(search_with(alloc, goal, order, system, config, header)?)
+    match header_asked(alloc, goal, order, &system, orgs) {
+        Ok(header) => Ok(search_with(alloc, goal, order, system, config, header)?),
+        Err(early) => {
+            drop(system);
+            Err(early)
+        }
+    }
 }
 
 /// What a trial asks of the system of its configuration's text, in which every two quorums share a node. It is the whole system
