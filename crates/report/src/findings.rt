@@ -39,51 +39,46 @@ fn push_path(text: &mut Vec<u8>, path: &[u32]) -> Result<(), AllocError>
     push_dotted(text, path)
 }
 
-// The words before what is found: what it is, the node and the path.
-fn finding_head(
-    alloc: Global,
+// Adds the words before what is found: what it is, the node and the path.
+fn push_head(
+    text: &mut Vec<u8>,
     names: &Names,
     word: &str,
     node: u32,
     path: &[u32],
-) -> Result<Vec<u8>, AllocError>
-    ensures { IfOk result (λ text. text.items ≡ head word.now names.now node path.now) }
+) -> Result<(), AllocError>
+    ensures { OnOk result (text.new.items ≡ text.old.items ++ head word.now names.now node path.now) }
 {
-    let mut text = Vec::from_slice(alloc, word.as_bytes())?;
-    push_behind(&mut text, name_at(names, node))?;
-    push_path(&mut text, path)?;
-    Ok(text)
+    push_word(text, word)?;
+    push_behind(text, name_at(names, node))?;
+    push_path(text, path)
 }
 
-// The line of what is found in the quorum set of a node.
-fn finding_text(
-    alloc: Global,
+// Adds the line of what is found in the quorum set of a node.
+fn push_finding(
+    text: &mut Vec<u8>,
     names: &Names,
     node: u32,
     finding: &Finding,
-) -> Result<Vec<u8>, AllocError>
-    ensures { IfOk result (λ text. text.items ≡ finding_line names.now node (found finding.now)) }
+) -> Result<(), AllocError>
+    ensures { OnOk result (text.new.items ≡ text.old.items ++ finding_line names.now node (found finding.now)) }
 {
     match finding {
         Finding::BadThreshold(path, threshold, entries) => {
-            let mut text = finding_head(alloc, names, "threshold", node, path)?;
-            push_number(&mut text, *threshold)?;
-            push_number(&mut text, *entries)?;
-            push_word(&mut text, "\n")?;
-            Ok(text)
+            push_head(text, names, "threshold", node, path)?;
+            push_number(text, *threshold)?;
+            push_number(text, *entries)?;
         }
         Finding::Repeated(path, repeated) => {
-            let mut text = finding_head(alloc, names, "repeated", node, path)?;
-            push_behind(&mut text, name_at(names, *repeated))?;
-            push_word(&mut text, "\n")?;
-            Ok(text)
+            push_head(text, names, "repeated", node, path)?;
+            push_behind(text, name_at(names, *repeated))?;
         }
     }
+    push_word(text, "\n")
 }
 
 // Adds the lines of what is found in the quorum set of a node.
 fn push_findings(
-    alloc: Global,
     text: &mut Vec<u8>,
     names: &Names,
     node: u32,
@@ -92,8 +87,7 @@ fn push_findings(
     ensures { OnOk result (text.new.items ≡ text.old.items ++ finding_lines names.now node (found_all findings.now)) }
 {
     for finding in findings {
-        let line = finding_text(alloc, names, node, finding)?;
-        text.extend_from_slice(&line)?;
+        push_finding(text, names, node, finding)?;
     }
     Ok(())
 }
@@ -111,7 +105,7 @@ fn push_found(
 {
     let mut findings = Vec::new(alloc);
     set.findings(alloc, &mut findings)?;
-    push_findings(alloc, text, names, node, &findings)
+    push_findings(text, names, node, &findings)
 }
 
 // Adds what is found in the quorum sets of all nodes.

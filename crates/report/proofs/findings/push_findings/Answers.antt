@@ -1,4 +1,4 @@
-use Rattle.std.proofs.Common.{◌≡◌, ◌++◌, ◌∷◌, ◌+◌, ℕ, List, drop, ap, sym, ◌∙◌}
+use Rattle.std.proofs.Common.{◌≡◌, ◌++◌, ◌∷◌, ◌+◌, List, drop, ap, sym, ◌∙◌}
 use Rattle.std.proofs.lemmas.List.{at_drop_more}
 use Rattle.quorum_set.specs.Findings.{found, found_all}
 use Rattle.quorum_set.specs.declared.findings.Finding.{Finding}
@@ -16,5 +16,4 @@ loop-finding-preserved c =
     let lines = λ (fs : List Finding). finding_lines names v (found_all fs) in
     let later = lines (drop (i + 1) findings) in
     let step : lines (drop i findings) ≡ finding_line names v (found x) ++ later = at_drop_more lines findings i x c.loop-finding-test.true ∙ ap (λ (y : Finding). lines (y ∷ drop (i + 1) findings)) (sym c.finding-item.is) in
-    let told : c.extend_from_slice.new.self.items ≡ c.loop-finding.text.items ++ finding_line names v (found x) = c.in_ok-extend_from_slice.ensures.items ∙ ap (λ (t : List ℕ). c.loop-finding.text.items ++ t) (c.deref.ensures.value ∙ c.in_ok-line.ensures) in
-    rw told (grown c.loop-finding.text.items (finding_line names v (found x)) later (lines (drop i findings)) (c.args.text.now.items ++ lines findings) step c.loop-finding.invariant)
+    rw c.in_ok-push_finding.ensures (grown c.loop-finding.text.items (finding_line names v (found x)) later (lines (drop i findings)) (c.args.text.now.items ++ lines findings) step c.loop-finding.invariant)
