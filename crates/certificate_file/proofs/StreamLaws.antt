@@ -5,8 +5,8 @@ use Rattle.std.proofs.lemmas.Bool.{false≢true}
 use Rattle.fbas_model.specs.Nodes.{Table}
 use Rattle.fbas_model.specs.Systems.{System}
 use Rattle.lrat_model.specs.Clauses.{with_clause}
-use Rattle.lrat_model.specs.Steps.{ProofStep, Addition, Deletion, Database, deletion_fault, progress_at}
-use Rattle.lrat_model.specs.Rules.{addition_fault_by}
+use Rattle.lrat_model.specs.Steps.{ProofStep, Addition, Deletion, Database, deletion_fault, after_step, progress_at}
+use Rattle.lrat_model.specs.Rules.{addition_fault_by, step_fault_by}
 use Rattle.lrat_model.specs.declared.step.Rule.{Rule}
 use Rattle.lrat_model.specs.declared.step.Progress.{Progress}
 use Rattle.lrat_model.specs.declared.step.Progress.TheVariants.{Going as going, Refuted}
@@ -24,7 +24,7 @@ use Rattle.cert_lines.specs.Saying.{or_bad_line}
 use Rattle.cert_lines.specs.declared.faults.CertError.{CertError}
 use Rattle.cert_lines.specs.Limits.{unless}
 use Rattle.cert_lines.specs.declared.faults.CertError.TheVariants.{NotNew}
-use Rattle.certificate_file.specs.Acceptance.{and_then, step_unless, take_step, step_line, is_covered, lemma_unless, take_lemma, with_literal, lemma_line, listed_by, literal_in, list_step_unless, list_step, list_line, list_text, after_progress, after_list_step, take_line}
+use Rattle.certificate_file.specs.Acceptance.{and_then, holding, step_unless, take_step, step_line, is_covered, adds_covered, counted, lemma_unless, take_lemma, with_literal, lemma_line, listed_by, literal_in, list_step_unless, list_step, list_line, list_text, after_progress, after_list_step, take_line}
 use Rattle.certificate_file.specs.Known.{IsKnown, IsKnownState}
 use Rattle.certificate_file.proofs.Meaning.{known_step, known_lemma}
 use Rattle.certificate_file.proofs.ListKnown.{known_list}
@@ -37,6 +37,7 @@ use Rattle.certificate_file.specs.declared.places.ListPart.{ListPart}
 use Rattle.certificate_file.specs.declared.places.Listing.{Listing}
 use Rattle.certificate_file.specs.declared.places.Place.TheVariants.{AtSteps, AtLemmas, AtList}
 use Rattle.certificate_file.specs.declared.places.State.{State}
+use Rattle.certificate_file.specs.declared.places.State.TheVariants.{Going}
 
 neither : (a b : Bool) → (a || b) ≡ false → (a ≡ false) × (b ≡ false)
 neither true b is = absurd (false≢true (sym is))
@@ -64,6 +65,13 @@ pub same_checking : (a b : Checking) → a.rule ≡ b.rule → a.vars ≡ b.vars
 same_checking a b rule vars database =
     ap (λ (r : Rule). record { rule = r; vars = a.vars; database = a.database }) rule ∙ ap (λ (n : ℕ). record { rule = b.rule; vars = n; database = a.database }) vars
     ∙ ap (λ (d : Database). record { rule = b.rule; vars = b.vars; database = d }) database
+
+-- a lemma that has no fault and is new
+pub taken_lemma : (l : ℕ) (h : Header) (c now : Checking) (n units : ℕ) (step : ProofStep) → step_fault_by c.rule c.vars c.database step ≡ None → adds_covered c.database.held step ≡ false → units ≡ counted n step
+    → now.rule ≡ c.rule → now.vars ≡ c.vars → now.database ≡ after_step c.database step → take_lemma l h c n step ≡ Ok (Going (AtLemmas h now units))
+taken_lemma l h c now n units step right is_new count rule vars database =
+    let same = same_checking now (holding c (after_step c.database step)) rule vars database in
+    rw (right, is_new, same, count) refl
 
 -- the places of steps, where lines are taken so
 pub at_steps : (f : System) (d : List ℕ) (h : Header) (c : Checking) (l : ℕ) (text : List ℕ) → take_line f d (AtSteps h c) l text ≡ step_line h c l text

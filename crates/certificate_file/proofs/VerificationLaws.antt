@@ -1,6 +1,7 @@
 -- What a proof that is verified shows, and how its lines are taken one after another.
 use Rattle.std.proofs.Common.{◌≡◌, ℕ, ◌+◌, ◌≤◌, ◌<◌, List, [], ◌∷◌, ◌++◌, Bool, true, false, Option, Some, None, Result, Ok, Err, nat_le, length, refl, sym, ap, ◌∙◌, subst, cond, arith}
 use Rattle.std.proofs.lemmas.Bool.{le-leb, leb-true}
+use Rattle.fbas_model.specs.Nodes.{Table}
 use Rattle.fbas_model.specs.Systems.{System}
 use Rattle.lrat_model.specs.Steps.{ProofStep, Addition, Deletion, Database, after_step, progress_of, deletion_fault}
 use Rattle.lrat_model.specs.Rules.{step_fault_by, addition_fault_by}
@@ -15,6 +16,7 @@ use Rattle.step_stream.specs.Outline.{Adds, outline_in}
 use Rattle.step_stream.specs.Ahead.{ahead}
 use Rattle.step_stream.specs.declared.words.StepWords.{StepWords}
 use Rattle.clause_encoder.specs.declared.limits.TheConstants.{MOST_VARS}
+use Rattle.clause_encoder.specs.declared.version.Version.TheVariants.{Two}
 use Rattle.cert_lines.specs.Limits.{unless, within_limits}
 use Rattle.cert_lines.specs.Texts.{Text, texts_of, next_text}
 use Rattle.cert_lines.specs.Steps.{is_passed_over}
@@ -28,9 +30,14 @@ use Rattle.certificate_file.specs.Known.{IsSubject, AreSteps, IsKnownLeft}
 use Rattle.certificate_file.specs.Verification.{after_lemma, taken_unless, taken, proof_line, proof_lines, proof_of, subject_from, verified}
 use Rattle.certificate_file.specs.declared.places.Header.{Header}
 use Rattle.certificate_file.specs.declared.places.Subject.{Subject}
+use Rattle.certificate_file.specs.Meaning.{part_from}
 use Rattle.certificate_file.specs.Formulas.{formula_of}
 use Rattle.certificate_file.proofs.StreamLaws.{same_checking}
 use Rattle.certificate_file.proofs.RefutationLaws.{formula_known, after_known}
+
+-- the parts of a subject
+pub subject_is : (f : System) (h : Header) (faulty nodes : Table) → faulty ≡ h.faulty → nodes ≡ part_from f h.from → record { version = Two; header = record { from = h.from; faulty = faulty }; nodes = nodes } ≡ subject_from f h
+subject_is f h faulty nodes same part = rw (same, part) refl
 
 -- ---- what is known
 

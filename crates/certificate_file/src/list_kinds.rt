@@ -1,6 +1,8 @@
 //! The kinds of lists: what is known before the first line of one.
-ghost use Rattle.std.specs.Prelude.{◌≡◌, ◌⊎◌, IfOk, IfErr, IsErrOf, Ok, Err};
-ghost use Rattle.certificate_file.specs.Acceptance.{no_listing, any_kind_line};
+ghost use Rattle.std.specs.Prelude.{◌≡◌, ◌⊎◌, ◌<◌, ◌^◌, IfOk, IfErr, IsErrOf, Ok, Err};
+ghost use Rattle.fbas_model.specs.Nodes.{size};
+ghost use Rattle.list_journal.specs.Journals.{nothing_held};
+ghost use Rattle.certificate_file.specs.Acceptance.{list_checking, no_listing, any_kind_line};
 ghost use Rattle.certificate_file.specs.Known.{IsSubject};
 
 use crate::places::{ListPart, Listing, Place, State, Subject};
@@ -12,9 +14,21 @@ use greatest_quorum::greatest;
 use list_journal::{ListKind, SetList};
 use lrat_checker::IdleChecker;
 use lrat_model::Rule;
+use name_set::NodeSet;
 use std::alloc::{AllocError, Global};
 
-/// A list of the part before its first line: nothing is held, and each node of the greatest quorum has a variable.
+/// A checker that holds nothing, with a variable for each node of the greatest quorum.
+fn list_checker(alloc: Global, greatest: &NodeSet) -> Result<IdleChecker, AllocError>
+    requires { size greatest.now < 2 ^ 31 }
+    ensures { IfOk result (λ checker. checker ≡ list_checking (size greatest.now) nothing_held) }
+{
+    let vars = u64::from(greatest.count());
+    let mut checker = IdleChecker::start(alloc, Store::new(alloc), vars, Rule::Rup)?;
+    checker.expect_covers(alloc);
+    Ok(checker)
+}
+
+/// A list of the part before its first line.
 fn no_listing(
     alloc: Global,
     system: &System,
@@ -24,23 +38,27 @@ fn no_listing(
     requires { IsSubject system.now subject.now }
     ensures { IfOk result (λ k. k ≡ no_listing system.now kind subject.now) }
 {
-    let part = system.restrict(alloc, &subject.nodes)?;
+    let restricted = system.restrict(alloc, &subject.nodes)?;
     let faulty = system.cut(&subject.header.faulty, &subject.nodes);
-    let greatest = greatest(&part, &faulty);
-    let vars = u64::from(greatest.count());
-    let mut checker = IdleChecker::start(alloc, Store::new(alloc), vars, Rule::Rup)?;
-    checker.expect_covers(alloc);
-    Ok(Listing {
-        kind,
-        part: ListPart {
-            system: part,
-            faulty,
-            greatest,
-        },
-        checker,
-        sets: SetList::new(alloc),
-        units: 0,
-    })
+    let greatest = greatest(&restricted, &faulty);
+    let part = ListPart {
+        system: restricted,
+        faulty,
+        greatest,
+    };
+    match list_checker(alloc, &part.greatest) {
+        Ok(checker) => Ok(Listing {
+            kind,
+            part,
+            checker,
+            sets: SetList::new(alloc),
+            units: 0,
+        }),
+        Err(fault) => {
+            drop(part);
+            Err(fault)
+        }
+    }
 }
 
 /// The first line of a list is awaited.

@@ -1,19 +1,9 @@
-use Rattle.std.proofs.Common.{rules, ◌≡◌, ℕ, [], ap, ◌∙◌}
-use Rattle.fbas_model.specs.Nodes.{size}
-use Rattle.lrat_model.specs.Clauses.{Held}
-use Rattle.list_journal.specs.Journals.{nothing_held}
-use Rattle.certificate_file.specs.Acceptance.{list_checking}
-use Rattle.certificate_file.proofs.FirstLines.{no_listing_of}
-use Rattle.certificate_file.proofs.StreamLaws.{same_checking}
+use Rattle.certificate_file.proofs.FirstLines.{list_part_of, no_listing_of}
 use Rattle.certificate_file.proofs.list_kinds.no_listing.Goals as goal
 
-pub returns : goal.returns
-returns c =
-    let checker = c.in_ok-checker.checker in
-    let held = c.in_ok-checker.ensures in
-    let vars : checker.vars ≡ size c.greatest-greatest.result = search rules in
-    let nothing : c.new.result ≡ nothing_held =
-    ap (λ (h : Held). record { held = h; last = c.new.result.last }) c.new.ensures.held ∙ ap (λ (n : ℕ). record { held = []; last = n }) c.new.ensures.last in
-    no_listing_of c.args.system.now c.args.kind c.args.subject.now c.in_ok-part.part c.cut-faulty.result c.greatest-greatest.result c.expect_covers.new.self c.new-2.result
-    c.in_ok-part.ensures.part c.cut-faulty.ensures.part c.greatest-greatest.ensures.counted
-    (c.expect_covers.ensures ∙ same_checking checker (list_checking (size c.greatest-greatest.result) nothing_held) held.rule vars (held.database ∙ nothing)) c.new-2.ensures
+pub returns-in-Ok : goal.returns-in-Ok
+returns-in-Ok c =
+    let f = c.args.system.now in
+    let s = c.args.subject.now in
+    let is = list_part_of f s c.in_ok-restricted.restricted c.cut-faulty.result c.greatest-greatest.result c.in_ok-restricted.ensures.part c.cut-faulty.ensures.part c.greatest-greatest.ensures.counted in
+    no_listing_of f c.args.kind s (record { system = c.in_ok-restricted.restricted; faulty = c.cut-faulty.result; greatest = c.greatest-greatest.result }) c.in-Ok.checker c.new.result is c.in-Ok.ensures c.new.ensures

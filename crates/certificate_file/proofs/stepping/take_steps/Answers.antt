@@ -163,3 +163,6 @@ returns-in-Refuted-clause-rest g c = λ tells.
 pub returns-in-Refuted-clause-faults : goal.returns-in-Refuted-clause-faults
 returns-in-Refuted-clause-faults g c =
     fails_then (g.D.Desk.faults c.args.desk.now) (g.D.Desk.faults c.steps.desk) (g.D.Desk.faults c.line_or_step.new.desk) _ _ c.steps.invariant.writes c.steps.invariant.reads (λ is. absurd (not_read is)) (λ is. absurd (not_read is)) c.in_ok-text.ensures.faults
+
+pub returns-in-Refuted-clause-err : goal.returns-in-Refuted-clause-err
+returns-in-Refuted-clause-err g c = tt
