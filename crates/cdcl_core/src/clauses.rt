@@ -126,13 +126,23 @@ impl Clauses {
         ensures { IfOk result (λ clauses. clauses ≡ without self.now ids.now) }
     {
         let mut clauses = Clauses::with_guesses(alloc, self.len())?;
+        self.copy_others(ids, &mut clauses)?;
+        Ok(clauses)
+    }
+
+    /// Copies all clauses but those of these ids.
+    fn copy_others(&self, ids: &[u64], clauses: &mut Clauses) -> Result<(), AllocError>
+        requires sorted { IsNonDecreasingBy (λ k. k) ids.now }
+        requires empty { clauses.old ≡ [] }
+        ensures { OnOk result (clauses.new ≡ without self.now ids.now) }
+    {
         let mut place = 0;
         while place < self.len() {
             let id = self.id(place);
             clauses.put(id, self.lits(place), !is_among(ids, id))?;
             place += 1;
         }
-        Ok(clauses)
+        Ok(())
     }
 
     /// One more clause, if it is one of them.

@@ -1,8 +1,8 @@
 //! What a conflict comes to: a lemma that is learnt, others that are forgotten, or the empty lemma.
-ghost use Rattle.std.specs.Prelude.{◌≡◌, ◌⊎◌, ℕ, ◌^◌, ◌<◌, ◌≤◌, ◌+◌, ◌-◌, ◌*◌, ◌++◌, ◌∷◌, [], false, List, All, OnErr, OnOk, length, slice_index, take};
+ghost use Rattle.std.specs.Prelude.{◌≡◌, ◌⊎◌, ℕ, ◌^◌, ◌<◌, ◌≤◌, ◌+◌, ◌-◌, ◌*◌, ◌++◌, ◌∷◌, [], not, false, List, filter, All, OnErr, OnOk, length, slice_index, take};
 ghost use Rattle.std.specs.List.Sorted.{IsNonDecreasingBy};
-ghost use Rattle.lrat_model.specs.Steps.{ProofStep};
-ghost use Rattle.lrat_model.specs.Clauses.{has_id, IsUnsatisfiable};
+ghost use Rattle.lrat_model.specs.Steps.{Deletion, ProofStep};
+ghost use Rattle.lrat_model.specs.Clauses.{has_id, without, IsUnsatisfiable};
 ghost use Rattle.lrat_model.specs.Propagation.{Closes};
 ghost use Rattle.cdcl_core.specs.Guides.{IsGuide};
 ghost use Rattle.cdcl_core.specs.Log.{EndsEmpty, HasNoEmptyLemma, least_live, most_live};
@@ -12,10 +12,13 @@ ghost use Rattle.cdcl_core.specs.Searching.{HasLogged, IsLogging, IsSearching, d
 ghost use Rattle.cdcl_core.specs.Watches.{IsAsserting};
 
 use crate::analysis::LearntClause;
+use crate::clauses::Clauses;
 use crate::growth::record;
+use crate::memory::Memory;
 use crate::search::Search;
 use crate::watches::{Pair, WatchLists};
-use std::alloc::AllocError;
+use lrat_text::Log;
+use std::alloc::{AllocError, Global};
 
 /// Holds and logs the empty lemma.
 pub fn refute(search: &mut Search, lemma: &LearntClause) -> Result<(), AllocError>
@@ -154,11 +157,58 @@ fn delete(search: &mut Search, gone: &[u64]) -> Result<(), AllocError>
 {
     let alloc = *search.reasons.allocator();
     let lists = WatchLists::new(alloc, 2 * (search.vars as usize + 1))?;
-    let memory = search.memory.all_but(alloc, gone)?;
-    let clauses = search.clauses.all_but(alloc, gone)?;
-    search.log.push_deletion(search.last, gone)?;
-    search.clauses = clauses;
-    search.memory = memory;
+    take_away(
+        alloc,
+        &mut search.clauses,
+        &mut search.log,
+        &mut search.memory,
+        search.last,
+        gone,
+    )?;
     search.let_go(lists);
+    Ok(())
+}
+
+/// Takes these lemmas away, and logs the deletion with the last id. Where memory runs out nothing is done.
+fn take_away(
+    alloc: Global,
+    held: &mut Clauses,
+    log: &mut Log,
+    memory: &mut Memory,
+    last: u64,
+    gone: &[u64],
+) -> Result<(), AllocError>
+    requires sorted { IsNonDecreasingBy (λ k. k) gone.now }
+    requires earned { least_live memory.old.deletions ≤ length memory.old.ids.items }
+    ensures held { OnOk result (held.new ≡ without held.old gone.now) }
+    ensures log { OnOk result (log.new ≡ log.old ++ Deletion last gone.now ∷ []) }
+    ensures ids { OnOk result (memory.new.ids.items ≡ filter (λ k. not (has_id gone.now k)) memory.old.ids.items) }
+    ensures deletions { OnOk result (memory.new.deletions ≡ memory.old.deletions + 1) }
+    ensures unchanged { OnErr result ((held.new ≡ held.old) × (log.new ≡ log.old)) }
+{
+    let clauses = held.all_but(alloc, gone)?;
+    log_deletion(alloc, log, memory, last, gone)?;
+    *held = clauses;
+    Ok(())
+}
+
+/// Logs the deletion of these lemmas, and no longer remembers them. Where memory runs out nothing is done.
+fn log_deletion(
+    alloc: Global,
+    log: &mut Log,
+    memory: &mut Memory,
+    last: u64,
+    gone: &[u64],
+) -> Result<(), AllocError>
+    requires sorted { IsNonDecreasingBy (λ k. k) gone.now }
+    requires earned { least_live memory.old.deletions ≤ length memory.old.ids.items }
+    ensures log { OnOk result (log.new ≡ log.old ++ Deletion last gone.now ∷ []) }
+    ensures ids { OnOk result (memory.new.ids.items ≡ filter (λ k. not (has_id gone.now k)) memory.old.ids.items) }
+    ensures deletions { OnOk result (memory.new.deletions ≡ memory.old.deletions + 1) }
+    ensures unchanged { OnErr result (log.new ≡ log.old) }
+{
+    let others = memory.all_but(alloc, gone)?;
+    log.push_deletion(last, gone)?;
+    *memory = others;
     Ok(())
 }

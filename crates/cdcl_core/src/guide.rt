@@ -167,10 +167,16 @@ impl Minimiser {
         for x in variables {
             let place = entry_or(places, *x as usize, 0);
             if place < last {
-                self.met.add(entry_or(&self.levels, place, 0) as usize);
+                let level = self.level_of(place);
+                self.met.add(level);
             }
         }
         Ok(())
+    }
+
+    /// The level of a place of the trail.
+    fn level_of(&self, place: usize) -> usize {
+        entry_or(&self.levels, place, 0) as usize
     }
 
     /// Finds the levels of the places that are new.
@@ -193,7 +199,7 @@ impl Minimiser {
         let mut count = 0u32;
         for m in lits {
             let place = entry_or(places, m.variable() as usize, 0);
-            let level = entry_or(&self.levels, place, 0) as usize;
+            let level = self.level_of(place);
             if !self.met.has(level) {
                 self.met.add(level);
                 count = count.saturating_add(1);
@@ -217,11 +223,31 @@ impl Minimiser {
         if entry_or(reasons, place, 0) == 0 {
             return Ok(false);
         }
-        if place < trail.len() && self.implied.has(trail[place].variable() as usize) {
+        if self.is_implied(trail, place) {
             return Ok(true);
         }
         self.waiting.clear();
         self.tried.clear();
+        self.walk(clauses, trail, reasons, places, marks, place)
+    }
+
+    /// Whether the literal at a place is known to follow.
+    fn is_implied(&self, trail: &[Lit], place: usize) -> bool {
+        place < trail.len() && self.implied.has(trail[place].variable() as usize)
+    }
+
+    /// Whether all that the literal at a place comes from follows, down to marked literals.
+    fn walk(
+        &mut self,
+        clauses: &Clauses,
+        trail: &[Lit],
+        reasons: &[u64],
+        places: &[usize],
+        marks: &Marks,
+        place: usize,
+    ) -> Result<bool, AllocError>
+        requires { AllPairs (λ e f. e.0 < f.0) clauses.now }
+    {
         let mut next = place;
         let mut left = reasons.len();
         while left > 0 {
@@ -251,18 +277,33 @@ impl Minimiser {
         for m in clause {
             let x = m.variable() as usize;
             let place = entry_or(places, x, 0);
-            let level = entry_or(&self.levels, place, 0) as usize;
-            if place == own || level == 0 || marks.has(x) || self.implied.has(x) {
+            if place == own || self.is_known(x, place, marks) {
                 continue;
             }
-            if entry_or(reasons, place, 0) == 0 || self.refused.has(x) || !self.met.has(level) {
+            if self.is_refused(x, place, entry_or(reasons, place, 0)) {
                 return Ok(false);
             }
-            self.implied.add(x);
-            self.tried.push(x)?;
-            self.waiting.push(place)?;
+            self.wait_for(x, place)?;
         }
         Ok(true)
+    }
+
+    /// Whether a variable, at a place, is valued without a decision, marked, or known to follow.
+    fn is_known(&self, x: usize, place: usize, marks: &Marks) -> bool {
+        self.level_of(place) == 0 || marks.has(x) || self.implied.has(x)
+    }
+
+    /// Whether a variable, at a place and with this reason, cannot follow.
+    fn is_refused(&self, x: usize, place: usize, reason: u64) -> bool {
+        reason == 0 || self.refused.has(x) || !self.met.has(self.level_of(place))
+    }
+
+    /// Tries whether a variable, at a place, follows.
+    fn wait_for(&mut self, x: usize, place: usize) -> Result<(), AllocError> {
+        self.implied.add(x);
+        self.tried.push(x)?;
+        self.waiting.push(place)?;
+        Ok(())
     }
 
     /// The literal at a place does not follow, and of what was tried with it nothing is known.

@@ -79,12 +79,34 @@ impl Memory {
             return Ok(None);
         }
         let needed = sorted(alloc, reasons)?;
-        let gone = self.dearest(alloc, &needed)?;
-        if gone.len() >= FEWEST {
+        self.choose_but(alloc, vars, &needed)
+    }
+
+    /// The same where a deletion is due, and of the lemmas that are not needed.
+    fn choose_but(
+        &mut self,
+        alloc: Global,
+        vars: u32,
+        needed: &[u64],
+    ) -> Result<Option<Vec<u64>>, AllocError>
+        requires rise { AllPairs (λ j k. j < k) self.old.ids.items }
+        requires sorted { IsNonDecreasingBy (λ k. k) needed.now }
+        requires few { length needed.now ≤ vars }
+        requires earned { least_live self.old.deletions ≤ length self.old.ids.items }
+        ensures ids { self.new.ids ≡ self.old.ids }
+        ensures deletions { self.new.deletions ≡ self.old.deletions }
+        ensures none { result ≡ Ok None → length self.new.ids.items < most_live vars self.new.deletions }
+        ensures chosen { IfOk result (λ found. IfSome found (λ gone. IsChosen self.new.ids.items needed.now gone.items)) }
+        ensures fewest { IfOk result (λ found. IfSome found (λ gone. 500 ≤ length gone.items)) }
+    {
+        let gone = self.dearest(alloc, needed)?;
+        let are_enough = gone.len() >= FEWEST;
+        if are_enough {
             return Ok(Some(gone));
         }
+        drop(gone);
         if self.is_full(vars) {
-            let gone = self.part(alloc, &needed, 0)?;
+            let gone = self.part(alloc, needed, 0)?;
             return Ok(Some(gone));
         }
         self.due = self.ids.len() + FEWEST;

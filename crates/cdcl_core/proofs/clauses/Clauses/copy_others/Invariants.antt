@@ -1,6 +1,6 @@
 use Rattle.std.proofs.Common.{◌≡◌, ◌≤◌, ◌-◌, length, take}
 use Rattle.lrat_model.specs.Clauses.{without}
-use Rattle.cdcl_core.proofs.clauses.Clauses.all_but.Given as goal
+use Rattle.cdcl_core.proofs.clauses.Clauses.copy_others.Given as goal
 
 abbrev pub invariant-loop-place : goal.invariant-loop-place
 invariant-loop-place l = record {
