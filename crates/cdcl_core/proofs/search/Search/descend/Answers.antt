@@ -1,4 +1,4 @@
-use Rattle.std.proofs.Common.{arith}
+use Rattle.std.proofs.Common.{ap, arith, Ok}
 use Rattle.cdcl_core.proofs.Same.{holding_same}
 use Rattle.cdcl_core.proofs.search.Search.descend.Goals as goal
 
@@ -7,3 +7,6 @@ propagate-requires-clause-room c = omega (arith, c.requires.room, c.turns.invari
 
 pub propagate-requires-clause-holding : goal.propagate-requires-clause-holding
 propagate-requires-clause-holding c = holding_same c.args.self.now c.turns.self c.turns.invariant.same c.requires.holding
+
+pub returns-then-not-is_decided-clause-full : goal.returns-then-not-is_decided-clause-full
+returns-then-not-is_decided-clause-full c = λ _. c.in_ok-is_decided-in-Fixpoint.ensures.none (ap Ok c.if-not-is_decided.true)
