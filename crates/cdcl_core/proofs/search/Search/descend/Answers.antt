@@ -10,3 +10,6 @@ propagate-requires-clause-holding c = holding_same c.args.self.now c.turns.self 
 
 pub returns-then-not-is_decided-clause-full : goal.returns-then-not-is_decided-clause-full
 returns-then-not-is_decided-clause-full c = λ _. c.in_ok-is_decided-in-Fixpoint.ensures.none (ap Ok c.if-not-is_decided.true)
+
+pub turns-smaller : goal.turns-smaller
+turns-smaller c = omega (arith, c.in_ok-is_decided-in-Fixpoint.ensures.fewer (ap Ok c.if-not-is_decided.false), c.in_ok-id.ensures.fewer)
