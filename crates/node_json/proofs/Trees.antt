@@ -91,6 +91,9 @@ found-under k v r e = seen r ∙ ap (option_map data_of) e ∙ found-in k (value
 
 -- ---- the whole text
 
+pub read-none : (text : List ℕ) → json.value max_depth (tokens text) ≡ None → read text ≡ None
+read-none text e = rw e refl
+
 module _ (text : List ℕ) (j : json.Json) where
   pub read-more : (ts new : List Token) (next : Option Next) → json.value max_depth (tokens text) ≡ Some (j, ts) → Yields ts next new → is_some next ≡ true → read text ≡ None
   read-more ts new None e y h = absurd cc

@@ -1,10 +1,12 @@
 -- The organisations that the program's values stand for.
-use Rattle.std.specs.Prelude.{◌≡◌, ℕ, List, Option, map}
+use Rattle.std.specs.Prelude.{◌≡◌, ℕ, List, [], ◌∷◌, ◌++◌, Option, Result, Ok, map}
 use Rattle.std.specs.List.{IsDistinct}
 use Rattle.std.specs.Str.{bytes_eq}
 use Rattle.fbas_model.specs.Names.{Name, place_of}
+use Rattle.node_json.specs.NamesInOrder.{in_order}
 use Rattle.node_json.specs.Organisations as spec
 use Rattle.node_json.specs.View.{names_view}
+use Rattle.node_json.specs.declared.faults.OrgFault.{OrgFault}
 use Rattle.node_json.specs.declared.named_orgs.NamedOrg.{NamedOrg}
 use Rattle.node_json.specs.declared.organisations.Org.{Org}
 
@@ -16,6 +18,17 @@ named_orgs_view orgs = map named_org_view orgs
 
 abbrev pub named_ids : List NamedOrg → List Name
 named_ids orgs = map (λ org. org.id.now) orgs
+
+-- the names that were seen are the ids of these organisations, and these are distinct
+pub record AreApart (names : List Name) (orgs : List NamedOrg) : Type 0 where
+  pub seen : names ≡ in_order (named_ids orgs)
+  pub apart : IsDistinct bytes_eq (named_ids orgs)
+
+-- the organisation that the element is, behind the others
+pub record IsOneMore (element : Result spec.NamedOrg OrgFault) (before then : List NamedOrg) : Type 0 where
+  pub org : NamedOrg
+  pub read : element ≡ Ok (named_org_view org)
+  pub behind : then ≡ before ++ org ∷ []
 
 abbrev pub org_view : Org → spec.Org
 org_view org = record { id = org.id.items; members = org.members }

@@ -1,11 +1,11 @@
 //! Organisations as a file writes them.
 
-ghost use Rattle.std.specs.Prelude.{◌≡◌, ◌⊎◌, [], Ok, Err, Some, IfOk, IfErr, MatchResult};
+ghost use Rattle.std.specs.Prelude.{◌≡◌, ◌⊎◌, [], Ok, Err, Some, IfOk, IfErr, OnOk, MatchResult};
 ghost use Rattle.std.specs.List.{IsDistinct};
 ghost use Rattle.std.specs.Str.{bytes_eq};
-ghost use Rattle.node_json.specs.Organisations.{org_id_of, org_validators_of, orgs_from, orgs_in};
+ghost use Rattle.node_json.specs.Organisations.{org_id_of, org_validators_of, org_of, orgs_from, orgs_in};
 ghost use Rattle.node_json.specs.Reading.{tree_of};
-ghost use Rattle.node_json.specs.OrgsView.{named_orgs_view, named_ids};
+ghost use Rattle.node_json.specs.OrgsView.{named_orgs_view, named_ids, AreApart, IsOneMore};
 ghost use Rattle.node_json.specs.Tree.{view, items_view};
 ghost use Rattle.node_json.specs.View.{names_view};
 
@@ -46,6 +46,28 @@ fn org_validators<'t>(alloc: Global, value: &Value<'t>, at: u64) -> Result<Vec<&
     validators.ok_or(OrgFault::BadOrg(at))
 }
 
+// Adds element `at`, where `seen` has the ids of those before it. Its own id is put there too.
+fn add_item<'t>(
+    alloc: Global,
+    orgs: &mut Vec<NamedOrg<'t>>,
+    seen: &mut BTreeSet<&'t str>,
+    item: &Value<'t>,
+    at: u64,
+) -> Result<(), OrgFault>
+    requires { AreApart (names_view seen.old.keys) orgs.old.items }
+    ensures ok { OnOk result (IsOneMore (org_of at (named_ids orgs.old.items) (view item.now)) orgs.old.items orgs.new.items) }
+    ensures err { IfErr result (λ e. (e ≡ OrgFault.Memory) ⊎ (org_of at (named_ids orgs.old.items) (view item.now) ≡ Err e)) }
+    ensures apart { OnOk result (AreApart (names_view seen.new.keys) orgs.new.items) }
+{
+    let id = org_id(item, at)?;
+    if !add_name(seen, id)? {
+        return Err(OrgFault::DuplicateOrg(at));
+    }
+    let validators = org_validators(alloc, item, at)?;
+    orgs.push(NamedOrg { id, validators })?;
+    Ok(())
+}
+
 fn read_items<'t>(alloc: Global, items: &[Value<'t>]) -> Result<Vec<NamedOrg<'t>>, OrgFault>
     ensures ok { IfOk result (λ v. orgs_from 0 [] (items_view items.now) ≡ Ok (named_orgs_view v.items)) }
     ensures err { IfErr result (λ e. (e ≡ OrgFault.Memory) ⊎ (orgs_from 0 [] (items_view items.now) ≡ Err e)) }
@@ -54,13 +76,7 @@ fn read_items<'t>(alloc: Global, items: &[Value<'t>]) -> Result<Vec<NamedOrg<'t>
     let mut orgs = Vec::new(alloc);
     let mut seen = BTreeSet::new(alloc);
     for (i, item) in items.iter().enumerate() {
-        let at = i as u64;
-        let id = org_id(item, at)?;
-        if !add_name(&mut seen, id)? {
-            return Err(OrgFault::DuplicateOrg(at));
-        }
-        let validators = org_validators(alloc, item, at)?;
-        orgs.push(NamedOrg { id, validators })?;
+        add_item(alloc, &mut orgs, &mut seen, item, i as u64)?;
     }
     Ok(orgs)
 }

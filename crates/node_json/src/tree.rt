@@ -43,8 +43,8 @@ fn read_text<'t>(
     };
     let tree = match Value::read(alloc, &mut reader, MOST_NESTED) {
         Ok(tree) => tree,
-        Err(Error::OutOfMemory) => return Err(ConfigFault::Memory),
-        Err(_) => return Err(ConfigFault::NotJson),
+        Err(Error::Invalid) => return Err(ConfigFault::NotJson),
+        Err(_) => return Err(ConfigFault::Memory),
     };
     if reader.next().is_some() || !in_range(&tree) {
         return Err(ConfigFault::NotJson);

@@ -1,9 +1,9 @@
-use Rattle.std.proofs.Common.{◌≡◌, [], true, false, is_some, Some, inr, refl, rules}
+use Rattle.std.proofs.Common.{◌≡◌, [], true, false, is_some, Some, None, Err, inr, refl, ap, ◌∙◌, rules}
 use Rattle.json.specs.Json.{value}
 use Rattle.json.specs.Lex.{tokens}
 use Rattle.json.specs.Value.{value_view}
 use Rattle.node_json.specs.Tree.{is_in_range}
-use Rattle.node_json.proofs.Trees.{read-more, read-in_range, read-out_of_range}
+use Rattle.node_json.proofs.Trees.{read-none, read-more, read-in_range, read-out_of_range}
 use Rattle.node_json.proofs.tree.read_text.Goals as goal
 use Rattle.node_json.proofs.tree.read_text.Goals.{then-is_some-via-then-is_some, then-is_some-via-else-is_some+then-not-in_range}
 
@@ -28,3 +28,8 @@ returns-clause-ok c =
     let all : value 127 (tokens c.args.text.now) ≡ Some (j, []) = rw (c.in-Ok.ensures.ok, none) at c.in-Ok-read.ensures.ok in
     let within : is_in_range j ≡ true = search rules in
     read-in_range c.args.text.now j all within
+
+pub returns-in-Err-Invalid-clause-err : goal.returns-in-Err-Invalid-clause-err
+returns-in-Err-Invalid-clause-err c =
+    let none : value 127 c.in-Ok.reader ≡ None = c.read.ensures.invalid (c.in-Err-Invalid.is ∙ ap Err c.in-Err-Invalid.field-0-is) in
+    inr (refl, read-none c.args.text.now (rw c.in-Ok.ensures.ok at none))
