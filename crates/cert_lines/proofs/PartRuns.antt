@@ -1,8 +1,8 @@
 -- The parts of one line, one after another.
-use Rattle.std.proofs.Common.{◌≡◌, ℕ, ◌+◌, List, [], ◌++◌, length, Bool, true, false, sym, ap, ◌∙◌, subst, arith, Ok, Err, length-append}
+use Rattle.std.proofs.Common.{◌≡◌, ℕ, ◌+◌, List, [], ◌++◌, length, Bool, true, false, sym, ap, ◌∙◌, subst, arith, Result, Ok, Err, length-append}
 use Rattle.std.proofs.lemmas.List.{append-nil}
 use Rattle.cert_lines.specs.Lines.{Lines}
-use Rattle.cert_lines.specs.Limits.{next_line}
+use Rattle.cert_lines.specs.Limits.{Taken, next_line}
 use Rattle.cert_lines.specs.Parts.{with_front, IsPart}
 use Rattle.cert_lines.specs.declared.faults.CertError.{CertError}
 use Rattle.cert_lines.proofs.Fronts.{parts_more, parts_end, with_front-nothing}
@@ -28,10 +28,11 @@ pub came_end : (l before taken : ℕ) (suffix part : List ℕ) (old now new : Li
 came_end l before taken suffix part old now new grown came is front size =
     parts_end l front suffix part old now new (came front size) (is (front ++ suffix) (long front suffix before taken size grown))
 
--- a fault of the line
-pub came_fault : (l before taken : ℕ) (suffix : List ℕ) (old now : Lines) (e : CertError) → taken ≡ before + length suffix → Came before suffix old now → ((front : List ℕ) → length front ≡ taken → next_line l (with_front front now) ≡ Err e)
-    → (front : List ℕ) → length front ≡ before → next_line l (with_front front old) ≡ Err e
-came_fault l before taken suffix old now e grown came is front size = ap (next_line l) (came front size) ∙ is (front ++ suffix) (long front suffix before taken size grown)
+-- a fault of the line, at the number of the line that was begun
+pub came_fault : (l n before taken : ℕ) (suffix : List ℕ) (old now : Lines) (e : CertError) → l ≡ n → taken ≡ before + length suffix → Came before suffix old now → ((front : List ℕ) → length front ≡ taken → next_line l (with_front front now) ≡ Err e)
+    → (front : List ℕ) → length front ≡ before → next_line n (with_front front old) ≡ Err e
+came_fault l n before taken suffix old now e number grown came is front size =
+    ap (next_line n) (came front size) ∙ subst (λ (k : ℕ). next_line k (with_front (front ++ suffix) now) ≡ Err e) number (is (front ++ suffix) (long front suffix before taken size grown))
 
 -- what a part makes of the lines, at the number of the line that was begun
 pub placed : (is ends : Bool) (l n taken : ℕ) (part : List ℕ) (now new : Lines) → ends ≡ is → l ≡ n → ((front : List ℕ) → length front ≡ taken → IsPart ends l front part now new) → (front : List ℕ) → length front ≡ taken → IsPart is n front part now new
@@ -55,3 +56,7 @@ pub first_rest : (n l before taken : ℕ) (part suffix : List ℕ) (old now new 
 first_rest n l before taken part suffix old now new fresh grown number came rest =
     ap (next_line n) (sym (with_front-nothing old) ∙ came [] (sym fresh))
     ∙ subst (λ (k : ℕ). next_line k (with_front part now) ≡ Ok (record { text = part ++ suffix; more = new })) number (rest part (omega (arith, fresh, grown)))
+
+-- the same with a text that equals this one
+pub same_text : (r : Result Taken CertError) (s t : List ℕ) (more : Lines) → r ≡ Ok (record { text = s; more = more }) → t ≡ s → r ≡ Ok (record { text = t; more = more })
+same_text r s t more is same = subst (λ (xs : List ℕ). r ≡ Ok (record { text = xs; more = more })) (sym same) is

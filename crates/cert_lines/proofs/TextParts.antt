@@ -115,25 +115,32 @@ pub text_came : (ends : Bool) (l before taken : ℕ) (suffix part : List ℕ) (o
 text_came ends l before taken suffix part old now new grown came is front size =
     text_parts ends l front suffix part old now new (came front size) (is (front ++ suffix) (long front suffix before taken size grown))
 
--- a fault of the line
-pub text_fault : (l before taken : ℕ) (suffix : List ℕ) (old now : Lines) (e : CertError) → taken ≡ before + length suffix → Came before suffix old now → ((front : List ℕ) → length front ≡ taken → next_text l (texts_in (with_front front now)) ≡ Err e)
-    → (front : List ℕ) → length front ≡ before → next_text l (texts_in (with_front front old)) ≡ Err e
-text_fault l before taken suffix old now e grown came is front size = ap (λ (ls : Lines). next_text l (texts_in ls)) (came front size) ∙ is (front ++ suffix) (long front suffix before taken size grown)
+-- a fault of the line, at the number of the line that was begun
+pub text_fault : (l n before taken : ℕ) (suffix : List ℕ) (old now : Lines) (e : CertError) → l ≡ n → taken ≡ before + length suffix → Came before suffix old now → ((front : List ℕ) → length front ≡ taken → next_text l (texts_in (with_front front now)) ≡ Err e)
+    → (front : List ℕ) → length front ≡ before → next_text n (texts_in (with_front front old)) ≡ Err e
+text_fault l n before taken suffix old now e number grown came is front size =
+    ap (λ (ls : Lines). next_text n (texts_in ls)) (came front size) ∙ subst (λ (k : ℕ). next_text k (texts_in (with_front (front ++ suffix) now)) ≡ Err e) number (is (front ++ suffix) (long front suffix before taken size grown))
 
--- the same at the number of the line that was begun
+-- what a part makes of the lines, at that number
 pub text_placed : (is ends : Bool) (l n taken : ℕ) (part : List ℕ) (now new : Lines) → ends ≡ is → l ≡ n → ((front : List ℕ) → length front ≡ taken → IsTextPart ends l front part now new) → (front : List ℕ) → length front ≡ taken → IsTextPart is n front part now new
 text_placed is ends l n taken part now new same number told front size =
     subst (λ (k : ℕ). IsTextPart is k front part now new) number (subst (λ (b : Bool). IsTextPart b l front part now new) same (told front size))
 
-pub fault_placed : (l n taken : ℕ) (now : Lines) (e : CertError) → l ≡ n → ((front : List ℕ) → length front ≡ taken → next_text l (texts_in (with_front front now)) ≡ Err e) → (front : List ℕ) → length front ≡ taken → next_text n (texts_in (with_front front now)) ≡ Err e
-fault_placed l n taken now e number told front size = subst (λ (k : ℕ). next_text k (texts_in (with_front front now)) ≡ Err e) number (told front size)
+-- ---- the same of what is unread, at the number of its line
+
+pub same_part : (ends : Bool) (l n : ℕ) (front part old bytes : List ℕ) (new : Lines) → l ≡ n → old ≡ bytes → IsPart ends l front part (lines_of bytes) new → IsPart ends n front part (lines_of old) new
+same_part ends l n front part old bytes new number is came =
+    subst (λ (k : ℕ). IsPart ends k front part (lines_of old) new) number (subst (λ (xs : List ℕ). IsPart ends l front part (lines_of xs) new) (sym is) came)
+
+pub same_too_long : (l n : ℕ) (front old bytes : List ℕ) (e : CertError) → l ≡ n → old ≡ bytes → IsTooLong l (with_front front (lines_of bytes)) e → IsTooLong n (with_front front (lines_of old)) e
+same_too_long l n front old bytes e number is long =
+    subst (λ (k : ℕ). IsTooLong k (with_front front (lines_of old)) e) number (subst (λ (xs : List ℕ). IsTooLong l (with_front front (lines_of xs)) e) (sym is) long)
 
 -- ---- the first part
 
 pub first_too_long : (l n : ℕ) (old bytes : List ℕ) (e : CertError) → l ≡ n → old ≡ bytes → IsTooLong l (with_front [] (lines_of bytes)) e → next_text n (texts_of old) ≡ Err e
 first_too_long l n old bytes e number is long =
-    ap (λ (xs : List ℕ). next_text n (texts_of xs)) is
-    ∙ subst (λ (k : ℕ). next_text k (texts_of bytes) ≡ Err e) number (ap (λ (ls : Lines). next_text l (texts_in ls)) (sym (with_front-nothing (lines_of bytes))) ∙ long.text)
+    ap (λ (ls : Lines). next_text n (texts_in ls)) (sym (with_front-nothing (lines_of old))) ∙ (same_too_long l n [] old bytes e number is long).text
 
 pub first_too_many : (l n : ℕ) (old bytes : List ℕ) → l ≡ n → old ≡ bytes → MAX_LINES < l → 0 < length bytes → next_text n (texts_of old) ≡ Err TooManyLines
 first_too_many l n old bytes number is many some =
@@ -142,9 +149,7 @@ first_too_many l n old bytes number is many some =
     ∙ subst (λ (k : ℕ). next_text k (texts_of bytes) ≡ Err TooManyLines) number (text_many l text.0 text.1 (texts_of bytes) text.2 many)
 
 pub part_placed : (ends : Bool) (l n : ℕ) (front part old bytes : List ℕ) (new : Lines) → l ≡ n → old ≡ bytes → IsPart ends l front part (lines_of bytes) new → IsTextPart ends n front part (lines_of old) new
-part_placed ends l n front part old bytes new number is came =
-    subst (λ (k : ℕ). IsTextPart ends k front part (lines_of old) new) number
-    (subst (λ (xs : List ℕ). IsTextPart ends l front part (lines_of xs) new) (sym is) (as_text ends l front part (lines_of bytes) new came))
+part_placed ends l n front part old bytes new number is came = as_text ends n front part (lines_of old) new (same_part ends l n front part old bytes new number is came)
 
 -- what follows from a value, where there is one
 pub if_ok : {A E : Type 0} (P Q : A → Type 0) (r : Result A E) → ((a : A) → P a → Q a) → IfOk r P → IfOk r Q
@@ -155,3 +160,8 @@ if_ok P Q (Err e) f p = tt
 pub if_err : {A E : Type 0} (P Q : E → Type 0) (r : Result A E) → ((e : E) → P e → Q e) → IfErr r P → IfErr r Q
 if_err P Q (Ok a) f p = tt
 if_err P Q (Err e) f p = f e p
+
+-- what always holds
+pub ok_always : {A E : Type 0} (P : A → Type 0) (r : Result A E) → ((a : A) → P a) → IfOk r P
+ok_always P (Ok a) f = f a
+ok_always P (Err e) f = tt

@@ -1,4 +1,4 @@
-use Rattle.std.proofs.Common.{◌≡◌, ◌+◌, ◌<◌, ◌++◌, ◌⊎◌, [], ℕ, List, length, true, false, Bool, IsTrue, if◌then◌else◌, Err, inl, inr, refl, ap, sym, ◌∙◌, subst}
+use Rattle.std.proofs.Common.{◌≡◌, ◌≢◌, ◌+◌, ◌<◌, ◌≤◌, ◌++◌, ◌⊎◌, [], ℕ, List, length, true, false, Bool, IsTrue, if◌then◌else◌, Err, inl, inr, refl, ap, sym, ◌∙◌, subst}
 use Rattle.desk_io.specs.State.{left_of}
 use Rattle.desk_io.specs.declared.Which.TheVariants.{Cert}
 use Rattle.cert_lines.specs.Lines.{lines_of}
@@ -6,7 +6,9 @@ use Rattle.cert_lines.specs.Parts.{with_front}
 use Rattle.cert_lines.specs.Texts.{texts_in, texts_of, next_text, IsTextPart}
 use Rattle.cert_lines.specs.Steps.{is_comment}
 use Rattle.cert_lines.specs.declared.faults.CertError.TheVariants.{Read}
-use Rattle.cert_lines.proofs.TextParts.{if_err}
+use Rattle.cert_lines.specs.declared.proof.Begun.TheVariants.{End}
+use Rattle.cert_lines.specs.declared.lines.TheConstants.{MAX_LINES}
+use Rattle.cert_lines.proofs.TextParts.{if_err, ok_always}
 use Rattle.cert_lines.proofs.ProofStarts.{told_passed, blank_part, wordless_more, word_first, word_later, passed_more, behind_first, behind_blanks, fault_behind, taken_behind}
 use Rattle.cert_lines.proofs.proof.begin_line.Goals as goal
 
@@ -106,3 +108,15 @@ returns-clause-err g c =
       | inr bad ↦ inr (fault_behind n now.number now.taken part (lines_of old) now_lines e size number (subst (λ (b : Bool). IsTextPart b n [] part (lines_of old) now_lines) c.if-ends.false (first tells)) bad)
     ])
     c.pass_over.ensures.err
+
+pub returns-clause-few : goal.returns-clause-few
+returns-clause-few g c =
+    let few : c.args.lines.now.number ≤ MAX_LINES = rw c.in-Some.is at c.in_ok-ends.ensures.few in
+    ok_always (λ b. b ≢ End → c.args.lines.now.number ≤ MAX_LINES) c.pass_over.result (λ _ _. few)
+
+pub returns-clause-place : goal.returns-clause-place
+returns-clause-place g c = λ ends is.
+    let n = c.args.lines.now.number in
+    let now = c.first_part.new.self in
+    let number : now.number ≡ n = (rw c.in-Some.is at c.in_ok-ends.ensures.number) ∙ ap (λ (b : Bool). if b then n + 1 else n) c.if-ends.false in
+    c.pass_over.ensures.place ends is ∙ ap (λ (l : ℕ). if ends then l + 1 else l) number

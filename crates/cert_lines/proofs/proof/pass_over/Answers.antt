@@ -1,10 +1,10 @@
-use Rattle.std.proofs.Common.{rules, ◌≡◌, ◌+◌, ◌++◌, ◌||◌, ℕ, List, length, true, false, Bool, if◌then◌else◌, ap, sym, ◌∙◌, arith, length-append}
+use Rattle.std.proofs.Common.{rules, ◌≡◌, ◌+◌, ◌++◌, ◌||◌, ℕ, List, length, true, false, Bool, if◌then◌else◌, ap, sym, ◌∙◌, arith, length-append, Err, inl, inr}
 use Rattle.desk_io.specs.State.{left_of}
 use Rattle.desk_io.specs.declared.Which.TheVariants.{Cert}
 use Rattle.cert_lines.specs.Lines.{lines_of}
 use Rattle.cert_lines.specs.Steps.{is_wordless}
 use Rattle.cert_lines.proofs.PartRuns.{came_more}
-use Rattle.cert_lines.proofs.TextParts.{text_came, text_placed}
+use Rattle.cert_lines.proofs.TextParts.{text_came, text_placed, text_fault}
 use Rattle.cert_lines.proofs.ProofStarts.{neither, blank_part, wordless_more, taken_more}
 use Rattle.cert_lines.proofs.proof.pass_over.Goals as goal
 
@@ -75,3 +75,17 @@ parts-preserved g c =
       writes = search rules;
       reads = search rules;
     }
+
+pub returns-in_err-ends-clause-err : goal.returns-in_err-ends-clause-err
+returns-in_err-ends-clause-err g c =
+    let before = c.args.lines.now in
+    let now = c.parts.lines in
+    let suffix = c.parts.invariant.suffix in
+    let old_lines = lines_of (before.unread ++ left_of Cert (g.D.Desk.state c.args.desk.now)) in
+    let now_lines = lines_of (now.unread ++ left_of Cert (g.D.Desk.state c.parts.desk)) in
+    let e = c.in_err-ends.field-0.0 in
+    let r : c.from_residual.result ≡ Err e = search rules in
+    rw r (λ tells. elim (c.in_err-ends.ensures.err tells) [
+      | inl read ↦ inl read
+      | inr fault ↦ inr (text_fault now.number before.number before.taken now.taken suffix.0 old_lines now_lines e c.parts.invariant.number suffix.2 (suffix.3 tells) fault)
+    ])

@@ -1,4 +1,4 @@
-use Rattle.std.proofs.Common.{rules, ◌≡◌, ◌+◌, ◌++◌, [], ℕ, List, length, true, false, Bool, if◌then◌else◌, ap, sym, ◌∙◌, arith, append_assoc, length-append}
+use Rattle.std.proofs.Common.{rules, ◌≡◌, ◌+◌, ◌++◌, [], ℕ, List, length, true, false, Bool, if◌then◌else◌, ap, sym, ◌∙◌, arith, append_assoc, length-append, Err, inl, inr}
 use Rattle.desk_io.specs.State.{left_of}
 use Rattle.desk_io.specs.declared.Which.TheVariants.{Cert}
 use Rattle.lrat_text.specs.Words.{words_of}
@@ -6,7 +6,7 @@ use Rattle.step_stream.specs.Ahead.{ahead}
 use Rattle.step_stream.proofs.WordSteps.{moved}
 use Rattle.cert_lines.specs.Lines.{lines_of}
 use Rattle.cert_lines.proofs.PartRuns.{came_more}
-use Rattle.cert_lines.proofs.TextParts.{text_came, text_placed}
+use Rattle.cert_lines.proofs.TextParts.{text_came, text_placed, text_fault}
 use Rattle.cert_lines.proofs.proof.rest_of_text.Goals as goal
 
 pub returns-then-branch-clause-line : goal.returns-then-branch-clause-line
@@ -71,3 +71,17 @@ parts-preserved g c =
       writes = search rules;
       reads = search rules;
     }
+
+pub returns-in_err-more_part-clause-err : goal.returns-in_err-more_part-clause-err
+returns-in_err-more_part-clause-err g c =
+    let before = c.args.lines.now in
+    let now = c.parts.lines in
+    let suffix = c.parts.invariant.suffix in
+    let old_lines = lines_of (before.unread ++ left_of Cert (g.D.Desk.state c.args.desk.now)) in
+    let now_lines = lines_of (now.unread ++ left_of Cert (g.D.Desk.state c.parts.desk)) in
+    let e = c.in_err-more_part.field-0.0 in
+    let r : c.from_residual.result ≡ Err e = search rules in
+    rw r (λ tells. elim (c.in_err-more_part.ensures.err tells) [
+      | inl read ↦ inr (inl read)
+      | inr fault ↦ inr (inr (text_fault now.number before.number before.taken now.taken suffix.0 old_lines now_lines e c.parts.invariant.number suffix.1 (suffix.2 tells) fault))
+    ])

@@ -1,11 +1,12 @@
-use Rattle.std.proofs.Common.{◌≡◌, ℕ, ◌++◌, List, length, IsTrue, ap, sym, ◌∙◌}
+use Rattle.std.proofs.Common.{◌≡◌, ◌⊎◌, ℕ, ◌++◌, List, length, Err, IsTrue, inr, ap, sym, ◌∙◌}
 use Rattle.desk_io.specs.State.{left_of}
 use Rattle.desk_io.specs.declared.Which.TheVariants.{Cert}
 use Rattle.cert_lines.specs.Limits.{Unread}
 use Rattle.cert_lines.specs.Lines.{lines_of}
-use Rattle.cert_lines.specs.Parts.{IsPart}
-use Rattle.cert_lines.specs.Texts.{IsTextPart}
-use Rattle.cert_lines.proofs.TextParts.{part_placed, if_ok}
+use Rattle.cert_lines.specs.Parts.{with_front, IsPart}
+use Rattle.cert_lines.specs.Texts.{texts_in, next_text, IsTextPart, IsTooLong}
+use Rattle.cert_lines.specs.declared.faults.CertError.TheVariants.{Read}
+use Rattle.cert_lines.proofs.TextParts.{part_placed, same_too_long, if_ok, if_err}
 use Rattle.cert_lines.proofs.lines.Lines.more_part.Goals as goal
 
 pub returns-clause-part : goal.returns-clause-part
@@ -24,3 +25,19 @@ returns-clause-part g c =
     part_placed ends c.self.inside.number now.number front part (now.unread ++ left) (c.fill.new.self.unread ++ later) new_lines number
     (sym (ap (λ (u : Unread). u.unread ++ left) c.self.view_is) ∙ c.in_ok-fill.ensures.all tells) (told later front (size ∙ sym taken)))
     c.cut_part.ensures.part
+
+pub returns-clause-err : goal.returns-clause-err
+returns-clause-err g c =
+    let inside = c.self.inside in
+    let now = c.args.self.now in
+    let left = left_of Cert (g.D.Desk.state c.args.desk.now) in
+    let later = left_of Cert (g.D.Desk.state c.fill.new.desk) in
+    let number : inside.number ≡ now.number = ap (λ (u : Unread). u.number) c.self.view_is in
+    let taken : inside.taken ≡ now.taken = ap (λ (u : Unread). u.taken) c.self.view_is in
+    if_err (λ e. (left front : List ℕ) → length front ≡ inside.taken → IsTooLong inside.number (with_front front (lines_of (c.fill.new.self.unread ++ left))) e)
+    (λ e. IsTrue g.D.Desk.tells → (e ≡ Read) ⊎ ((front : List ℕ) → length front ≡ now.taken → next_text now.number (texts_in (with_front front (lines_of (now.unread ++ left)))) ≡ Err e))
+    c.cut_part.result
+    (λ e long tells. inr (λ front size.
+    (same_too_long inside.number now.number front (now.unread ++ left) (c.fill.new.self.unread ++ later) e number
+    (sym (ap (λ (u : Unread). u.unread ++ left) c.self.view_is) ∙ c.in_ok-fill.ensures.all tells) (long later front (size ∙ sym taken))).text))
+    c.cut_part.ensures.long
