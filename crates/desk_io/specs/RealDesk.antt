@@ -1,5 +1,5 @@
 -- What the machine's desk has begun and created.
-use Rattle.std.specs.Prelude.{Option}
+use Rattle.std.specs.Prelude.{ℕ, List, [], Option, Some, None}
 use Rattle.desk_io.specs.declared.desk.Which.{Which}
 use Rattle.desk_io.specs.declared.desk.Which.TheVariants.{Config, Orgs, Cert}
 use Rattle.desk_io.specs.declared.real.RealDesk.{RealDesk}
@@ -14,6 +14,11 @@ begun_of Cert d = d.cert
 -- the certificate file, if one is created
 abbrev pub created_of : {R File Dir : Type 0} → RealDesk R File Dir → Option File
 created_of d = d.created
+
+-- the bytes of an open file, where they are known; none where no file is open
+abbrev pub bytes_in : {File : Type 0} → (File → Option (List ℕ)) → Option File → Option (List ℕ)
+bytes_in known None = Some []
+bytes_in known (Some file) = known file
 
 -- how often the desk has failed
 abbrev pub faults_of : {R File Dir : Type 0} → RealDesk R File Dir → Faults

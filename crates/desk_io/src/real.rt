@@ -1,7 +1,8 @@
 //! The machine's files and standard output.
-ghost use Rattle.std.specs.Prelude.{◌≡◌, ◌<◌, ◌≤◌, true, IfOk, IfSome, IsNone, Some, length, take};
-ghost use Rattle.std.specs.Io.KnownBytes.{Appends, Consumes, IsAtEnd, Keeps};
+ghost use Rattle.std.specs.Prelude.{◌≡◌, ◌↔◌, ◌<◌, ◌≤◌, true, IfOk, IfSome, IsNone, IsSome, Some, length, take};
+ghost use Rattle.std.specs.Io.KnownBytes.{Appends, Consumes, IsAtEnd, Keeps, ReadConsumes, WriteAppends};
 ghost use Rattle.std.specs.Fs.{new_options};
+ghost use Rattle.desk_io.specs.RealDesk.{bytes_in};
 
 use crate::counts::FaultCounts;
 use crate::desk::{Desk, ReadFailed, To, Which, WriteFailed};
@@ -75,10 +76,14 @@ pub fn read_some<F: Read>(file: &mut F, buf: &mut [u8]) -> Option<usize>
     None
 }
 
-/// Where no file is begun nothing is left.
+/// The same of a file that may be begun. Where none is nothing is left.
 fn read_begun<F: Read>(begun: &mut Option<F>, buf: &mut [u8]) -> Option<usize>
     ensures bound { IfSome result (λ count. count ≤ length buf.new) }
     ensures nothing { IsNone begun.old → result ≡ Some 0 }
+    ensures begun { IsSome begun.new ↔ IsSome begun.old }
+    ensures given { IfSome result (λ count. Consumes (bytes_in F.remaining begun.old) (bytes_in F.remaining begun.new) (take count buf.new)) }
+    ensures ended { IfSome result (λ count. count ≡ 0 → 0 < length buf.new → IsAtEnd (bytes_in F.remaining begun.new)) }
+    ensures kept { IsNone result → Keeps (bytes_in F.remaining begun.old) (bytes_in F.remaining begun.new) }
 {
     match begun {
         Some(file) => read_some(file, buf),
@@ -104,11 +109,14 @@ pub fn write_some<F: Write>(file: &mut F, bytes: &[u8]) -> Option<usize>
     None
 }
 
-/// Where no file is created it fails.
+/// The same of a file that may be created. Where none is it fails.
 fn write_created<F: Write>(created: &mut Option<F>, bytes: &[u8]) -> Option<usize>
     ensures bound { IfSome result (λ count. count ≤ length bytes.now) }
     ensures some { IfSome result (λ count. 0 < length bytes.now → 0 < count) }
     ensures uncreated { IsNone created.old → IsNone result }
+    ensures created { IsSome created.new ↔ IsSome created.old }
+    ensures taken { IfSome result (λ count. Appends (bytes_in F.contents created.old) (bytes_in F.contents created.new) (take count bytes.now)) }
+    ensures kept { IsNone result → Keeps (bytes_in F.contents created.old) (bytes_in F.contents created.new) }
 {
     match created {
         Some(file) => write_some(file, bytes),
@@ -117,7 +125,7 @@ fn write_created<F: Write>(created: &mut Option<F>, bytes: &[u8]) -> Option<usiz
 }
 
 impl<'a, R: Files + Print> RealDesk<'a, R> {
-    ghost use Rattle.std.specs.Prelude.{◌≢◌, ◌↔◌, IsTrue, IsSome};
+    ghost use Rattle.std.specs.Prelude.{◌≢◌, IsTrue};
     ghost use Rattle.desk_io.specs.declared.desk.Which.{Which};
     ghost use Rattle.desk_io.specs.RealDesk.{begun_of, created_of, faults_of};
 
@@ -158,6 +166,12 @@ impl<'a, R: Files + Print> RealDesk<'a, R> {
     fn read_there(&mut self, which: Which, buf: &mut [u8]) -> Option<usize>
         ensures bound { IfSome result (λ count. count ≤ length buf.new) }
         ensures nothing { IsNone (begun_of which self.old) → result ≡ Some 0 }
+        ensures begun { IsSome (begun_of which self.new) ↔ IsSome (begun_of which self.old) }
+        ensures given { IfSome result (λ count. Consumes (bytes_in R.File.remaining (begun_of which self.old)) (bytes_in R.File.remaining (begun_of which self.new)) (take count buf.new)) }
+        ensures ended { IfSome result (λ count. count ≡ 0 → 0 < length buf.new → IsAtEnd (bytes_in R.File.remaining (begun_of which self.new))) }
+        ensures kept { IsNone result → Keeps (bytes_in R.File.remaining (begun_of which self.old)) (bytes_in R.File.remaining (begun_of which self.new)) }
+        ensures others { (other : Which) → other ≢ which → begun_of other self.new ≡ begun_of other self.old }
+        ensures created { created_of self.new ≡ created_of self.old }
         ensures faults { faults_of self.new ≡ faults_of self.old }
     {
         match which {
@@ -169,7 +183,7 @@ impl<'a, R: Files + Print> RealDesk<'a, R> {
 }
 
 impl<R: Files + Print> Desk for RealDesk<'_, R> {
-    ghost use Rattle.std.specs.Prelude.{◌≢◌, ◌↔◌, false, IsErr, IsOk, IsSome, OnErr, OnOk};
+    ghost use Rattle.std.specs.Prelude.{◌≢◌, false, IsErr, IsOk, OnErr, OnOk};
     ghost use Rattle.desk_io.specs.declared.desk.Which.{Which};
     ghost use Rattle.desk_io.specs.Faults.{ReadCause, WriteCause};
     ghost use Rattle.desk_io.specs.RealDesk.{begun_of, created_of, faults_of};
@@ -197,6 +211,10 @@ impl<R: Files + Print> Desk for RealDesk<'_, R> {
     fn next(&mut self, which: Which, buf: &mut [u8]) -> Result<usize, ReadFailed>
         ensures bound { IfOk result (λ count. count ≤ length buf.new) }
         ensures nothing { IsNone (begun_of which self.old) → result ≡ Ok 0 }
+        ensures begun { IsSome (begun_of which self.new) ↔ IsSome (begun_of which self.old) }
+        ensures given { ReadConsumes (bytes_in R.File.remaining (begun_of which self.old)) (bytes_in R.File.remaining (begun_of which self.new)) result buf.new }
+        ensures others { (other : Which) → other ≢ which → begun_of other self.new ≡ begun_of other self.old }
+        ensures created { created_of self.new ≡ created_of self.old }
         ensures cause { ReadCause (faults_of self.old) (faults_of self.new) result }
     {
         match self.read_there(which, buf) {
@@ -224,6 +242,9 @@ impl<R: Files + Print> Desk for RealDesk<'_, R> {
         ensures bound { IfOk result (λ count. count ≤ length bytes.now) }
         ensures some { IfOk result (λ count. 0 < length bytes.now → 0 < count) }
         ensures uncreated { to ≡ To.Cert → IsNone (created_of self.old) → IsErr result }
+        ensures created { IsSome (created_of self.new) ↔ IsSome (created_of self.old) }
+        ensures taken { to ≡ To.Cert → WriteAppends (bytes_in R.File.contents (created_of self.old)) (bytes_in R.File.contents (created_of self.new)) result bytes.now }
+        ensures other { to ≡ To.Out → created_of self.new ≡ created_of self.old }
         ensures begun { (which : Which) → begun_of which self.new ≡ begun_of which self.old }
         ensures cause { WriteCause (faults_of self.old) (faults_of self.new) result }
     {
