@@ -121,36 +121,40 @@ fn finds_the_first_fault_of_a_quorum_set(rt: HostRuntime) {
     }
 }
 
-// A text, so often the one piece, the middle, and as often the other piece.
+// A front, so often the one piece, the middle, as often the other piece, and a back.
 fn nested(
     alloc: Global,
+    [front, open, middle, close, back]: [&str; 5],
     n: usize,
-    open: &str,
-    middle: &str,
-    close: &str,
 ) -> Result<String, AllocError> {
-    let mut text = open.repeat(alloc, n)?;
-    text.push_str(middle)?;
-    text.push_str(&close.repeat(alloc, n)?)?;
-    Ok(text)
+    let opened = open.repeat(alloc, n)?;
+    let closed = close.repeat(alloc, n)?;
+    format!(in alloc; "{front}{opened}{middle}{closed}{back}")
 }
 
-// Node x, whose quorum set has so many inside one another.
-fn inners(alloc: Global, n: usize) -> Result<String, AllocError> {
-    let open = "{\"threshold\":1,\"innerQuorumSets\":[";
-    let set = nested(alloc, n, open, "{\"threshold\":1}", "]}")?;
-    with_set(alloc, &set)
-}
+// Node x, whose quorum set has inner ones in one another.
+const INNERS: [&str; 5] = [
+    "[{\"publicKey\":\"x\",\"quorumSet\":",
+    "{\"threshold\":1,\"innerQuorumSets\":[",
+    "{\"threshold\":1}",
+    "]}",
+    "}]",
+];
+
+const ARRAYS: [&str; 5] = ["", "[", "", "]", ""];
+
+static NESTED: [([&str; 5], usize, Option<ConfigFault>); 4] = [
+    (INNERS, 31, None),
+    (INNERS, 32, Some(TooDeep(0))),
+    (ARRAYS, 127, Some(NotNode(0))),
+    (ARRAYS, 128, Some(NotJson)),
+];
 
 #[test]
 fn reads_as_deep_as_the_limits(rt: HostRuntime) {
-    let alloc = rt.alloc();
-    for (n, fault) in [(31, None), (32, Some(TooDeep(0)))] {
-        wants_fault_of_made(&rt, alloc, inners(alloc, n), fault, "inners");
-    }
-    for (n, fault) in [(127, NotNode(0)), (128, NotJson)] {
-        let arrays = nested(alloc, n, "[", "", "]");
-        wants_fault_of_made(&rt, alloc, arrays, Some(fault), "arrays");
+    for (pieces, n, fault) in NESTED.iter() {
+        let text = nested(rt.alloc(), *pieces, *n);
+        wants_fault_of_made(&rt, rt.alloc(), text, *fault, "nested");
     }
 }
 
@@ -160,16 +164,18 @@ fn many(alloc: Global, n: u64, are_alike: bool) -> Result<String, AllocError> {
     numbered(alloc, (head, "]}}]"), (",\"n", "\""), n, are_alike)
 }
 
+static MANY: [(u64, bool, Option<ConfigFault>); 4] = [
+    (16_384, false, None),
+    (16_385, false, Some(TooManyNodes(16_385))),
+    (1_000_000, true, None),
+    (1_000_001, true, Some(TooManyEntries(1_000_001))),
+];
+
 #[test]
 fn reads_as_many_as_the_limits(rt: HostRuntime) {
-    let alloc = rt.alloc();
-    for (n, are_alike, fault) in [
-        (16_384, false, None),
-        (16_385, false, Some(TooManyNodes(16_385))),
-        (1_000_000, true, None),
-        (1_000_001, true, Some(TooManyEntries(1_000_001))),
-    ] {
-        wants_fault_of_made(&rt, alloc, many(alloc, n, are_alike), fault, "many");
+    for (n, are_alike, fault) in MANY.iter() {
+        let text = many(rt.alloc(), *n, *are_alike);
+        wants_fault_of_made(&rt, rt.alloc(), text, *fault, "many");
     }
 }
 

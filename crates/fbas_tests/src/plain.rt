@@ -1,18 +1,16 @@
 //! The plain programs on worked examples, with the values that Mazières' definitions give by hand, and beside the fast calls.
 
 ghost use Rattle.std.specs.Prelude.{◌≡◌, ◌<◌, ◌≤◌, ◌↔◌, length, All, IfOk, IfSome, IsTrue};
-ghost use Rattle.fbas_model.specs.Names.{is_key};
-ghost use Rattle.fbas_model.specs.QuorumSets.{IsBelow, all_entries, depth};
-ghost use Rattle.fbas_model.specs.Systems.{IsWithin, entries_in};
+ghost use Rattle.fbas_model.specs.QuorumSets.{IsBelow};
 ghost use Rattle.fbas_plain.specs.Plain.{IsWellFormed};
 
-use crate::shared::equal;
+use crate::shared::{equal, system_of};
 use fbas_core::System;
 use fbas_plain::{
     available, has_choice_within, has_choice_within_either, intersects, is_quorum, meets_quorums,
 };
 use greatest_quorum::blocks;
-use name_set::{Names, NodeSet};
+use name_set::NodeSet;
 use quorum_set::QuorumSet;
 use std::alloc::{AllocError, Global};
 use std::process::Abort;
@@ -178,6 +176,7 @@ fn system(
     nodes: &[Option<Choices>],
 ) -> Result<Vec<Option<QuorumSet>>, AllocError>
     ensures few { IfOk result (λ sets. length sets.items ≤ 4) }
+    ensures nodes { IfOk result (λ sets. length sets.items ≡ length nodes.now) }
     ensures formed { IfOk result (λ sets. IsWellFormed sets.items) }
 {
     assert!(rt; nodes.len() <= 4);
@@ -424,55 +423,35 @@ fn definitions_say_what_was_meant(rt: HostRuntime) {
 }
 
 /// A quorum set of nodes 0 to 2, with an inner quorum set.
-fn nested(alloc: Global, threshold: u64) -> Result<QuorumSet, AllocError>
-    ensures within { IfOk result (IsWithin 3) }
-    ensures entries { IfOk result (λ set. all_entries set ≡ 5) }
-{
-    let mut inner = Vec::new(alloc);
-    inner.push(QuorumSet {
-        threshold: 2,
-        validators: Vec::from_slice(alloc, &[1, 2])?,
-        inner: Vec::new(alloc),
-    })?;
-    Ok(QuorumSet {
+fn nested(threshold: u64) -> Option<Choices> {
+    Some(Choices {
         threshold,
-        validators: Vec::from_slice(alloc, &[0, 1])?,
-        inner,
+        nodes: &[0, 1],
+        inner: &[(2, &[1, 2])],
     })
 }
 
 /// The quorum sets of a system of three nodes, which differ in their thresholds.
-fn family(alloc: Global, thresholds: [u64; 3]) -> Result<Vec<Option<QuorumSet>>, AllocError>
+fn family(
+    rt: &impl Abort,
+    alloc: Global,
+    thresholds: [u64; 3],
+) -> Result<Vec<Option<QuorumSet>>, AllocError>
     ensures nodes { IfOk result (λ sets. length sets.items ≡ 3) }
     ensures formed { IfOk result (λ sets. IsWellFormed sets.items) }
-    ensures within { IfOk result (λ sets. All (λ o. IfSome o (IsWithin 3)) sets.items) }
-    ensures entries { IfOk result (λ sets. entries_in sets.items ≤ 15) }
 {
-    let mut sets = Vec::new(alloc);
-    for threshold in &thresholds {
-        sets.push(Some(nested(alloc, *threshold)?))?;
-    }
-    Ok(sets)
+    let [a, b, c] = thresholds;
+    system(rt, alloc, &[nested(a), nested(b), nested(c)])
 }
 
-fn key(alloc: Global, node: u8) -> Result<Vec<u8>, AllocError>
-    requires { node < 3 }
-    ensures { IfOk result (λ name. IsTrue (is_key name.items)) }
-{
-    vec![in alloc; b'a' + node; 1]
-}
+const BEHIND_THRESHOLD: &str =
+    r#""validators":["a","b"],"innerQuorumSets":[{"threshold":2,"validators":["b","c"]}]}}"#;
 
-fn names(rt: &impl Abort, alloc: Global) -> Result<Names, AllocError>
-    ensures nodes { IfOk result (λ names. length names ≡ 3) }
-    ensures keys { IfOk result (All (λ name. IsTrue (is_key name))) }
-{
-    let mut list = Vec::new(alloc);
-    for node in 0..3 {
-        list.push(key(alloc, node)?)?;
-    }
-    let names = Names::of(list)?;
-    assert!(rt; names.len() == 3);
-    Ok(names)
+/// The same as a configuration.
+fn family_config(alloc: Global, [a, b, c]: [u64; 3]) -> Result<String, AllocError> {
+    format!(in alloc;
+        "[{{\"publicKey\":\"a\",\"quorumSet\":{{\"threshold\":{a},{BEHIND_THRESHOLD},{{\"publicKey\":\"b\",\"quorumSet\":{{\"threshold\":{b},{BEHIND_THRESHOLD},{{\"publicKey\":\"c\",\"quorumSet\":{{\"threshold\":{c},{BEHIND_THRESHOLD}]"
+    )
 }
 
 /// Whether the quorum sets are satisfied as choices lie in the two sets.
@@ -521,16 +500,14 @@ fn agree(system: &System, sets: &[Option<QuorumSet>]) -> bool
     true
 }
 
-/// The system with these thresholds. Of a long contract it keeps what the next call wants.
-fn system_of_family(
-    rt: &impl Abort,
-    alloc: Global,
-    thresholds: [u64; 3],
-) -> Result<System, AllocError>
-    ensures { IfOk result (λ system. length system.sets ≡ 3) }
+/// The system with these thresholds.
+fn system_of_family(rt: &impl Abort, alloc: Global, thresholds: [u64; 3]) -> System
+    ensures { length result.sets ≡ 3 }
 {
-    let names = names(rt, alloc)?;
-    System::of(alloc, names, family(alloc, thresholds)?)
+    let config = family_config(alloc, thresholds).expect(rt, "memory");
+    let system = system_of(rt, alloc, &config);
+    assert!(rt; system.len() == 3);
+    system
 }
 
 /// Whether the fast calls and the plain ones agree on it.
@@ -539,9 +516,8 @@ fn agree_on_family(
     alloc: Global,
     thresholds: [u64; 3],
 ) -> Result<bool, AllocError> {
-    let sets = family(alloc, thresholds)?;
-    let system = system_of_family(rt, alloc, thresholds)?;
-    Ok(agree(&system, &sets))
+    let sets = family(rt, alloc, thresholds)?;
+    Ok(agree(&system_of_family(rt, alloc, thresholds), &sets))
 }
 
 #[test]

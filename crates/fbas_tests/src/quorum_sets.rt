@@ -1,30 +1,16 @@
 //! Quorum sets, whose choices are counted by places.
 
-ghost use Rattle.std.specs.Prelude.{◌≡◌, ◌<◌, length, IfOk, OnOk, All};
+ghost use Rattle.std.specs.Prelude.{◌≡◌, length};
 ghost use Rattle.fbas_model.specs.QuorumSets.{IsBelow};
 
-use crate::shared::equal;
+use crate::shared::{equal, first_set, system_of};
 use name_set::NodeSet;
 use quorum_set::QuorumSet;
-use std::alloc::{AllocError, Global};
+use std::process::Abort;
 
-fn of(
-    alloc: Global,
-    threshold: u64,
-    nodes: &[u32],
-    inner: Vec<QuorumSet>,
-) -> Result<QuorumSet, AllocError>
-    requires nodes { All (λ w. w < 4) nodes.now }
-    requires inner { All (IsBelow 4) inner.items }
-    ensures { IfOk result (IsBelow 4) }
-{
-    let validators = Vec::from_slice(alloc, nodes)?;
-    Ok(QuorumSet {
-        threshold,
-        validators,
-        inner,
-    })
-}
+/// Four nodes. That of a: three of node a, of node b twice, and of three inner quorum sets.
+const WORKED: &str =
+    r#"[{"publicKey":"a","quorumSet":{"threshold":3,"validators":["a","b","b"],"innerQuorumSets":[{"threshold":1,"validators":["c","d"]},{"threshold":0,"validators":["a"]},{"threshold":3,"validators":["a","b"]}]}}]"#;
 
 fn set(marks: [bool; 4]) -> NodeSet
     ensures { length result ≡ 4 }
@@ -36,31 +22,6 @@ fn set(marks: [bool; 4]) -> NodeSet
         }
     }
     set
-}
-
-fn push(
-    alloc: Global,
-    inner: &mut Vec<QuorumSet>,
-    threshold: u64,
-    nodes: &[u32],
-) -> Result<(), AllocError>
-    requires nodes { All (λ w. w < 4) nodes.now }
-    requires inner { All (IsBelow 4) inner.old.items }
-    ensures { OnOk result (All (IsBelow 4) inner.new.items) }
-{
-    inner.push(of(alloc, threshold, nodes, Vec::new(alloc))?)?;
-    Ok(())
-}
-
-/// Three of node 0, of node 1 twice, and of three inner quorum sets.
-fn worked(alloc: Global) -> Result<QuorumSet, AllocError>
-    ensures { IfOk result (IsBelow 4) }
-{
-    let mut inner = Vec::new(alloc);
-    push(alloc, &mut inner, 1, &[2, 3])?;
-    push(alloc, &mut inner, 0, &[0])?;
-    push(alloc, &mut inner, 3, &[0, 1])?;
-    of(alloc, 3, &[0, 1, 1], inner)
 }
 
 /// Whether it is satisfied in the two sets, in their union, and where the others are avoided.
@@ -119,12 +80,19 @@ static PARTS: [([bool; 4], [bool; 4], bool); 6] = [
     ([true, true, true, true], [false, false, false, false], true),
 ];
 
+/// Fails the test where something else is found. The quorum set is lent, so that what is proved of the loop does not carry it.
+fn wants_met(rt: &impl Abort, quorum_set: &QuorumSet)
+    requires { IsBelow 4 quorum_set.now }
+{
+    for (part, rest, want) in PARTS.iter() {
+        let found = met(quorum_set, *part, *rest);
+        equal(rt, &found, &(*want, *want, *want), "a part and the rest");
+    }
+    equal(rt, &mentioned(quorum_set), &4, "the nodes mentioned");
+}
+
 #[test]
 fn choices_are_counted_by_places(rt: HostRuntime) {
-    let quorum_set = worked(rt.alloc()).expect(&rt, "memory");
-    for (part, rest, want) in PARTS.iter() {
-        let found = met(&quorum_set, *part, *rest);
-        equal(&rt, &found, &(*want, *want, *want), "a part and the rest");
-    }
-    equal(&rt, &mentioned(&quorum_set), &4, "the nodes mentioned");
+    let system = system_of(&rt, rt.alloc(), WORKED);
+    wants_met(&rt, first_set(&rt, &system, 4));
 }

@@ -1,10 +1,12 @@
 //! What the tests share.
 
-ghost use Rattle.std.specs.Prelude.{◌≡◌, length};
+ghost use Rattle.std.specs.Prelude.{◌≡◌, ◌<◌, ◌^◌, length};
+ghost use Rattle.fbas_model.specs.QuorumSets.{IsBelow, all_entries};
 
 use fbas_core::System;
 use name_set::Names;
 use node_json::read_config;
+use quorum_set::QuorumSet;
 use std::alloc::{AllocError, Global};
 use std::fmt::Debug;
 use std::process::Abort;
@@ -23,6 +25,15 @@ pub fn same(rt: &impl Abort, found: Result<String, AllocError>, want: &str) {
 /// The system of a configuration.
 pub fn system_of(rt: &impl Abort, alloc: Global, config: &str) -> System {
     read_config(alloc, config.as_bytes()).expect(rt, "a system")
+}
+
+/// The quorum set of the first node of a system, which has so many nodes.
+pub fn first_set<'a>(rt: &impl Abort, system: &'a System, n: u32) -> &'a QuorumSet
+    ensures small { all_entries result.now < 2 ^ 32 }
+    ensures below { IsBelow n result.now }
+{
+    assert!(rt; system.len() == n && n > 0);
+    system.quorum_set(0).expect(rt, "a quorum set")
 }
 
 fn listed(alloc: Global, names: &[&str]) -> Result<Vec<Vec<u8>>, AllocError> {

@@ -113,16 +113,18 @@ fn is_quorum(system: &System, list: &str, faulty: &NodeSet) -> Result<bool, Name
     Ok(system.is_quorum(&set_of(system, list)?, faulty))
 }
 
+static OF_TWO_PAIRS: [(&str, &str); 3] = [("a", "a,b"), ("d", "c,d"), ("bb", "bb")];
+
 #[test]
 fn a_closure_leaves_out_who_is_not_mentioned(rt: HostRuntime) {
-    let closures = [("a", "a,b"), ("d", "c,d"), ("bb", "bb")];
-    wants_closures(&rt, rt.alloc(), TWO_PAIRS, &closures);
+    wants_closures(&rt, rt.alloc(), TWO_PAIRS, &OF_TWO_PAIRS);
 }
+
+static OF_CHAIN: [(&str, &str); 3] = [("e", "a,b,c,d,e"), ("b", "a,b"), ("a", "a")];
 
 #[test]
 fn a_closure_goes_through_bad_thresholds(rt: HostRuntime) {
-    let closures = [("e", "a,b,c,d,e"), ("b", "a,b"), ("a", "a")];
-    wants_closures(&rt, rt.alloc(), CHAIN, &closures);
+    wants_closures(&rt, rt.alloc(), CHAIN, &OF_CHAIN);
 }
 
 // Whether the set is the list.
