@@ -40,6 +40,7 @@ fn steps_of_two_of_two(rt: HostRuntime) {
     let alloc = rt.alloc();
     let mut checker = two_of_two(&rt, alloc);
     wants_steps(&rt, alloc, &mut checker);
+    drop(checker);
 }
 
 fn is_going(answer: Result<Progress, StepFault>) -> bool {
@@ -153,6 +154,7 @@ fn covered_after_changes(rt: HostRuntime) {
     let alloc = rt.alloc();
     let mut checker = two_of_two(&rt, alloc);
     wants_covered(&rt, alloc, &mut checker);
+    drop(checker);
 }
 
 /// The lemma -1 from itself under this id, and then this id is deleted: whether the checker takes both.
@@ -188,6 +190,7 @@ fn a_thousand_steps(rt: HostRuntime) {
     let alloc = rt.alloc();
     let mut checker = two_of_two(&rt, alloc);
     wants_renewed(&rt, alloc, &mut checker);
+    drop(checker);
 }
 
 static DELETIONS: [([u64; 2], &str); 4] = [
@@ -224,4 +227,5 @@ fn deleted_and_covered(rt: HostRuntime) {
     let alloc = rt.alloc();
     let mut checker = two_of_two(&rt, alloc);
     wants_deleted(&rt, alloc, &mut checker);
+    drop(checker);
 }

@@ -1,8 +1,6 @@
 //! RAT steps on the formula of three nodes that each need two of the three, as steps and hint by hint.
-ghost use Rattle.std.specs.Prelude.{◌≡◌, None, IfOk, OnOk};
-
-use crate::shared::{added, answered, checker, deleted, lits, same};
-use lrat_checker::{Checker, IdleChecker, Rule};
+use crate::shared::{added, answered, checker, deleted, lits, same, streamed};
+use lrat_checker::{IdleChecker, Rule};
 use std::alloc::{AllocError, Global};
 use std::process::Abort;
 
@@ -63,35 +61,12 @@ static TWO_OF_THREE: [&[i32]; 53] = [
     &[-6, 36],
 ];
 
-// What is answered to the addition, hint by hint.
-fn streamed(
-    alloc: Global,
-    checker: &mut Checker,
-    id: u64,
-    numbers: &[i32],
-    hints: &[i64],
-) -> Result<String, AllocError>
-    requires { checker.old.open_addition ≡ None }
-    ensures { OnOk result (checker.new.open_addition ≡ None) }
-{
-    let lits = lits(alloc, numbers)?;
-    if let Err(fault) = checker.begin_add(id, &lits) {
-        return format!(in alloc; "{fault}");
-    }
-    for hint in hints {
-        if checker.hints() < 9 {
-            if let Err(fault) = checker.hint(*hint) {
-                return format!(in alloc; "{fault}");
-            }
-        }
-    }
-    answered(alloc, checker.finish_add())
-}
-
 // What is answered to an addition after the formula, as a step.
 fn whole(alloc: Global, rule: Rule, numbers: &[i32], hints: &[i64]) -> Result<String, AllocError> {
     let mut checker = checker(alloc, &TWO_OF_THREE, 36, rule)?;
-    added(alloc, &mut checker, 54, numbers, hints)
+    let answer = added(alloc, &mut checker, 54, numbers, hints);
+    drop(checker);
+    answer
 }
 
 // The same, hint by hint.
@@ -101,8 +76,11 @@ fn in_parts(
     numbers: &[i32],
     hints: &[i64],
 ) -> Result<String, AllocError> {
+    let lits = lits(alloc, numbers)?;
     let mut checker = checker(alloc, &TWO_OF_THREE, 36, rule)?.opening();
-    streamed(alloc, &mut checker, 54, numbers, hints)
+    let answer = streamed(&mut checker, 54, &lits, hints);
+    drop(checker);
+    answered(alloc, answer)
 }
 
 static ADDITIONS: [(Rule, &[i32], &[i64], &str); 20] = [
@@ -181,4 +159,5 @@ fn clauses_that_come_and_go(rt: HostRuntime) {
     let alloc = rt.alloc();
     let mut checker = checker(alloc, &TWO_OF_THREE, 36, Rule::Rat).expect(&rt, "memory");
     wants_steps(&rt, alloc, &mut checker);
+    drop(checker);
 }

@@ -1,9 +1,9 @@
 //! What the tests share.
-ghost use Rattle.std.specs.Prelude.{◌≡◌, ◌<◌, ◌^◌, true};
+ghost use Rattle.std.specs.Prelude.{◌≡◌, ◌<◌, ◌^◌, true, None};
 ghost use Rattle.lrat_model.specs.Ranges.{IsInRange};
 
 use clause_store::Store;
-use lrat_checker::{IdleChecker, Rule};
+use lrat_checker::{Checker, IdleChecker, Rule};
 use lrat_model::{Lit, Progress, Step, StepFault};
 use std::alloc::{AllocError, Global};
 use std::fmt::Debug;
@@ -95,8 +95,13 @@ pub fn checker(
     requires { vars < 2 ^ 31 }
 {
     let mut checker = IdleChecker::start(alloc, Store::new(alloc), vars, rule)?;
-    give_all(alloc, &mut checker, vars, clauses)?;
-    Ok(checker)
+    match give_all(alloc, &mut checker, vars, clauses) {
+        Ok(()) => Ok(checker),
+        Err(fault) => {
+            drop(checker);
+            Err(fault)
+        }
+    }
 }
 
 /// What is said of an answer of the checker.
@@ -117,6 +122,25 @@ pub fn added(
 ) -> Result<String, AllocError> {
     let step = addition(alloc, id, numbers, hints)?;
     answered(alloc, checker.step(&step))
+}
+
+/// What the checker answers to the addition of a lemma, hint by hint.
+pub fn streamed(
+    checker: &mut Checker,
+    id: u64,
+    lits: &[Lit],
+    hints: &[i64],
+) -> Result<Progress, StepFault>
+    requires { checker.old.open_addition ≡ None }
+    ensures { checker.new.open_addition ≡ None }
+{
+    checker.begin_add(id, lits)?;
+    for hint in hints {
+        if checker.hints() < 9 {
+            checker.hint(*hint)?;
+        }
+    }
+    checker.finish_add()
 }
 
 /// What the checker answers to the deletion of the clauses under these ids.

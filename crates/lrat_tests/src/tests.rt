@@ -71,7 +71,9 @@ fn is_refutation(
 {
     let store = store(alloc, clauses, vars)?;
     let mut checker = IdleChecker::start(alloc, store, vars, Rule::Rup)?;
-    is_refuted(alloc, &mut checker, log)
+    let is_refuted = is_refuted(alloc, &mut checker, log);
+    drop(checker);
+    is_refuted
 }
 
 // A solver of these clauses.
