@@ -220,6 +220,7 @@ fn reads_a_network(rt: HostRuntime) {
     let found = places(alloc, &system);
     same(&rt, found, "Some(0) Some(1) Some(2) Some(3)");
     same(&rt, quorums(alloc, &system), "false true false");
+    drop(system);
 }
 
 static PRINTED: [(ConfigFault, &str); 12] = [

@@ -35,4 +35,5 @@ fn faults_are_found_from_the_outside_in(rt: HostRuntime) {
     let want =
         "[Repeated([4], 9), BadThreshold([], 7, 6), Repeated([], 1), BadThreshold([1], 0, 5), Repeated([1], 3), Repeated([1], 2), Repeated([1, 0], 5), BadThreshold([2], 1, 0)]";
     same(&rt, found, want);
+    drop(system);
 }

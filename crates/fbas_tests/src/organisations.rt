@@ -59,6 +59,7 @@ fn finds_the_first_fault(rt: HostRuntime) {
     for (text, fault) in TEXTS.iter() {
         wants_fault(&rt, alloc, &system, text, *fault, text);
     }
+    drop(system);
 }
 
 // Which of three nodes a list of ids stands for.
@@ -108,6 +109,7 @@ fn finds_the_members_of_a_list_or_its_first_fault(rt: HostRuntime) {
     for (text, ids, want) in LISTS.iter() {
         same(&rt, read(alloc, &system, text, ids), want);
     }
+    drop(system);
 }
 
 // Whether an organisation has members, and what lists of one and of none give, where there are no organisations.
@@ -153,6 +155,7 @@ fn reads_as_many_as_the_limit(rt: HostRuntime) {
     wants_fault_of_many(&rt, alloc, &system, 4096, None);
     let fault = Some(TooManyOrgs(4097));
     wants_fault_of_many(&rt, alloc, &system, 4097, fault);
+    drop(system);
 }
 
 static PRINTED: [(OrgFault, &str); 5] = [

@@ -517,7 +517,10 @@ fn agree_on_family(
     thresholds: [u64; 3],
 ) -> Result<bool, AllocError> {
     let sets = family(rt, alloc, thresholds)?;
-    Ok(agree(&system_of_family(rt, alloc, thresholds), &sets))
+    let system = system_of_family(rt, alloc, thresholds);
+    let agree = agree(&system, &sets);
+    drop(system);
+    Ok(agree)
 }
 
 #[test]

@@ -95,4 +95,5 @@ fn wants_met(rt: &impl Abort, quorum_set: &QuorumSet)
 fn choices_are_counted_by_places(rt: HostRuntime) {
     let system = system_of(&rt, rt.alloc(), WORKED);
     wants_met(&rt, first_set(&rt, &system, 4));
+    drop(system);
 }

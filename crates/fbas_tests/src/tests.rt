@@ -49,6 +49,7 @@ fn is_minimal_quorum(system: &System) -> Result<bool, NameFault> {
 fn a_minimal_quorum_of_a_repeated_entry(rt: HostRuntime) {
     let system = system_of(&rt, rt.alloc(), REPEATED_ENTRY);
     equal(&rt, &is_minimal_quorum(&system), &Ok(true), "a quorum");
+    drop(system);
 }
 
 // Whether b and c are a minimal blocking set without a.
@@ -68,6 +69,7 @@ fn is_minimal_block(system: &System) -> Result<bool, NameFault> {
 fn a_minimal_blocking_set_of_two_of_three(rt: HostRuntime) {
     let system = system_of(&rt, rt.alloc(), TWO_OF_THREE);
     equal(&rt, &is_minimal_block(&system), &Ok(true), "a blocking set");
+    drop(system);
 }
 
 // The trust closure of the node that has the name.
@@ -94,6 +96,7 @@ fn wants_closures(rt: &impl Abort, alloc: Global, config: &str, closures: &[(&st
     for (name, members) in closures {
         equal(rt, &closure_is(&system, name, members), &Ok(true), name);
     }
+    drop(system);
 }
 
 // The system restricted to the trust closure of the node, and the list cut to it.
@@ -147,7 +150,9 @@ fn pair_shown(part: &System, faulty: &NodeSet) -> Result<(bool, bool, bool), Nam
 // The same of the second pair.
 fn second_pair(alloc: Global, system: &System) -> Option<(bool, bool, bool)> {
     let (part, faulty) = part_of(alloc, system, "c", "b,d")?;
-    pair_shown(&part, &faulty).ok()
+    let shown = pair_shown(&part, &faulty).ok();
+    drop(part);
+    shown
 }
 
 #[test]
@@ -155,6 +160,7 @@ fn a_pair_alone_keeps_its_quorums(rt: HostRuntime) {
     let system = system_of(&rt, rt.alloc(), TWO_PAIRS);
     let found = second_pair(rt.alloc(), &system);
     equal(&rt, &found, &Some((true, true, false)), "a pair");
+    drop(system);
 }
 
 // Whether the faulty nodes of a part of three nodes are b, its entries, its nodes without a quorum set, and its names.
@@ -174,7 +180,11 @@ fn part_shown(alloc: Global, part: &System, faulty: &NodeSet) -> Result<String, 
 // The same of the part behind c.
 fn behind_c(alloc: Global, system: &System) -> Result<String, AllocError> {
     match part_of(alloc, system, "c", "b,e") {
-        Some((part, faulty)) => part_shown(alloc, &part, &faulty),
+        Some((part, faulty)) => {
+            let shown = part_shown(alloc, &part, &faulty);
+            drop(part);
+            shown
+        }
         None => String::from_str(alloc, "no part"),
     }
 }
@@ -184,4 +194,5 @@ fn a_chain_is_cut_behind_a_node(rt: HostRuntime) {
     let system = system_of(&rt, rt.alloc(), CHAIN);
     let want = "Ok(true) 3 1 [[97], [98], [99]]";
     same(&rt, behind_c(rt.alloc(), &system), want);
+    drop(system);
 }
