@@ -44,8 +44,9 @@ fn shown(alloc: Global, store: &Store) -> Result<String, AllocError> {
 fn left(alloc: Global, ids: &[u64]) -> Result<String, AllocError> {
     let mut store = store(alloc, &PUSHED)?;
     let missing = store.remove_all(ids).err().unwrap_or(0);
-    let held = shown(alloc, &store)?;
-    format!(in alloc; "{missing} missing, {held}")
+    let held = shown(alloc, &store);
+    drop(store);
+    format!(in alloc; "{missing} missing, {}", held?)
 }
 
 static REMOVED: [(&[u64], &str); 7] = [
@@ -106,11 +107,13 @@ static THREE: [(u64, &[i32]); 3] = [(1, &[1, 2, 3]), (2, &[4, 5, 6]), (3, &[-1, 
 fn of_width(alloc: Global, removed: u64, width: u32, id: u64) -> Result<String, AllocError> {
     let mut store = store(alloc, &THREE)?;
     store.remove(removed);
-    if width == 2 {
+    let shown = if width == 2 {
         viewed::<2>(alloc, &store, id)
     } else {
         viewed::<3>(alloc, &store, id)
-    }
+    };
+    drop(store);
+    shown
 }
 
 static WIDTHS: [(u64, u32, u64, &str); 4] = [
@@ -157,4 +160,5 @@ fn one_removed(rt: HostRuntime) {
     for (id, want) in ONE_BY_ONE.iter() {
         same(&rt, removed(alloc, &mut store, *id), want);
     }
+    drop(store);
 }
