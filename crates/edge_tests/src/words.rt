@@ -3,6 +3,7 @@
 use crate::shared::same;
 use cli_words::{Command, Goal, Order, Query, order};
 use std::alloc::{AllocError, Global};
+use std::process::Abort;
 
 /// The words of a line after the program's name, parted at each space.
 fn words_of(alloc: Global, line: &str) -> Result<Vec<String>, AllocError> {
@@ -35,7 +36,7 @@ fn name_of(command: Command) -> &'static str {
 }
 
 /// The command, the paths, and what `--node`, `--faulty` and `--set` give.
-fn shown(alloc: Global, order: &Order) -> Result<String, AllocError> {
+fn own(alloc: Global, order: &Order) -> Result<String, AllocError> {
     let paths = (order.config.as_str(), order.cert.as_str());
     let (node, faulty, set) = (
         order.node.as_deref(),
@@ -46,12 +47,43 @@ fn shown(alloc: Global, order: &Order) -> Result<String, AllocError> {
     format!(in alloc; "{command} {paths:?} {node:?} {faulty:?} {set:?}")
 }
 
-/// The order that a line gives, or its fault.
-fn read(alloc: Global, line: &str) -> Result<String, AllocError> {
+/// What `--from`, `--orgs` and `--faulty-orgs` give.
+fn common(alloc: Global, order: &Order) -> Result<String, AllocError> {
+    let (from, orgs, faulty_orgs) = (
+        order.from.as_deref(),
+        order.orgs.as_deref(),
+        order.faulty_orgs.as_deref(),
+    );
+    format!(in alloc; "{from:?} {orgs:?} {faulty_orgs:?}")
+}
+
+/// What is shown of an order.
+#[derive(Clone, Copy)]
+enum Part {
+    Own,
+    Common,
+}
+
+fn part_of(alloc: Global, order: &Order, part: Part) -> Result<String, AllocError> {
+    match part {
+        Part::Own => own(alloc, order),
+        Part::Common => common(alloc, order),
+    }
+}
+
+/// A part of the order that a line gives, or its fault.
+fn read(alloc: Global, line: &str, part: Part) -> Result<String, AllocError> {
     let words = words_of(alloc, line)?;
     match order(alloc, &words) {
-        Ok(order) => shown(alloc, &order),
+        Ok(order) => part_of(alloc, &order, part),
         Err(fault) => format!(in alloc; "{fault:?}"),
+    }
+}
+
+/// Fails the test where a line gives another order, or another fault.
+fn wants_read(rt: &impl Abort, alloc: Global, part: Part, rows: &[(&str, &str)]) {
+    for (line, want) in rows {
+        same(rt, read(alloc, line, part), want);
     }
 }
 
@@ -99,28 +131,7 @@ static ORDERS: [(&str, &str); 12] = [
 
 #[test]
 fn takes_each_command(rt: HostRuntime) {
-    for (line, want) in ORDERS.iter() {
-        same(&rt, read(rt.alloc(), line), want);
-    }
-}
-
-/// What `--from`, `--orgs` and `--faulty-orgs` give.
-fn common_of(alloc: Global, order: &Order) -> Result<String, AllocError> {
-    let (from, orgs, faulty_orgs) = (
-        order.from.as_deref(),
-        order.orgs.as_deref(),
-        order.faulty_orgs.as_deref(),
-    );
-    format!(in alloc; "{from:?} {orgs:?} {faulty_orgs:?}")
-}
-
-/// The same of the order that a line gives, or its fault.
-fn common(alloc: Global, line: &str) -> Result<String, AllocError> {
-    let words = words_of(alloc, line)?;
-    match order(alloc, &words) {
-        Ok(order) => common_of(alloc, &order),
-        Err(fault) => format!(in alloc; "{fault:?}"),
-    }
+    wants_read(&rt, rt.alloc(), Part::Own, &ORDERS);
 }
 
 static COMMON: [(&str, &str); 4] = [
@@ -138,9 +149,7 @@ static COMMON: [(&str, &str); 4] = [
 
 #[test]
 fn takes_the_common_options(rt: HostRuntime) {
-    for (line, want) in COMMON.iter() {
-        same(&rt, common(rt.alloc(), line), want);
-    }
+    wants_read(&rt, rt.alloc(), Part::Common, &COMMON);
 }
 
 static REFUSED: [(&str, &str); 12] = [
@@ -160,7 +169,5 @@ static REFUSED: [(&str, &str); 12] = [
 
 #[test]
 fn refuses_other_words(rt: HostRuntime) {
-    for (line, want) in REFUSED.iter() {
-        same(&rt, read(rt.alloc(), line), want);
-    }
+    wants_read(&rt, rt.alloc(), Part::Own, &REFUSED);
 }
