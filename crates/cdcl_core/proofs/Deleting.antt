@@ -1,7 +1,7 @@
 -- A search that deletes lemmas.
 use Rattle.std.proofs.Common.{◌≡◌, ℕ, ◌+◌, ◌<◌, ◌≤◌, ◌^◌, Bool, true, false, cond, not, ◌||◌, List, [], ◌∷◌, ◌++◌, refl, sym, ap, ◌∙◌, subst, arith, length, get_or, Option, Some, None}
 use Rattle.std.specs.Prelude.{All, AllPairs, filter, is_none}
-use Rattle.std.proofs.lemmas.Bool.{true≢false}
+use Rattle.std.proofs.lemmas.Bool.{true≢false, not-true}
 use Rattle.std.proofs.lemmas.List.Elements.{All-head, All-tail, All-nil, All-push, All-filter, filter_passes, recursion_from_All}
 use Rattle.std.proofs.lemmas.List.Kept.{AllPairs-filter}
 use Rattle.lrat_model.specs.Literal.{Literal}
@@ -33,10 +33,6 @@ deletion_none held before (id ∷ ids) rise below some =
     ∙ deletion_none held (before ++ id ∷ []) ids (rise_tail id ids rise)
     (λ i d within. All-push (λ j. j < get_or ids i d) before id (All-tail (λ k. All (λ j. j < k) before) id ids below i d within) (rise_head id ids rise i d within))
     (All-tail (λ k. (clause : List Literal) × (clause_at held k ≡ Some clause)) id ids some)
-
-not_true : (b : Bool) → not b ≡ true → b ≡ false
-not_true true h = absurd (true≢false (sym h))
-not_true false h = refl
 
 -- what passes a test in a filtered list passed the filter
 passes : (p : ℕ → Bool) (xs : List ℕ) (k : ℕ) → has_id (filter p xs) k ≡ true → p k ≡ true

@@ -2,7 +2,7 @@
 use Rattle.std.proofs.Common.{◌≡◌, ◌≢◌, ℕ, ◌^◌, ◌<◌, true, false, List, [], ◌∷◌, ◌++◌, ⊎_elim, inl, inr, sym, ap, ◌∙◌, subst, arith, length, get_or, take, length-append}
 use Rattle.std.specs.Prelude.{◌⊎◌, slice_index, All}
 use Rattle.std.proofs.lemmas.List.{take_all}
-use Rattle.std.proofs.lemmas.Bool.{true≢false, cases_lt}
+use Rattle.std.proofs.lemmas.Bool.{true≢false, cases_lt, false_from_ne_true}
 use Rattle.std.proofs.Math.ListN.{get_or-append}
 use Rattle.std.proofs.Math.Seq.{get_or-append_seam}
 use Rattle.lrat_model.specs.Literal.{Literal, negated, same, has}
@@ -11,7 +11,6 @@ use Rattle.lrat_model.proofs.Literals.{has-first, has-push}
 use Rattle.cdcl_core.specs.Search.{IsState, IsClosed}
 use Rattle.cdcl_core.specs.Trail.{IsVariable}
 use Rattle.cdcl_core.proofs.States.{state_back, state_push}
-use Rattle.cdcl_core.proofs.Jumps.{not_so}
 use Rattle.cdcl_core.proofs.Tops.{take_within}
 use Rattle.cdcl_core.specs.declared.watches.Pair.{Pair}
 use Rattle.cdcl_core.specs.Watches.{IsKept, IsQueued}
@@ -54,7 +53,7 @@ module _ (n : ℕ) (held : Held) (trues : List Literal) (reasons : List ℕ) (s 
   pub given_two : (pairs : List Pair) (a b : Literal) (head : ℕ) → length pairs ≡ length held → IsQueued held pairs trues reasons head → same a b ≡ false → has trues (negated a) ≡ false → has trues (negated b) ≡ false
       → IsQueued (with_clause held id lits) (pairs ++ record { first = a; second = b } ∷ []) trues reasons head
   given_two pairs a b head long q differ free_a free_b =
-      let free : (k : Literal) → has trues (negated k) ≡ false → has (take head trues) (negated k) ≡ false = λ k f. not_so (has (take head trues) (negated k)) (λ h. true≢false (sym (take_within head trues (negated k) h) ∙ f)) in
+      let free : (k : Literal) → has trues (negated k) ≡ false → has (take head trues) (negated k) ≡ false = λ k f. false_from_ne_true (has (take head trues) (negated k)) (λ h. true≢false (sym (take_within head trues (negated k) h) ∙ f)) in
       given_queued pairs (record { first = a; second = b }) head long q (inr (record { differ = differ; first_free = free a free_a; second_free = free b free_b }))
 
   module _ (l : Literal) (here : has lits l ≡ true) (free : has trues (negated l) ≡ false) (others : (m : Literal) → has lits m ≡ true → (m ≡ l) ⊎ (has trues (negated m) ≡ true)) (left : has trues l ≡ false) (range : IsVariable n l) (below : All (λ e. e.0 < id) held) (some : 0 < id) where

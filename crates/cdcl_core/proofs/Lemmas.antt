@@ -4,7 +4,7 @@ use Rattle.std.specs.Prelude.{◌==◌, slice_index, All}
 use Rattle.std.proofs.Math.ListN.{get_or-append}
 use Rattle.std.proofs.Math.Seq.{get_or-append_seam}
 use Rattle.std.proofs.lemmas.List.{get_or-take, take-append-le}
-use Rattle.std.proofs.lemmas.Bool.{cases_lt, eq-eqb, ne_eqb, true≢false}
+use Rattle.std.proofs.lemmas.Bool.{cases_lt, eq-eqb, ne_eqb, true≢false, false_from_ne_true}
 use Rattle.std.proofs.lemmas.List.Elements.{All-head, All-tail}
 use Rattle.lrat_model.specs.Literal.{Literal, negated, has}
 use Rattle.lrat_model.specs.Clauses.{Held, clause_at, with_clause}
@@ -12,7 +12,7 @@ use Rattle.lrat_model.proofs.Literals.{has-first, has-push, negated-negated, var
 use Rattle.cdcl_core.specs.Search.{IsState, IsClosed}
 use Rattle.cdcl_core.specs.Trail.{IsVariable}
 use Rattle.cdcl_core.proofs.States.{state_back, state_push}
-use Rattle.cdcl_core.proofs.Jumps.{not_so, take_mono}
+use Rattle.cdcl_core.proofs.Jumps.{take_mono}
 use Rattle.cdcl_core.proofs.Tops.{take_within}
 use Rattle.cdcl_core.specs.declared.watches.Pair.{Pair}
 use Rattle.cdcl_core.specs.Watches.{IsKept, IsQueued, IsAsserting}
@@ -30,7 +30,7 @@ clause_at-last (e ∷ held) id lits below =
 module _ (n : ℕ) (held : Held) (trues : List Literal) (reasons : List ℕ) (s : IsState n held trues reasons) (id : ℕ) (lits : List Literal) (pair : Pair) (jump : ℕ) (within : jump < length trues) (a : IsAsserting trues reasons jump lits pair) where
   -- the asserting literal is open where the trail is cut, and in range
   pub first_open : has (take jump trues) pair.first ≡ false
-  first_open = not_so (has (take jump trues) pair.first) (λ h. true≢false (sym (take_within jump trues pair.first h) ∙ ap (λ k. has trues k) (sym (negated-negated pair.first)) ∙ s.trail.consistent (negated pair.first) a.first_false))
+  first_open = false_from_ne_true (has (take jump trues) pair.first) (λ h. true≢false (sym (take_within jump trues pair.first h) ∙ ap (λ k. has trues k) (sym (negated-negated pair.first)) ∙ s.trail.consistent (negated pair.first) a.first_false))
 
   pub first_range : IsVariable n pair.first
   first_range = subst (λ k. (0 < k) × (k ≤ n)) (variable_of-negated pair.first) (s.range (negated pair.first) a.first_false)
@@ -58,7 +58,7 @@ module _ (n : ℕ) (held : Held) (trues : List Literal) (reasons : List ℕ) (s 
       let free = a.second_free p below own in
       subst (λ ls. IsKept ls ls lits pair) (sym same_front) (inr (record {
         differ = free.0;
-        first_free = not_so (has (take p trues) (negated pair.first)) (λ h. true≢false (sym (take_mono p jump trues (omega (arith, below)) (negated pair.first) h) ∙ a.first_free));
+        first_free = false_from_ne_true (has (take p trues) (negated pair.first)) (λ h. true≢false (sym (take_mono p jump trues (omega (arith, below)) (negated pair.first) h) ∙ a.first_free));
         second_free = free.1;
       })))
       (λ above.

@@ -1,7 +1,7 @@
 -- Logs that keep within their bounds, and the lemmas that are live after them.
 use Rattle.std.proofs.Common.{◌≡◌, ◌⊎◌, ℕ, ◌+◌, ◌*◌, ◌≤◌, Bool, true, false, cond, not, ◌||◌, List, [], ◌∷◌, ◌++◌, ⊎_elim, inl, inr, refl, sym, ap, ◌∙◌, subst, arith, length, length-append, Some, None}
 use Rattle.std.specs.Prelude.{◌==◌, All, filter}
-use Rattle.std.proofs.lemmas.Bool.{eqb-true, cases_Bool, false≢true, or_cases}
+use Rattle.std.proofs.lemmas.Bool.{eqb-true, cases_Bool, false≢true, or_cases, or_right}
 use Rattle.std.proofs.lemmas.List.Elements.{All-head, All-tail}
 use Rattle.lrat_model.specs.Literal.{Literal}
 use Rattle.lrat_model.specs.Clauses.{clause_at, has_id, without}
@@ -69,13 +69,9 @@ kept_filter gone [] k h = h
 kept_filter gone (x ∷ live) k h = elim (cases_Bool (not (has_id gone x))) [
   | inl stays ↦
       let here : has_id (x ∷ filter (λ j. not (has_id gone j)) live) k ≡ true = subst (λ b. has_id (cond b (x ∷ filter (λ j. not (has_id gone j)) live) (filter (λ j. not (has_id gone j)) live)) k ≡ true) stays h in
-      ⊎_elim (λ first. rw first refl) (λ later. either (x == k) (has_id live k) (kept_filter gone live k later)) (or_cases (x == k) (has_id (filter (λ j. not (has_id gone j)) live) k) here)
-  | inr goes ↦ either (x == k) (has_id live k) (kept_filter gone live k (subst (λ b. has_id (cond b (x ∷ filter (λ j. not (has_id gone j)) live) (filter (λ j. not (has_id gone j)) live)) k ≡ true) goes h))
+      ⊎_elim (λ first. rw first refl) (λ later. or_right (x == k) (has_id live k) (kept_filter gone live k later)) (or_cases (x == k) (has_id (filter (λ j. not (has_id gone j)) live) k) here)
+  | inr goes ↦ or_right (x == k) (has_id live k) (kept_filter gone live k (subst (λ b. has_id (cond b (x ∷ filter (λ j. not (has_id gone j)) live) (filter (λ j. not (has_id gone j)) live)) k ≡ true) goes h))
 ]
-  where
-    either : (a b : Bool) → b ≡ true → (a || b) ≡ true
-    either true b h = refl
-    either false b h = h
 
 pub named_in : (P : ℕ → Type 0) (ids : List ℕ) (k : ℕ) → All P ids → has_id ids k ≡ true → P k
 named_in P [] k all h = absurd (false≢true h)

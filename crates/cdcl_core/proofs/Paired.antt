@@ -3,12 +3,12 @@ use Rattle.std.proofs.Common.{◌≡◌, ◌≢◌, ℕ, zero, suc, ◌+◌, ◌
 use Rattle.std.proofs.lemmas.Grind.{reverse_onto}
 use Rattle.std.proofs.lemmas.List.{length-reverse}
 use Rattle.std.specs.Prelude.{◌⊎◌, ◌==◌, slice_index, if◌then◌else◌, Option, None, Some, IfSome}
-use Rattle.std.proofs.lemmas.Bool.{cases_lt, eqb-true, true≢false, false≢true}
+use Rattle.std.proofs.lemmas.Bool.{cases_lt, eqb-true, true≢false, false≢true, false_from_ne_true}
 use Rattle.lrat_model.specs.Literal.{Literal, negated, same, has}
 use Rattle.lrat_model.specs.Clauses.{Held, clause_at}
 use Rattle.lrat_model.proofs.Literals.{has-cons, has-first, has-rest, has-push, negated-negated, same-true}
 use Rattle.cdcl_core.specs.Trail.{IsTrail, IsForced}
-use Rattle.cdcl_core.proofs.Jumps.{not_so, take_mono}
+use Rattle.cdcl_core.proofs.Jumps.{take_mono}
 use Rattle.cdcl_core.proofs.Walks.{has-at}
 use Rattle.cdcl_core.proofs.Tops.{below}
 use Rattle.cdcl_core.specs.declared.watches.Pair.{Pair}
@@ -60,7 +60,7 @@ others_keep trail last place above t l rest some low inside is o after after_is 
           subst (λ k. has (take after trail) k ≡ true) (sym (ap negated m_is ∙ negated-negated t)) (below trail (place - 1) after t (omega (arith, here, some)) (omega (arith, here, low, inside)) is),
     ))
     (λ s.
-    let two : (length (l ∷ rest) == 1) ≡ false = not_so (length (l ∷ rest) == 1) (λ e. false≢true (ap (λ n. nat_positive n) (none_left rest s.0 s.1 s.2 e))) in
+    let two : (length (l ∷ rest) == 1) ≡ false = false_from_ne_true (length (l ∷ rest) == 1) (λ e. false≢true (ap (λ n. nat_positive n) (none_left rest s.0 s.1 s.2 e))) in
     let same_above : after ≡ above = after_is ∙ ap (λ b. cond b (place - 1 + 1) above) two in
     inr (
       s.0,
@@ -114,7 +114,7 @@ module _ (held : Held) (trail : List Literal) (reasons : List ℕ) (sound : IsTr
   back = ap negated first_is ∙ negated-negated t
 
   t_not_at : (k : ℕ) → k ≤ q → has (take k trail) t ≡ false
-  t_not_at k less = not_so (has (take k trail) t) (λ h. true≢false (sym (take_mono k q trail less t h) ∙ (ap (λ x. has (take q trail) x) t_is ∙ sound.fresh q t within)))
+  t_not_at k less = false_from_ne_true (has (take k trail) t) (λ h. true≢false (sym (take_mono k q trail less t h) ∙ (ap (λ x. has (take q trail) x) t_is ∙ sound.fresh q t within)))
 
   here : (m : Literal) → has (reverse lits) m ≡ true → (m ≡ pair.first) ⊎ (has rest m ≡ true)
   here m h = ⊎_elim (λ f. inl (f ∙ sym first_is)) (λ there. inr there) (has-cons (negated t) m rest (subst (λ (ls : List Literal). has ls m ≡ true) lits_are (sym (has-reverse lits m) ∙ h)))
@@ -152,10 +152,10 @@ module _ (held : Held) (trail : List Literal) (reasons : List ℕ) (sound : IsTr
     u_low = below trail (above - 1) q u (omega (arith, some, low, high)) (omega (arith, within)) u_is
 
     u_free : (p : ℕ) → p < above → has (take p trail) (negated pair.second) ≡ false
-    u_free p less = ap (λ k. has (take p trail) k) back_u ∙ not_so (has (take p trail) u) (λ h. true≢false (sym (take_mono p (above - 1) trail (omega (arith, less)) u h) ∙ (ap (λ x. has (take (above - 1) trail) x) u_is ∙ sound.fresh (above - 1) u (omega (arith, some, low, high, within)))))
+    u_free p less = ap (λ k. has (take p trail) k) back_u ∙ false_from_ne_true (has (take p trail) u) (λ h. true≢false (sym (take_mono p (above - 1) trail (omega (arith, less)) u h) ∙ (ap (λ x. has (take (above - 1) trail) x) u_is ∙ sound.fresh (above - 1) u (omega (arith, some, low, high, within)))))
 
     differ : same pair.first pair.second ≡ false
-    differ = not_so (same pair.first pair.second) (λ alike.
+    differ = false_from_ne_true (same pair.first pair.second) (λ alike.
         let one : t ≡ u = sym back ∙ ap negated (same-true pair.first pair.second alike) ∙ back_u in
         true≢false (sym (subst (λ k. has (take q trail) k ≡ true) (sym one) u_low) ∙ t_not_at q (omega arith)))
 

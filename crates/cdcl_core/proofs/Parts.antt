@@ -9,6 +9,7 @@ use Rattle.std.proofs.lemmas.List.Elements.{All-head, All-tail, All-nil, All-pus
 use Rattle.std.proofs.lemmas.List.Filters.{length-filter_more}
 use Rattle.std.proofs.lemmas.List.Folds.{list_any-append, list_any_more, list_any_at, list_any_none}
 use Rattle.std.proofs.lemmas.List.Quantifiers.{all_pairs_push}
+use Rattle.std.proofs.Math.Bool.{or-true, or-false}
 use Rattle.lrat_model.specs.Clauses.{has_id}
 use Rattle.cdcl_core.specs.Remembering.{IsChosen}
 
@@ -80,24 +81,12 @@ few_left live gone needed rise each =
 -- ---- ids pushed
 
 pub has_id-push : (ids : List ℕ) (x k : ℕ) → has_id (ids ++ x ∷ []) k ≡ (has_id ids k || (x == k))
-has_id-push ids x k = list_any-append (λ j. j == k) ids (x ∷ []) ∙ ap (λ b. has_id ids k || b) (last (x == k))
-  where
-    last : (b : Bool) → (b || false) ≡ b
-    last true = refl
-    last false = refl
+has_id-push ids x k = list_any-append (λ j. j == k) ids (x ∷ []) ∙ ap (λ b. has_id ids k || b) (or-false (x == k))
 
 pub none_below : (ids : List ℕ) (x : ℕ) → All (λ k. k < x) ids → has_id ids x ≡ false
 none_below [] x all = refl
 none_below (y ∷ ids) x all =
     ap (λ b. b || has_id ids x) (ne_eqb y x (λ e. absurd (omega (arith, e, All-head (λ k. k < x) y ids all)))) ∙ none_below ids x (All-tail (λ k. k < x) y ids all)
-
-or_true : (b : Bool) → (b || true) ≡ true
-or_true true = refl
-or_true false = refl
-
-or_false : (b : Bool) → (b || false) ≡ b
-or_false true = refl
-or_false false = refl
 
 -- of the first so many those that are gone, and all that are gone are before the rest
 pub record IsPart (live needed gone : List ℕ) (place : ℕ) : Type 0 where
@@ -146,7 +135,7 @@ module _ (live needed gone : List ℕ) (place : ℕ) (rise : Rises live) (part :
       let smaller : get_or (take place live) i d < id =
       omega (arith, ap (λ k. k) (get_or-take place live i d less), rise i place d less inside, get_or_default live place d 0 inside, id_is) in
       let k = get_or (take place live) i d in
-      ap not (has_id-push gone id k ∙ ap (λ b. has_id gone k || b) (ne_eqb id k (λ e. absurd (omega (arith, e, smaller)))) ∙ or_false (has_id gone k))
+      ap not (has_id-push gone id k ∙ ap (λ b. has_id gone k || b) (ne_eqb id k (λ e. absurd (omega (arith, e, smaller)))) ∙ or-false (has_id gone k))
 
   pub part_goes : length gone < 1000 → has_id needed id ≡ false → IsPart live needed (gone ++ id ∷ []) (place + 1)
   part_goes few spare = record {
@@ -156,11 +145,11 @@ module _ (live needed gone : List ℕ) (place : ℕ) (rise : Rises live) (part :
       most = omega (arith, few, length-append gone (id ∷ []));
       named = All-push (λ k. has_id (take (place + 1) live) k ≡ true) gone id
           (All-weaker (λ k. has_id (take place live) k ≡ true) (λ k. has_id (take (place + 1) live) k ≡ true) still gone part.chosen.named)
-          (list_any_more (λ j. j == id) live place id inside ∙ ap (λ b. has_id (take place live) id || b) (eq-eqb (get_or live place id) id is) ∙ or_true (has_id (take place live) id));
+          (list_any_more (λ j. j == id) live place id inside ∙ ap (λ b. has_id (take place live) id || b) (eq-eqb (get_or live place id) id is) ∙ or-true (has_id (take place live) id));
       fewer =
           let step = length-filter_more (λ k. not (has_id (gone ++ id ∷ []) k)) live place id inside in
           let here : not (has_id (gone ++ id ∷ []) (get_or live place id)) ≡ false =
-          ap (λ k. not (has_id (gone ++ id ∷ []) k)) is ∙ ap not (has_id-push gone id id ∙ ap (λ b. has_id gone id || b) (eq-eqb id id refl) ∙ or_true (has_id gone id)) in
+          ap (λ k. not (has_id (gone ++ id ∷ []) k)) is ∙ ap not (has_id-push gone id id ∙ ap (λ b. has_id gone id || b) (eq-eqb id id refl) ∙ or-true (has_id gone id)) in
           let same : length (filter (λ k. not (has_id (gone ++ id ∷ []) k)) (take place live)) ≡ length (filter (λ k. not (has_id gone k)) (take place live)) =
           ap (λ (ls : List ℕ). length ls) (filter_alike (λ k. not (has_id (gone ++ id ∷ []) k)) (λ k. not (has_id gone k)) (take place live) alike) in
           omega (arith, step, ap {B = ℕ} (λ b. cond b 1 0) here, same, part.chosen.fewer, long, long_next, length-append gone (id ∷ []));
@@ -202,7 +191,7 @@ gone_next live needed gone place inside true are spare =
     (All-push (λ k. (has_id (gone ++ x ∷ []) k ≡ true) ⊎ (has_id needed k ≡ true)) (take place live) x
     (All-weaker (λ k. (has_id gone k ≡ true) ⊎ (has_id needed k ≡ true)) (λ k. (has_id (gone ++ x ∷ []) k ≡ true) ⊎ (has_id needed k ≡ true))
     (λ k either. ⊎_elim (λ was. inl (gone_still gone x k was)) (λ need. inr need) either) (take place live) are)
-    (inl (has_id-push gone x x ∙ ap (λ b. has_id gone x || b) (eq-eqb x x refl) ∙ or_true (has_id gone x))))
+    (inl (has_id-push gone x x ∙ ap (λ b. has_id gone x || b) (eq-eqb x x refl) ∙ or-true (has_id gone x))))
 gone_next live needed gone place inside false are spare =
     let x = get_or live place 0 in
     subst (λ (ls : List ℕ). AreGone (take (place + 1) live) ls needed) (sym (append-nil gone))

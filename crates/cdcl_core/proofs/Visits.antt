@@ -6,11 +6,10 @@ use Rattle.std.proofs.Math.Seq.{get_or-append_seam, take-append_seam}
 use Rattle.std.proofs.lemmas.List.{take-append-le, take_more, length-set}
 use Rattle.std.proofs.lemmas.List.Folds.{list_any-append}
 use Rattle.std.proofs.lemmas.List.Elements.{All-head, All-tail, All-cons, All-push}
-use Rattle.std.proofs.lemmas.Bool.{cases_eq, cases_lt, eqb-true, eq-eqb, or_cases, or_left, or_right, true≢false}
+use Rattle.std.proofs.lemmas.Bool.{cases_eq, cases_lt, eqb-true, eq-eqb, or_cases, or_left, or_right, true≢false, false_from_ne_true}
 use Rattle.lrat_model.specs.Literal.{Literal, Plus, Minus, variable_of, negated, same, has}
 use Rattle.lrat_model.specs.Clauses.{Held}
 use Rattle.lrat_model.proofs.Literals.{has-cons, has-push, negated-negated, same-true, same-itself}
-use Rattle.cdcl_core.proofs.Jumps.{not_so}
 use Rattle.cdcl_core.proofs.Tops.{take_within}
 use Rattle.cdcl_core.specs.declared.watches.Watch.{Watch}
 use Rattle.cdcl_core.specs.declared.watches.Pair.{Pair}
@@ -70,7 +69,7 @@ listed_more lists l old new p w more at = ⊎_elim (λ h. inl h) (λ h. inr (h.0
 pub free_next : (trues : List Literal) (head : ℕ) (d l w : Literal) → head < length trues → l ≡ negated (get_or trues head d) → has (take head trues) (negated w) ≡ false → w ≢ l → has (take (head + 1) trues) (negated w) ≡ false
 free_next trues head d l w within is free other =
     let t : Literal = get_or trues head d in
-    not_so (has (take (head + 1) trues) (negated w)) (λ h.
+    false_from_ne_true (has (take (head + 1) trues) (negated w)) (λ h.
     let there : has (take head trues ++ t ∷ []) (negated w) ≡ true = subst (λ ls. has ls (negated w) ≡ true) (take_more trues head d within) h in
     ⊎_elim (λ same_t. other (sym (negated-negated w) ∙ ap negated same_t ∙ sym is)) (λ before. true≢false (sym before ∙ free))
     (has-cons t (negated w) (take head trues) (sym (has-push (take head trues) t (negated w)) ∙ there)))
@@ -205,7 +204,7 @@ module _ (held : Held) (pairs : List Pair) (lists : List (List Watch)) (trues : 
       has_o = ⊎_elim (λ h. subst (λ k. has (lits_at held place) k ≡ true) h.1 (v.watched.inside place place_in).1) (λ h. subst (λ k. has (lits_at held place) k ≡ true) h.1 (v.watched.inside place place_in).0) pair_is
 
       same-sym : (a b : Literal) → same a b ≡ false → same b a ≡ false
-      same-sym a b h = not_so (same b a) (λ e. true≢false (sym (subst (λ k. same k b ≡ true) (same-true b a e) (same-itself b)) ∙ h))
+      same-sym a b h = false_from_ne_true (same b a) (λ e. true≢false (sym (subst (λ k. same k b ≡ true) (same-true b a e) (same-itself b)) ∙ h))
 
       -- at any literals that do not make m false
       kept_here : (visited now_true : List Literal) → has visited (negated m) ≡ false → IsKept visited now_true (lits_at held place) (pair_at pairs place) → IsKept visited now_true (lits_at held place) moved
@@ -228,7 +227,7 @@ module _ (held : Held) (pairs : List Pair) (lists : List (List Watch)) (trues : 
           (cases_eq p place)
 
       free_in : (q : ℕ) → has (take q trues) (negated m) ≡ false
-      free_in q = not_so (has (take q trues) (negated m)) (λ h. true≢false (sym (take_within q trues (negated m) h) ∙ free))
+      free_in q = false_from_ne_true (has (take q trues) (negated m)) (λ h. true≢false (sym (take_within q trues (negated m) h) ∙ free))
 
       list_here : list_at new_lists m ≡ list_at lists m ++ now ∷ []
       list_here = get_or-set_same lists (index_of m) (list_at lists m ++ now ∷ []) [] inside_m

@@ -1,6 +1,6 @@
 -- How the lines of a proof from outside begin.
 use Rattle.std.proofs.Common.{◌≡◌, ℕ, ◌+◌, ◌<◌, List, [], ◌∷◌, ◌++◌, length, Bool, true, false, ◌||◌, ◌&&◌, if◌then◌else◌, Some, Ok, Err, refl, sym, ap, ◌∙◌, subst, arith, length-append, append_assoc}
-use Rattle.std.proofs.lemmas.Bool.{and_parts, false≢true}
+use Rattle.std.proofs.lemmas.Bool.{and_parts, false≢true, or_parts}
 use Rattle.std.proofs.lemmas.List.{append-nil}
 use Rattle.std.proofs.lemmas.List.Folds.{list_all-append}
 use Rattle.lrat_text.specs.Words.{is_blank, words_of}
@@ -13,10 +13,6 @@ use Rattle.cert_lines.specs.Steps.{is_comment, is_wordless, is_passed_over}
 use Rattle.cert_lines.specs.declared.faults.CertError.{CertError}
 use Rattle.cert_lines.proofs.Fronts.{with_front-nothing}
 use Rattle.cert_lines.proofs.TextParts.{text_parts}
-
-pub neither : (a b : Bool) → (a || b) ≡ false → (a ≡ false) × (b ≡ false)
-neither true b is = absurd (false≢true (sym is))
-neither false b is = (refl, is)
 
 -- a part that is passed over in a line that is no comment has no word
 pub blank_part : (comment : Bool) (part : List ℕ) → (comment || is_wordless part) ≡ true → comment ≡ false → is_wordless part ≡ true
@@ -48,7 +44,7 @@ some_byte (b ∷ part) is = omega arith
 -- a line whose first part has a word, and is that of no comment
 pub word_first : (part more : List ℕ) → (is_comment part || is_wordless part) ≡ false → is_passed_over (part ++ more) ≡ false
 word_first part more is =
-    let parts = neither (is_comment part) (is_wordless part) is in
+    let parts = or_parts (is_comment part) (is_wordless part) is in
     rw (comment_front part more (some_byte part parts.1), parts.0) (not_wordless_front part more parts.1)
 
 -- a line of which a later part has a word

@@ -2,7 +2,7 @@
 use Rattle.std.proofs.Common.{◌≡◌, ℕ, ◌<◌, List, [], ◌∷◌, ◌++◌, map, length, Bool, true, false, not, ◌&&◌, nat_lt, nat_le, Option, Some, None, ok_or, Result, Ok, refl, sym, ap, ◌∙◌, subst, arith, inl, inr, codes}
 use Rattle.std.specs.Prelude.{All}
 use Rattle.std.specs.Str.{bytes_eq}
-use Rattle.std.proofs.lemmas.Bool.{cases_Bool, cases_lt, both_ways, ltb-true, leb-false}
+use Rattle.std.proofs.lemmas.Bool.{cases_Bool, cases_lt, both_ways, ltb-true, leb-false, not-true}
 use Rattle.std.proofs.lemmas.List.{append-nil, map-append}
 use Rattle.std.proofs.lemmas.List.Elements.{All-nil, All-cons, All-append}
 use Rattle.fbas_model.specs.Nodes.{Table, members, ◌⊆◌, size}
@@ -96,10 +96,6 @@ new_step Part g d (Deletion id ids) below none off = tt
 no_start : AreBelow nothing_held
 no_start k h = refl
 
-not_old : (b : Bool) → not b ≡ true → b ≡ false
-not_old true h = absurd cc
-not_old false h = refl
-
 -- ---- a line more
 
 -- what a set is listed for
@@ -174,7 +170,7 @@ set_known f s k l which id u state is above part e =
     let right = right_for k l which cut two.0 size_is (faulty_fits f s k is) two.1 in
     let fresh = passed (NotNew l) (not (is_old k which id two.0)) (Ok two.0) one.0 two.2 in
     let same : one.0 ≡ cut = (let q = fresh.1 in let r : two.0 ≡ one.0 = cc in sym r ∙ right.0) in
-    let off : is_old k which id cut ≡ false = subst (λ (t : Table). is_old k which id t ≡ false) right.0 (not_old (is_old k which id two.0) fresh.0) in
+    let off : is_old k which id cut ≡ false = subst (λ (t : Table). is_old k which id t ≡ false) right.0 (not-true (is_old k which id two.0) fresh.0) in
     let next : Listing = with_listed k which id u cut in
     let line : JournalLine = listed_line which id cut in
     let known : IsList f s next = record {
@@ -252,7 +248,7 @@ step_in_list f s k l step None state is at e =
     let next : State = after_list_step s (with_step k step) (progress_of step) in
     let p = passed (NotNew l) (not (is_old_step k step)) (Ok next) state e in
     let same : next ≡ state = (let q = p.1 in cc) in
-    subst (IsKnownState f) same (step_goes f s k step (progress_of step) is at (not_old (is_old_step k step) p.0) refl)
+    subst (IsKnownState f) same (step_goes f s k step (progress_of step) is at (not-true (is_old_step k step) p.0) refl)
 
 -- ---- lines
 

@@ -1,7 +1,7 @@
 -- Steps that are read as a stream come to what their lines do.
 use Rattle.std.proofs.Common.{◌≡◌, ℕ, ◌+◌, List, [], ◌∷◌, length, Bool, not, true, false, ◌||◌, ◌==◌, refl, ap, ◌∙◌, sym, cond, None, Some, Result, Ok, Err, codes}
 use Rattle.std.specs.Str.{bytes_eq}
-use Rattle.std.proofs.lemmas.Bool.{false≢true}
+use Rattle.std.proofs.lemmas.Bool.{false≢true, or_parts}
 use Rattle.fbas_model.specs.Nodes.{Table}
 use Rattle.fbas_model.specs.Systems.{System}
 use Rattle.lrat_model.specs.Clauses.{with_clause}
@@ -39,13 +39,9 @@ use Rattle.certificate_file.specs.declared.places.Place.TheVariants.{AtSteps, At
 use Rattle.certificate_file.specs.declared.places.State.{State}
 use Rattle.certificate_file.specs.declared.places.State.TheVariants.{Going}
 
-neither : (a b : Bool) → (a || b) ≡ false → (a ≡ false) × (b ≡ false)
-neither true b is = absurd (false≢true (sym is))
-neither false b is = (refl, is)
-
 not_end : (text : List ℕ) → is_other text ≡ false → bytes_eq text (codes "end") ≡ false
 not_end [] is = refl
-not_end (b ∷ bytes) is = rw (neither (b == 101) ((b == 113) || (b == 98)) is).0 refl
+not_end (b ∷ bytes) is = rw (or_parts (b == 101) ((b == 113) || (b == 98)) is).0 refl
 
 first_word : (b : ℕ) (ws : List Word) → (b == 113) ≡ false → (b == 98) ≡ false → listed_by (onto_first b ws) ≡ None
 first_word b [] q k = rw (q, k) refl
@@ -54,7 +50,7 @@ first_word b (w ∷ ws) q k = rw (q, k) refl
 not_listed : (text : List ℕ) → is_other text ≡ false → listed_by (words_of text) ≡ None
 not_listed [] is = refl
 not_listed (b ∷ bytes) is =
-    let later = neither (b == 113) (b == 98) (neither (b == 101) ((b == 113) || (b == 98)) is).1 in
+    let later = or_parts (b == 113) (b == 98) (or_parts (b == 101) ((b == 113) || (b == 98)) is).1 in
     elim (b == 32) as (λ t. listed_by (cond t ([] ∷ words_of bytes) (onto_first b (words_of bytes))) ≡ None) [
       | true ↦ refl
       | false ↦ first_word b (words_of bytes) later.0 later.1

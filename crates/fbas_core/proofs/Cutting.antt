@@ -1,13 +1,14 @@
 -- A set is cut to the kept nodes, one node after another.
 use Rattle.std.proofs.Common.{◌≡◌, ℕ, zero, suc, ◌+◌, Bool, true, false, ◌||◌, ◌==◌, List, [], ◌∷◌, ◌++◌, length, map, refl, sym, ◌∙◌, ap, arith}
 use Rattle.std.proofs.lemmas.List.{map-append, length-map, length-append}
+use Rattle.std.proofs.Math.Bool.{or-false}
 use mathlib.Core.Path.{fun_ext}
 use Rattle.fbas_model.specs.Nodes.{Nodes, Table, members, size, only, ◌∪◌, listed_from}
 use Rattle.fbas_model.specs.Restriction.{kept}
 use Rattle.fbas_model.proofs.Sizes.{not_first, not_last, one_down}
 use Rattle.fbas_model.proofs.Kept.{length-kept}
 use Rattle.fbas_model.proofs.Listed.{kept_listed}
-use Rattle.fbas_model.proofs.Tables.{table_ext, or-false}
+use Rattle.fbas_model.proofs.Tables.{table_ext}
 
 -- the first of the kept nodes are cut, and so many they are
 pub record Cutting (t s part : Table) (at : ℕ) (ws : List ℕ) : Type 0 where
@@ -26,7 +27,7 @@ push_no (x ∷ xs) (suc v) = push_no xs v
 push_yes : (xs : Table) (v : ℕ) → members (xs ++ true ∷ []) v ≡ (members xs v || (v == length xs))
 push_yes [] zero = refl
 push_yes [] (suc v) = sym (not_first v)
-push_yes (x ∷ xs) zero = sym (ap (λ (b : Bool). x || b) (not_last (length xs)) ∙ sym (or-false x))
+push_yes (x ∷ xs) zero = sym (ap (λ (b : Bool). x || b) (not_last (length xs)) ∙ or-false x)
 push_yes (x ∷ xs) (suc v) = push_yes xs v ∙ ap (λ (b : Bool). members xs v || b) (sym (one_down v (length xs)))
 
 -- ---- one node more

@@ -5,6 +5,7 @@ use Rattle.std.specs.Fn.{iterate}
 use Rattle.std.proofs.lemmas.Bool.{false≢true, or_cases, or_left, or_right, eq-eqb, eqb-true, ltb-true}
 use Rattle.std.proofs.lemmas.Option.{slice_get_within, get_or_from_slice_get}
 use Rattle.std.proofs.lemmas.List.Sums.{count_by-le-length}
+use Rattle.std.specs.Cmp.{both_ways}
 use Rattle.fbas_model.specs.Nodes.{Nodes, ◌∈◌, ◌⊆◌, ◌∪◌, only, Table, members, size}
 use Rattle.fbas_model.specs.Trees.{QuorumSet}
 use Rattle.fbas_model.specs.QuorumSets.{mentioned, IsBelow}
@@ -108,11 +109,6 @@ settled_or_more f (suc k) t e = elim (same_or_less t (with_mentioned f t) (e ∙
 
 -- ---- the closure
 
-one_answer : (a b : Bool) → (a ≡ true → b ≡ true) → (b ≡ true → a ≡ true) → a ≡ b
-one_answer true b f g = sym (f refl)
-one_answer false true f g = g refl
-one_answer false false f g = refl
-
 -- the nodes in quorum sets are nodes of the system
 abbrev pub MentionsNodes : Fbas → Type 0
 MentionsNodes f = (w : ℕ) (d : QuorumSet) → HasQuorumSet f w d → IsBelow (length f) d
@@ -162,7 +158,7 @@ closure_of-closure f v low below =
 
 -- two closures have the same members
 pub closure_same : (f : Fbas) (v : ℕ) (s t : Nodes) → IsClosure f v s → IsClosure f v t → (x : ℕ) → s x ≡ t x
-closure_same f v s t p q x = one_answer (s x) (t x) (p.least t q.has q.closed x) (q.least s p.has p.closed x)
+closure_same f v s t p q x = both_ways (s x) (t x) (p.least t q.has q.closed x) (q.least s p.has p.closed x)
 
 -- a table of the least closed set is the closure
 pub closure_of-unique : (f : Fbas) (v : ℕ) (t : Table) → v < length f → MentionsNodes f → length t ≡ length f → IsClosure f v (members t) → t ≡ closure_of f v

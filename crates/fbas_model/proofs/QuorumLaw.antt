@@ -1,6 +1,6 @@
 -- The quorums by counting are the quorums.
 use Rattle.std.proofs.Common.{◌≡◌, ℕ, zero, suc, ◌<◌, [], ◌∷◌, length, Bool, true, false, not, ◌&&◌, Some, None, slice_get, slice_index_or, refl, subst, arith}
-use Rattle.std.proofs.lemmas.Bool.{and_parts, and_from, or_left, not_from_false, lt-ltb, ltb-true}
+use Rattle.std.proofs.lemmas.Bool.{and_parts, and_from, or_left, not_from_false, lt-ltb, ltb-true, not-true}
 use Rattle.fbas_model.specs.Nodes.{Nodes, ◌∪◌, Table, members, IsInhabited}
 use Rattle.fbas_model.specs.Trees.{QuorumSet}
 use Rattle.fbas_model.specs.Fbas.{Fbas, all_nodes, Quorum}
@@ -16,10 +16,6 @@ record Met (within : Nodes) (bs : Table) (ds : Fbas) (v : ℕ) : Type 0 where
   has : slice_get ds v ≡ Some (Some set)
   met : is_satisfied within set ≡ true
 
-false_of_not : (b : Bool) → not b ≡ true → b ≡ false
-false_of_not true h = absurd cc
-false_of_not false h = refl
-
 each-at : (w : Nodes) (us bs : Table) (ds : Fbas) → each_satisfied w us bs ds ≡ true → (v : ℕ) → slice_index_or us v false ≡ true → Met w bs ds v
 each-at w [] bs ds h zero m = absurd cc
 each-at w [] bs ds h (suc v) m = absurd cc
@@ -32,7 +28,7 @@ each-at w (true ∷ us) (b ∷ bs) (None ∷ ds) h v m = let p = and_parts (not 
 each-at w (true ∷ us) (b ∷ bs) (Some d ∷ ds) h zero m =
     let p = and_parts (not b) (is_satisfied w d && each_satisfied w us bs ds) h in
     let q = and_parts (is_satisfied w d) (each_satisfied w us bs ds) p.1 in
-    record { left = false_of_not b p.0; below = omega arith; set = d; has = refl; met = q.0 }
+    record { left = not-true b p.0; below = omega arith; set = d; has = refl; met = q.0 }
 each-at w (true ∷ us) (b ∷ bs) (Some d ∷ ds) h (suc v) m =
     let p = and_parts (not b) (is_satisfied w d && each_satisfied w us bs ds) h in
     let q = and_parts (is_satisfied w d) (each_satisfied w us bs ds) p.1 in
@@ -81,7 +77,7 @@ quorum-from f b u p q quorum =
     let d = slice.1.0 in
     let choice = (slice_iff f (members b) (members u) v d slice.1.1 (or_left (members u v) (members b v) m)).1 slice in
     record {
-      left = false_of_not (members b v) l.1;
+      left = not-true (members b v) l.1;
       below = ltb-true v (length f) l.0;
       set = d;
       has = slice.1.1;

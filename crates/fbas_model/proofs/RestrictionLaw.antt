@@ -1,7 +1,7 @@
 -- The quorums of a system that is restricted to a closed set are the quorums of the whole system that lie in that set.
 use Rattle.std.proofs.Common.{◌≡◌, ℕ, ◌+◌, ◌<◌, ◌==◌, ◌↔◌, inl, inr, Bool, true, false, not, ◌&&◌, ◌||◌, cond, length, map, refl, sym, ◌∙◌, ap, ap₂, subst, arith, leb, Option, Some, None, slice_get, zero-add}
 use Rattle.std.specs.Prelude.{option_map}
-use Rattle.std.proofs.lemmas.Bool.{cases_Bool, both_ways, or_left, or_right, eq-eqb, and_parts, and_from, lt-ltb, ltb-true}
+use Rattle.std.proofs.lemmas.Bool.{cases_Bool, both_ways, or_left, or_right, eq-eqb, and_parts, and_from, lt-ltb, ltb-true, false_from_ne_true}
 use Rattle.std.proofs.lemmas.Option.{slice_get-map, slice_get-get_or, get_or_from_slice_get}
 use mathlib.Core.Path.{fun_ext}
 use Rattle.fbas_model.specs.Nodes.{Nodes, ◌∈◌, ◌⊆◌, ◌∪◌, Table, members, size}
@@ -125,10 +125,6 @@ quorum-restricted t b f w e g closed within =
 
 -- ---- each set of marked nodes is a raised one
 
-no_member : (b : Bool) → (b ≡ true → ⊥) → b ≡ false
-no_member true h = absurd (h refl)
-no_member false h = refl
-
 pub raised-onto : (t : Table) (f : Fbas) (u : Nodes) → length t ≡ length f → u ⊆ members t → (w : Nodes) × w ⊆ all_nodes (restricted_sets t f) × (u ≡ raised t w)
 raised-onto t f u e within =
     let b = table_from 0 (length t) u in
@@ -138,6 +134,6 @@ raised-onto t f u e within =
       λ y at. lt-ltb y (length (restricted_sets t f)) (subst (λ (k : ℕ). y < k) (length-kept t b (sym n) ∙ sym (length-restricted_sets t f e)) (member_lt (kept t b) y at)),
       fun_ext (λ v. elim (cases_Bool (members t v)) [
         | inl here ↦ sym (raised_at t w v here ∙ (members-kept t b v n here ∙ (members-table_from 0 (length t) u v (member_lt t v here) ∙ ap u (zero-add v))))
-        | inr out ↦ no_member (u v) (λ at. both_ways (members t v) out (within v at)) ∙ sym (ap (λ (m : Bool). m && w (rank t v)) out)
+        | inr out ↦ false_from_ne_true (u v) (λ at. both_ways (members t v) out (within v at)) ∙ sym (ap (λ (m : Bool). m && w (rank t v)) out)
       ]),
     )

@@ -3,7 +3,7 @@ use Rattle.std.proofs.Common.{◌≡◌, ℕ, ◌<◌, ◌≤◌, inl, inr, Bool
 use Rattle.std.specs.List.{prefix_len, AllByRecursion}
 use Rattle.std.specs.List.Sorted.{IsStrictlySortedBy}
 use Rattle.std.specs.Str.{bytes_eq}
-use Rattle.std.proofs.lemmas.Bool.{cases_lt, lt-ltb, both_ways, false_from_ne_true, not-true, ltb-true}
+use Rattle.std.proofs.lemmas.Bool.{cases_lt, lt-ltb, both_ways, false_from_ne_true, not-true, ltb-true, not-false}
 use Rattle.std.proofs.lemmas.List.{get_or_default}
 use Rattle.std.proofs.lemmas.Option.{slice_get_within, get_or_from_slice_get}
 use Rattle.std.proofs.lemmas.List.Sums.{prefix_len_passes, prefix_len_stops}
@@ -14,17 +14,13 @@ use Rattle.fbas_model.specs.Nodes.{Table}
 use Rattle.fbas_model.specs.Names.{Name, name_cmp, place_of}
 use Rattle.fbas_model.specs.Restriction.{kept}
 
-true_of_not : (b : Bool) → not b ≡ false → b ≡ true
-true_of_not true h = refl
-true_of_not false h = absurd cc
-
 -- how many names stand before the first that is the name
 abbrev before : List Name → Name → ℕ
 before names name = prefix_len (λ n. not (bytes_eq n name)) names
 
 -- the first place that has the name
 at_first : (names : List Name) (name : Name) → before names name < length names → slice_index_or names (before names name) [] ≡ name
-at_first names name h = (bytes_eq-Decides (slice_index_or names (before names name) []) name).0 (true_of_not (bytes_eq (slice_index_or names (before names name) []) name) (prefix_len_stops (λ n. not (bytes_eq n name)) names [] h))
+at_first names name h = (bytes_eq-Decides (slice_index_or names (before names name) []) name).0 (not-false (bytes_eq (slice_index_or names (before names name) []) name) (prefix_len_stops (λ n. not (bytes_eq n name)) names [] h))
 
 pub place-missing : (names : List Name) (name : Name) → (Contains names name → ⊥) → place_of names name ≡ None
 place-missing names name missing = elim (cases_lt (before names name) (length names)) [

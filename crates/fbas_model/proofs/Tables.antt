@@ -10,14 +10,6 @@ table_ext [] (y ∷ ys) e h = absurd (omega arith)
 table_ext (x ∷ xs) [] e h = absurd (omega arith)
 table_ext (x ∷ xs) (y ∷ ys) e h = ap (λ (m : Bool). m ∷ xs) (h 0) ∙ ap (λ (ms : Table). y ∷ ms) (table_ext xs ys (omega arith) (λ v. h (suc v)))
 
-pub or-true : (m : Bool) → true ≡ (m || true)
-or-true true = refl
-or-true false = refl
-
-pub or-false : (m : Bool) → m ≡ (m || false)
-or-false true = refl
-or-false false = refl
-
 -- ---- the table of a set
 
 pub length-table_from : (v n : ℕ) (s : Nodes) → length (table_from v n s) ≡ n

@@ -2,6 +2,7 @@
 use Rattle.std.proofs.Common.{◌≡◌, ℕ, ◌+◌, ◌<◌, ◌≤◌, ◌↔◌, Bool, true, false, not, ◌&&◌, ◌||◌, ◌==◌, IsTrue, nat_lt, length, inl, inr, refl, sym, ◌∙◌, ap, subst, arith}
 use Rattle.std.proofs.lemmas.Bool.{cases_Bool, cases_lt, and_parts, and_from, false_from_ne_true, false≢true, both_ways, ltb-true, eq-eqb, eqb-true, not-true, not_from_false}
 use Rattle.std.proofs.lemmas.List.{get_or_past}
+use Rattle.std.proofs.Math.Bool.{and-true, and-false, or-true, or-false}
 use borrow.Author.Count.{below_more}
 use mathlib.Core.Path.{fun_ext}
 use Rattle.fbas_model.specs.Nodes.{Nodes, Table, members, ◌∈◌, ∅, only, ◌∪◌, ◌∖◌, IsInhabited}
@@ -17,33 +18,17 @@ agree_through v s t u a b w h = a w h ∙ b w h
 apart : (v w : ℕ) → w < v → (w == v) ≡ false
 apart v w h = false_from_ne_true (w == v) (λ e. let same = eqb-true w v e in absurd (omega arith))
 
-and_true : (a : Bool) → (a && true) ≡ a
-and_true true = refl
-and_true false = refl
-
-and_false : (a : Bool) → (a && false) ≡ false
-and_false true = refl
-and_false false = refl
-
-or_true : (a : Bool) → (a || true) ≡ true
-or_true true = refl
-or_true false = refl
-
-or_false : (a : Bool) → (a || false) ≡ a
-or_false true = refl
-or_false false = refl
-
 pub agree_without : (v : ℕ) (s t : Nodes) → t ≡ (s ∖ only v) → AgreeBelow v s t
-agree_without v s t e w h = sym (ap (λ (t : Nodes). t w) e ∙ (ap (λ b. s w && not b) (apart v w h) ∙ and_true (s w)))
+agree_without v s t e w h = sym (ap (λ (t : Nodes). t w) e ∙ (ap (λ b. s w && not b) (apart v w h) ∙ and-true (s w)))
 
 pub agree_with : (v : ℕ) (s t : Nodes) → t ≡ (s ∪ only v) → AgreeBelow v s t
-agree_with v s t e w h = sym (ap (λ (t : Nodes). t w) e ∙ (ap (λ b. s w || b) (apart v w h) ∙ or_false (s w)))
+agree_with v s t e w h = sym (ap (λ (t : Nodes). t w) e ∙ (ap (λ b. s w || b) (apart v w h) ∙ or-false (s w)))
 
 without_at : (v : ℕ) (s t : Nodes) → t ≡ (s ∖ only v) → t v ≡ false
-without_at v s t e = ap (λ (t : Nodes). t v) e ∙ (ap (λ b. s v && not b) (eq-eqb v v refl) ∙ and_false (s v))
+without_at v s t e = ap (λ (t : Nodes). t v) e ∙ (ap (λ b. s v && not b) (eq-eqb v v refl) ∙ and-false (s v))
 
 with_at : (v : ℕ) (s t : Nodes) → t ≡ (s ∪ only v) → t v ≡ true
-with_at v s t e = ap (λ (t : Nodes). t v) e ∙ (ap (λ b. s v || b) (eq-eqb v v refl) ∙ or_true (s v))
+with_at v s t e = ap (λ (t : Nodes). t v) e ∙ (ap (λ b. s v || b) (eq-eqb v v refl) ∙ or-true (s v))
 
 -- the sets from v on are those without v and those with it
 both_tried : (P : Nodes → Type 0) (v : ℕ) (s a b : Nodes) → AgreeBelow v s a → AgreeBelow v s b → a v ≡ false → b v ≡ true → ((u : Nodes) → AgreeBelow (v + 1) a u → P u) → ((u : Nodes) → AgreeBelow (v + 1) b u → P u) → (u : Nodes) → AgreeBelow v s u → P u

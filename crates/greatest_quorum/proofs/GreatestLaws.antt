@@ -1,11 +1,12 @@
 -- The union of the quorums is the greatest quorum.
 use Rattle.std.proofs.Common.{◌≡◌, ◌<◌, ℕ, zero, suc, ◌+◌, Bool, true, false, not, ◌&&◌, ◌||◌, [], ◌∷◌, length, inl, inr, sym, ◌∙◌, ap, subst, arith}
 use Rattle.std.proofs.lemmas.Bool.{cases_Bool, or_cases, and_parts, and_from, both_ways, false≢true, ltb-true, lt-ltb}
+use Rattle.std.proofs.Math.Bool.{or-true}
 use Rattle.fbas_model.specs.Nodes.{Nodes, Table, members, ◌∈◌, ◌⊆◌, ◌∖◌}
 use Rattle.fbas_model.specs.Fbas.{Fbas, Quorum, IsGreatestQuorum, all_nodes}
 use Rattle.fbas_model.specs.Counting.{is_quorum}
 use Rattle.fbas_model.specs.Restriction.{table_from}
-use Rattle.fbas_model.proofs.Tables.{table_ext, or-true, length-table_from, members-table_from}
+use Rattle.fbas_model.proofs.Tables.{table_ext, length-table_from, members-table_from}
 use Rattle.fbas_model.proofs.Sizes.{member_lt, empty_or_not}
 use Rattle.fbas_model.proofs.QuorumLaw.{quorum-to, quorum-from}
 use Rattle.fbas_model.proofs.Unions.{slice_wider}
@@ -23,7 +24,7 @@ some_set-from [] test h = h
 some_set-from (false ∷ u) test h = ap (λ (b : Bool). b || some_set (length u) (λ w. test (true ∷ w))) (some_set-from u (λ w. test (false ∷ w)) h)
 some_set-from (true ∷ u) test h =
     let before = some_set (length u) (λ w. test (false ∷ w)) in
-    ap (λ (b : Bool). before || b) (some_set-from u (λ w. test (true ∷ w)) h) ∙ sym (or-true before)
+    ap (λ (b : Bool). before || b) (some_set-from u (λ w. test (true ∷ w)) h) ∙ or-true before
 
 -- a node of some quorum
 quorum_with : (f : Fbas) (b : Table) (v : ℕ) → in_some_quorum f b v ≡ true → (u : Table) × Quorum f (members b) (members u) × v ∈ members u

@@ -1,6 +1,6 @@
 -- Taking out a node that has no slice inside what is left takes out no quorum, and leaves a slice to each node that does not mention it.
 use Rattle.std.proofs.Common.{◌≡◌, ℕ, suc, ◌+◌, ◌*◌, ◌<◌, ◌&&◌, ◌||◌, ◌==◌, Bool, true, false, not, length, refl, sym, ◌∙◌, subst, ap, arith, inl, inr, ◌⊎◌, ◌↔◌, nat_lt, Some, None, slice_index_or}
-use Rattle.std.proofs.lemmas.Bool.{false≢true, cases_Bool, or_cases, or_left, or_right, and_cases, and_from, and_parts, eqb-true, eq-eqb, not_from_false, not-true, both_ways, lt-ltb, false_from_ne_true, MatchBool-at_false}
+use Rattle.std.proofs.lemmas.Bool.{false≢true, cases_Bool, or_cases, or_left, or_right, and_cases, and_from, and_parts, eqb-true, eq-eqb, not_from_false, not-true, both_ways, lt-ltb, false_from_ne_true, MatchBool-at_false, not-false, or_parts}
 use Rattle.std.proofs.lemmas.Nat.{row_fits}
 use Rattle.std.proofs.lemmas.Option.{get_or_from_slice_get}
 use Rattle.std.specs.Bool.{MatchBool}
@@ -92,14 +92,10 @@ module _ (f : Fbas) (b : Nodes) (start now next again later : Table) (v : ℕ) w
         subst (λ (t : Table). HasSliceWithin f b k (members t)) (sym kept.same) (elim (and_cases (members again k) (not (k == v)) (sym (ap (λ (t : Nodes). t k) kept.waiting) ∙ out)) [
           | inl e ↦ s.settled k here e
           | inr e ↦
-              let same : k ≡ v = eqb-true k v (from_not (k == v) e) in
+              let same : k ≡ v = eqb-true k v (not-false (k == v) e) in
               subst (λ (y : ℕ). HasSliceWithin f b y (members now)) (sym same) (kept.has (subst (λ (y : ℕ). y ∈ members now) same here))
         ]);
   }
-    where
-      from_not : (m : Bool) → not m ≡ false → m ≡ true
-      from_not true e = refl
-      from_not false e = sym e
 
   left_within : IsTaken f b v now next again later → members next ⊆ members now
   left_within gone x at = without_within (members now) v x (subst (λ (t : Nodes). x ∈ t) gone.taken at)
@@ -113,7 +109,7 @@ module _ (f : Fbas) (b : Nodes) (start now next again later : Table) (v : ℕ) w
     settled = λ k at out.
         let parts = and_parts (members now k) (not (k == v)) (subst (λ (t : Nodes). k ∈ t) gone.taken at) in
         let apart : (k == v) ≡ false = not-true (k == v) parts.1 in
-        let no = neither (members again k && not (k == v)) (mentioning f v k) (left_false ((members again k && not (k == v)) || mentioning f v k) (members next k) (sym (ap (λ (t : Nodes). t k) gone.waiting) ∙ out) at) in
+        let no = or_parts (members again k && not (k == v)) (mentioning f v k) (left_false ((members again k && not (k == v)) || mentioning f v k) (members next k) (sym (ap (λ (t : Nodes). t k) gone.waiting) ∙ out) at) in
         let done : members again k ≡ false = elim (and_cases (members again k) (not (k == v)) no.0) [ inl e ↦ e | inr e ↦ absurd (both_ways (not (k == v)) e parts.1) ] in
         subst (λ (t : Nodes). HasSliceWithin f b k t) (sym gone.taken) (slice_without f b (members now) k v apart no.1 (s.settled k parts.0 done));
   }
@@ -121,10 +117,6 @@ module _ (f : Fbas) (b : Nodes) (start now next again later : Table) (v : ℕ) w
       left_false : (a c : Bool) → (a && c) ≡ false → c ≡ true → a ≡ false
       left_false true c e here = absurd (both_ways c e here)
       left_false false c e here = refl
-
-      neither : (a c : Bool) → (a || c) ≡ false → (a ≡ false) × (c ≡ false)
-      neither true c e = absurd (false≢true (sym e))
-      neither false c e = (refl, e)
 
   pub shrinking_more : (taken : Bool) → Shrinking f b start now again → IsLook f b v now next again later taken → Shrinking f b start next later
   shrinking_more true s l = goes s l.same_n l.same_again l.look

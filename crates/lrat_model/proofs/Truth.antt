@@ -2,6 +2,7 @@
 use Rattle.std.proofs.Common.{◌≡◌, ℕ, Bool, true, false, not, ◌||◌, List, [], ◌∷◌, ⊎_elim, refl, sym, subst, arith, cond, map, pos, negsuc, Option, Some, None, ◌+◌, ℤ}
 use Rattle.std.specs.List.{list_all}
 use Rattle.std.proofs.lemmas.Bool.{or_cases, or_left, or_right, and_parts, false≢true}
+use Rattle.std.proofs.Math.Bool.{not-not}
 use Rattle.lrat_model.specs.Literal.{Literal, Plus, Minus, negated, same, has, literal_true, clause_true}
 use Rattle.lrat_model.specs.Clauses.{Held, clause_at, Satisfies}
 use Rattle.lrat_model.specs.Propagation.{not_false, status_of, status, Outcome, Conflict, Stops, Leaves, after_status, after_finding, take_hint, and_then, propagate, Follows}
@@ -13,13 +14,9 @@ use Rattle.lrat_model.proofs.Literals.{same-true, has-cons}
 abbrev pub AllTrue : (ℕ → Bool) → List Literal → Type 0
 AllTrue v literals = (l : Literal) → has literals l ≡ true → literal_true v l ≡ true
 
-not_twice : (b : Bool) → not (not b) ≡ b
-not_twice true = refl
-not_twice false = refl
-
 pub literal_true-negated : (v : ℕ → Bool) (l : Literal) → literal_true v (negated l) ≡ not (literal_true v l)
 literal_true-negated v (Plus x) = refl
-literal_true-negated v (Minus x) = sym (not_twice (v x))
+literal_true-negated v (Minus x) = sym (not-not (v x))
 
 pub AllTrue-cons : (v : ℕ → Bool) (l : Literal) (ls : List Literal) → literal_true v l ≡ true → AllTrue v ls → AllTrue v (l ∷ ls)
 AllTrue-cons v l ls first rest m e =

@@ -12,6 +12,8 @@ use Rattle.std.specs.List.{AllByRecursion}
 use Rattle.std.specs.List.Sorted.{IsStrictlySortedBy}
 use Rattle.std.specs.Ordering.{match_ordering, ordering_reverse}
 use Rattle.std.specs.Str.{bytes_eq}
+use Rattle.std.proofs.Math.Bool.{or-false}
+use Rattle.std.specs.Cmp.{both_ways}
 use Rattle.fbas_model.specs.Names.{Name, name_cmp, AreNamesOf, is_among}
 use Rattle.node_json.specs.NamesInOrder.{in_order}
 
@@ -31,10 +33,6 @@ moved true true r = refl
 moved true false r = refl
 moved false b r = refl
 
-or_none : (a : Bool) → a ≡ (a || false)
-or_none true = refl
-or_none false = refl
-
 pub equal_names : (x y : Name) → name_cmp x y ≡ Equal → x ≡ y
 equal_names x y e = slice_cmp-IsAntisymmetric nat_cmp-IsAntisymmetric x y e
 
@@ -49,7 +47,7 @@ is_among-insert_key k x (y ∷ ys) = by_order (name_cmp x y) refl (is_among-inse
     by_order Greater e later = ap (λ b. bytes_eq k y || b) later ∙ swapped (bytes_eq k y) (bytes_eq k x) (is_among k ys)
 
 is_among-fold : (k : Name) (before ks : List Name) → is_among k (fold (insert_key name_cmp) before ks) ≡ (is_among k before || is_among k ks)
-is_among-fold k before [] = or_none (is_among k before)
+is_among-fold k before [] = sym (or-false (is_among k before))
 is_among-fold k before (x ∷ xs) =
     is_among-fold k (insert_key name_cmp before x) xs ∙ ap (λ b. b || is_among k xs) (is_among-insert_key k x before) ∙ moved (bytes_eq k x) (is_among k before) (is_among k xs)
 
@@ -147,16 +145,11 @@ same_names (x ∷ xs) (y ∷ ys) hx hy same =
 same_among : (xs ys : List Name) (k : Name) → (Contains xs k → Contains ys k) → is_among k xs ≡ true → is_among k ys ≡ true
 same_among xs ys k h e = list_any-from_Contains nat_list_eq_equiv k ys (h (Contains-from_any (λ x y t. (bytes_eq-Decides x y).0 t) k xs e))
 
-one_answer : (a b : Bool) → (a ≡ true → b ≡ true) → (b ≡ true → a ≡ true) → a ≡ b
-one_answer true b f g = sym (f refl)
-one_answer false true f g = g refl
-one_answer false false f g = refl
-
 -- the distinct names of a list are its names in order
 pub names_in_order : (given names : List Name) → AreNamesOf given names → names ≡ in_order given
 names_in_order given names are =
     same_names names (in_order given) are.sorted (in_order-sorted given) (λ k.
-    one_answer (is_among k names) (is_among k given) (same_among names given k (are.same k).0) (same_among given names k (are.same k).1) ∙ sym (is_among-in_order k given))
+    both_ways (is_among k names) (is_among k given) (same_among names given k (are.same k).0) (same_among given names k (are.same k).1) ∙ sym (is_among-in_order k given))
 
 -- putting them in order again changes nothing
 pub in_order-in_order : (ks : List Name) → in_order (in_order ks) ≡ in_order ks

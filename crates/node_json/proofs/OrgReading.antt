@@ -1,6 +1,6 @@
 -- The loop over the organisations, step by step, and what comes before it.
 use Rattle.std.proofs.Common.{◌≡◌, ℕ, ◌+◌, ◌<◌, ◌≤◌, nat_lt, All, arith, List, [], ◌∷◌, ◌++◌, length, drop, get_or, map, Some, None, Result, Ok, Err, Bool, true, false, not, refl, sym, ap, ◌∙◌, append_assoc}
-use Rattle.std.proofs.lemmas.Bool.{lt-ltb, le-ltb}
+use Rattle.std.proofs.lemmas.Bool.{lt-ltb, le-ltb, not-true}
 use Rattle.std.proofs.lemmas.List.{at_drop_more, map-append}
 use Rattle.std.proofs.lemmas.List.Elements.{All-map}
 use Rattle.std.proofs.lemmas.List.Sums.{fold-append}
@@ -112,13 +112,9 @@ pub seen_loop : (seen more : List Name) (done then : List NamedOrg) (org : Named
 seen_loop seen more done then org t m s =
     m ∙ ap (λ ks. with_names ks (org.id.now ∷ [])) s ∙ sym (ap in_order (ap named_ids t ∙ ids-more done org) ∙ fold-append (insert_key name_cmp) [] (named_ids done) (org.id.now ∷ []))
 
-not_true : (b : Bool) → not b ≡ true → b ≡ false
-not_true true h = absurd cc
-not_true false h = refl
-
 -- a new id is apart from those before it
 pub apart_loop : (done then : List NamedOrg) (org : NamedOrg) → then ≡ done ++ org ∷ [] → not (is_among org.id.now (named_ids done)) ≡ true → IsDistinct bytes_eq (named_ids done) → IsDistinct bytes_eq (named_ids then)
-apart_loop done then org t new apart = rw (ap named_ids t ∙ ids-more done org) (IsDistinct-push nat_list_eq_equiv (named_ids done) org.id.now apart (not_true (is_among org.id.now (named_ids done)) new))
+apart_loop done then org t new apart = rw (ap named_ids t ∙ ids-more done org) (IsDistinct-push nat_list_eq_equiv (named_ids done) org.id.now apart (not-true (is_among org.id.now (named_ids done)) new))
 
 -- ---- the loop's beginning
 

@@ -9,6 +9,7 @@ use Rattle.std.specs.BTreeSet.{insert_key}
 use Rattle.std.specs.List.Sorted.{IsStrictlySortedBy}
 use Rattle.std.specs.Ordering.{match_ordering, ordering_reverse}
 use Rattle.std.specs.Str.{bytes_eq}
+use Rattle.std.proofs.Math.Bool.{or-true}
 use denote.Ref.{Bor}
 use Rattle.fbas_model.specs.Names.{Name, name_cmp, is_among}
 use Rattle.node_json.specs.SeenNames.{AreSeen}
@@ -36,11 +37,7 @@ seen_before k (x ∷ xs) h e =
     ] refl
 
 among_more : (k x : Name) (ks : List Name) → IsTrue (is_among k ks) → IsTrue (is_among k (insert_key name_cmp ks x))
-among_more k x ks h = is_among-insert_key k x ks ∙ ap (λ b. bytes_eq k x || b) h ∙ or_true (bytes_eq k x)
-  where
-    or_true : (b : Bool) → (b || true) ≡ true
-    or_true true = refl
-    or_true false = refl
+among_more k x ks h = is_among-insert_key k x ks ∙ ap (λ b. bytes_eq k x || b) h ∙ or-true (bytes_eq k x)
 
 among_now : (x : Name) (ks : List Name) → IsTrue (is_among x (insert_key name_cmp ks x))
 among_now x ks = is_among-insert_key x x ks ∙ ap (λ b. b || is_among x ks) ((bytes_eq-Decides x x).1 refl)

@@ -1,6 +1,7 @@
 -- A set that is cut to a part lies in it.
 use Rattle.std.proofs.Common.{◌≡◌, ℕ, suc, ◌+◌, ◌<◌, [], ◌∷◌, length, Bool, true, false, ◌&&◌, Option, Some, None, refl, sym, ◌∙◌, ap, subst, arith}
 use Rattle.std.proofs.lemmas.Bool.{and_parts}
+use Rattle.std.proofs.Math.Bool.{and-true}
 use Rattle.fbas_model.specs.Nodes.{Nodes, Table, members, ∅, ◌∩◌}
 use Rattle.fbas_model.specs.Fbas.{Fbas, Intersects}
 use Rattle.fbas_model.specs.Systems.{System}
@@ -30,14 +31,10 @@ shared_inside [] w e i = refl
 shared_inside (x ∷ u) [] e i = absurd (omega (arith, e))
 shared_inside (x ∷ u) (y ∷ w) e i = λ k. and_self x y (i 0) k ∷ shared_inside u w (omega (arith, e)) (λ v m. i (suc v) m) k
 
-and_true : (x : Bool) → (x && true) ≡ x
-and_true true = refl
-and_true false = refl
-
 shared_everyone : (f : Fbas) (u : Table) → length u ≡ length f → shared u (everyone f) ≡ u
 shared_everyone f [] e = refl
 shared_everyone [] (x ∷ u) e = absurd (omega (arith, e))
-shared_everyone (q ∷ f) (x ∷ u) e = λ k. and_true x k ∷ shared_everyone f u (omega (arith, e)) k
+shared_everyone (q ∷ f) (x ∷ u) e = λ k. and-true x k ∷ shared_everyone f u (omega (arith, e)) k
 
 pub length-cut_within : (f : System) (from : Option ℕ) (set : Table) → length (cut_within f from set) ≡ length set
 length-cut_within f None set = refl

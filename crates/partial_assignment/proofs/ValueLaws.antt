@@ -6,6 +6,7 @@ use Rattle.std.proofs.lemmas.List.Elements.{All-push, All-pop, All-weaker}
 use Rattle.std.proofs.Math.ListN.{get_or-append}
 use Rattle.std.proofs.Math.Seq.{get_or-append_seam}
 use Rattle.std.specs.Prelude.{◌⊎◌, All, Some}
+use Rattle.std.proofs.Math.Bool.{or-false}
 use Rattle.lrat_model.specs.Literal.{Literal, Plus, Minus, variable_of, negated, same, has}
 use Rattle.lrat_model.proofs.Literals.{has-cons, has-push, has-first, has-rest, same-true, variable_of-negated}
 use Rattle.partial_assignment.specs.declared.assignment.Value.{Value}
@@ -89,10 +90,6 @@ makes_true-value_of (Minus x) (Minus y) same_variable = sym (eq-eqb y x same_var
 same-variable : (l m : Literal) → same m l ≡ true → variable_of m ≡ variable_of l
 same-variable l m is = ap variable_of (same-true m l is)
 
-or_false : (b : Bool) → (b || false) ≡ b
-or_false true = refl
-or_false false = refl
-
 module _ (values : List Value) (trail : List Literal) (room : ℕ) (sound : IsAssignment values trail room) (l : Literal) (within : variable_of l + 1 ≤ length values) (open_l : has trail l ≡ false) (open_negated : has trail (negated l) ≡ false) where
   pub no_value : get_or values (variable_of l) Unassigned ≡ Unassigned
   no_value = open_value (get_or values (variable_of l) Unassigned) l (sound.agree l within ∙ open_l)
@@ -107,7 +104,7 @@ module _ (values : List Value) (trail : List Literal) (room : ℕ) (sound : IsAs
       ⊎_elim (λ same_variable.
       let none : has trail m ≡ false = sym (sound.agree m inside) ∙ ap (λ k. makes_true (get_or values k Unassigned) m) same_variable ∙ ap (λ u. makes_true u m) no_value in
       true_by-set_same values (variable_of l) (value_of l) m (omega (arith, within)) same_variable ∙ makes_true-value_of l m same_variable
-      ∙ sym (has-push trail l m ∙ ap (λ b. same m l || b) none ∙ or_false (same m l)))
+      ∙ sym (has-push trail l m ∙ ap (λ b. same m l || b) none ∙ or-false (same m l)))
       (λ other.
       let differs : same m l ≡ false = false_from_ne_true (same m l) (λ is. other (same-variable l m is)) in
       true_by-set_other values (variable_of l) (value_of l) m other ∙ sound.agree m inside ∙ sym (has-push trail l m ∙ ap (λ b. b || has trail m) differs))

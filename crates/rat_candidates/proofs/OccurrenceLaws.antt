@@ -3,6 +3,7 @@ use Rattle.std.proofs.Common.{◌≡◌, ℕ, zero, suc, ◌<◌, ◌≤◌, ◌
 use Rattle.std.specs.Prelude.{◌==◌, All, AllPairs}
 use Rattle.std.proofs.lemmas.Bool.{eqb-true, eq-eqb, ne_eqb, false≢true}
 use Rattle.std.proofs.lemmas.List.Elements.{All-head, All-tail}
+use Rattle.std.proofs.Math.Bool.{or-false, or_assoc}
 use Rattle.lrat_model.specs.Literal.{Literal, same, has}
 use Rattle.lrat_model.specs.Clauses.{Held, clause_at, has_id, with_clause, without}
 use Rattle.lrat_model.specs.Rat.{first_without}
@@ -54,14 +55,8 @@ occurrences-without l (e ∷ held) ids =
 -- ---- one id more
 
 pub has-one_more : (ids : List ℕ) (id k : ℕ) → has_id (ids ++ id ∷ []) k ≡ (has_id ids k || (id == k))
-has-one_more [] id k = or_false_swap (id == k) where
-  or_false_swap : (b : Bool) → (b || false) ≡ (false || b)
-  or_false_swap true = refl
-  or_false_swap false = refl
-has-one_more (j ∷ ids) id k = ap (λ b. (j == k) || b) (has-one_more ids id k) ∙ or_assoc (j == k) (has_id ids k) (id == k) where
-  or_assoc : (a b c : Bool) → (a || (b || c)) ≡ ((a || b) || c)
-  or_assoc true b c = refl
-  or_assoc false b c = refl
+has-one_more [] id k = or-false (id == k)
+has-one_more (j ∷ ids) id k = ap (λ b. (j == k) || b) (has-one_more ids id k) ∙ sym (or_assoc (j == k) (has_id ids k) (id == k))
 
 -- an id that no clause of the list has
 in-unheld : (l : Literal) (ids : List ℕ) (id : ℕ) (held : Held) → All (λ f. id < f.0) held → occurrences_in l (ids ++ id ∷ []) held ≡ occurrences_in l ids held
@@ -69,11 +64,8 @@ in-unheld l ids id [] above = refl
 in-unheld l ids id (e ∷ held) above =
     let up : id < e.0 = All-head (λ f. id < f.0) e held above in
     let rest : occurrences_in l (ids ++ id ∷ []) held ≡ occurrences_in l ids held = in-unheld l ids id held (All-tail (λ f. id < f.0) e held above) in
-    let same_test : has_id (ids ++ id ∷ []) e.0 ≡ has_id ids e.0 = has-one_more ids id e.0 ∙ ap (λ b. has_id ids e.0 || b) (ne_eqb id e.0 (λ is. absurd (omega (arith, up, is)))) ∙ or_false (has_id ids e.0) in
-    ap (λ b. cond b (times l e.1) 0 + occurrences_in l (ids ++ id ∷ []) held) same_test ∙ ap (λ n. cond (has_id ids e.0) (times l e.1) 0 + n) rest where
-      or_false : (b : Bool) → (b || false) ≡ b
-      or_false true = refl
-      or_false false = refl
+    let same_test : has_id (ids ++ id ∷ []) e.0 ≡ has_id ids e.0 = has-one_more ids id e.0 ∙ ap (λ b. has_id ids e.0 || b) (ne_eqb id e.0 (λ is. absurd (omega (arith, up, is)))) ∙ or-false (has_id ids e.0) in
+    ap (λ b. cond b (times l e.1) 0 + occurrences_in l (ids ++ id ∷ []) held) same_test ∙ ap (λ n. cond (has_id ids e.0) (times l e.1) 0 + n) rest
 
 tail_rises : (e : ℕ × List Literal) (held : Held) → AllPairs (λ f g. f.0 < g.0) (e ∷ held) → AllPairs (λ f g. f.0 < g.0) held
 tail_rises e held up = λ i j d lt within. up (suc i) (suc j) d (omega arith) (omega arith)
@@ -97,14 +89,10 @@ in-one_more l ids id clause (e ∷ held) up at new =
           ap (λ b. cond b (times l e.1) 0 + occurrences_in l (ids ++ id ∷ []) held) now
           ∙ omega (arith, rest, ap (times l) same_clause, ap (λ b. cond b (times l e.1) 0) old)
       | false ↦ λ differs found.
-          let same_test : has_id (ids ++ id ∷ []) e.0 ≡ has_id ids e.0 = has-one_more ids id e.0 ∙ ap (λ b. has_id ids e.0 || b) (turned e.0 id differs) ∙ or_false (has_id ids e.0) in
+          let same_test : has_id (ids ++ id ∷ []) e.0 ≡ has_id ids e.0 = has-one_more ids id e.0 ∙ ap (λ b. has_id ids e.0 || b) (turned e.0 id differs) ∙ or-false (has_id ids e.0) in
           let rest : occurrences_in l (ids ++ id ∷ []) held ≡ occurrences_in l ids held + times l clause = in-one_more l ids id clause held (tail_rises e held up) found new in
           ap (λ b. cond b (times l e.1) 0 + occurrences_in l (ids ++ id ∷ []) held) same_test ∙ omega (arith, rest)
     ] refl at where
-      or_false : (b : Bool) → (b || false) ≡ b
-      or_false true = refl
-      or_false false = refl
-
       turned : (x y : ℕ) → (x == y) ≡ false → (y == x) ≡ false
       turned x y differ = ne_eqb y x (λ is. absurd (false≢true (sym differ ∙ eq-eqb x y (sym is))))
 

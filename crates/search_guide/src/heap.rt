@@ -33,10 +33,18 @@ impl Heap {
         })
     }
 
-    /// Puts a variable in, where it is not. O(log n).
+    /// Puts a variable in, where it is not. O(log n), and O(1) where it is, as are most that a search asks for.
+    #[inline]
     pub fn insert(&mut self, x: u32, scores: &[u64]) {
+        if entry_or(&self.places, x as usize, 0) == 0 {
+            self.append(x, scores);
+        }
+    }
+
+    /// Puts a variable in that is not. O(log n).
+    fn append(&mut self, x: u32, scores: &[u64]) {
         let at = self.size;
-        if entry_or(&self.places, x as usize, 0) == 0 && at < self.variables.len() {
+        if at < self.variables.len() {
             self.variables[at] = x;
             self.size = at + 1;
             set_place(&mut self.places, x, at + 1);

@@ -152,8 +152,7 @@ impl Order {
     pub fn reopen(&mut self, undone: &[Lit])
         ensures { self.new ≡ self.old }
     {
-        keep_phases(&mut self.phases, undone);
-        insert_all(&mut self.heap, &self.scores, undone);
+        reopen_all(&mut self.phases, &mut self.heap, &self.scores, undone);
         self.queue.reopen(undone);
     }
 
@@ -194,20 +193,14 @@ impl Order {
     }
 }
 
-/// Keeps the values of literals.
-fn keep_phases(phases: &mut [bool], lits: &[Lit])
+/// Keeps the values of literals, and puts their variables into a heap, in one walk: there are hundreds in a conflict.
+fn reopen_all(phases: &mut [bool], heap: &mut Heap, scores: &[u64], lits: &[Lit])
     ensures { length phases.new ≡ length phases.old }
 {
     for l in lits {
         if let Some(phase) = phases.get_mut(l.variable() as usize) {
             *phase = l.number() > 0;
         }
-    }
-}
-
-/// Puts the variables of literals into a heap.
-fn insert_all(heap: &mut Heap, scores: &[u64], lits: &[Lit]) {
-    for l in lits {
         heap.insert(l.variable(), scores);
     }
 }

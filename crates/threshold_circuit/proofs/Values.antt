@@ -1,11 +1,11 @@
 -- A simplified circuit is true exactly where its quorum set is satisfied.
 use Rattle.std.proofs.Common.{◌≡◌, ℕ, ◌+◌, ◌-◌, ◌≤◌, ◌==◌, ◌↔◌, IsTrue, Bool, true, false, nat_le, nat_lt, ◌&&◌, ◌||◌, if◌then◌else◌, refl, ap, ◌∙◌, sym, arith}
 use Rattle.std.proofs.lemmas.Bool.Decides.{nat_tests}
+use Rattle.std.proofs.Math.Bool.{or-true, or-false}
 use Rattle.fbas_model.specs.Nodes.{Nodes, ◌⊆◌, ◌∪◌}
 use Rattle.fbas_model.specs.Trees.{QuorumSet, quorum_set, Entries, none, node, inner}
 use Rattle.fbas_model.specs.QuorumSets.{count, HasChoiceWithin}
 use Rattle.fbas_model.specs.Counting.{is_satisfied, count_met}
-use Rattle.fbas_model.proofs.Tables.{or-true, or-false}
 use Rattle.fbas_model.proofs.Counting.{count_met_le-count, choice_satisfied, satisfied_choice}
 use Rattle.threshold_circuit.specs.Circuits.{Circuit, Inputs, always, never, leaf, at_least, end_of_gate, input, input_count}
 use Rattle.threshold_circuit.specs.Value.{circuit_value, count_true}
@@ -45,8 +45,8 @@ lowered : (k a t : ℕ) → nat_le (k - a) t ≡ nat_le k (a + t)
 lowered k a t = grind (arith, nat_tests)
 
 validator_by : (u : Nodes) (v : ℕ) (faulty greatest : Bool) → (u v ≡ true → greatest ≡ true) → circuit_value u (if faulty then always else (if greatest then leaf v else never)) ≡ (u v || faulty)
-validator_by u v true greatest within = or-true (u v)
-validator_by u v false true within = or-false (u v)
+validator_by u v true greatest within = sym (or-true (u v))
+validator_by u v false true within = sym (or-false (u v))
 validator_by u v false false within = absent (u v) within
 
 unmet : (k n met : ℕ) → nat_le k n ≡ false → met ≤ n → false ≡ nat_le k met

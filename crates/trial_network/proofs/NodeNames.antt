@@ -7,6 +7,7 @@ use Rattle.std.specs.List.{AllByRecursion}
 use Rattle.std.specs.List.Sorted.{IsStrictlySortedBy}
 use Rattle.std.specs.Ordering.{is_lt}
 use Rattle.std.specs.Str.{bytes_eq}
+use Rattle.std.proofs.Math.Bool.{or-true}
 use Rattle.fbas_model.specs.Names.{name_cmp, is_key, is_among}
 use Rattle.node_json.specs.Configuration.{number_of}
 use Rattle.node_json.proofs.NamesInOrder.{apart}
@@ -104,13 +105,9 @@ new_name v w (suc k) before h =
 pub among_names : (v w k : ℕ) → w ≤ v → v < w + k → is_among (node_name v) (names_from w k) ≡ true
 among_names v w zero from to = absurd (omega arith)
 among_names v w (suc k) from to = elim (cases_lt w v) [
-  | inl later ↦ ap (λ b. bytes_eq (node_name v) (node_name w) || b) (among_names v (w + 1) k (omega arith) (omega arith)) ∙ or_true (bytes_eq (node_name v) (node_name w))
+  | inl later ↦ ap (λ b. bytes_eq (node_name v) (node_name w) || b) (among_names v (w + 1) k (omega arith) (omega arith)) ∙ or-true (bytes_eq (node_name v) (node_name w))
   | inr here ↦ let e : v ≡ w = omega arith in ap (λ b. b || is_among (node_name v) (names_from (w + 1) k)) ((bytes_eq-Decides (node_name v) (node_name w)).1 (ap node_name e))
 ]
-  where
-    or_true : (b : Bool) → (b || true) ≡ true
-    or_true true = refl
-    or_true false = refl
 
 -- the number of a name is its place
 pub number_of-name : (n v : ℕ) → n ≤ 300 → v < n → number_of (names_from 0 n) (node_name v) ≡ v

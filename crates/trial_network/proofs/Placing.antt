@@ -3,6 +3,8 @@ use Rattle.std.proofs.Common.{◌≡◌, ℕ, zero, suc, ◌+◌, ◌*◌, ◌�
 use Rattle.std.proofs.lemmas.Bool.{cases_lt, or_cases, or_left, or_right, false_from_ne_true, ltb-true}
 use Rattle.std.proofs.lemmas.Slice.Eq.{bytes_eq-Decides}
 use Rattle.std.specs.Str.{bytes_eq}
+use Rattle.std.specs.Cmp.{both_ways}
+use Rattle.std.proofs.Math.Bool.{or_assoc}
 use Rattle.fbas_model.specs.declared.TheConstants.{MOST_NODES, MOST_ENTRIES}
 use Rattle.fbas_model.specs.Names.{Name, is_among}
 use Rattle.fbas_model.specs.QuorumSets.{all_entries, all_entries_of}
@@ -22,11 +24,7 @@ use Rattle.trial_network.proofs.Reading.{named_organisations, named_trial_set, n
 
 among-append : (k : Name) (xs ys : List Name) → is_among k (xs ++ ys) ≡ (is_among k xs || is_among k ys)
 among-append k [] ys = refl
-among-append k (x ∷ xs) ys = ap (λ b. bytes_eq k x || b) (among-append k xs ys) ∙ joined (bytes_eq k x) (is_among k xs) (is_among k ys)
-  where
-    joined : (a b c : Bool) → (a || (b || c)) ≡ ((a || b) || c)
-    joined true b c = refl
-    joined false b c = refl
+among-append k (x ∷ xs) ys = ap (λ b. bytes_eq k x || b) (among-append k xs ys) ∙ sym (or_assoc (bytes_eq k x) (is_among k xs) (is_among k ys))
 
 -- each of the names is among the others
 abbrev Among : List Name → List Name → Type 0
@@ -69,18 +67,13 @@ keys_among set v (suc k) =
     (or_left (bytes_eq (node_name v) (node_name v)) (is_among (node_name v) (names_in_set set ++ later)) ((bytes_eq-Decides (node_name v) (node_name v)).1 refl))
     (λ x h. or_right (bytes_eq x (node_name v)) (is_among x (names_in_set set ++ later)) (among-append x (names_in_set set) later ∙ or_right (is_among x (names_in_set set)) (is_among x later) (keys_among set (v + 1) k x h)))
 
-one_answer : (a b : Bool) → (a ≡ true → b ≡ true) → (b ≡ true → a ≡ true) → a ≡ b
-one_answer true b f g = sym (f refl)
-one_answer false true f g = g refl
-one_answer false false f g = refl
-
 names_are : (n : ℕ) → n ≤ 100 → in_order (all_names (named_trial n)) ≡ names_from 0 (3 * n)
 names_are n few =
     let given = all_names (named_trial n) in
     let ns = names_from 0 (3 * n) in
     same_names (in_order given) ns (in_order-sorted given) (names-sorted 0 (3 * n) (omega arith)) (λ k.
     is_among-in_order k given
-    ∙ one_answer (is_among k given) (is_among k ns) (nodes_among n (named_trial_set n) 0 (3 * n) (organisations_among n 0 n (omega arith)) (omega arith) k) (keys_among (named_trial_set n) 0 (3 * n) k))
+    ∙ both_ways (is_among k given) (is_among k ns) (nodes_among n (named_trial_set n) 0 (3 * n) (organisations_among n 0 n (omega arith)) (omega arith) k) (keys_among (named_trial_set n) 0 (3 * n) k))
 
 -- ---- the quorum sets by number
 

@@ -1,11 +1,12 @@
 use Rattle.std.proofs.Common.{rules, ◌≡◌, ◌+◌, ◌++◌, ◌||◌, ℕ, List, length, true, false, Bool, if◌then◌else◌, ap, sym, ◌∙◌, arith, length-append, Err, inl, inr}
+use Rattle.std.proofs.lemmas.Bool.{or_parts}
 use Rattle.desk_io.specs.State.{left_of}
 use Rattle.desk_io.specs.declared.Which.TheVariants.{Cert}
 use Rattle.cert_lines.specs.Lines.{lines_of}
 use Rattle.cert_lines.specs.Steps.{is_wordless}
 use Rattle.cert_lines.proofs.PartRuns.{came_more}
 use Rattle.cert_lines.proofs.TextParts.{text_came, text_placed, text_fault}
-use Rattle.cert_lines.proofs.ProofStarts.{neither, blank_part, wordless_more, taken_more}
+use Rattle.cert_lines.proofs.ProofStarts.{blank_part, wordless_more, taken_more}
 use Rattle.cert_lines.proofs.proof.pass_over.Goals as goal
 
 pub returns-then-not-is_passed-clause-word : goal.returns-then-not-is_passed-clause-word
@@ -18,7 +19,7 @@ returns-then-not-is_passed-clause-word g c = λ ends is.
     let now_lines = lines_of (now.unread ++ left_of Cert (g.D.Desk.state c.parts.desk)) in
     let new_lines = lines_of (c.more_part.new.self.unread ++ left_of Cert (g.D.Desk.state c.more_part.new.desk)) in
     let passed : (c.args.is_comment || is_wordless part) ≡ false = ap (λ (xs : List ℕ). c.args.is_comment || is_wordless xs) (sym c.part.ensures) ∙ sym c.is_passed.ensures ∙ c.if-not-is_passed.true in
-    let words = neither c.args.is_comment (is_wordless part) passed in
+    let words = or_parts c.args.is_comment (is_wordless part) passed in
     let same : c.in_ok-ends.ends ≡ ends = cc in (
       suffix,
       words.0,
