@@ -10,6 +10,8 @@ mod desks;
 #[cfg(test)]
 mod interruptions;
 #[cfg(test)]
+mod openings;
+#[cfg(test)]
 mod shared;
 #[cfg(test)]
 mod words;
