@@ -1,7 +1,7 @@
 -- An open addition, one hint later.
 use Rattle.std.proofs.Common.{◌≡◌, ℕ, suc, ◌+◌, ◌≤◌, true, false, List, [], ◌∷◌, ◌++◌, length, take, refl, sym, ap, ◌∙◌, subst, arith, ⊎_elim, Option, Some, None, ℤ, pos, negsuc, Ok, Err, append_assoc}
 use Rattle.std.specs.Option.{option_or}
-use Rattle.std.specs.Prelude.{slice_get}
+use Rattle.std.specs.Prelude.{slice_get, is_some}
 use Rattle.std.proofs.lemmas.List.{append-nil, take-append-le}
 use Rattle.lrat_model.specs.Literal.{Literal, negated}
 use Rattle.lrat_model.specs.Clauses.{Held}
@@ -238,6 +238,14 @@ module _ (held : Held) (trues before : List Literal) (groups : List ℤ) (o : Op
 pub first_of : (lits : List Literal) (pivot : Literal) → Some pivot ≡ slice_get lits 0 → (rest : List Literal) × (lits ≡ pivot ∷ rest)
 first_of [] pivot is = absurd cc
 first_of (l ∷ rest) pivot is = (rest, cc)
+
+-- the fault of a lemma's groups, where one of them has a fault
+pub groups_stop : (held : Held) (trues lits : List Literal) (pivot : Literal) (groups : List Group) (o : Option StepFault) → Some pivot ≡ slice_get lits 0 → o ≡ groups_fault held trues pivot groups → is_some o ≡ true → o ≡ pivot_fault held trues lits groups
+groups_stop held trues lits pivot groups None first is there = cc
+groups_stop held trues lits pivot groups (Some fault) first is there =
+    let so = first_of lits pivot first in
+    ap (λ o. option_or o (missing_fault groups (first_without held (negated pivot) (ids_of groups)))) is
+    ∙ sym (ap (λ ls. pivot_fault held trues ls groups) so.1)
 
 -- the fault of an addition that ends, where these are its literals and RAT hints
 pub ended_fault : (rule : Rule) (held : Held) (trues lits ls : List Literal) (groups gs : List ℤ) (o : Opened) (r : Option StepFault) → ls ≡ lits → gs ≡ groups → Suits rule trues groups o.course

@@ -5,7 +5,8 @@ use Rattle.lrat_checker.specs.Extends.{Extends}
 use Rattle.lrat_model.specs.Literal.{Literal}
 use Rattle.lrat_model.specs.Clauses.{Held, clause_at}
 use Rattle.lrat_model.specs.Propagation.{status, Conflict, Stops, Leaves, after_status, after_finding, take_hint, and_then, propagate}
-use Rattle.lrat_model.specs.declared.step.ClauseStatus.TheVariants.{Forces}
+use Rattle.lrat_model.specs.declared.step.ClauseStatus.TheVariants.{Forces, Unresolved}
+use Rattle.lrat_model.specs.declared.step.StepFault.TheVariants.{NotUnit}
 use Rattle.lrat_model.specs.declared.step.StepFault.{StepFault}
 use Rattle.lrat_model.specs.Alike.{Alike}
 use Rattle.lrat_model.proofs.AlikeLaws.{AreAlike, take_hint-alike}
@@ -18,6 +19,14 @@ takes_more held trues place id (pos n) clause l names finds forces =
     let found : clause_at held n ≡ Some clause = subst (λ k. clause_at held k ≡ Some clause) is (sym finds) in
     ap (after_finding trues place n) found ∙ ap (after_status trues place) (sym forces)
 takes_more held trues place id (negsuc n) clause l names finds forces = cc
+
+-- a hint stops whose clause has two literals that are not false
+pub takes_none : (held : Held) (trues : List Literal) (place id : ℕ) (hint : ℤ) (clause : List Literal) → Some id ≡ id_of hint → Some clause ≡ clause_at held id → Unresolved ≡ status trues clause → take_hint held trues place hint ≡ Stops (NotUnit place)
+takes_none held trues place id (pos n) clause names finds unsure =
+    let is : id ≡ n = cc in
+    let found : clause_at held n ≡ Some clause = subst (λ k. clause_at held k ≡ Some clause) is (sym finds) in
+    ap (after_finding trues place n) found ∙ ap (after_status trues place) (sym unsure)
+takes_none held trues place id (negsuc n) clause names finds unsure = cc
 
 swapped : (xs ys : List Literal) → Alike xs ys → Alike ys xs
 swapped xs ys alike m = sym (alike m)

@@ -4,7 +4,7 @@ use Rattle.std.proofs.lemmas.Int.{to_z-of_z}
 use Rattle.lrat_checker.specs.Hints.{id_of}
 use Rattle.lrat_checker.proofs.StatusLaws.{forced_there, forced_open}
 use Rattle.lrat_checker.proofs.RangeLaws.{range_of, range_at}
-use Rattle.lrat_checker.proofs.HintLaws.{takes_more}
+use Rattle.lrat_checker.proofs.HintLaws.{takes_more, takes_none}
 use Rattle.lrat_checker.proofs.hint.take_hint.Goals as goal
 
 pub status-requires : goal.status-requires
@@ -27,3 +27,9 @@ returns-in-Forces-clause-outcome c =
       takes_more c.args.store.now.held old c.args.place c.in-Some.id c.args.hint c.in-Some-lits.clause.now c.in-Forces.l names c.in-Some-lits.ensures c.in-Forces.ensures,
       c.force.ensures.trues,
     )
+
+pub returns-in-Unresolved-clause-outcome : goal.returns-in-Unresolved-clause-outcome
+returns-in-Unresolved-clause-outcome c =
+    let fits : SFits w64 c.args.hint = search rules in
+    let names : Some c.in-Some.id ≡ id_of c.args.hint = simp to_z-of_z at c.in-Some.ensures in
+    takes_none c.args.store.now.held c.args.assignment.now.trues c.args.place c.in-Some.id c.args.hint c.in-Some-lits.clause.now names c.in-Some-lits.ensures c.in-Unresolved.ensures
