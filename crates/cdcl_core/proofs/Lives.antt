@@ -1,5 +1,5 @@
 -- Logs that keep within their bounds, and the lemmas that are live after them.
-use Rattle.std.proofs.Common.{◌≡◌, ◌⊎◌, ℕ, ◌+◌, ◌*◌, ◌≤◌, Bool, true, false, cond, not, ◌||◌, List, [], ◌∷◌, ◌++◌, ⊎_elim, inl, inr, refl, sym, ap, ◌∙◌, subst, arith, length, length-append, Some, None}
+use Rattle.std.proofs.Common.{◌≡◌, ◌⊎◌, ℕ, ◌+◌, ◌*◌, ◌≤◌, true, cond, not, List, [], ◌∷◌, ◌++◌, ⊎_elim, inl, inr, refl, sym, ap, ◌∙◌, subst, arith, length, length-append, Some, None}
 use Rattle.std.specs.Prelude.{◌==◌, All, filter}
 use Rattle.std.proofs.lemmas.Bool.{eqb-true, cases_Bool, false≢true, or_cases, or_right}
 use Rattle.std.proofs.lemmas.List.Elements.{All-head, All-tail}

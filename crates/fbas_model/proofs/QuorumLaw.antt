@@ -1,5 +1,5 @@
 -- The quorums by counting are the quorums.
-use Rattle.std.proofs.Common.{◌≡◌, ℕ, zero, suc, ◌<◌, [], ◌∷◌, length, Bool, true, false, not, ◌&&◌, Some, None, slice_get, slice_index_or, refl, subst, arith}
+use Rattle.std.proofs.Common.{◌≡◌, ℕ, zero, suc, ◌<◌, [], ◌∷◌, length, true, false, not, ◌&&◌, Some, None, slice_get, slice_index_or, refl, subst, arith}
 use Rattle.std.proofs.lemmas.Bool.{and_parts, and_from, or_left, not_from_false, lt-ltb, ltb-true, not-true}
 use Rattle.fbas_model.specs.Nodes.{Nodes, ◌∪◌, Table, members, IsInhabited}
 use Rattle.fbas_model.specs.Trees.{QuorumSet}

@@ -1,5 +1,5 @@
 -- The quorums of a system that is restricted to a closed set are the quorums of the whole system that lie in that set.
-use Rattle.std.proofs.Common.{◌≡◌, ℕ, ◌+◌, ◌<◌, ◌==◌, ◌↔◌, inl, inr, Bool, true, false, not, ◌&&◌, ◌||◌, cond, length, map, refl, sym, ◌∙◌, ap, ap₂, subst, arith, leb, Option, Some, None, slice_get, zero-add}
+use Rattle.std.proofs.Common.{◌≡◌, ℕ, ◌+◌, ◌<◌, ◌==◌, ◌↔◌, inl, inr, Bool, false, not, ◌&&◌, ◌||◌, cond, length, map, refl, sym, ◌∙◌, ap, ap₂, subst, arith, leb, Option, Some, None, slice_get, zero-add}
 use Rattle.std.specs.Prelude.{option_map}
 use Rattle.std.proofs.lemmas.Bool.{cases_Bool, both_ways, or_left, or_right, eq-eqb, and_parts, and_from, lt-ltb, ltb-true, false_from_ne_true}
 use Rattle.std.proofs.lemmas.Option.{slice_get-map, slice_get-get_or, get_or_from_slice_get}

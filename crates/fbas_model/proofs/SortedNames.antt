@@ -1,5 +1,5 @@
 -- Strictly sorted names: the place of a name among them, and those at some of the places.
-use Rattle.std.proofs.Common.{◌≡◌, ℕ, ◌<◌, ◌≤◌, inl, inr, Bool, true, false, not, List, [], ◌∷◌, length, refl, ◌∙◌, ap, subst, arith, Some, None, slice_get, slice_index_or, Contains, ltb, Less}
+use Rattle.std.proofs.Common.{◌≡◌, ℕ, ◌<◌, ◌≤◌, inl, inr, true, false, not, List, [], ◌∷◌, length, refl, ◌∙◌, ap, subst, arith, Some, None, slice_get, slice_index_or, Contains, ltb, Less}
 use Rattle.std.specs.List.{prefix_len, AllByRecursion}
 use Rattle.std.specs.List.Sorted.{IsStrictlySortedBy}
 use Rattle.std.specs.Str.{bytes_eq}

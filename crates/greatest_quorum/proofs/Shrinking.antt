@@ -1,6 +1,6 @@
 -- Taking out a node that has no slice inside what is left takes out no quorum, and leaves a slice to each node that does not mention it.
 use Rattle.std.proofs.Common.{◌≡◌, ℕ, suc, ◌+◌, ◌*◌, ◌<◌, ◌&&◌, ◌||◌, ◌==◌, Bool, true, false, not, length, refl, sym, ◌∙◌, subst, ap, arith, inl, inr, ◌⊎◌, ◌↔◌, nat_lt, Some, None, slice_index_or}
-use Rattle.std.proofs.lemmas.Bool.{false≢true, cases_Bool, or_cases, or_left, or_right, and_cases, and_from, and_parts, eqb-true, eq-eqb, not_from_false, not-true, both_ways, lt-ltb, false_from_ne_true, MatchBool-at_false, not-false, or_parts}
+use Rattle.std.proofs.lemmas.Bool.{false≢true, cases_Bool, or_cases, and_cases, and_from, and_parts, eqb-true, eq-eqb, not_from_false, not-true, both_ways, lt-ltb, false_from_ne_true, MatchBool-at_false, not-false, or_parts}
 use Rattle.std.proofs.lemmas.Nat.{row_fits}
 use Rattle.std.proofs.lemmas.Option.{get_or_from_slice_get}
 use Rattle.std.specs.Bool.{MatchBool}

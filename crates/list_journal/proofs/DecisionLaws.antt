@@ -1,5 +1,5 @@
 -- What the code decides is what the tests compute.
-use Rattle.std.proofs.Common.{◌≡◌, Bool, true, false, not, ◌&&◌, length, refl, sym, ap, ◌∙◌, subst, arith, inl, inr}
+use Rattle.std.proofs.Common.{◌≡◌, Bool, true, false, not, ◌&&◌, length, sym, ap, ◌∙◌, subst, arith, inl, inr}
 use Rattle.std.proofs.lemmas.Bool.{cases_Bool, both_ways, and_from, false_from_ne_true, not_from_false, lt-ltb}
 use Rattle.std.specs.Cmp.{both_ways}
 use Rattle.fbas_model.specs.Nodes.{Nodes, Table, members, ◌⊆◌, Meets}

@@ -1,5 +1,5 @@
 -- A name that is among names in order changes nothing when it is put in again; and what slots keep.
-use Rattle.std.proofs.Common.{◌≡◌, ℕ, List, [], ◌∷◌, Bool, true, false, ◌||◌, Less, Equal, Greater, Option, Some, None, length, All, IsTrue, IfSome, refl, sym, ap, ◌∙◌, subst, slice_set, slice_index_or, replicate, ◌<◌}
+use Rattle.std.proofs.Common.{◌≡◌, ℕ, List, [], ◌∷◌, true, false, ◌||◌, Less, Equal, Greater, Option, Some, None, length, All, IsTrue, IfSome, refl, sym, ap, ◌∙◌, subst, slice_set, slice_index_or, replicate, ◌<◌}
 use Rattle.std.proofs.lemmas.Bool.{both_ways}
 use Rattle.std.proofs.lemmas.Cmp.{nat_list_cmp_total}
 use Rattle.std.proofs.lemmas.List.{length-set, length-replicate}
