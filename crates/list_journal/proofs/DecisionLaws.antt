@@ -1,7 +1,7 @@
 -- What the code decides is what the tests compute.
 use Rattle.std.proofs.Common.{◌≡◌, Bool, true, false, not, ◌&&◌, length, sym, ap, ◌∙◌, subst, arith, inl, inr}
 use Rattle.std.proofs.lemmas.Bool.{cases_Bool, both_ways, and_from, false_from_ne_true, not_from_false, lt-ltb}
-use Rattle.std.specs.Cmp.{both_ways}
+use Rattle.std.specs.Cmp.{both_ways as same_answer}
 use Rattle.fbas_model.specs.Nodes.{Nodes, Table, members, ◌⊆◌, Meets}
 use Rattle.fbas_model.specs.Fbas.{Fbas, MeetsQuorums, Blocks, BlocksMinimally, all_nodes}
 use Rattle.fbas_model.specs.Counting.{is_quorum}
@@ -15,7 +15,7 @@ pub faulty_blocks_not : (f : Fbas) (b s : Table) → Meets (members s) (members 
 faulty_blocks_not f b s m = sym (ap (λ (x : Bool). not x && not (some_set (length f) (λ u. is_quorum f b u && not (is_meeting s u)))) (meeting_from s b m.0 m.1 m.2))
 
 pub blocking_is : (f : Fbas) (b s : Table) (r : Bool) → length s ≡ length f → length b ≡ length f → (Meets (members s) (members b) → ⊥) → (r ≡ true → MeetsQuorums f (members b) (members s)) → (MeetsQuorums f (members b) (members s) → r ≡ true) → r ≡ is_blocking f b s
-blocking_is f b s r size same apart there back = both_ways r (is_blocking f b s)
+blocking_is f b s r size same apart there back = same_answer r (is_blocking f b s)
     (λ h. blocks_from f b s (record {
       left = λ v here. and_from (all_nodes f v) (not (members b v)) (lt-ltb v (length f) (let l = member_lt s v here in omega arith))
           (not_from_false (members b v) (false_from_ne_true (members b v) (λ in_b. apart (v, here, in_b))));
@@ -30,6 +30,6 @@ same_nodes s t e there back = table_ext s t e (λ v. elim (cases_Bool (members s
 ])
 
 pub least_is : (f : Fbas) (b s t : Table) (r : Bool) → length b ≡ length f → length t ≡ length s → members t ⊆ members s → BlocksMinimally f (members b) (members t) → (r ≡ true → t ≡ s) → (t ≡ s → r ≡ true) → r ≡ is_least f b s
-least_is f b s t r same size inside minimal there back = both_ways r (is_least f b s)
+least_is f b s t r same size inside minimal there back = same_answer r (is_least f b s)
     (λ h. least_from f b s same (subst (λ (u : Table). (w : Nodes) → w ⊆ members u → Blocks f (members b) w → members u ⊆ w) (there h) minimal.least))
     (λ h. back (same_nodes t s size inside (least_to f b s h (members t) inside minimal.blocks)))

@@ -13,7 +13,7 @@ use Rattle.std.specs.List.Sorted.{IsStrictlySortedBy}
 use Rattle.std.specs.Ordering.{match_ordering, ordering_reverse}
 use Rattle.std.specs.Str.{bytes_eq}
 use Rattle.std.proofs.Math.Bool.{or-false}
-use Rattle.std.specs.Cmp.{both_ways}
+use Rattle.std.specs.Cmp.{both_ways as same_answer}
 use Rattle.fbas_model.specs.Names.{Name, name_cmp, AreNamesOf, is_among}
 use Rattle.node_json.specs.NamesInOrder.{in_order}
 
@@ -149,7 +149,7 @@ same_among xs ys k h e = list_any-from_Contains nat_list_eq_equiv k ys (h (Conta
 pub names_in_order : (given names : List Name) → AreNamesOf given names → names ≡ in_order given
 names_in_order given names are =
     same_names names (in_order given) are.sorted (in_order-sorted given) (λ k.
-    both_ways (is_among k names) (is_among k given) (same_among names given k (are.same k).0) (same_among given names k (are.same k).1) ∙ sym (is_among-in_order k given))
+    same_answer (is_among k names) (is_among k given) (same_among names given k (are.same k).0) (same_among given names k (are.same k).1) ∙ sym (is_among-in_order k given))
 
 -- putting them in order again changes nothing
 pub in_order-in_order : (ks : List Name) → in_order (in_order ks) ≡ in_order ks
