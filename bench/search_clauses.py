@@ -1,0 +1,145 @@
+#!/usr/bin/env python3
+"""Writes the clauses that a search could go over in place of the formula's: bench/search_clauses.py SYSTEM FOLDER [GROWTH].
+
+SYSTEM is as for bench/trials.py. Writes three formulas in DIMACS form to FOLDER, for `bench/plain_search.py` and other solvers, and
+prints the variables and clauses of each:
+
+    exported.cnf     the intersection formula, as `export` writes it
+    eliminated.cnf   the counters' variables eliminated by resolution in the order of their cost, each of which may add up to GROWTH
+                     clauses (16); clauses that others subsume go
+    written.cnf      each gate of up to ten inputs as the sets of its inputs one of which has to be true, without its counter, and
+                     without its own variable where that makes no clause more
+
+Variables are numbered anew without gaps. What is found over the last two is not shown over the formula (docs/PERFORMANCE.md,
+'Trials'): these are for trials of a search alone, and nothing of the gate uses them.
+"""
+import heapq
+import itertools
+import os
+import sys
+from collections import defaultdict
+
+TOP = os.path.dirname(os.path.dirname(os.path.abspath(__file__)))
+sys.path[:0] = [os.path.join(TOP, "tests"), os.path.join(TOP, "bench")]
+import plain_checker
+import trials
+
+MOST_INPUTS = 10
+# so many pairs of clauses are resolved for one variable at most
+MOST_PAIRS = 600
+
+
+class Written(plain_checker.Formula):
+    """The formula with its small gates written out, whose variables are kept."""
+
+    def __init__(self, *words):
+        self.outputs = []
+        super().__init__(*words)
+
+    def new_gate(self, k, inputs):
+        x = [self.gate(each) for each in inputs]
+        if not 1 < k < len(x) <= MOST_INPUTS:
+            return super().new_gate(k, inputs)
+        z = self.fresh()
+        self.outputs.append(z)
+        for some in itertools.combinations(x, len(x) - k + 1):
+            self.add([-z] + list(dict.fromkeys(some)))
+        return z
+
+
+class Clauses:
+    """Clauses without those that others subsume, found by their literals."""
+
+    def __init__(self, clauses):
+        self.held = {}
+        self.having = defaultdict(set)
+        self.count = 0
+        for clause in clauses:
+            self.add(frozenset(clause))
+
+    def add(self, clause):
+        if any(self.held[number] <= clause for literal in clause for number in self.having[literal]):
+            return
+        rarest = min(clause, key=lambda literal: len(self.having[literal]))
+        for number in [it for it in self.having[rarest] if clause <= self.held[it]]:
+            self.remove(number)
+        self.count += 1
+        self.held[self.count] = clause
+        for literal in clause:
+            self.having[literal].add(self.count)
+
+    def remove(self, number):
+        for literal in self.held.pop(number):
+            self.having[literal].discard(number)
+
+    def resolvents(self, variable):
+        """The resolvents of a variable, each once and without contradictions; none where there are too many pairs."""
+        first, second = self.having[variable], self.having[-variable]
+        if len(first) * len(second) > MOST_PAIRS:
+            return None
+        found = {(self.held[p] - {variable}) | (self.held[q] - {-variable}) for p in first for q in second}
+        return [it for it in found if not any(-literal in it for literal in it)]
+
+    def cost(self, variable):
+        """How many clauses more there are without a variable."""
+        found = self.resolvents(variable)
+        return None if found is None else len(found) - len(self.having[variable]) - len(self.having[-variable])
+
+    def eliminate(self, variable):
+        """Puts the resolvents of a variable in place of its clauses; the variables of these."""
+        found = self.resolvents(variable)
+        beside = set()
+        for number in self.having[variable] | self.having[-variable]:
+            beside.update(map(abs, self.held[number]))
+            self.remove(number)
+        for clause in found:
+            self.add(clause)
+        return beside - {variable}
+
+
+def eliminated(clauses, variables, growth):
+    """The clauses once each of these variables is eliminated that may be."""
+    left = Clauses(clauses)
+    queue = [(cost, it) for it in variables for cost in [left.cost(it)] if cost is not None]
+    heapq.heapify(queue)
+    open_ones = set(variables)
+    while queue:
+        said, variable = heapq.heappop(queue)
+        cost = left.cost(variable) if variable in open_ones else None
+        if cost is None or cost > growth:
+            continue
+        if cost > said:
+            heapq.heappush(queue, (cost, variable))
+            continue
+        open_ones.discard(variable)
+        for other in left.eliminate(variable) & open_ones:
+            if (cost := left.cost(other)) is not None:
+                heapq.heappush(queue, (cost, other))
+    return [sorted(it, key=abs) for it in left.held.values()]
+
+
+def write(path, clauses):
+    numbers = {it: number for number, it in enumerate(sorted({abs(literal) for clause in clauses for literal in clause}), 1)}
+    with open(path, "w", encoding="utf-8") as out:
+        out.write("p cnf %d %d\n" % (len(numbers), len(clauses)))
+        for clause in clauses:
+            out.write(" ".join(str(numbers[abs(it)] if it > 0 else -numbers[abs(it)]) for it in clause) + " 0\n")
+    print(os.path.basename(path), len(numbers), "variables", len(clauses), "clauses")
+
+
+def main():
+    if len(sys.argv) not in (3, 4) or sys.argv[1].startswith("-"):
+        sys.exit(__doc__)
+    folder, growth = sys.argv[2], int(sys.argv[3]) if len(sys.argv) == 4 else 16
+    system = plain_checker.system_of(trials.configuration(sys.argv[1]).encode())
+    formula = plain_checker.Formula(system, set(), 2)
+    sides = len(formula.clauses[0]) + len(formula.clauses[1])
+    os.makedirs(folder, exist_ok=True)
+    write(os.path.join(folder, "exported.cnf"), formula.clauses)
+    write(os.path.join(folder, "eliminated.cnf"), eliminated(formula.clauses, range(sides + 1, formula.variables + 1), growth))
+    written = Written(system, set(), 2)
+    write(os.path.join(folder, "written.cnf"), eliminated(written.clauses, written.outputs, 0))
+
+
+if __name__ == "__main__":
+    main()
