@@ -77,7 +77,7 @@ impl Guide {
     }
 
     /// What a lemma costs whose literals stand on the trail: the more, the sooner it is forgotten. That is how many decision
-    /// levels they have, up to seven; but where scores decide by turns, how many there are if the levels are more than two,
+    /// levels they have, up to seven; but where scores decide in a turn, how many there are if the levels are more than two,
     /// since lemmas have many levels alike then, and a long one is gone through more often. Restarts go by the levels, and the
     /// order of decisions by the number of literals.
     pub fn cost_of(&mut self, lits: &[Lit], places: &[usize]) -> u32

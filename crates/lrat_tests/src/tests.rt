@@ -120,6 +120,14 @@ fn two_searches_checked(alloc: Global, solver: &mut Solver) -> Result<String, Al
     format!(in alloc; "{shown} {is_refuted}")
 }
 
+// The same where scores decide in each turn.
+fn two_searches_by_scores(alloc: Global, solver: &mut Solver) -> Result<String, AllocError>
+    requires { solver.old.database.last ≤ 100 }
+{
+    solver.decide_by_scores();
+    two_searches_checked(alloc, solver)
+}
+
 // Two empty clauses.
 static EMPTY: [&[i32]; 2] = [&[], &[]];
 
@@ -172,6 +180,8 @@ fn given_between(
 enum Asked {
     /// Two searches, of two of two.
     TwoSearches,
+    /// The same where scores decide in each turn.
+    ByScores,
     /// A search with no budget, of two empty clauses.
     NoCost,
     /// A search, and the values of two variables.
@@ -187,6 +197,7 @@ fn shown(alloc: Global, solver: &mut Solver, vars: u64, asked: Asked) -> Result<
 {
     match asked {
         Asked::TwoSearches => two_searches_checked(alloc, solver),
+        Asked::ByScores => two_searches_by_scores(alloc, solver),
         Asked::NoCost => search_at_no_cost(alloc, solver),
         Asked::Assignment if vars == 2 => assignment(alloc, solver),
         Asked::Given(l, units) if units <= 100 && u64::from(l.variable()) <= vars => {
@@ -212,6 +223,12 @@ fn asked_of(
 #[test]
 fn two_of_two_is_refuted_within_its_budget(rt: HostRuntime) {
     let shown = asked_of(rt.alloc(), &TWO_OF_TWO, 8, Asked::TwoSearches);
+    same(&rt, shown, "Spent 0 Unsat true");
+}
+
+#[test]
+fn two_of_two_is_refuted_by_scores_alone(rt: HostRuntime) {
+    let shown = asked_of(rt.alloc(), &TWO_OF_TWO, 8, Asked::ByScores);
     same(&rt, shown, "Spent 0 Unsat true");
 }
 

@@ -1,7 +1,7 @@
 //! The order in which variables are decided, each with the value that it had last (phase saving, of Pipatsrisawat and
 //! Darwiche): by turns those first that a conflict saw last, or by scores that conflicts raise, late ones more than early
-//! ones (VSIDS, of Chaff and MiniSat); in a search for many models by scores alone. No answer depends on it, and only
-//! that the variable is open is proved.
+//! ones (VSIDS, of Chaff and MiniSat); in a search for many models, and where a caller says so, by scores alone. No answer
+//! depends on it, and only that the variable is open is proved.
 ghost use Rattle.std.specs.Prelude.{◌≡◌, ◌⊎◌, ◌||◌, not, ℕ, ◌+◌, ◌<◌, ◌≤◌, ◌^◌, true, false, None, Some, IfOk, IfSome, length, slice_index_or};
 ghost use Rattle.lrat_model.specs.Literal.{Literal, Plus, Minus, has, variable_of};
 ghost use Rattle.search_guide.specs.Open.{open_count};
@@ -71,7 +71,14 @@ impl Order {
         })
     }
 
-    /// From here on variables are decided by their scores.
+    /// In each turn variables are decided by their scores, as suits formulas whose gates are written out.
+    pub fn fix_scores(&mut self)
+        ensures { self.new ≡ self.old }
+    {
+        self.turns.fix();
+    }
+
+    /// From here on variables are decided by their scores, and there are no turns.
     pub fn use_scores(&mut self)
         ensures { self.new ≡ self.old }
     {
@@ -83,7 +90,7 @@ impl Order {
         self.turns.by_scores()
     }
 
-    /// Whether they are by turns.
+    /// Whether they are by turns, or in each turn.
     pub fn has_scores_by_turns(&self) -> bool {
         self.turns.by_scores() && !self.turns.is_settled()
     }

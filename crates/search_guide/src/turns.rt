@@ -1,6 +1,7 @@
 //! Which of two orders of decisions a search goes by: the one whose lemmas have fewer literals, where each is tried from
 //! time to time. Formulas of symmetric systems are refuted in a fifth of the lemmas by when a conflict saw a variable
-//! last, those of random systems in half of them by scores. No answer depends on it.
+//! last, those of random systems in half of them by scores. A caller may have scores decide in each turn. No answer depends
+//! on it.
 
 use crate::mean::Mean;
 
@@ -15,11 +16,12 @@ const TURNS: u64 = 24;
 /// Over how many lemmas a mean goes.
 const LEMMAS: u64 = 1000;
 
-/// Whether scores decide, for good or by turns; the turns so far, and the lemmas that are left of this one; the mean
-/// length of lemmas in both orders.
+/// Whether scores decide, whether they do in each turn, and whether the turns are over; the turns so far, and the lemmas
+/// that are left of this one; the mean length of lemmas in both orders.
 #[derive(Drop)]
 pub struct Turns {
     by_scores: bool,
+    is_fixed: bool,
     is_settled: bool,
     turn: u64,
     left: u64,
@@ -32,6 +34,7 @@ impl Turns {
     pub fn new() -> Turns {
         Turns {
             by_scores: false,
+            is_fixed: false,
             is_settled: false,
             turn: 0,
             left: SHORT,
@@ -45,12 +48,18 @@ impl Turns {
         self.by_scores
     }
 
-    /// Whether scores decide for good.
+    /// Whether the turns are over, and scores decide for good.
     pub fn is_settled(&self) -> bool {
         self.is_settled
     }
 
-    /// Scores decide from here on.
+    /// Scores decide in each turn from here on.
+    pub fn fix(&mut self) {
+        self.by_scores = true;
+        self.is_fixed = true;
+    }
+
+    /// The turns are over, and scores decide from here on.
     pub fn settle(&mut self) {
         self.by_scores = true;
         self.is_settled = true;
@@ -70,12 +79,12 @@ impl Turns {
         }
     }
 
-    /// Begins the next turn. The second is by scores, of which nothing is known yet.
+    /// Begins the next turn. The second is by scores, of which nothing is known yet, and each is where that is fixed.
     fn begin(&mut self) {
         self.turn = self.turn.saturating_add(1);
         let tries = self.turn == 1 || self.turn % TURNS == 0;
         let is_shorter = self.of_scores.value() < self.of_seen.value();
-        self.by_scores = self.turn == 1 || is_shorter != tries;
+        self.by_scores = self.is_fixed || self.turn == 1 || is_shorter != tries;
         self.left = if tries { SHORT } else { LONG };
     }
 }
