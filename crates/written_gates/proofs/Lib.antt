@@ -1,3 +1,7 @@
+pub mod Apart
+pub mod Choosing
+pub mod CounterClauses
 pub mod Finding
+pub mod Lists
+pub mod WrittenLaws
 pub mod WritingOut
-pub mod CounterIsCounted

@@ -1,41 +1,72 @@
--- A gate that says that where z is true at least k of the inputs x 1 .. x n are, written out, and by a counter.
+-- Gates that say that at least k of some inputs are true where a head is, by a counter each, and with the sets of their inputs
+-- written out.
 use Rattle.std.specs.Prelude.{◌≡◌, ◌≢◌, ◌⊎◌, ℕ, suc, true, ◌+◌, ◌<◌, ◌≤◌, List, [], ◌∷◌, length, map}
 use Rattle.lrat_model.specs.Literal.{Literal, negated, has}
 use Rattle.lrat_model.specs.Clauses.{Held}
 use Rattle.written_gates.specs.Finding.{IsHeld, IsNeedless}
+
+-- where one of the heads is true at least k of the inputs x 1 .. x n are; s i j says that j of the inputs x 1 .. x i are
+pub record Gate : Type 0 where
+  pub n : ℕ
+  pub k : ℕ
+  pub x : ℕ → Literal
+  pub s : ℕ → ℕ → Literal
+  pub heads : List Literal
+
+-- gates by their numbers; one without inputs stands for none
+abbrev pub Gates : Type 0
+Gates = ℕ → Gate
 
 -- the positions rise strictly, past the one bound and up to the other
 abbrev pub Rises : ℕ → ℕ → List ℕ → Type 0
 Rises low high [] = low ≤ high
 Rises low high (p ∷ ps) = (low < p) × Rises p high ps
 
--- of any n - k + 1 of the inputs x 1 .. x n one is true, or z is false: no such clause is needed beside those held
-abbrev pub IsWritten : ℕ → ℕ → (ℕ → Literal) → Literal → Held → Type 0
-IsWritten n k x z held = (ps : List ℕ) → Rises 0 n ps → length ps + k ≡ suc n → IsNeedless held (negated z ∷ map x ps)
+-- where a head is true, one of any n - k + 1 of the inputs is: no such clause is needed beside those held
+abbrev pub IsWritten : Gate → Held → Type 0
+IsWritten gate held = (h : Literal) (ps : List ℕ) → has gate.heads h ≡ true → Rises 0 gate.n ps → length ps + gate.k ≡ suc gate.n → IsNeedless held (negated h ∷ map gate.x ps)
 
--- the counters that are written for s n k: s i j says that j of the inputs x 1 .. x i are true
-abbrev pub IsPlace : ℕ → ℕ → ℕ → ℕ → Type 0
-IsPlace n k i j = (1 ≤ j) × (j ≤ i) × (i ≤ n) × (j ≤ k)
+abbrev pub AreWritten : Gates → Held → Type 0
+AreWritten gates held = (g : ℕ) → IsWritten (gates g) held
 
--- l is a counter or its negation, and not of s n k
-abbrev pub IsInner : ℕ → ℕ → (ℕ → ℕ → Literal) → Literal → Type 0
-IsInner n k s l = (i j : ℕ) × IsPlace n k i j × (i + j < n + k) × ((l ≡ s i j) ⊎ (l ≡ negated (s i j)))
+-- the places of a gate's counter
+abbrev pub IsPlace : Gate → ℕ → ℕ → Type 0
+IsPlace gate i j = (1 ≤ j) × (j ≤ i) × (i ≤ gate.n) × (j ≤ gate.k)
+
+-- l is the literal of a place or its negation
+abbrev pub IsInner : Gates → Literal → Type 0
+IsInner gates l = (g i j : ℕ) × IsPlace (gates g) i j × ((l ≡ (gates g).s i j) ⊎ (l ≡ negated ((gates g).s i j)))
+
+abbrev pub IsOuter : Gates → Literal → Type 0
+IsOuter gates l = IsInner gates l → ⊥
 
 -- s i+1 j → s i j or x i+1, where s i j is false for j > i
-abbrev pub IsFirst : ℕ → ℕ → (ℕ → Literal) → (ℕ → ℕ → Literal) → List Literal → Type 0
-IsFirst n k x s clause = (i j : ℕ) × IsPlace n k (suc i) j × (has clause (negated (s (suc i) j)) ≡ true) × ((j ≡ suc i) ⊎ ((j ≤ i) × (has clause (s i j) ≡ true))) × (has clause (x (suc i)) ≡ true)
+abbrev pub IsFirst : Gate → List Literal → Type 0
+IsFirst gate clause = (i j : ℕ) × IsPlace gate (suc i) j × (has clause (negated (gate.s (suc i) j)) ≡ true) × ((j ≡ suc i) ⊎ ((j ≤ i) × (has clause (gate.s i j) ≡ true))) × (has clause (gate.x (suc i)) ≡ true)
 
 -- s i+1 j+1 → s i j, or another
-abbrev pub IsSecond : ℕ → ℕ → (ℕ → ℕ → Literal) → List Literal → Type 0
-IsSecond n k s clause = (i j : ℕ) × (1 ≤ j) × IsPlace n k (suc i) (suc j) × (has clause (negated (s (suc i) (suc j))) ≡ true) × (has clause (s i j) ≡ true)
+abbrev pub IsSecond : Gate → List Literal → Type 0
+IsSecond gate clause = (i j : ℕ) × (1 ≤ j) × IsPlace gate (suc i) (suc j) × (has clause (negated (gate.s (suc i) (suc j))) ≡ true) × (has clause (gate.s i j) ≡ true)
 
--- each clause before is one of the counter's, or without inner counters and not needed after
-abbrev pub IsCounted : ℕ → ℕ → (ℕ → Literal) → (ℕ → ℕ → Literal) → Held → Held → Type 0
-IsCounted n k x s before after = (clause : List Literal) → IsHeld before clause →
-    (((m : Literal) → has clause m ≡ true → IsInner n k s m → ⊥) × IsNeedless after clause) ⊎ (IsFirst n k x s clause ⊎ IsSecond n k s clause)
+-- a head → s n k
+abbrev pub IsHead : Gate → List Literal → Type 0
+IsHead gate clause = (h : Literal) × IsPlace gate gate.n gate.k × (has gate.heads h ≡ true) × (has clause (negated h) ≡ true) × (has clause (gate.s gate.n gate.k) ≡ true)
 
--- counters are told apart, and from inputs
-pub record AreApart (n k : ℕ) (x : ℕ → Literal) (s : ℕ → ℕ → Literal) : Type 0 where
-  pub same_place : (i j a b : ℕ) → IsPlace n k i j → IsPlace n k a b → s i j ≡ s a b → (i ≡ a) × (j ≡ b)
-  pub not_negated : (i j a b : ℕ) → IsPlace n k i j → IsPlace n k a b → s i j ≢ negated (s a b)
-  pub no_input : (i a b : ℕ) → suc i ≤ n → IsPlace n k a b → (x (suc i) ≢ s a b) × (x (suc i) ≢ negated (s a b))
+-- a clause of a gate's counter
+abbrev pub IsOfCounter : Gates → List Literal → Type 0
+IsOfCounter gates clause = (g : ℕ) × (IsFirst (gates g) clause ⊎ (IsSecond (gates g) clause ⊎ IsHead (gates g) clause))
+
+-- no literal of the clause is a place's
+abbrev pub AreOuter : Gates → List Literal → Type 0
+AreOuter gates clause = (m : Literal) → has clause m ≡ true → IsOuter gates m
+
+-- each clause before is one of a counter, or has no literal of a place and is not needed after
+abbrev pub IsCounted : Gates → Held → Held → Type 0
+IsCounted gates before after = (clause : List Literal) → IsHeld before clause → (AreOuter gates clause × IsNeedless after clause) ⊎ IsOfCounter gates clause
+
+-- the literals of places are told apart, and from inputs and heads
+pub record AreApart (gates : Gates) : Type 0 where
+  pub same_place : (g h i j a b : ℕ) → IsPlace (gates g) i j → IsPlace (gates h) a b → (gates g).s i j ≡ (gates h).s a b → (g ≡ h) × (i ≡ a) × (j ≡ b)
+  pub not_negated : (g h i j a b : ℕ) → IsPlace (gates g) i j → IsPlace (gates h) a b → (gates g).s i j ≢ negated ((gates h).s a b)
+  pub inputs_outer : (g i : ℕ) → suc i ≤ (gates g).n → IsOuter gates ((gates g).x (suc i))
+  pub heads_outer : (g : ℕ) (h : Literal) → has (gates g).heads h ≡ true → IsOuter gates h

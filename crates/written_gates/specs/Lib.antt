@@ -1,2 +1,5 @@
 pub mod Finding
 pub mod Gates
+pub mod Counters
+pub mod WrittenOut
+pub mod Passing

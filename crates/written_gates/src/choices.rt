@@ -1,0 +1,113 @@
+//! The clauses of a gate that is written out.
+ghost use Rattle.std.specs.Prelude.{◌≡◌, ℕ, true, suc, ◌+◌, ◌<◌, ◌≤◌, ◌^◌, List, ◌∷◌, ◌++◌, length, map, All, OnOk};
+ghost use Rattle.std.specs.Bool.{OnTrue};
+ghost use Rattle.lrat_model.specs.Literal.{Literal, Plus, Minus, negated, has};
+ghost use Rattle.lrat_model.specs.Ranges.{IsInRange, AreInRange};
+ghost use Rattle.written_gates.specs.Finding.{IsHeld, IsNeedless};
+ghost use Rattle.written_gates.specs.Gates.{Rises};
+ghost use Rattle.written_gates.specs.Counters.{number_at};
+
+use crate::counters::Counter;
+use crate::writing::Origin;
+use clause_store::{Lit, Store};
+use std::alloc::AllocError;
+
+/// Whether the clause has the negation of its first literal.
+fn denies_its_first(clause: &[Lit]) -> bool
+    ensures { OnTrue result ((m : Literal) × (has clause.now m ≡ true) × (has clause.now (negated m) ≡ true)) }
+{
+    let Some(first) = clause.first() else {
+        return false;
+    };
+    let denied = first.negated();
+    for lit in clause {
+        if lit.same(denied) {
+            return true;
+        }
+    }
+    false
+}
+
+/// Holds a clause that is no tautology under the id behind the last.
+fn push_choice(
+    written: &mut Store,
+    origins: &mut Vec<Origin>,
+    origin: Origin,
+    clause: &[Lit],
+) -> Result<(), AllocError>
+    ensures needless { OnOk result (IsNeedless written.new.held clause.now) }
+    ensures kept { OnOk result ((before : List Literal) → IsHeld written.old.held before → IsHeld written.new.held before) }
+    ensures range { (vars : ℕ) → AreInRange vars written.old.held → IsInRange vars clause.now → OnOk result (AreInRange vars written.new.held) }
+{
+    if denies_its_first(clause) {
+        return Ok(());
+    }
+    let Some(id) = written.last().checked_add(1) else {
+        return Err(AllocError);
+    };
+    written.push(id, clause)?;
+    origins.push(origin)?;
+    Ok(())
+}
+
+/// Holds a clause for each choice of `left` of the inputs from the place `from` on: what is chosen already, or one of these.
+fn choose(
+    written: &mut Store,
+    origins: &mut Vec<Origin>,
+    origin: Origin,
+    inputs: &[u32],
+    chosen: &mut Vec<Lit>,
+    from: usize,
+    left: usize,
+) -> Result<(), AllocError>
+    requires from { from ≤ length inputs.now }
+    requires inputs { All (λ x. (0 < x) × (x < 2 ^ 31)) inputs.now }
+    ensures choices { OnOk result ((ps : List ℕ) → Rises from (length inputs.now) ps → length ps ≡ left → IsNeedless written.new.held (chosen.old.items ++ map (λ i. Plus (number_at inputs.now i)) ps)) }
+    ensures kept { OnOk result ((before : List Literal) → IsHeld written.old.held before → IsHeld written.new.held before) }
+    ensures range { (vars : ℕ) → AreInRange vars written.old.held → IsInRange vars chosen.old.items → All (λ x. x ≤ vars) inputs.now → OnOk result (AreInRange vars written.new.held) }
+    ensures chosen { OnOk result (chosen.new.items ≡ chosen.old.items) }
+{
+    if left == 0 {
+        return push_choice(written, origins, origin, chosen);
+    }
+    if inputs.len() - from < left {
+        return Ok(());
+    }
+    chosen.push(Lit::positive(inputs[from]))?;
+    choose(written, origins, origin, inputs, chosen, from + 1, left - 1)?;
+    chosen.pop();
+    choose(written, origins, origin, inputs, chosen, from + 1, left)
+}
+
+/// Holds, for each set of n - k + 1 of the n inputs of a gate that wants k of them, the clause that the head is false or one
+/// of the set is true, but for tautologies: a head that is true leaves at most n - k of its inputs false. Each clause has this
+/// origin, and its id follows the last one. Where no id is left this is as where no memory is. Time and memory are linear in
+/// the literals of these clauses.
+pub fn write_choices(
+    written: &mut Store,
+    origins: &mut Vec<Origin>,
+    origin: Origin,
+    counter: &Counter,
+    head: u32,
+) -> Result<(), AllocError>
+    requires head { (0 < head) × (head < 2 ^ 31) }
+    requires inputs { All (λ x. (0 < x) × (x < 2 ^ 31)) counter.now.inputs.items }
+    ensures choices { OnOk result ((ps : List ℕ) → Rises 0 (length counter.now.inputs.items) ps → length ps + counter.now.threshold ≡ suc (length counter.now.inputs.items) → IsNeedless written.new.held (Minus head ∷ map (λ i. Plus (number_at counter.now.inputs.items i)) ps)) }
+    ensures kept { OnOk result ((clause : List Literal) → IsHeld written.old.held clause → IsHeld written.new.held clause) }
+    ensures range { (vars : ℕ) → AreInRange vars written.old.held → head ≤ vars → All (λ x. x ≤ vars) counter.now.inputs.items → OnOk result (AreInRange vars written.new.held) }
+{
+    let Some(size) = (counter.inputs.len() + 1).checked_sub(counter.threshold) else {
+        return Ok(());
+    };
+    let mut chosen = Vec::new(*origins.allocator());
+    chosen.push(Lit::negative(head))?;
+    choose(
+        written,
+        origins,
+        origin,
+        &counter.inputs,
+        &mut chosen,
+        0,
+        size,
+    )
+}

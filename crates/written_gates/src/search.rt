@@ -1,0 +1,205 @@
+//! The gates of a formula that are worth writing out.
+
+use crate::counters::Counter;
+use crate::reading::{MOST_INPUTS, read_counter};
+use clause_store::{Lit, Store};
+use std::alloc::{AllocError, Global};
+
+/// The most clauses that a gate may have for each head.
+const MOST_SETS: u64 = 500;
+
+/// What a variable is to the counters that were found.
+#[derive(Clone, Copy)]
+enum Role {
+    /// None of their places.
+    Outer,
+    /// A place of one, and not its last.
+    Inner,
+    /// The last place of the counter with this number, from 0 on.
+    Output(usize),
+}
+
+/// The number of sets of n - k + 1 of n inputs. As much as a number holds stands for more.
+fn count_of_sets(n: u64, k: u64) -> u64 {
+    let mut count: u64 = 1;
+    for i in 0..n.saturating_add(1).saturating_sub(k) {
+        count = count.saturating_mul(n.saturating_sub(i)) / (i + 1);
+    }
+    count
+}
+
+/// Whether a counter has few inputs, and few sets of them to be written out.
+fn is_small(counter: &Counter) -> bool {
+    let inputs = counter.inputs.len() as u64;
+    inputs <= u64::from(MOST_INPUTS) && count_of_sets(inputs, counter.threshold as u64) <= MOST_SETS
+}
+
+/// The small counters in the order of their clauses, without heads.
+fn small_counters(alloc: Global, formula: &Store) -> Result<Vec<Counter>, AllocError> {
+    let mut counters = Vec::new(alloc);
+    let mut next = 1;
+    for before in 0..formula.last() {
+        let id = before + 1;
+        if id < next {
+            continue;
+        }
+        if let Some(counter) = read_counter(alloc, formula, id)? {
+            next = counter.end;
+            if is_small(&counter) {
+                counters.push(counter)?;
+            }
+        }
+    }
+    Ok(counters)
+}
+
+/// Gives a variable a role, where it is in the table.
+fn set_role(roles: &mut [Role], variable: u32, role: Role) {
+    if let Some(there) = roles.get_mut(variable as usize) {
+        *there = role;
+    }
+}
+
+/// Marks so many variables from the first on as places.
+fn mark_row(roles: &mut [Role], first: u32, width: u32) {
+    for j in 0..width {
+        set_role(roles, first.saturating_add(j), Role::Inner);
+    }
+}
+
+/// Marks the places of a counter, and its output.
+fn mark_counter(roles: &mut [Role], number: usize, counter: &Counter) {
+    let mut width: u32 = 0;
+    let mut output = 0;
+    for first in &counter.rows {
+        if (width as usize) < counter.threshold {
+            width = width.saturating_add(1);
+        }
+        mark_row(roles, *first, width);
+        output = first.saturating_add(width.saturating_sub(1));
+    }
+    set_role(roles, output, Role::Output(number));
+}
+
+/// The role of each variable, at its number.
+fn roles_of(alloc: Global, counters: &[Counter], vars: u64) -> Result<Vec<Role>, AllocError> {
+    let Some(size) = vars.checked_add(1) else {
+        return Err(AllocError);
+    };
+    let mut roles = Vec::new(alloc);
+    roles.resize(size as usize, Role::Outer)?;
+    for (number, counter) in counters.iter().enumerate() {
+        mark_counter(&mut roles, number, counter);
+    }
+    Ok(roles)
+}
+
+/// The role of a literal's variable.
+fn role_of(roles: &[Role], lit: Lit) -> Role {
+    match roles.get(lit.variable() as usize) {
+        Some(role) => *role,
+        None => Role::Outer,
+    }
+}
+
+/// The number of the counter whose output this literal is.
+fn output_of(roles: &[Role], lit: Lit) -> Option<usize> {
+    match role_of(roles, lit) {
+        Role::Output(number) if lit.number() > 0 => Some(number),
+        _ => None,
+    }
+}
+
+/// The variable of a literal that is the negation of one that is no place.
+fn outer_denied(roles: &[Role], lit: Lit) -> Option<u32> {
+    match role_of(roles, lit) {
+        Role::Outer if lit.number() < 0 => Some(lit.variable()),
+        _ => None,
+    }
+}
+
+/// The head of a clause of two literals, where these are its negation and this output.
+fn head_of(roles: &[Role], lits: &[Lit], output: Lit) -> Option<u32> {
+    if lits.len() != 2 {
+        return None;
+    }
+    let first = *lits.first()?;
+    let last = *lits.last()?;
+    let other = if first.same(output) { last } else { first };
+    outer_denied(roles, other)
+}
+
+/// Sees a clause in which this literal is a counter's output: the counter has one more head, or it is shared.
+fn see_use(
+    counter: &mut Counter,
+    shared: &mut bool,
+    id: u64,
+    head: Option<u32>,
+) -> Result<(), AllocError> {
+    match head {
+        Some(head) => {
+            counter.heads.push(head)?;
+            counter.head_ids.push(id)?;
+        }
+        None => *shared = true,
+    }
+    Ok(())
+}
+
+/// Sees the outputs of counters in a clause.
+fn see_clause(
+    counters: &mut [Counter],
+    shared: &mut [bool],
+    roles: &[Role],
+    id: u64,
+    lits: &[Lit],
+) -> Result<(), AllocError> {
+    for lit in lits {
+        if let Some(number) = output_of(roles, *lit)
+            && let Some(counter) = counters.get_mut(number)
+            && let Some(is_shared) = shared.get_mut(number)
+        {
+            see_use(counter, is_shared, id, head_of(roles, lits, *lit))?;
+        }
+    }
+    Ok(())
+}
+
+/// Gives the counters their heads, and tells which of them are used otherwise.
+fn see_clauses(
+    alloc: Global,
+    formula: &Store,
+    vars: u64,
+    counters: &mut Vec<Counter>,
+) -> Result<Vec<bool>, AllocError> {
+    let roles = roles_of(alloc, counters, vars)?;
+    let mut shared = Vec::new(alloc);
+    shared.resize(counters.len(), false)?;
+    for before in 0..formula.last() {
+        let id = before + 1;
+        if let Some(lits) = formula.lits(id) {
+            see_clause(counters, &mut shared, &roles, id, lits)?;
+        }
+    }
+    Ok(shared)
+}
+
+/// The gates with counters that are named by nothing but their heads' clauses, and have few sets of inputs to be written out:
+/// at most 500, of at most 32 inputs. They stand in the order of their clauses. The ids of the formula are dense from 1 on, and
+/// its variables are at most `vars`, else gates may be missed. Time is linear in the literals and `vars`, memory in `vars` and
+/// the gates.
+pub fn find_counters(
+    alloc: Global,
+    formula: &Store,
+    vars: u64,
+) -> Result<Vec<Counter>, AllocError> {
+    let mut counters = small_counters(alloc, formula)?;
+    let shared = see_clauses(alloc, formula, vars, &mut counters)?;
+    let mut found = Vec::new(alloc);
+    for (counter, is_shared) in counters.into_iter().zip(shared) {
+        if !is_shared && !counter.heads.is_empty() {
+            found.push(counter)?;
+        }
+    }
+    Ok(found)
+}
