@@ -11,3 +11,5 @@ mod circuits;
 mod shared;
 #[cfg(test)]
 mod tests;
+#[cfg(test)]
+mod written;

@@ -1,0 +1,5 @@
+pub mod MovedLogs
+pub mod BesideLaws
+pub mod Carried
+pub mod CarrierLaws
+pub mod CarryLaws

@@ -1,0 +1,5 @@
+pub mod Moved
+pub mod Beside
+pub mod Found
+pub mod Carriers
+pub mod Finding

@@ -1,0 +1,240 @@
+//! Lemmas over gates written out, carried over to the formula one by one: each under its new id with new hints, which a checker
+//! takes.
+ghost use Rattle.std.specs.Prelude.{◌≡◌, ◌+◌, ◌<◌, ◌≤◌, ◌^◌, true, [], None, Ok, IfOk, IfSome, All, map, length, pos};
+ghost use Rattle.lrat_model.specs.Ranges.{AreInRange};
+ghost use Rattle.lrat_model.specs.Steps.{Addition, step_of};
+ghost use Rattle.lrat_text.specs.Texts.{IsId};
+ghost use Rattle.cdcl_core.specs.Log.{NamesClause};
+ghost use Rattle.gate_search.specs.Carriers.{AreLitsNowhere, IsReady, Shows, HasSame, HasChecked, HasLemma, HasDeletion};
+ghost use Rattle.gate_search.specs.Moved.{AreMoved};
+
+use crate::hints::{Bases, Hints};
+use clause_store::Store;
+use lrat_checker::{Checker, Rule, Step, StepFault};
+use lrat_model::Lit;
+use lrat_text::{HintsRef, Log};
+use std::alloc::{AllocError, Global};
+use written_gates::{Cell, Written, is_outer};
+
+/// No id that is given out here is greater.
+const MOST_ID: u64 = 1 << 62;
+
+/// A checker over the formula; what it holds once more, since hints are looked up there; the hints of the lemma that is carried;
+/// and the log so far.
+#[derive(Drop)]
+pub struct Carrier {
+    pub checker: Checker,
+    pub clauses: Store,
+    pub vars: u64,
+    pub hints: Hints,
+    pub log: Log,
+}
+
+impl Carrier {
+    /// Nothing is carried over to the formula yet. None where the formula has no clause of its last id, which a copy could not
+    /// have then either. Linear in it.
+    pub fn start(alloc: Global, formula: &Store, vars: u64) -> Result<Option<Carrier>, AllocError>
+        requires small { vars < 2 ^ 31 }
+        requires range { AreInRange vars formula.now.held }
+        ensures ready { IfOk result (λ found. IfSome found IsReady) }
+        ensures clauses { IfOk result (λ found. IfSome found (λ c. c.clauses ≡ formula.now)) }
+        ensures vars { IfOk result (λ found. IfSome found (λ c. c.vars ≡ vars)) }
+        ensures log { IfOk result (λ found. IfSome found (λ c. c.log ≡ [])) }
+    {
+        let hints = Hints::new(alloc, vars)?;
+        let Some(checker) = checker_of(alloc, formula, vars)? else {
+            return Ok(None);
+        };
+        let Some(clauses) = copy_of(alloc, formula)? else {
+            return Ok(None);
+        };
+        Ok(Some(Carrier {
+            checker,
+            clauses,
+            vars,
+            hints,
+            log: Log::new(alloc),
+        }))
+    }
+
+    /// Shows a lemma over the formula, if hints are found that do: the step that adds it. The checker has taken it then, and
+    /// nothing is held or logged yet.
+    pub fn show(
+        &mut self,
+        alloc: Global,
+        written: &Written,
+        bases: Bases,
+        lits: &[Lit],
+        hints: HintsRef<'_>,
+    ) -> Result<Option<Step>, AllocError>
+        requires ready { IsReady self.old }
+        ensures shows { IfOk result (λ found. IfSome found (Shows written.now.cells.items self.old.vars self.old.clauses lits.now)) }
+        ensures checked { IfOk result (λ found. IfSome found (λ step. HasChecked self.old self.new (step_of step))) }
+        ensures same { HasSame self.old self.new }
+    {
+        let last = self.clauses.last();
+        if last >= MOST_ID || !are_outer(&written.cells, lits) {
+            return Ok(None);
+        }
+        self.hints
+            .look_for(&self.clauses, written, bases, lits, hints)?;
+        if !are_named(&self.clauses, &self.hints.ids)
+            || self.hints.ids.len() as u64 > self.vars + 1
+        {
+            return Ok(None);
+        }
+        let step = addition(alloc, last + 1, lits, &self.hints.ids)?;
+        match self.checker.step(&step) {
+            Ok(_) => Ok(Some(step)),
+            Err(StepFault::Memory) => Err(AllocError),
+            Err(_) => Ok(None),
+        }
+    }
+
+    /// Carries a lemma over, if it is shown.
+    pub fn take(
+        &mut self,
+        alloc: Global,
+        written: &Written,
+        bases: Bases,
+        lits: &[Lit],
+        hints: HintsRef<'_>,
+    ) -> Result<bool, AllocError>
+        requires ready { IsReady self.old }
+        ensures { result ≡ Ok true → HasLemma written.now.cells.items self.old self.new lits.now }
+    {
+        let Some(step) = self.show(alloc, written, bases, lits, hints)? else {
+            return Ok(false);
+        };
+        let id = self.clauses.last() + 1;
+        self.clauses.push(id, lits)?;
+        self.log.push(step)?;
+        Ok(true)
+    }
+
+    /// Carries a deletion over, if each of these ids is that of a lemma which is held.
+    pub fn delete(&mut self, alloc: Global, bases: Bases, ids: &[u64]) -> Result<bool, AllocError>
+        requires ready { IsReady self.old }
+        ensures { result ≡ Ok true → HasDeletion bases.written bases.formula ids.now self.old self.new }
+    {
+        let last = self.clauses.last();
+        let Some(news) = moved(alloc, bases, ids)? else {
+            return Ok(false);
+        };
+        if last == 0 || last >= MOST_ID || self.checker.delete(&news).is_err() {
+            return Ok(false);
+        }
+        if self.clauses.remove_all(&news).is_err() {
+            return Ok(false);
+        }
+        self.log.push_deletion(last, &news)?;
+        Ok(true)
+    }
+}
+
+/// A checker over the formula, if it has a clause of its last id.
+fn checker_of(alloc: Global, formula: &Store, vars: u64) -> Result<Option<Checker>, AllocError>
+    requires small { vars < 2 ^ 31 }
+    requires range { AreInRange vars formula.now.held }
+    ensures database { IfOk result (λ found. IfSome found (λ c. c.database ≡ formula.now)) }
+    ensures vars { IfOk result (λ found. IfSome found (λ c. c.vars ≡ vars)) }
+    ensures rule { IfOk result (λ found. IfSome found (λ c. c.rule ≡ Rule.Rup)) }
+    ensures closed { IfOk result (λ found. IfSome found (λ c. c.open_addition ≡ None)) }
+{
+    match copy_of(alloc, formula)? {
+        Some(copy) => Ok(Some(Checker::start(alloc, copy, vars, Rule::Rup)?)),
+        None => Ok(None),
+    }
+}
+
+/// The clauses of a store once more, under the same ids, if one of them has its last id: linear in it.
+fn copy_of(alloc: Global, store: &Store) -> Result<Option<Store>, AllocError>
+    ensures { IfOk result (λ found. IfSome found (λ copy. copy ≡ store.now)) }
+{
+    let last = store.last();
+    let mut copy = Store::new(alloc);
+    let mut above = 0;
+    while above < last {
+        let Some((id, lits)) = store.first_above(above) else {
+            return Ok(None);
+        };
+        copy.push(id, lits)?;
+        above = id;
+    }
+    if above == last {
+        Ok(Some(copy))
+    } else {
+        Ok(None)
+    }
+}
+
+/// Whether no literal is that of a place.
+fn are_outer(cells: &[Cell], lits: &[Lit]) -> bool
+    ensures { result ≡ true → AreLitsNowhere cells.now lits.now }
+{
+    for l in lits {
+        if !is_outer(cells, *l) {
+            return false;
+        }
+    }
+    true
+}
+
+/// Whether each id is that of a clause held, and none is too great.
+fn are_named(clauses: &Store, ids: &[u64]) -> bool
+    ensures named { result ≡ true → All (NamesClause clauses.now.held) (map pos ids.now) }
+    ensures numbers { result ≡ true → All IsId ids.now }
+{
+    for id in ids {
+        if !is_named(clauses, *id) {
+            return false;
+        }
+    }
+    true
+}
+
+fn is_named(clauses: &Store, id: u64) -> bool
+    ensures named { result ≡ true → NamesClause clauses.now.held (pos id) }
+    ensures number { result ≡ true → IsId id }
+{
+    0 < id && id < MOST_ID && clauses.lits(id).is_some()
+}
+
+/// The step that adds a lemma with these ids as its hints.
+fn addition(alloc: Global, id: u64, lits: &[Lit], ids: &[u64]) -> Result<Step, AllocError>
+    requires { All IsId ids.now }
+    ensures { IfOk result (λ step. step_of step ≡ Addition id lits.now (map pos ids.now)) }
+{
+    Ok(Step::Add {
+        id,
+        lits: Vec::from_slice(alloc, lits)?,
+        hints: hints_of(alloc, ids)?,
+    })
+}
+
+/// The ids as hints.
+fn hints_of(alloc: Global, ids: &[u64]) -> Result<Vec<i64>, AllocError>
+    requires { All IsId ids.now }
+    ensures { IfOk result (λ hints. hints.items ≡ map pos ids.now) }
+{
+    let mut hints = Vec::with_capacity(alloc, ids.len())?;
+    for id in ids {
+        hints.push(*id as i64)?;
+    }
+    Ok(hints)
+}
+
+/// The ids as far past the formula as they are past what is written out, if each is past it and none is too great.
+fn moved(alloc: Global, bases: Bases, ids: &[u64]) -> Result<Option<Vec<u64>>, AllocError>
+    ensures moved { IfOk result (λ found. IfSome found (λ news. AreMoved bases.written bases.formula ids.now news.items)) }
+    ensures numbers { IfOk result (λ found. IfSome found (λ news. All IsId news.items)) }
+{
+    let mut news = Vec::with_capacity(alloc, ids.len())?;
+    for id in ids {
+        if *id <= bases.written || *id >= MOST_ID || bases.formula >= MOST_ID {
+            return Ok(None);
+        }
+        news.push(*id - bases.written + bases.formula)?;
+    }
+    Ok(Some(news))
+}

@@ -1,0 +1,246 @@
+//! The hints of a lemma over the formula, from those over its gates written out. No answer depends on them, since each lemma
+//! is checked.
+ghost use Rattle.std.specs.Prelude.{◌<◌, ◌^◌};
+
+use crate::values::{Sight, Values};
+use clause_store::Store;
+use lrat_model::Lit;
+use lrat_text::HintsRef;
+use std::alloc::{AllocError, Global};
+use written_gates::{Counter, Origin, Written};
+
+/// The ids that were found for a lemma, the values that they lead to, and whether they lead to a clause with all literals
+/// false.
+#[derive(Drop)]
+pub struct Hints {
+    pub ids: Vec<u64>,
+    values: Values,
+    has_conflict: bool,
+}
+
+/// The last ids of the formula and of what is written out in its place, past which lemmas have their ids.
+#[derive(Clone, Copy)]
+pub struct Bases {
+    pub formula: u64,
+    pub written: u64,
+}
+
+impl Hints {
+    /// None, among this many variables.
+    pub fn new(alloc: Global, vars: u64) -> Result<Hints, AllocError>
+        requires { vars < 2 ^ 31 }
+    {
+        Ok(Hints {
+            ids: Vec::new(alloc),
+            values: Values::new(alloc, vars)?,
+            has_conflict: false,
+        })
+    }
+
+    /// Looks for the hints of a lemma. O(the literals of the clauses that are hints, and for each hint that is a set of a gate's
+    /// inputs those of the gate's counter).
+    pub fn look_for(
+        &mut self,
+        clauses: &Store,
+        written: &Written,
+        bases: Bases,
+        lits: &[Lit],
+        hints: HintsRef<'_>,
+    ) -> Result<(), AllocError> {
+        self.begin(lits)?;
+        match hints {
+            HintsRef::Short(ids) => self.follow_short(clauses, written, bases, ids),
+            HintsRef::Wide(ids) => self.follow_wide(clauses, written, bases, ids),
+        }
+    }
+
+    /// The lemma's literals are false, and there is no hint yet.
+    fn begin(&mut self, lits: &[Lit]) -> Result<(), AllocError> {
+        self.ids.clear();
+        self.values.clear();
+        self.has_conflict = false;
+        for l in lits {
+            self.values.make_true(l.negated())?;
+        }
+        Ok(())
+    }
+
+    fn follow_short(
+        &mut self,
+        clauses: &Store,
+        written: &Written,
+        bases: Bases,
+        ids: &[u32],
+    ) -> Result<(), AllocError> {
+        for id in ids {
+            self.follow(clauses, written, bases, u64::from(*id))?;
+        }
+        Ok(())
+    }
+
+    fn follow_wide(
+        &mut self,
+        clauses: &Store,
+        written: &Written,
+        bases: Bases,
+        ids: &[i64],
+    ) -> Result<(), AllocError> {
+        for id in ids {
+            self.follow(clauses, written, bases, id.unsigned_abs())?;
+        }
+        Ok(())
+    }
+
+    /// Goes after one hint: a lemma, a clause of the formula, or a set of the inputs of a gate, for which the gate's counter
+    /// is gone through unless the set is true already.
+    fn follow(
+        &mut self,
+        clauses: &Store,
+        written: &Written,
+        bases: Bases,
+        id: u64,
+    ) -> Result<(), AllocError> {
+        if self.has_conflict {
+            return Ok(());
+        }
+        if id > bases.written {
+            return self.offer(clauses, (id - bases.written).saturating_add(bases.formula));
+        }
+        match origin_of(written, id) {
+            Origin::Formula(own) => self.offer(clauses, own),
+            Origin::Gate { number, head } => {
+                if self.holds(written, id) {
+                    return Ok(());
+                }
+                match written.counters.get(number as usize) {
+                    Some(counter) => self.count(clauses, counter, head),
+                    None => Ok(()),
+                }
+            }
+        }
+    }
+
+    /// Whether a literal of the set is true.
+    fn holds(&self, written: &Written, id: u64) -> bool {
+        match written.store.lits(id) {
+            Some(set) => matches!(self.values.see(set), Sight::Holds),
+            None => false,
+        }
+    }
+
+    /// Goes through a gate's counter: from the head to the gate; up its rows, where inputs are false; down again, where so many
+    /// are that all others have to be true; and from the gate to the head.
+    fn count(&mut self, clauses: &Store, counter: &Counter, head: u64) -> Result<(), AllocError> {
+        self.offer(clauses, head)?;
+        let falses = self.rise(clauses, counter)?;
+        if counter.threshold.saturating_add(falses) == counter.inputs.len() {
+            self.fall(clauses, counter, falses)?;
+        }
+        self.offer(clauses, head)
+    }
+
+    /// Up the rows: where f of the first i inputs are false, the places past i - f of row i are. How many inputs are false.
+    fn rise(&mut self, clauses: &Store, counter: &Counter) -> Result<usize, AllocError> {
+        let mut falses: usize = 0;
+        let mut row: usize = 0;
+        let mut id = counter.start;
+        for input in &counter.inputs {
+            row = row.saturating_add(1);
+            let is_false = self.values.is_false(*input);
+            falses = falses.saturating_add(usize::from(is_false));
+            let width = row.min(counter.threshold);
+            let from = row.saturating_sub(falses).saturating_add(1);
+            self.rise_in(clauses, id, from, width, is_false)?;
+            id = id.saturating_add(size_of_row(width));
+        }
+        Ok(falses)
+    }
+
+    /// In a row whose clauses begin at this id: the places from a column on, each by its first clause where the row's input is
+    /// false, and else by its second.
+    fn rise_in(
+        &mut self,
+        clauses: &Store,
+        id: u64,
+        from: usize,
+        width: usize,
+        is_first: bool,
+    ) -> Result<(), AllocError> {
+        for column in from..width.saturating_add(1) {
+            self.offer(
+                clauses,
+                first_clause(id, column).saturating_add(u64::from(!is_first)),
+            )?;
+        }
+        Ok(())
+    }
+
+    /// Down the rows: place (i, i - f) is true where f of the first i inputs are false, and with it the i-th input, unless that
+    /// is false.
+    fn fall(
+        &mut self,
+        clauses: &Store,
+        counter: &Counter,
+        falses: usize,
+    ) -> Result<(), AllocError> {
+        let mut left = falses;
+        let mut row = counter.inputs.len();
+        let mut id = counter.end;
+        while row > 0 {
+            let width = row.min(counter.threshold);
+            id = id.saturating_sub(size_of_row(width));
+            let first = first_clause(id, row.saturating_sub(left));
+            row -= 1;
+            self.offer(clauses, first)?;
+            match counter.inputs.get(row) {
+                Some(input) if self.values.is_false(*input) => left = left.saturating_sub(1),
+                _ => self.offer(clauses, first.saturating_add(1))?,
+            }
+        }
+        Ok(())
+    }
+
+    /// Takes a clause for a hint where it forces a literal or has all false; after one with all false none is wanted.
+    fn offer(&mut self, clauses: &Store, id: u64) -> Result<(), AllocError> {
+        if self.has_conflict {
+            return Ok(());
+        }
+        let Some(clause) = clauses.lits(id) else {
+            return Ok(());
+        };
+        match self.values.see(clause) {
+            Sight::Fails => {
+                self.has_conflict = true;
+                self.ids.push(id)?;
+                Ok(())
+            }
+            Sight::Forces(l) => {
+                self.values.make_true(l)?;
+                self.ids.push(id)?;
+                Ok(())
+            }
+            _ => Ok(()),
+        }
+    }
+}
+
+/// The number of clauses of a row with this many places.
+fn size_of_row(width: usize) -> u64 {
+    (width as u64).saturating_mul(2).saturating_sub(1)
+}
+
+/// The id of the first clause of the place in a column, from 1 on, of a row whose clauses begin at this id.
+fn first_clause(id: u64, column: usize) -> u64 {
+    id.saturating_add((column as u64).saturating_mul(2).saturating_sub(3))
+}
+
+/// Where the clause of an id is from; where it is not told, a clause that no formula has.
+fn origin_of(written: &Written, id: u64) -> Origin {
+    if id == 0 {
+        return Origin::Formula(0);
+    }
+    match written.origins.get(id as usize - 1) {
+        Some(origin) => *origin,
+        None => Origin::Formula(0),
+    }
+}

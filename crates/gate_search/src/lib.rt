@@ -1,0 +1,10 @@
+//! A search over a formula whose gates are written out, whose log is carried over to the formula.
+#![tactic(auto)]
+
+mod carrier;
+mod carrying;
+mod hints;
+mod searching;
+mod values;
+
+pub use searching::{Found, search};
