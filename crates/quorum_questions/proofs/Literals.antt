@@ -31,7 +31,7 @@ pub log_literals : (vars : ℕ) (old : Database) (log : List ProofStep) → vars
 log_literals vars old log small lemmas = All-from_recursion HasLiterals log (literals_of vars old log small lemmas)
 
 -- what a solver logs over the formula is a log
-log_is : (f : Fbas) (b : Table) (vars : ℕ) (old new : Database) (log : List ProofStep) → vars ≡ vars_of f b → old ≡ formula_database (clauses_of f b) → vars_of f b ≤ MOST_VARS → Run vars old log new → AreLemmas vars old log
+pub log_is : (f : Fbas) (b : Table) (vars : ℕ) (old new : Database) (log : List ProofStep) → vars ≡ vars_of f b → old ≡ formula_database (clauses_of f b) → vars_of f b ≤ MOST_VARS → Run vars old log new → AreLemmas vars old log
     → IsBoundedLog vars log → length log ≤ 2 * units log + 1 → All HasNumbers log → IsLog f b log new
 log_is f b vars old new log same of_formula small run lemmas bounded short numbers =
     let d = formula_database (clauses_of f b) in

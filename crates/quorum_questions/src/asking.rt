@@ -1,14 +1,15 @@
 //! The questions.
-ghost use Rattle.std.specs.Prelude.{◌≡◌, ℕ, ◌<◌, ◌≤◌, length, IsTrue, ◌↔◌, Err, IfOk, IfErr, OnOk};
+ghost use Rattle.std.specs.Prelude.{◌≡◌, ℕ, ◌<◌, ◌≤◌, length, IsTrue, ◌↔◌, Err, IfOk, IfErr, IfSome, OnOk};
 ghost use Rattle.fbas_model.specs.Nodes.{members};
 ghost use Rattle.fbas_model.specs.Fbas.{Available, AreUnmet};
 ghost use Rattle.clause_encoder.specs.declared.limits.TheConstants.{MOST_VARS};
 ghost use Rattle.fbas_model.specs.Restriction.{union};
 ghost use Rattle.quorum_questions.specs.Evidence.{vars_of, Shows};
-ghost use Rattle.quorum_questions.specs.Searching.{IsStarted};
+ghost use Rattle.quorum_questions.specs.Searching.{IsFormula, IsStarted};
 
 use crate::answers::{Answer, AskError};
-use crate::searching::{End, Search, end_of, start};
+use crate::gates::by_gates;
+use crate::searching::{End, Formula, Search, end_of, formula_of, start};
 use fbas_core::System;
 use greatest_quorum::available;
 use name_set::NodeSet;
@@ -17,11 +18,17 @@ use std::alloc::Global;
 /// The most units that a question may have.
 pub const MOST_UNITS: u64 = 4_000_000_000;
 
+/// So many lemmas with a literal a search over the formula itself learns at first: those of most systems that are run are
+/// refuted by fewer, and the gates of one that is not are worth writing out.
+const FEW_UNITS: u64 = 500;
+
 /// Whether every two quorums (Mazières 2015) share a node once the faulty nodes are deleted, with the evidence: a log that
 /// refutes the intersection formula, or two quorums that share none, or the log of a search that spent the budget.
 ///
-/// The formula is that of version 2. Of the budget each lemma with a literal takes a unit. `TooLarge` comes exactly where the formula has more than 4,000,000
-/// variables. The cost is that of the greatest quorum, of `encode` and of the search.
+/// The formula is that of version 2. Of the budget each lemma with a literal takes a unit. `TooLarge` comes exactly where the
+/// formula has more than 4,000,000 variables. Where 500 lemmas over the formula decide nothing, the search begins anew with its
+/// gates written out, where these have few sets of inputs, and else over the formula; what the first lemmas took counts nothing. The
+/// cost is that of the greatest quorum, of `encode` and of the searches.
 pub fn intersect(
     alloc: Global,
     system: &System,
@@ -34,14 +41,118 @@ pub fn intersect(
     ensures small { OnOk result (vars_of system.now.sets faulty.now ≤ MOST_VARS) }
     ensures too_large { (vars : ℕ) → result ≡ Err (AskError.TooLarge vars) → (vars ≡ vars_of system.now.sets faulty.now) × (MOST_VARS < vars) }
 {
-    match start(alloc, system, faulty) {
-        Ok(search) => answer(alloc, system, faulty, search, budget),
+    if budget <= FEW_UNITS {
+        return by_formula(alloc, system, faulty, budget);
+    }
+    match at_once(alloc, system, faulty, budget) {
+        Ok(Some(answer)) => Ok(answer),
+        Ok(None) => at_length(alloc, system, faulty, budget),
         Err(error) => Err(error),
     }
 }
 
-/// What a search that has not begun finds within the budget. The solver is borrowed until its log is all that is wanted of it.
+/// What few lemmas show, of a greater budget.
+fn at_once(
+    alloc: Global,
+    system: &System,
+    faulty: &NodeSet,
+    budget: u64,
+) -> Result<Option<Answer>, AskError>
+    requires same_n { length faulty.now ≡ length system.now.sets }
+    requires more { FEW_UNITS < budget }
+    ensures shows { IfOk result (λ found. IfSome found (Shows system.now.sets faulty.now budget)) }
+    ensures small { OnOk result (vars_of system.now.sets faulty.now ≤ MOST_VARS) }
+    ensures too_large { (vars : ℕ) → result ≡ Err (AskError.TooLarge vars) → (vars ≡ vars_of system.now.sets faulty.now) × (MOST_VARS < vars) }
+{
+    match by_formula(alloc, system, faulty, FEW_UNITS) {
+        Ok(Answer::Yes(log, size)) => Ok(Some(Answer::Yes(log, size))),
+        Ok(Answer::No(pair)) => Ok(Some(Answer::No(pair))),
+        Ok(Answer::Spent(_, _)) => Ok(None),
+        Err(error) => Err(error),
+    }
+}
+
+/// What the whole budget shows: with the formula's gates written out, and where that led nowhere over the formula itself.
+fn at_length(
+    alloc: Global,
+    system: &System,
+    faulty: &NodeSet,
+    budget: u64,
+) -> Result<Answer, AskError>
+    requires same_n { length faulty.now ≡ length system.now.sets }
+    requires few { budget ≤ MOST_UNITS }
+    ensures shows { IfOk result (Shows system.now.sets faulty.now budget) }
+    ensures small { OnOk result (vars_of system.now.sets faulty.now ≤ MOST_VARS) }
+    ensures too_large { (vars : ℕ) → result ≡ Err (AskError.TooLarge vars) → (vars ≡ vars_of system.now.sets faulty.now) × (MOST_VARS < vars) }
+{
+    match formula_of(alloc, system, faulty) {
+        Ok(formula) => answer(alloc, system, faulty, formula, budget),
+        Err(error) => Err(error),
+    }
+}
+
+/// What a search over the formula itself shows within the budget.
+fn by_formula(
+    alloc: Global,
+    system: &System,
+    faulty: &NodeSet,
+    budget: u64,
+) -> Result<Answer, AskError>
+    requires same_n { length faulty.now ≡ length system.now.sets }
+    requires few { budget ≤ MOST_UNITS }
+    ensures shows { IfOk result (Shows system.now.sets faulty.now budget) }
+    ensures small { OnOk result (vars_of system.now.sets faulty.now ≤ MOST_VARS) }
+    ensures too_large { (vars : ℕ) → result ≡ Err (AskError.TooLarge vars) → (vars ≡ vars_of system.now.sets faulty.now) × (MOST_VARS < vars) }
+{
+    match formula_of(alloc, system, faulty) {
+        Ok(formula) => search_on(alloc, system, faulty, formula, budget),
+        Err(error) => Err(error),
+    }
+}
+
+/// What is found within the budget: with the formula's gates written out, and where that led nowhere over the formula itself.
 fn answer(
+    alloc: Global,
+    system: &System,
+    faulty: &NodeSet,
+    formula: Formula,
+    budget: u64,
+) -> Result<Answer, AskError>
+    requires same_n { length faulty.now ≡ length system.now.sets }
+    requires few { budget ≤ MOST_UNITS }
+    requires formula { IsFormula system.now.sets faulty.now formula }
+    ensures shows { IfOk result (Shows system.now.sets faulty.now budget) }
+    ensures memory { IfErr result (λ error. error ≡ AskError.Memory) }
+{
+    match by_gates(alloc, system, faulty, &formula, budget) {
+        Ok(Some(answer)) => Ok(answer),
+        Ok(None) => search_on(alloc, system, faulty, formula, budget),
+        Err(error) => Err(error),
+    }
+}
+
+/// What a search over this formula finds within the budget.
+fn search_on(
+    alloc: Global,
+    system: &System,
+    faulty: &NodeSet,
+    formula: Formula,
+    budget: u64,
+) -> Result<Answer, AskError>
+    requires same_n { length faulty.now ≡ length system.now.sets }
+    requires few { budget ≤ MOST_UNITS }
+    requires formula { IsFormula system.now.sets faulty.now formula }
+    ensures shows { IfOk result (Shows system.now.sets faulty.now budget) }
+    ensures memory { IfErr result (λ error. error ≡ AskError.Memory) }
+{
+    match start(alloc, formula) {
+        Ok(search) => search_from(alloc, system, faulty, search, budget),
+        Err(_) => Err(AskError::Memory),
+    }
+}
+
+/// What a search that has not begun finds within the budget. The solver is borrowed until its log is all that is wanted of it.
+fn search_from(
     alloc: Global,
     system: &System,
     faulty: &NodeSet,

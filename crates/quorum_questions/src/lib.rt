@@ -3,6 +3,7 @@
 
 mod answers;
 mod asking;
+mod gates;
 mod searching;
 
 pub use answers::{Answer, AskError, Size};

@@ -1,24 +1,34 @@
 //! The search for an assignment that tells two quorums which share no node.
-ghost use Rattle.std.specs.Prelude.{◌≡◌, ℕ, ◌<◌, ◌≤◌, length, Err, IfOk, IfErr};
+ghost use Rattle.std.specs.Prelude.{◌≡◌, ℕ, ◌<◌, ◌≤◌, ◌^◌, length, Err, IfOk, IfErr};
 ghost use Rattle.lrat_model.specs.Clauses.{numbered, Satisfies};
-ghost use Rattle.fbas_model.specs.Nodes.{members};
-ghost use Rattle.fbas_model.specs.Fbas.{IsGreatestQuorum, all_nodes};
+ghost use Rattle.lrat_model.specs.Ranges.{AreInRange};
+ghost use Rattle.fbas_model.specs.Nodes.{Table, members};
+ghost use Rattle.fbas_model.specs.Fbas.{Fbas, IsGreatestQuorum, all_nodes};
 ghost use Rattle.clause_encoder.specs.declared.version.Version.TheVariants.{Two};
 ghost use Rattle.clause_encoder.specs.Formula.{formula_clauses};
 ghost use Rattle.clause_encoder.specs.declared.limits.TheConstants.{MOST_VARS};
 ghost use Rattle.clause_encoder.specs.Meaning.{value_of};
 ghost use Rattle.quorum_questions.specs.Evidence.{vars_of, IsWitness};
-ghost use Rattle.quorum_questions.specs.Searching.{IsStarted, Ends};
+ghost use Rattle.quorum_questions.specs.Searching.{IsFormula, IsStarted, Ends};
 ghost use Rattle.quorum_questions.specs.declared.asking.TheConstants.{MOST_UNITS};
 
 use crate::answers::{AskError, Size, no_formula};
 use cdcl_core::{Budget, Solver, Verdict};
 use clause_encoder::{VarMap, Version, encode};
+use clause_store::Store;
 use fbas_core::System;
 use greatest_quorum::greatest;
 use name_set::NodeSet;
 use std::alloc::{AllocError, Global};
 use witness_pair::{Pair, make_pair};
+
+/// The intersection formula of version 2 once the faulty nodes are deleted, what its variables stand for, and its size.
+#[derive(Drop)]
+pub struct Formula {
+    pub store: Store,
+    pub map: VarMap,
+    pub size: Size,
+}
 
 /// A solver over the intersection formula, what the formula's variables stand for, and its size.
 #[derive(Drop)]
@@ -28,10 +38,10 @@ pub struct Search {
     pub size: Size,
 }
 
-/// A solver that holds the intersection formula of version 2 once the faulty nodes are deleted. The formula's store is gone when it is made.
-pub fn start(alloc: Global, system: &System, faulty: &NodeSet) -> Result<Search, AskError>
+/// The intersection formula of a system once the faulty nodes are deleted.
+pub fn formula_of(alloc: Global, system: &System, faulty: &NodeSet) -> Result<Formula, AskError>
     requires { length faulty.now ≡ length system.now.sets }
-    ensures started { IfOk result (IsStarted system.now.sets faulty.now) }
+    ensures formula { IfOk result (IsFormula system.now.sets faulty.now) }
     ensures too_large { (vars : ℕ) → result ≡ Err (AskError.TooLarge vars) → (vars ≡ vars_of system.now.sets faulty.now) × (MOST_VARS < vars) }
 {
     let greatest = greatest(system, faulty);
@@ -41,11 +51,25 @@ pub fn start(alloc: Global, system: &System, faulty: &NodeSet) -> Result<Search,
                 vars: map.vars(),
                 clauses: store.last(),
             };
-            let solver = Solver::start(alloc, &store, size.vars)?;
-            Ok(Search { solver, map, size })
+            Ok(Formula { store, map, size })
         }
         Err(error) => Err(no_formula(error)),
     }
+}
+
+/// A solver that holds the formula. The formula's store is gone when it is made.
+pub fn start(alloc: Global, formula: Formula) -> Result<Search, AllocError>
+    requires small { formula.size.vars < 2 ^ 31 }
+    requires range { AreInRange formula.size.vars formula.store.held }
+    ensures started { (f : Fbas) (b : Table) → IsFormula f b formula → IfOk result (IsStarted f b) }
+    ensures size { IfOk result (λ search. search.size ≡ formula.size) }
+{
+    let solver = Solver::start(alloc, &formula.store, formula.size.vars)?;
+    Ok(Search {
+        solver,
+        map: formula.map,
+        size: formula.size,
+    })
 }
 
 /// How a search within a budget ended.

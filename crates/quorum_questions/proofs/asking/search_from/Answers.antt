@@ -4,7 +4,7 @@ use Rattle.lrat_text.specs.Texts.{HasNumbers}
 use Rattle.quorum_questions.specs.Evidence.{IsRefutation, IsSpent}
 use Rattle.quorum_questions.specs.Searching.{Ends}
 use Rattle.quorum_questions.specs.declared.searching.End.{End}
-use Rattle.quorum_questions.proofs.asking.answer.Goals as goal
+use Rattle.quorum_questions.proofs.asking.search_from.Goals as goal
 
 pub returns-in-Ok-Refuted-clause-shows : goal.returns-in-Ok-Refuted-clause-shows
 returns-in-Ok-Refuted-clause-shows c =
