@@ -3,25 +3,38 @@
 
 usage: bench/plain_search.py FOLDER
 
-Writes `cdcl_core` and the crates below it to FOLDER/src, a few lines of Rust in place of the toolchain's `Vec` and of what
-the search does not use, and builds FOLDER/search, which takes a formula in DIMACS form and a number of units:
+Writes `gate_search` and the crates below it to FOLDER/src, a few lines of Rust in place of the toolchain's `Vec` and of what
+the searches do not use, and builds FOLDER/search, which takes a formula in DIMACS form and a number of units:
 
     FOLDER/search FORMULA [UNITS]
+    FOLDER/search --gates FORMULA [UNITS]
 
 It prints the verdict, the lemmas and the steps of the log, and the seconds: the same lemmas as by the proved program, in
-about the same time. So what only guides the search can be tried in a minute, where a proof takes ten; what is found is
-then written into the crate and proved. Wants a `rustc` of 2021 or later; nothing of the gate uses it.
+about the same time. With `--gates` the formula's gates are written out, and what is printed is what `gate_search` finds. So what only guides the search can be tried in a minute, where a proof takes ten; what is found is
+then written into the crate and proved. Wants a `rustc` that knows the edition of 2024; nothing of the gate uses it.
 """
+import glob
 import os
 import re
 import subprocess
 import sys
 
-CRATES = ["lrat_model", "lrat_text", "clause_store", "partial_assignment", "search_guide", "cdcl_core"]
-# what of a crate the search uses, where that is not all
+CRATES = [
+    "lrat_model",
+    "lrat_text",
+    "clause_store",
+    "partial_assignment",
+    "search_guide",
+    "cdcl_core",
+    "rat_candidates",
+    "lrat_checker",
+    "written_gates",
+    "gate_search",
+]
+# what of a crate the searches use, where that is not all
 PARTS = {"lrat_model": ["lit"], "lrat_text": ["arena", "entry", "lent", "log"]}
 ROOTS = {
-    "lrat_model": "mod lit; pub use self::lit::Lit; pub use crate::kit::{ClauseStatus, Step};",
+    "lrat_model": "mod lit; pub use self::lit::Lit; pub use crate::kit::{ClauseStatus, Progress, Rule, Step, StepFault};",
     "lrat_text": "mod arena; mod entry; mod lent; mod log; pub use self::lent::*; pub use self::log::Log;",
 }
 CLAUSE = re.compile(r"^[ \t]*(?:requires|ensures)\b[^{\n]*\{", re.M)
@@ -48,6 +61,7 @@ impl<T> Vec<T> {
     pub fn pop(&mut self) -> Option<T> { self.0.pop() }
     pub fn truncate(&mut self, n: usize) { self.0.truncate(n) }
     pub fn clear(&mut self) { self.0.clear() }
+    pub fn as_slice(&self) -> &[T] { &self.0 }
     pub fn allocator(&self) -> &Global { &GLOBAL }
     pub fn as_mut_slice(&mut self) -> &mut [T] { &mut self.0 }
 }
@@ -68,11 +82,36 @@ impl<'a, T> IntoIterator for &'a Vec<T> {
     fn into_iter(self) -> Self::IntoIter { self.0.iter() }
 }
 
+impl<T> IntoIterator for Vec<T> {
+    type Item = T;
+    type IntoIter = std::vec::IntoIter<T>;
+    fn into_iter(self) -> Self::IntoIter { self.0.into_iter() }
+}
+
 #[macro_export]
 macro_rules! filled { (in $alloc:expr; $item:expr; $n:expr) => {{ let _ = $alloc; Ok::<_, AllocError>(Vec(vec![$item; $n])) }} }
 
 #[derive(Debug)]
 pub enum Step { Add { id: u64, lits: Vec<Lit>, hints: Vec<i64> }, Delete { id: u64, ids: Vec<u64> } }
+
+#[derive(Debug, Clone, Copy, PartialEq, Eq)]
+pub enum Rule { Rup, Rat }
+
+#[derive(Debug, Clone, Copy, PartialEq, Eq)]
+pub enum Progress { Going, Refuted }
+
+#[derive(Debug)]
+pub enum StepFault {
+    IdOrder(u64, u64),
+    BadLiteral(Lit),
+    Tautology(Lit),
+    NoSuchClause(u64),
+    NotUnit(u64),
+    NoConflict,
+    RatStep(u64),
+    RatMissing(u64),
+    Memory,
+}
 
 #[derive(Clone, Copy)]
 pub enum ClauseStatus { Falsified, Forces(Lit), Unresolved }
@@ -86,10 +125,18 @@ mod clause_store;
 mod partial_assignment;
 mod search_guide;
 mod cdcl_core;
+mod rat_candidates;
+mod lrat_checker;
+mod written_gates;
+mod gate_search;
 use kit::*;
 
 fn main() {
-    let words: std::vec::Vec<String> = std::env::args().collect();
+    let mut words: std::vec::Vec<String> = std::env::args().collect();
+    let has_gates = words[1] == "--gates";
+    if has_gates {
+        words.remove(1);
+    }
     let units = words.get(2).map_or(4_000_000, |it| it.parse().unwrap());
     let text = std::fs::read_to_string(&words[1]).unwrap();
     let (mut vars, mut id, mut lits) = (0, 0, std::vec::Vec::new());
@@ -110,6 +157,17 @@ fn main() {
         }
     }
     let since = std::time::Instant::now();
+    if has_gates {
+        let found = gate_search::search(Global, &store, vars, units).unwrap();
+        let told = match &found {
+            Some(gate_search::Found::Refuted(log)) => format!("refuted in {} steps", log.len()),
+            Some(gate_search::Found::Spent(log)) => format!("spent after {} steps", log.len()),
+            Some(gate_search::Found::Told(_)) => "told".to_string(),
+            None => "nowhere".to_string(),
+        };
+        println!("{told} seconds {:.2}", since.elapsed().as_secs_f64());
+        return;
+    }
     let mut solver = cdcl_core::Solver::start(Global, &store, vars).unwrap();
     let mut budget = cdcl_core::Budget::of(units);
     let verdict = solver.solve(&mut budget).unwrap();
@@ -154,13 +212,14 @@ def root(text, crate):
 
 def write(folder):
     for crate in CRATES:
-        os.makedirs(f"{folder}/src/{crate}", exist_ok=True)
-        for name in os.listdir(f"crates/{crate}/src"):
-            part = name.removesuffix(".rt")
+        top = f"crates/{crate}/src"
+        for path in sorted(glob.glob(f"{top}/**/*.rt", recursive=True)):
+            part = os.path.relpath(path, top).removesuffix(".rt")
             if part == "lib" or part not in PARTS.get(crate, [part]):
                 continue
-            with open(f"crates/{crate}/src/{name}", encoding="utf-8") as it:
+            with open(path, encoding="utf-8") as it:
                 text = "use crate::kit::*;\n" + plain(it.read(), crate)
+            os.makedirs(os.path.dirname(f"{folder}/src/{crate}/{part}"), exist_ok=True)
             with open(f"{folder}/src/{crate}/{part}.rs", "w", encoding="utf-8") as it:
                 it.write(text)
         with open(f"crates/{crate}/src/lib.rt", encoding="utf-8") as it:
@@ -177,7 +236,7 @@ def main():
         sys.exit(__doc__)
     folder = sys.argv[1]
     write(folder)
-    built = ["rustc", "--edition", "2021", "-C", "opt-level=3", "-g", "-o", f"{folder}/search", f"{folder}/src/main.rs"]
+    built = ["rustc", "--edition", "2024", "-C", "opt-level=3", "-g", "-o", f"{folder}/search", f"{folder}/src/main.rs"]
     sys.exit(subprocess.call(built))
 
 
