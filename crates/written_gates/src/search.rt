@@ -53,6 +53,23 @@ fn small_counters(alloc: Global, formula: &Store) -> Result<Vec<Counter>, AllocE
     Ok(counters)
 }
 
+/// How many places the counters have: each has a first clause, and each but the first of a row a second.
+fn count_of_places(counters: &[Counter]) -> u64 {
+    let mut count: u64 = 0;
+    for counter in counters {
+        let clauses = counter.end.saturating_sub(counter.start);
+        let rows = counter.inputs.len() as u64;
+        count = count.saturating_add(clauses.saturating_add(rows) / 2);
+    }
+    count
+}
+
+/// Whether half of the variables are places of the counters. Where fewer are, most counters are left, and a search that knows few
+/// of the gates gains nothing.
+fn are_most(counters: &[Counter], vars: u64) -> bool {
+    count_of_places(counters) >= vars / 2
+}
+
 /// Gives a variable a role, where it is in the table.
 fn set_role(roles: &mut [Role], variable: u32, role: Role) {
     if let Some(there) = roles.get_mut(variable as usize) {
@@ -185,8 +202,8 @@ fn see_clauses(
 }
 
 /// The gates with counters that are named by nothing but their heads' clauses, and have few sets of inputs to be written out:
-/// at most 500, of at most 32 inputs. They stand in the order of their clauses. The ids of the formula are dense from 1 on, and
-/// its variables are at most `vars`, else gates may be missed. Time is linear in the literals and `vars`, memory in `vars` and
+/// at most 500, of at most 32 inputs; none where fewer than half of the variables are theirs. They stand in the order of their
+/// clauses. The ids of the formula are dense from 1 on, and its variables are at most `vars`, else gates may be missed. Time is linear in the literals and `vars`, memory in `vars` and
 /// the gates.
 pub fn find_counters(
     alloc: Global,
@@ -201,5 +218,9 @@ pub fn find_counters(
             found.push(counter)?;
         }
     }
-    Ok(found)
+    if are_most(&found, vars) {
+        Ok(found)
+    } else {
+        Ok(Vec::new(alloc))
+    }
 }

@@ -36,7 +36,7 @@ pub struct Written {
 
 /// The formula with its gates written out: first its clauses but for those of the gates' counters, in order, then for each
 /// gate and each of its heads a clause for each choice of inputs one of which has to be true. `None` where no gate is seen,
-/// and where a clause stands in the way: one that has a counter's literal and is none of the counter's. Time and memory are
+/// or too few of them, and where a clause stands in the way: one that has a counter's literal and is none of the counter's. Time and memory are
 /// linear in the formula, the variables and the clauses that are written.
 pub fn write_out(alloc: Global, formula: &Store, vars: u64) -> Result<Option<Written>, AllocError>
     requires small { vars < 2 ^ 31 }
