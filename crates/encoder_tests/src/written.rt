@@ -21,6 +21,28 @@ static THREE_OF_FOUR: &str =
 static TWO_OF_FOUR: &str =
     r#"[{"publicKey":"a","quorumSet":{"threshold":2,"validators":["a","b","c","d"]}},{"publicKey":"b","quorumSet":{"threshold":2,"validators":["a","b","c","d"]}},{"publicKey":"c","quorumSet":{"threshold":2,"validators":["a","b","c","d"]}},{"publicKey":"d","quorumSet":{"threshold":2,"validators":["a","b","c","d"]}}]"#;
 
+/// The names of twelve nodes.
+static TWELVE: &str = r#""a","b","c","d","e","f","g","h","i","j","k","l""#;
+
+/// The configuration of twelve nodes, each of which wants so many of them.
+fn of_twelve(alloc: Global, threshold: u64) -> Result<String, AllocError> {
+    let mut text = String::from_str(alloc, "[")?;
+    for name in TWELVE.split(',') {
+        if text.len() > 1 {
+            text.push_str(",")?;
+        }
+        text.push_str("{\"publicKey\":")?;
+        text.push_str(name)?;
+        let wanted = format!(in alloc;
+            ",\"quorumSet\":{{\"threshold\":{},\"validators\":[{}]}}}}",
+            threshold, TWELVE
+        )?;
+        text.push_str(&wanted)?;
+    }
+    text.push_str("]")?;
+    Ok(text)
+}
+
 /// What is asked of a formula with this many variables: its gates and clauses, written out, or what a search within some units
 /// finds.
 #[derive(Clone, Copy)]
@@ -38,6 +60,9 @@ fn gates_in(alloc: Global, written: &Written) -> Result<String, AllocError> {
             counter.threshold, counter.inputs, counter.heads
         )?;
         text.push_str(&gate)?;
+        if counter.keeps_last {
+            text.push_str("which goes on, ")?;
+        }
     }
     let clauses = format!(in alloc; "{} clauses", written.store.last())?;
     text.push_str(&clauses)?;
@@ -124,4 +149,38 @@ fn a_search_over_gates_written_out_spends_its_units(rt: HostRuntime) {
 fn a_search_over_gates_written_out_tells(rt: HostRuntime) {
     let found = asked_of(rt.alloc(), TWO_OF_FOUR, Asked::Search(1000));
     same(&rt, found, "told 22 values");
+}
+
+#[test]
+fn first_rows_are_written_out_of_a_gate_with_many_sets(rt: HostRuntime) {
+    let alloc = rt.alloc();
+    let found = match of_twelve(alloc, 7) {
+        Ok(config) => asked_of(alloc, &config, Asked::Gates),
+        Err(error) => Err(error),
+    };
+    same(
+        &rt,
+        found,
+        "7 of [1, 2, 3, 4, 5, 6, 7] for [], which goes on, 7 of [13, 14, 15, 16, 17, 18, 19] for [], which goes on, 424 clauses",
+    );
+}
+
+#[test]
+fn a_search_over_first_rows_tells(rt: HostRuntime) {
+    let alloc = rt.alloc();
+    let found = match of_twelve(alloc, 6) {
+        Ok(config) => asked_of(alloc, &config, Asked::Search(1000)),
+        Err(error) => Err(error),
+    };
+    same(&rt, found, "told 138 values");
+}
+
+#[test]
+fn a_search_over_first_rows_refutes(rt: HostRuntime) {
+    let alloc = rt.alloc();
+    let found = match of_twelve(alloc, 8) {
+        Ok(config) => asked_of(alloc, &config, Asked::Search(1000)),
+        Err(error) => Err(error),
+    };
+    same(&rt, found, "refuted in 77 steps");
 }

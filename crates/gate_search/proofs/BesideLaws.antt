@@ -144,4 +144,4 @@ module _ (gates : Gates) (formula written now beside : Database) where
 
     -- the sets of the inputs of each gate are still held
     pub beside_written : AreWritten gates written.held → AreWritten gates beside.held
-    beside_written are g h ps head rises long = still_needless (negated h ∷ map (gates g).x ps) (are g h ps head rises long)
+    beside_written are g h t ps head rises long = still_needless (negated h ∷ map (gates g).x ps) (are g h t ps head rises long)

@@ -36,9 +36,9 @@ closed_useless held clause (l, within, open_one) (hints, follows) =
     open_one settled.0 settled.1
 
 -- a lemma beside is one over the formula, with hints that name clauses held there
-pub lemma_carried : (vars : ℕ) (gates : Gates) (formula written now beside : Database) → AreBeside gates formula written now beside → (id : ℕ) (lits : List Literal) (hints : List ℤ) → IsLemma vars beside id lits hints → (IsUseful beside.held lits → IsUseful now.held lits)
+pub lemma_carried : (vars : ℕ) (now beside : Database) (id : ℕ) (lits : List Literal) (hints : List ℤ) → IsLemma vars beside id lits hints → (IsUseful beside.held lits → IsUseful now.held lits)
     → (more : List ℤ) → All (NamesClause now.held) more → length more ≤ vars + 1 → IsLemma vars now (now.last + 1) lits more
-lemma_carried vars gates formula written now beside b id lits hints lemma carry more named few = record {
+lemma_carried vars now beside id lits hints lemma carry more named few = record {
   next = refl;
   distinct = lemma.distinct;
   range = lemma.range;

@@ -23,6 +23,7 @@ use Rattle.written_gates.specs.WrittenOut.{IsWrittenOut}
 use Rattle.written_gates.specs.declared.counters.Counter.{Counter}
 use Rattle.written_gates.specs.declared.cells.Cell.{Cell}
 use Rattle.written_gates.specs.declared.writing.Written.{Written}
+use Rattle.written_gates.proofs.Apart.{are_outer}
 use Rattle.written_gates.proofs.WritingOut.{useful_before, closes_after}
 use Rattle.gate_search.specs.Moved.{IsMoved, AreMovedSteps}
 use Rattle.gate_search.specs.Beside.{AreBeside}
@@ -42,29 +43,6 @@ pub record IsOn (vars : ℕ) (formula written : Database) (gates : Gates) (budge
   pub moved : AreMovedSteps written.last formula.last front c.log
   pub still_open : HasNoEmptyLemma c.log
   pub taken : units c.log + left ≡ budget
-
--- ---- literals of no place
-
-row_of_none : (cells : List Cell) (lits : List Literal) → AreLitsNowhere cells lits → (m : Literal) → has lits m ≡ true → (cell_at cells (variable_of m)).row ≡ 0
-row_of_none cells [] nowhere m within = absurd (false≢true within)
-row_of_none cells (l ∷ ls) nowhere m within =
-    ⊎_elim
-    (λ (is : m ≡ l). subst (λ (k : Literal). (cell_at cells (variable_of k)).row ≡ 0) (sym is) (All-head (λ k. (cell_at cells (variable_of k)).row ≡ 0) l ls nowhere))
-    (λ later. row_of_none cells ls (All-tail (λ k. (cell_at cells (variable_of k)).row ≡ 0) l ls nowhere) m later)
-    (has-cons l m ls within)
-
-outer : (counters : List Counter) (cells : List Cell) → ArePlaced counters cells → (l : Literal) → (cell_at cells (variable_of l)).row ≡ 0 → IsOuter (gates_of counters) l
-outer counters cells placed l zero (g, i, j, place, which) =
-    let at : cell_at cells (variable_of ((gates_of counters g).s i j)) ≡ record { gate = g; row = i; column = j } = placed g i j place in
-    let alike : variable_of l ≡ variable_of ((gates_of counters g).s i j) = ⊎_elim
-    (λ is. ap variable_of is)
-    (λ denied. ap variable_of denied ∙ variable_of-negated ((gates_of counters g).s i j))
-    which in
-    let row : i ≡ 0 = sym (ap (λ (k : Cell). k.row) at) ∙ sym (ap (λ (x : ℕ). (cell_at cells x).row) alike) ∙ zero in
-    absurd (omega (arith, place.0, place.1, row))
-
-are_outer : (counters : List Counter) (cells : List Cell) → ArePlaced counters cells → (lits : List Literal) → AreLitsNowhere cells lits → AreOuter (gates_of counters) lits
-are_outer counters cells placed lits nowhere m within = outer counters cells placed m (row_of_none cells lits nowhere m within)
 
 -- ---- one step
 
@@ -111,7 +89,7 @@ module _ (vars : ℕ) (formula : Database) (w : Written) (out : IsWrittenOut var
 
   lemma_here : (now beside : Database) → AreBeside (gates_of w.counters.items) formula w.store now beside → (id : ℕ) (lits : List Literal) (hints : List ℤ) → IsLemma vars beside id lits hints → (by : List ℤ) → IsShown w.cells.items vars now lits by → IsLemma vars now (now.last + 1) lits by
   lemma_here now beside next id lits hints lemma by shown =
-      lemma_carried vars (gates_of w.counters.items) formula w.store now beside next id lits hints lemma
+      lemma_carried vars now beside id lits hints lemma
       (useful_here now beside next lits (consistent_of_taken vars now (now.last + 1) lits by shown.taken).0 (are_outer w.counters.items w.cells.items out.placed lits shown.outer))
       by shown.named shown.few
 

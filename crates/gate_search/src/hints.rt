@@ -109,11 +109,14 @@ impl Hints {
         match origin_of(written, id) {
             Origin::Formula(own) => self.offer(clauses, own),
             Origin::Gate { number, head } => {
-                if self.holds(written, id) {
+                let Some(set) = written.store.lits(id) else {
+                    return Ok(());
+                };
+                if self.holds(set) {
                     return Ok(());
                 }
                 match written.counters.get(number as usize) {
-                    Some(counter) => self.count(clauses, counter, head),
+                    Some(counter) => self.count(clauses, counter, head, set.len()),
                     None => Ok(()),
                 }
             }
@@ -121,19 +124,23 @@ impl Hints {
     }
 
     /// Whether a literal of the set is true.
-    fn holds(&self, written: &Written, id: u64) -> bool {
-        match written.store.lits(id) {
-            Some(set) => matches!(self.values.see(set), Sight::Holds),
-            None => false,
-        }
+    fn holds(&self, set: &[Lit]) -> bool {
+        matches!(self.values.see(set), Sight::Holds)
     }
 
     /// Goes through a gate's counter: from the head to the gate; up its rows, where inputs are false; down again, where so many
-    /// are that all others have to be true; and from the gate to the head.
-    fn count(&mut self, clauses: &Store, counter: &Counter, head: u64) -> Result<(), AllocError> {
+    /// are that all others have to be true; and from the gate to the head. A set's clause has its head and one literal more than
+    /// so many of the inputs may be false.
+    fn count(
+        &mut self,
+        clauses: &Store,
+        counter: &Counter,
+        head: u64,
+        length: usize,
+    ) -> Result<(), AllocError> {
         self.offer(clauses, head)?;
         let falses = self.rise(clauses, counter)?;
-        if counter.threshold.saturating_add(falses) == counter.inputs.len() {
+        if falses.saturating_add(2) == length {
             self.fall(clauses, counter, falses)?;
         }
         self.offer(clauses, head)

@@ -1,20 +1,29 @@
--- Where each place has a cell of its own, and inputs and heads have none, they are told apart.
-use Rattle.std.proofs.Common.{◌≡◌, ◌≢◌, ℕ, suc, ◌-◌, ◌≤◌, true, List, [], ◌∷◌, map, Option, None, Some, ⊎_elim, refl, sym, subst, ◌∙◌, ap, arith}
+-- Where each place has a cell of its own, and inputs, heads and the row that stays have none, they are told apart.
+use Rattle.std.proofs.Common.{◌≡◌, ◌≢◌, ℕ, suc, ◌-◌, ◌≤◌, Bool, true, false, cond, length, List, [], ◌∷◌, map, Option, None, Some, ⊎_elim, inl, inr, refl, sym, subst, ◌∙◌, ap, arith}
 use Rattle.std.specs.Prelude.{slice_get, All}
 use Rattle.std.proofs.lemmas.Bool.{false≢true}
 use Rattle.std.proofs.lemmas.List.Elements.{All-head, All-tail}
 use Rattle.std.proofs.lemmas.Option.{slice_get_within, get_or_from_slice_get}
 use Rattle.lrat_model.specs.Literal.{Literal, Plus, Minus, variable_of, negated, same, has}
 use Rattle.lrat_model.proofs.Literals.{has-cons, variable_of-negated, same-itself}
-use Rattle.written_gates.specs.Gates.{IsPlace, IsOuter, AreOuter, AreApart}
-use Rattle.written_gates.specs.Counters.{gate_if_any, gates_of, cell_at, ArePlaced, AreNowhere, AreInputsNowhere}
+use Rattle.written_gates.specs.Gates.{IsPlace, IsHeadOf, IsOuter, AreOuter, AreApart}
+use Rattle.written_gates.specs.Counters.{gate_if_any, gates_of, cell_at, ArePlaced, AreKept, IsNowhere, AreNowhere, AreInputsNowhere}
 use Rattle.written_gates.specs.declared.counters.Counter.{Counter}
 use Rattle.written_gates.specs.declared.cells.Cell.{Cell}
+
+-- past the places there is no more than one row
+one_row : (last : Bool) (n : ℕ) → n ≤ suc (n - cond last 1 0)
+one_row true n = omega arith
+one_row false n = omega arith
 
 -- the literals of places are positive
 place_positive : (o : Option Counter) (i j : ℕ) → (gate_if_any o).s i j ≡ Plus (variable_of ((gate_if_any o).s i j))
 place_positive None i j = refl
 place_positive (Some c) i j = refl
+
+one_row_stays : (o : Option Counter) → (gate_if_any o).n ≤ suc (gate_if_any o).rows
+one_row_stays None = omega arith
+one_row_stays (Some c) = one_row c.keeps_last (length c.inputs.items)
 
 plus_no_minus : (l m : Literal) → l ≡ Plus (variable_of l) → m ≡ Plus (variable_of m) → l ≢ negated m
 plus_no_minus (Plus x) (Plus y) _ _ e = false≢true (subst (λ k. same k (Plus x) ≡ true) e (same-itself (Plus x)))
@@ -56,7 +65,7 @@ module _ (counters : List Counter) (cells : List Cell) (placed : ArePlaced count
       (λ denied. ap variable_of denied ∙ variable_of-negated ((gates_of counters g).s i j))
       which in
       let row : i ≡ 0 = sym (ap (λ (k : Cell). k.row) at) ∙ sym (ap (λ (x : ℕ). (cell_at cells x).row) alike) ∙ zero in
-      not_row_zero i j place.0 place.1 row
+      not_row_zero i j place.1.0 place.1.1 row
 
   pub are_outer : (clause : List Literal) → All (λ l. (cell_at cells (variable_of l)).row ≡ 0) clause → AreOuter (gates_of counters) clause
   are_outer clause zeros m within = outer m (zero_within cells clause zeros m within)
@@ -66,25 +75,28 @@ module _ (counters : List Counter) (cells : List Cell) (placed : ArePlaced count
       cell_parts g h i j a b (cell_at cells (variable_of ((gates_of counters g).s i j))) (placed g i j one)
       (ap (λ (l : Literal). cell_at cells (variable_of l)) e ∙ placed h a b other)
 
-  not_negated : (g h i j a b : ℕ) → IsPlace (gates_of counters g) i j → IsPlace (gates_of counters h) a b → (gates_of counters g).s i j ≢ negated ((gates_of counters h).s a b)
-  not_negated g h i j a b _ _ = plus_no_minus ((gates_of counters g).s i j) ((gates_of counters h).s a b) (place_positive (slice_get counters g) i j) (place_positive (slice_get counters h) a b)
+  not_negated : (g h i j a b : ℕ) → (gates_of counters g).s i j ≢ negated ((gates_of counters h).s a b)
+  not_negated g h i j a b = plus_no_minus ((gates_of counters g).s i j) ((gates_of counters h).s a b) (place_positive (slice_get counters g) i j) (place_positive (slice_get counters h) a b)
 
   module _ (nowhere : AreInputsNowhere counters cells) where
-    of_one : (g : ℕ) (c : Counter) → slice_get counters g ≡ Some c → AreNowhere cells c.inputs.items × AreNowhere cells c.heads.items
-    of_one g c is = subst (λ (k : Counter). AreNowhere cells k.inputs.items × AreNowhere cells k.heads.items) (get_or_from_slice_get counters g c c is) (nowhere g c (slice_get_within counters g c is))
+    of_one : (g : ℕ) (c : Counter) → slice_get counters g ≡ Some c → AreNowhere cells c.inputs.items × AreNowhere cells c.heads.items × AreKept (IsNowhere cells) c
+    of_one g c is = subst (λ (k : Counter). AreNowhere cells k.inputs.items × AreNowhere cells k.heads.items × AreKept (IsNowhere cells) k) (get_or_from_slice_get counters g c c is) (nowhere g c (slice_get_within counters g c is))
 
     inputs_zero : (g i : ℕ) (o : Option Counter) → slice_get counters g ≡ o → suc i ≤ (gate_if_any o).n → (cell_at cells (variable_of ((gate_if_any o).x (suc i)))).row ≡ 0
     inputs_zero g i None is less = absurd (omega (arith, less))
     inputs_zero g i (Some c) is less = (of_one g c is).0 (suc i - 1) 0 (omega (arith, less))
 
-    heads_zero : (g : ℕ) (h : Literal) (o : Option Counter) → slice_get counters g ≡ o → has (gate_if_any o).heads h ≡ true → (cell_at cells (variable_of h)).row ≡ 0
-    heads_zero g h None is within = absurd (false≢true within)
-    heads_zero g h (Some c) is within = row_zero_of cells c.heads.items (of_one g c is).1 h within
+    heads_zero : (g t : ℕ) (h : Literal) (o : Option Counter) → slice_get counters g ≡ o → IsHeadOf (gate_if_any o) h t → (cell_at cells (variable_of h)).row ≡ 0
+    heads_zero g t h None is (inl listed) = absurd (false≢true listed.0)
+    heads_zero g t h None is (inr last) = absurd (omega (arith, last.0))
+    heads_zero g t h (Some c) is (inl listed) = row_zero_of cells c.heads.items (of_one g c is).1 h listed.0
+    heads_zero g t h (Some c) is (inr last) = subst (λ (k : Literal). (cell_at cells (variable_of k)).row ≡ 0) (sym last.2) ((of_one g c is).2 t last.0 last.1)
 
     pub apart : AreApart (gates_of counters)
     apart = record {
       same_place = same_place;
       not_negated = not_negated;
       inputs_outer = λ g i less. outer ((gates_of counters g).x (suc i)) (inputs_zero g i (slice_get counters g) refl less);
-      heads_outer = λ g h within. outer h (heads_zero g h (slice_get counters g) refl within);
+      heads_outer = λ g t h head. outer h (heads_zero g t h (slice_get counters g) refl head);
+      one_row_stays = λ g. one_row_stays (slice_get counters g);
     }

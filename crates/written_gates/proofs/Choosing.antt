@@ -5,14 +5,15 @@ use Rattle.std.proofs.lemmas.Bool.{cases_lt, eq-eqb}
 use Rattle.std.proofs.lemmas.List.{append_assoc, append-nil, length-append}
 use Rattle.std.proofs.Math.Seq.{take-append_seam}
 use Rattle.std.proofs.lemmas.List.Elements.{All-append, All-get_or, All-cons, All-nil}
-use Rattle.lrat_model.specs.Literal.{Literal, Plus, variable_of, has}
+use Rattle.lrat_model.specs.Literal.{Literal, Plus, Minus, variable_of, negated, has}
 use Rattle.lrat_model.specs.Clauses.{Held, clause_at, with_clause}
 use Rattle.lrat_model.specs.Ranges.{IsInRange}
 use Rattle.lrat_model.proofs.Literals.{list_all-from_has}
 use Rattle.lrat_model.proofs.Runs.{clause_at-more}
 use Rattle.written_gates.specs.Finding.{IsHeld, IsNeedless}
-use Rattle.written_gates.specs.Gates.{Rises}
-use Rattle.written_gates.specs.Counters.{number_at}
+use Rattle.written_gates.specs.Gates.{Gate, Rises}
+use Rattle.written_gates.specs.Counters.{number_at, gate_of}
+use Rattle.written_gates.specs.declared.counters.Counter.{Counter}
 
 pub clause_at-new : (held : Held) (id : ℕ) (clause : List Literal) → clause_at held id ≡ None → clause_at (with_clause held id clause) id ≡ Some clause
 clause_at-new [] id clause none = ap (λ b. cond b (Some clause) None) (eq-eqb id id refl)
@@ -95,12 +96,16 @@ popped chosen more old left l len more_is old_is len_is left_is =
     let seam : len - 1 ≡ length chosen = omega (arith, len_is, count) in
     left_is ∙ ap (λ n. take n old) seam ∙ ap (take (length chosen)) whole ∙ take-append_seam chosen (l ∷ [])
 
--- what was chosen of the same inputs, behind the same literals
-pub choices_are : (held : Held) (mine yours : List ℕ) (first : List Literal) (start : Literal) (size threshold : ℕ) → mine ≡ yours → first ≡ start ∷ [] → size + threshold ≡ suc (length yours)
-    → ((ps : List ℕ) → Rises 0 (length mine) ps → length ps ≡ size → IsNeedless held (first ++ map (λ i. Plus (number_at mine i)) ps))
-    → (ps : List ℕ) → Rises 0 (length yours) ps → length ps + threshold ≡ suc (length yours) → IsNeedless held (start ∷ map (λ i. Plus (number_at yours i)) ps)
-choices_are held mine yours first start size threshold same_inputs first_is count all ps rises len =
+-- the choices of a gate's inputs for a head of t of them
+abbrev pub AreChosen : Gate → Held → Literal → ℕ → Type 0
+AreChosen gate held h t = (ps : List ℕ) → Rises 0 gate.n ps → length ps + t ≡ suc gate.n → IsNeedless held (negated h ∷ map gate.x ps)
+
+-- what was chosen of the same inputs, behind the same literal
+pub choices_are : (c : Counter) (held : Held) (mine : List ℕ) (start : List Literal) (head t size : ℕ) → mine ≡ c.inputs.items → start ≡ Minus head ∷ [] → size + t ≡ suc (length c.inputs.items)
+    → ((ps : List ℕ) → Rises 0 (length mine) ps → length ps ≡ size → IsNeedless held (start ++ map (λ i. Plus (number_at mine i)) ps))
+    → AreChosen (gate_of c) held (Plus head) t
+choices_are c held mine start head t size same_inputs start_is count all =
     let P : List Literal → List ℕ → Type 0 = λ ls xs. (qs : List ℕ) → Rises 0 (length xs) qs → length qs ≡ size → IsNeedless held (ls ++ map (λ i. Plus (number_at xs i)) qs) in
-    let over : P first yours = subst (λ xs. P first xs) same_inputs all in
-    let from_start : P (start ∷ []) yours = subst (λ ls. P ls yours) first_is over in
-    from_start ps rises (omega (arith, count, len))
+    let over : P start c.inputs.items = subst (λ xs. P start xs) same_inputs all in
+    let from_start : P (Minus head ∷ []) c.inputs.items = subst (λ ls. P ls c.inputs.items) start_is over in
+    λ ps rises len. from_start ps rises (omega (arith, count, len))

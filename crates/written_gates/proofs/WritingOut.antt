@@ -1,82 +1,47 @@
 -- Unit propagation finds as much over the clauses of gates written out as over those of their counters.
-use Rattle.std.proofs.Common.{◌≡◌, ◌≢◌, ℕ, ℤ, suc, true, ◌+◌, ◌-◌, ◌≤◌, List, [], ◌∷◌, ◌++◌, length, map, ⊎_elim, inl, inr, refl, sym, ap, ◌∙◌, subst, arith}
+use Rattle.std.proofs.Common.{◌≡◌, ◌≢◌, ℕ, ℤ, suc, true, ◌+◌, ◌≤◌, List, [], ◌∷◌, ◌++◌, length, map, ⊎_elim, inl, inr, refl, sym, ap, ◌∙◌, subst, arith}
 use Rattle.std.specs.Prelude.{◌⊎◌}
-use Rattle.std.proofs.lemmas.Bool.{cases_Bool, false≢true}
+use Rattle.std.proofs.lemmas.Bool.{cases_lt, false≢true}
 use Rattle.std.proofs.lemmas.List.{map-append, length-append}
 use Rattle.lrat_model.specs.Literal.{Literal, Plus, Minus, negated, has, IsConsistent}
 use Rattle.lrat_model.specs.Clauses.{Held}
 use Rattle.lrat_model.specs.Propagation.{Closes}
 use Rattle.lrat_model.specs.Lemmas.{Settles, IsUseful, others}
 use Rattle.lrat_model.proofs.Literals.{negated-negated, has-cons}
-use Rattle.written_gates.specs.Finding.{Finds, Given, By, FalseBut, IsRefuted, IsNeedless}
-use Rattle.written_gates.specs.Gates.{Gate, Gates, Rises, IsWritten, AreWritten, IsPlace, IsInner, IsOuter, AreOuter, IsOfCounter, IsCounted, AreApart}
-use Rattle.written_gates.proofs.Finding.{same_or_not, negated-one, negated-other, apart, has-others, has-append, has-from_negated, lacks-negated, refuted_finds, clash, resolved, conflict_refutes, refuted_conflicts, settled_is_found, found_is_settled}
-
-rises_from : (low mid high : ℕ) (ps : List ℕ) → low ≤ mid → Rises mid high ps → Rises low high ps
-rises_from low mid high [] less rises = omega (arith, less, rises)
-rises_from low mid high (p ∷ ps) less rises = (omega (arith, less, rises.0), rises.1)
+use Rattle.written_gates.specs.Finding.{Finds, Given, By, IsRefuted, IsNeedless}
+use Rattle.written_gates.specs.Gates.{Gate, Gates, Rises, IsCell, IsPlace, IsHeadOf, AreWritten, IsInner, IsOuter, AreOuter, IsOfCounter, IsCounted, AreApart}
+use Rattle.written_gates.proofs.Finding.{same_or_not, negated-one, has-others, has-append, has-from_negated, lacks-negated, refuted_finds, clash, resolved, conflict_refutes, refuted_conflicts, settled_is_found, found_is_settled}
 
 rises_up : (low mid high : ℕ) (ps : List ℕ) → mid ≤ high → Rises low mid ps → Rises low high ps
-rises_up low mid high [] more rises = omega (arith, more, rises)
-rises_up low mid high (p ∷ ps) more rises = (rises.0, rises_up p mid high ps more rises.1)
+rises_up low mid high [] less rises = omega (arith, less, rises)
+rises_up low mid high (p ∷ ps) less rises = (rises.0, rises_up p mid high ps less rises.1)
 
-rises_on : (low mid high : ℕ) (ps qs : List ℕ) → Rises low mid ps → Rises mid high qs → Rises low high (ps ++ qs)
-rises_on low mid high [] qs first next = rises_from low mid high qs first next
-rises_on low mid high (p ∷ ps) qs first next = (first.0, rises_on p mid high ps qs first.1 next)
+rises_to : (low mid : ℕ) (ps : List ℕ) → Rises low mid ps → Rises low (suc mid) (ps ++ suc mid ∷ [])
+rises_to low mid [] rises = (omega (arith, rises), omega arith)
+rises_to low mid (p ∷ ps) rises = (rises.0, rises_to p mid ps rises.1)
 
-module _ (gate : Gate) (after : Held) (trues : List Literal) where
-  -- refuted, or c of the inputs past low and up to high are found false
-  abbrev Falses : ℕ → ℕ → ℕ → Type 0
-  Falses low high c = IsRefuted after trues ⊎ ((ps : List ℕ) × Rises low high ps × (length ps ≡ c) × ((m : Literal) → has (map gate.x ps) m ≡ true → Finds after trues (negated m)))
+module _ (gate : Gate) (P : Literal → Type 0) where
+  -- P holds of each of these literals
+  abbrev AreAll : List Literal → Type 0
+  AreAll ls = (m : Literal) → has ls m ≡ true → P m
 
-  has-map_append : (ps qs : List ℕ) (m : Literal) → has (map gate.x (ps ++ qs)) m ≡ true → (has (map gate.x ps) m ≡ true) ⊎ (has (map gate.x qs) m ≡ true)
-  has-map_append ps qs m h = has-append (map gate.x ps) (map gate.x qs) m (subst (λ ls. has ls m ≡ true) (map-append gate.x ps qs) h)
+  -- P says which literals are false: so many inputs up to i that s i t is
+  abbrev Low : ℕ → ℕ → Type 0
+  Low i t = (ps : List ℕ) × Rises 0 i ps × (length ps + t ≡ suc i) × AreAll (map gate.x ps)
 
-  none_false : (low high : ℕ) → low ≤ high → Falses low high 0
-  none_false low high less = inr ([], less, refl, λ m h. absurd (false≢true h))
+  -- past the columns of a row
+  low_past : (i t : ℕ) → t ≡ suc i → Low i t
+  low_past i t past = ([], omega arith, omega (arith, past), λ m h. absurd (false≢true h))
 
-  one_false : (i : ℕ) → Finds after trues (negated (gate.x (suc i))) → Falses i (suc i) 1
-  one_false i found = inr (suc i ∷ [], (omega arith, omega arith), refl, λ m h. ⊎_elim (λ is. subst (λ o. Finds after trues (negated o)) (sym is) found) (λ there. absurd (false≢true there)) (has-cons (gate.x (suc i)) m [] h))
+  -- x i+1 is false too
+  low_by_input : (i t : ℕ) → P (gate.x (suc i)) → Low i t → Low (suc i) t
+  low_by_input i t holds (ps, rises, count, each) =
+      let last : AreAll (gate.x (suc i) ∷ []) = λ m h. ⊎_elim (λ is. subst P (sym is) holds) (λ there. absurd (false≢true there)) (has-cons (gate.x (suc i)) m [] h) in
+      let both : AreAll (map gate.x ps ++ gate.x (suc i) ∷ []) = λ m h. ⊎_elim (λ there. each m there) (λ there. last m there) (has-append (map gate.x ps) (gate.x (suc i) ∷ []) m h) in
+      (ps ++ suc i ∷ [], rises_to 0 i ps rises, omega (arith, length-append ps (suc i ∷ []), count), subst (λ ls. AreAll ls) (sym (map-append gate.x ps (suc i ∷ []))) both)
 
-  both_false : (low mid high a b : ℕ) → Falses low mid a → Falses mid high b → Falses low high (a + b)
-  both_false low mid high a b (inl refuted) next = inl refuted
-  both_false low mid high a b (inr first) (inl refuted) = inl refuted
-  both_false low mid high a b (inr (ps, rises, len, each)) (inr (qs, next_rises, next_len, next_each)) =
-      inr (ps ++ qs, rises_on low mid high ps qs rises next_rises, omega (arith, length-append ps qs, len, next_len), λ m h. ⊎_elim (λ there. each m there) (λ there. next_each m there) (has-map_append ps qs m h))
-
-  -- false inputs count in any wider range
-  wider : (low from to high c : ℕ) → low ≤ from → to ≤ high → Falses from to c → Falses low high c
-  wider low from to high c less more (inl refuted) = inl refuted
-  wider low from to high c less more (inr (ps, rises, len, each)) = inr (ps, rises_from low from high ps less (rises_up from to high ps more rises), len, each)
-
-  module _ (consistent : IsConsistent trues) (written : IsWritten gate after) (head : Literal) (among : has gate.heads head ≡ true) where
-    enough : (l : Literal) (ps : List ℕ) → Rises 0 gate.n ps → length ps + gate.k ≡ suc gate.n → FalseBut after trues l (negated head ∷ map gate.x ps) → Finds after trues l
-    enough l ps rises count rest = resolved after trues consistent l (negated head ∷ map gate.x ps) rest (written head ps among rises count)
-
-    -- n - k + 1 false inputs make a head false
-    too_many : (c : ℕ) → c + gate.k ≡ suc gate.n → Falses 0 gate.n c → Finds after trues (negated head)
-    too_many c count (inl refuted) = refuted_finds after trues (negated head) refuted
-    too_many c count (inr (ps, rises, len, each)) =
-        enough (negated head) ps rises (omega (arith, len, count)) (λ m h isnt. ⊎_elim (λ is. absurd (isnt (sym is))) (λ there. each m there) (has-cons (negated head) m (map gate.x ps) h))
-
-    too_many_refute : (c : ℕ) → c + gate.k ≡ suc gate.n → Falses 0 gate.n c → Finds after trues head → IsRefuted after trues
-    too_many_refute c count falses found = clash after trues consistent head (negated head) refl found (too_many c count falses)
-
-    -- where a head is true, n - k false inputs make any other true
-    forced : (i a b : ℕ) → (a + b) + gate.k ≡ gate.n → Falses 0 i a → Falses (suc i) gate.n b → Finds after trues head → Finds after trues (gate.x (suc i))
-    forced i a b count (inl refuted) high found = refuted_finds after trues (gate.x (suc i)) refuted
-    forced i a b count (inr low) (inl refuted) found = refuted_finds after trues (gate.x (suc i)) refuted
-    forced i a b count (inr (ps, rises, len, each)) (inr (qs, next_rises, next_len, next_each)) found =
-        enough (gate.x (suc i)) (ps ++ suc i ∷ qs)
-        (rises_on 0 i gate.n ps (suc i ∷ qs) rises (omega arith, next_rises))
-        (omega (arith, length-append ps (suc i ∷ qs), len, next_len, count))
-        (λ m h isnt. ⊎_elim
-        (λ is. subst (λ o. Finds after trues o) (sym (ap negated is ∙ negated-negated head)) found)
-        (λ there. ⊎_elim
-        (λ in_first. each m in_first)
-        (λ in_next. ⊎_elim (λ is. absurd (isnt (sym is))) (λ later. next_each m later) (has-cons (gate.x (suc i)) m (map gate.x qs) in_next))
-        (has-map_append ps (suc i ∷ qs) m there))
-        (has-cons (negated head) m (map gate.x (ps ++ suc i ∷ qs)) h))
+  low_by_next : (i t : ℕ) → Low i t → Low (suc i) (suc t)
+  low_by_next i t (ps, rises, count, each) = (ps, rises_up 0 i (suc i) ps (omega arith) rises, omega (arith, count), each)
 
 inner_negated : (gates : Gates) (l : Literal) → IsInner gates (negated l) → IsInner gates l
 inner_negated gates l (g, i, j, place, inl is) = (g, i, j, place, inr (sym (negated-negated l) ∙ ap negated is))
@@ -86,27 +51,39 @@ outer_negated : (gates : Gates) (l : Literal) → IsOuter gates l → IsOuter ga
 outer_negated gates l outer = λ inner. outer (inner_negated gates l inner)
 
 module _ (gates : Gates) (after : Held) (trues : List Literal) where
-  -- where s i j is false, at most j - 1 of the inputs up to i are true
-  abbrev IsLow : ℕ → ℕ → ℕ → Type 0
-  IsLow g i j = (c : ℕ) × (c + j ≡ suc i) × Falses (gates g) after trues 0 i c
+  -- the literal is found false, or is l
+  abbrev IsFalseBut : Literal → Literal → Type 0
+  IsFalseBut l m = l ≢ m → Finds after trues (negated m)
 
-  -- where s i j is true, it is wanted: a head is, and all inputs past i that may be false are
-  abbrev IsWanted : ℕ → ℕ → ℕ → Type 0
-  IsWanted g i j = IsRefuted after trues ⊎ ((head : Literal) × (has (gates g).heads head ≡ true) × Finds after trues head × (c : ℕ) × ((c + i) + (gates g).k ≡ (gates g).n + j) × Falses (gates g) after trues i (gates g).n c)
+  -- s i j is false if l is
+  abbrev IsLow : Literal → ℕ → ℕ → ℕ → Type 0
+  IsLow l g i j = Low (gates g) (IsFalseBut l) i j
 
-  -- what becomes of a literal that was found before
+  -- m is false if l is, or l is found
+  abbrev IsDown : Literal → Literal → Type 0
+  IsDown l m =
+      (IsOuter gates m → IsFalseBut l m)
+      × ((g i j : ℕ) → IsPlace (gates g) i j → m ≡ (gates g).s i j → IsLow l g i j)
+      × ((g i j : ℕ) → IsPlace (gates g) i j → m ≡ negated ((gates g).s i j) → IsLow l g i j → Finds after trues l)
+
+  -- what becomes of a literal m that was found before: each l is found that, where false, makes m false
   abbrev pub IsKept : Literal → Type 0
-  IsKept l =
-      (IsOuter gates l → Finds after trues l)
-      × ((g i j : ℕ) → IsPlace (gates g) i j → l ≡ negated ((gates g).s i j) → IsLow g i j)
-      × ((g i j : ℕ) → IsPlace (gates g) i j → l ≡ (gates g).s i j → IsWanted g i j)
+  IsKept m = (l : Literal) → IsDown l m → Finds after trues l
 
-  refuted_kept : (l : Literal) → IsRefuted after trues → IsKept l
-  refuted_kept l refuted = (λ _. refuted_finds after trues l refuted, λ g i j place is. (suc i - j, omega (arith, place.1), inl refuted), λ g i j place is. inl refuted)
+  -- m is of a clause by which a literal was found: it is that literal, or its negation was found too
+  abbrev IsTold : Literal → Literal → Type 0
+  IsTold l m = IsDown l m ⊎ IsKept (negated m)
 
-  -- a literal that is no place's
-  plain_kept : (l : Literal) → IsOuter gates l → Finds after trues l → IsKept l
-  plain_kept l outer found = (λ _. found, λ g i j place is. absurd (outer (g, i, j, place, inr is)), λ g i j place is. absurd (outer (g, i, j, place, inl is)))
+  outer_down : (l m : Literal) → IsOuter gates m → IsFalseBut l m → IsDown l m
+  outer_down l m outer found = (λ _. found, λ g i j place is. absurd (outer (g, i, j, place, inl is)), λ g i j place is. absurd (outer (g, i, j, place, inr is)))
+
+  -- an outer literal that is kept is found
+  pub kept_is_found : (l : Literal) → IsOuter gates l → IsKept l → Finds after trues l
+  kept_is_found l outer kept = kept l (outer_down l l outer (λ isnt. absurd (isnt refl)))
+
+  outer_from : (l m : Literal) → IsOuter gates m → IsTold l m → IsFalseBut l m
+  outer_from l m outer (inl down) = down.0 outer
+  outer_from l m outer (inr kept) = λ _. kept_is_found (negated m) (outer_negated gates m outer) kept
 
   module _ (consistent : IsConsistent trues) (written : AreWritten gates after) (far : AreApart gates) where
     -- a literal is of one place alone, so that what was said of its place is said of this one
@@ -116,126 +93,93 @@ module _ (gates : Gates) (after : Held) (trues : List Literal) where
         let in_row : P h a j = subst (λ o. P h o j) same.1 in_gate in
         subst (λ o. P h a o) same.2 in_row
 
-    negation_kept : (l : Literal) (g i j : ℕ) → IsPlace (gates g) i j → l ≡ negated ((gates g).s i j) → IsLow g i j → IsKept l
-    negation_kept l g i j place is low = (
-      λ outer. absurd (outer (g, i, j, place, inr is)),
-      λ h a b there also. at_place IsLow g i j h a b (far.same_place g h i j a b place there (negated-one ((gates g).s i j) ((gates h).s a b) (sym is ∙ also))) low,
-      λ h a b there also. absurd (far.not_negated h g a b i j there place (sym also ∙ is)),
+    counter_down : (l : Literal) (g i j : ℕ) → IsPlace (gates g) i j → IsLow l g i j → IsDown l ((gates g).s i j)
+    counter_down l g i j place low = (
+      λ outer. absurd (outer (g, i, j, place, inl refl)),
+      λ h a b there is. at_place (IsLow l) g i j h a b (far.same_place g h i j a b place there is) low,
+      λ h a b there is. absurd (far.not_negated g h i j a b is),
     )
 
-    counter_kept : (l : Literal) (g i j : ℕ) → IsPlace (gates g) i j → l ≡ (gates g).s i j → IsWanted g i j → IsKept l
-    counter_kept l g i j place is want = (
-      λ outer. absurd (outer (g, i, j, place, inl is)),
-      λ h a b there also. absurd (far.not_negated g h i j a b place there (sym is ∙ also)),
-      λ h a b there also. at_place IsWanted g i j h a b (far.same_place g h i j a b place there (sym is ∙ also)) want,
+    negation_down : (l : Literal) (g i j : ℕ) → IsPlace (gates g) i j → (IsLow l g i j → Finds after trues l) → IsDown l (negated ((gates g).s i j))
+    negation_down l g i j place want = (
+      λ outer. absurd (outer (g, i, j, place, inr refl)),
+      λ h a b there is. absurd (far.not_negated h g a b i j (sym is)),
+      λ h a b there is. at_place (λ c d e. IsLow l c d e → Finds after trues l) g i j h a b (far.same_place g h i j a b place there (negated-one ((gates g).s i j) ((gates h).s a b) is)) want,
     )
 
-    inner_place : (g i j : ℕ) → IsPlace (gates g) (suc i) j → j ≤ i → IsPlace (gates g) i j
-    inner_place g i j place less = (place.0, less, omega (arith, place.2), place.3)
-
-    left_place : (g i j : ℕ) → 1 ≤ j → IsPlace (gates g) (suc i) (suc j) → IsPlace (gates g) i j
-    left_place g i j some place = (some, omega (arith, place.1), omega (arith, place.2), omega (arith, place.3))
-
-    -- l is found by a clause s i+1 j → s i j or x i+1, the other literals of which are false
-    by_first : (l : Literal) (g i j : ℕ) → IsPlace (gates g) (suc i) j → (l ≡ negated ((gates g).s (suc i) j)) ⊎ IsWanted g (suc i) j → ((j ≤ i) × (l ≡ (gates g).s i j)) ⊎ IsLow g i j
-        → (l ≡ (gates g).x (suc i)) ⊎ Finds after trues (negated ((gates g).x (suc i))) → IsKept l
-    by_first l g i j place (inr (inl refuted)) left input = refuted_kept l refuted
-    by_first l g i j place (inr (inr (head, among, true_head, c, count, few))) (inr (a, a_is, low)) (inr found) =
-        refuted_kept l (too_many_refute (gates g) after trues consistent (written g) head among ((a + 1) + c) (omega (arith, a_is, count))
-        (both_false (gates g) after trues 0 (suc i) (gates g).n (a + 1) c (both_false (gates g) after trues 0 i (suc i) a 1 low (one_false (gates g) after trues i found)) few)
-        true_head)
-    by_first l g i j place (inl is) (inr (a, a_is, low)) (inr found) =
-        negation_kept l g (suc i) j place is (a + 1, omega (arith, a_is), both_false (gates g) after trues 0 i (suc i) a 1 low (one_false (gates g) after trues i found))
-    by_first l g i j place (inr (inr (head, among, true_head, c, count, few))) (inl is) (inr found) =
-        counter_kept l g i j (inner_place g i j place is.0) is.1
-        (inr (head, among, true_head, 1 + c, omega (arith, count), both_false (gates g) after trues i (suc i) (gates g).n 1 c (one_false (gates g) after trues i found) few))
-    by_first l g i j place (inr (inr (head, among, true_head, c, count, few))) (inr (a, a_is, low)) (inl is) =
-        let other : Finds after trues ((gates g).x (suc i)) = forced (gates g) after trues consistent (written g) head among i a c (omega (arith, a_is, count)) low few true_head in
-        plain_kept l (subst (λ o. IsOuter gates o) (sym is) (far.inputs_outer g i place.2)) (subst (λ o. Finds after trues o) (sym is) other)
-    by_first l g i j place (inl is) (inl also) input = absurd (far.not_negated g g i j (suc i) j (inner_place g i j place also.0) place (sym also.1 ∙ is))
-    by_first l g i j place (inl is) (inr low) (inl also) = absurd (far.inputs_outer g i place.2 (g, suc i, j, place, inr (sym also ∙ is)))
-    by_first l g i j place (inr (inr want)) (inl is) (inl also) = absurd (far.inputs_outer g i place.2 (g, i, j, inner_place g i j place is.0, inl (sym also ∙ is.1)))
-
-    -- l is found by a clause s i+1 j+1 → s i j
-    by_second : (l : Literal) (g i j : ℕ) → 1 ≤ j → IsPlace (gates g) (suc i) (suc j) → (l ≡ negated ((gates g).s (suc i) (suc j))) ⊎ IsWanted g (suc i) (suc j) → (l ≡ (gates g).s i j) ⊎ IsLow g i j → IsKept l
-    by_second l g i j some place (inr (inl refuted)) left = refuted_kept l refuted
-    by_second l g i j some place (inr (inr (head, among, true_head, c, count, few))) (inr (a, a_is, low)) =
-        refuted_kept l (too_many_refute (gates g) after trues consistent (written g) head among (a + c) (omega (arith, a_is, count))
-        (both_false (gates g) after trues 0 i (gates g).n a c low (wider (gates g) after trues i (suc i) (gates g).n (gates g).n c (omega arith) (omega arith) few))
-        true_head)
-    by_second l g i j some place (inl is) (inr (a, a_is, low)) =
-        negation_kept l g (suc i) (suc j) place is (a, omega (arith, a_is), wider (gates g) after trues 0 0 i (suc i) a (omega arith) (omega arith) low)
-    by_second l g i j some place (inr (inr (head, among, true_head, c, count, few))) (inl is) =
-        counter_kept l g i j (left_place g i j some place) is
-        (inr (head, among, true_head, c, omega (arith, count), wider (gates g) after trues i (suc i) (gates g).n (gates g).n c (omega arith) (omega arith) few))
-    by_second l g i j some place (inl is) (inl also) = absurd (far.not_negated g g i j (suc i) (suc j) (left_place g i j some place) place (sym also ∙ is))
-
-    -- l is found by a clause head → s n k
-    by_head : (l : Literal) (g : ℕ) (head : Literal) → IsPlace (gates g) (gates g).n (gates g).k → has (gates g).heads head ≡ true
-        → (l ≡ negated head) ⊎ Finds after trues head → (l ≡ (gates g).s (gates g).n (gates g).k) ⊎ IsLow g (gates g).n (gates g).k → IsKept l
-    by_head l g head place among (inl is) (inl also) = absurd (far.heads_outer g head among (g, (gates g).n, (gates g).k, place, inr (sym (negated-other l head is) ∙ ap negated also)))
-    by_head l g head place among (inl is) (inr (c, count, low)) =
-        plain_kept l (subst (λ o. IsOuter gates o) (sym is) (outer_negated gates head (far.heads_outer g head among)))
-        (subst (λ o. Finds after trues o) (sym is) (too_many (gates g) after trues consistent (written g) head among c count low))
-    by_head l g head place among (inr found) (inl is) =
-        counter_kept l g (gates g).n (gates g).k place is (inr (head, among, found, 0, omega arith, none_false (gates g) after trues (gates g).n (gates g).n (omega arith)))
-    by_head l g head place among (inr found) (inr (c, count, low)) = refuted_kept l (too_many_refute (gates g) after trues consistent (written g) head among c count low found)
-
-    -- where any literal is found, all of some clause are false
-    all_found_refutes : ((l : Literal) → Finds after trues l) → IsRefuted after trues
-    all_found_refutes found = clash after trues consistent (Plus 0) (Minus 0) refl (found (Plus 0)) (found (Minus 0))
-
-    by_clause : (l : Literal) (clause : List Literal) → ((m : Literal) → has clause m ≡ true → l ≢ m → IsKept (negated m)) → (AreOuter gates clause × IsNeedless after clause) ⊎ IsOfCounter gates clause → IsKept l
-    by_clause l clause kept (inl (plain, needless)) =
-        let rest : FalseBut after trues l clause = λ m h isnt. (kept m h isnt).0 (outer_negated gates m (plain m h)) in
+    -- a row goes, or it is the last one and its literals are heads
+    goes_or_head : (g i j : ℕ) → IsCell (gates g) (suc i) j → IsPlace (gates g) (suc i) j ⊎ ((suc i ≡ (gates g).n) × IsHeadOf (gates g) ((gates g).s (suc i) j) j)
+    goes_or_head g i j cell =
         ⊎_elim
-        (λ within. plain_kept l (plain l within) (resolved after trues consistent l clause rest needless))
-        (λ out. refuted_kept l (all_found_refutes (λ o. resolved after trues consistent o clause (λ m h _. rest m h (apart clause l m out h)) needless)))
-        (cases_Bool (has clause l))
-    by_clause l clause kept (inr (g, inl (i, j, place, whole, left, input))) =
-        by_first l g i j place
-        (⊎_elim (λ is. inl is) (λ isnt. inr ((kept (negated ((gates g).s (suc i) j)) whole isnt).2 g (suc i) j place (negated-negated ((gates g).s (suc i) j)))) (same_or_not l (negated ((gates g).s (suc i) j))))
-        (⊎_elim
-        (λ ends. inr (0, omega (arith, ends), none_false (gates g) after trues 0 i (omega arith)))
-        (λ there. ⊎_elim (λ is. inl (there.0, is)) (λ isnt. inr ((kept ((gates g).s i j) there.1 isnt).1 g i j (inner_place g i j place there.0) refl)) (same_or_not l ((gates g).s i j)))
-        left)
-        (⊎_elim (λ is. inl is) (λ isnt. inr ((kept ((gates g).x (suc i)) input isnt).0 (outer_negated gates ((gates g).x (suc i)) (far.inputs_outer g i place.2)))) (same_or_not l ((gates g).x (suc i))))
-    by_clause l clause kept (inr (g, inr (inl (i, j, some, place, whole, left)))) =
-        by_second l g i j some place
-        (⊎_elim (λ is. inl is) (λ isnt. inr ((kept (negated ((gates g).s (suc i) (suc j))) whole isnt).2 g (suc i) (suc j) place (negated-negated ((gates g).s (suc i) (suc j))))) (same_or_not l (negated ((gates g).s (suc i) (suc j)))))
-        (⊎_elim (λ is. inl is) (λ isnt. inr ((kept ((gates g).s i j) left isnt).1 g i j (left_place g i j some place) refl)) (same_or_not l ((gates g).s i j)))
-    by_clause l clause kept (inr (g, inr (inr (head, place, among, denied, last)))) =
-        by_head l g head place among
-        (⊎_elim
-        (λ is. inl is)
-        (λ isnt. inr (subst (λ o. Finds after trues o) (negated-negated head) ((kept (negated head) denied isnt).0 (outer_negated gates (negated head) (outer_negated gates head (far.heads_outer g head among))))))
-        (same_or_not l (negated head)))
-        (⊎_elim (λ is. inl is) (λ isnt. inr ((kept ((gates g).s (gates g).n (gates g).k) last isnt).1 g (gates g).n (gates g).k place refl)) (same_or_not l ((gates g).s (gates g).n (gates g).k)))
+        (λ goes. inl (omega (arith, goes), cell))
+        (λ stays.
+        let last : suc i ≡ (gates g).n = omega (arith, cell.2, stays, far.one_row_stays g) in
+        inr (last, inr (omega (arith, last, stays), (cell.0, omega (arith, cell.1, last), omega arith, cell.3), ap (λ o. (gates g).s o j) last)))
+        (cases_lt i (gates g).rows)
+
+    -- where s n t is false if l is, for a head of t inputs that is true, l is found
+    enough : (l : Literal) (g : ℕ) (h : Literal) (t : ℕ) → IsHeadOf (gates g) h t → IsFalseBut l (negated h) → IsLow l g (gates g).n t → Finds after trues l
+    enough l g h t head denied (ps, rises, count, each) =
+        resolved after trues consistent l (negated h ∷ map (gates g).x ps)
+        (λ m there. ⊎_elim (λ is. subst (λ o. IsFalseBut l o) (sym is) denied) (λ later. each m later) (has-cons (negated h) m (map (gates g).x ps) there))
+        (written g h t ps head rises count)
+
+    place_from : (l : Literal) (g i j : ℕ) → IsPlace (gates g) i j → IsTold l ((gates g).s i j) → (IsLow l g i j → Finds after trues l) → Finds after trues l
+    place_from l g i j place (inl down) next = next (down.1 g i j place refl)
+    place_from l g i j place (inr kept) next = kept l (negation_down l g i j place next)
+
+    -- a row that another follows goes
+    low_from : (l : Literal) (g i j : ℕ) → suc i ≤ (gates g).n → IsCell (gates g) i j → IsTold l ((gates g).s i j) → (IsLow l g i j → Finds after trues l) → Finds after trues l
+    low_from l g i j less cell told next = place_from l g i j (omega (arith, less, far.one_row_stays g), cell) told next
+
+    negation_from : (l : Literal) (g i j : ℕ) → IsPlace (gates g) i j → IsTold l (negated ((gates g).s i j)) → IsLow l g i j → Finds after trues l
+    negation_from l g i j place (inl down) low = down.2 g i j place refl low
+    negation_from l g i j place (inr kept) low = (let once : IsKept ((gates g).s i j) = subst (λ o. IsKept o) (negated-negated ((gates g).s i j)) kept in once l (counter_down l g i j place low))
+
+    wanted_from : (l : Literal) (g i j : ℕ) → IsCell (gates g) (suc i) j → IsTold l (negated ((gates g).s (suc i) j)) → IsLow l g (suc i) j → Finds after trues l
+    wanted_from l g i j cell told low =
+        ⊎_elim
+        (λ place. negation_from l g (suc i) j place told low)
+        (λ stays.
+        let h : Literal = (gates g).s (suc i) j in
+        let last : IsLow l g (gates g).n j = subst (λ o. IsLow l g o j) stays.0 low in
+        enough l g h j stays.1 (outer_from l (negated h) (outer_negated gates h (far.heads_outer g j h stays.1)) told) last)
+        (goes_or_head g i j cell)
+
+    -- a clause held before is not false, or l is found
+    by_clause : (l : Literal) (clause : List Literal) → ((m : Literal) → has clause m ≡ true → IsTold l m) → (AreOuter gates clause × IsNeedless after clause) ⊎ IsOfCounter gates clause → Finds after trues l
+    by_clause l clause told (inl (plain, needless)) = resolved after trues consistent l clause (λ m h. outer_from l m (plain m h) (told m h)) needless
+    by_clause l clause told (inr (g, inl (i, j, cell, whole, left, input))) =
+        let wanted : IsLow l g i j → Finds after trues l = λ low. wanted_from l g i j cell (told (negated ((gates g).s (suc i) j)) whole)
+        (low_by_input (gates g) (IsFalseBut l) i j (outer_from l ((gates g).x (suc i)) (far.inputs_outer g i cell.2) (told ((gates g).x (suc i)) input)) low) in
+        ⊎_elim
+        (λ ends. wanted (low_past (gates g) (IsFalseBut l) i j ends))
+        (λ there. low_from l g i j cell.2 (cell.0, there.0, omega (arith, cell.2), cell.3) (told ((gates g).s i j) there.1) wanted)
+        left
+    by_clause l clause told (inr (g, inr (inl (i, j, some, cell, whole, left)))) =
+        low_from l g i j cell.2 (some, omega (arith, cell.1), omega (arith, cell.2), omega (arith, cell.3)) (told ((gates g).s i j) left)
+        (λ low. wanted_from l g i (suc j) cell (told (negated ((gates g).s (suc i) (suc j))) whole) (low_by_next (gates g) (IsFalseBut l) i j low))
+    by_clause l clause told (inr (g, inr (inr (h, place, among, denied, last)))) =
+        let head : IsHeadOf (gates g) h (gates g).k = inl (among, refl) in
+        place_from l g (gates g).n (gates g).k place (told ((gates g).s (gates g).n (gates g).k) last)
+        (λ low. enough l g h (gates g).k head (outer_from l (negated h) (outer_negated gates h (far.heads_outer g (gates g).k h head)) (told (negated h) denied)) low)
 
     module _ (before : Held) (counted : IsCounted gates before after) (outer : AreOuter gates trues) where
-      -- what was found before is found after, or is a place's, with what it says of the inputs
-      pub found_is_kept : (l : Literal) → Finds before trues l → IsKept l
-      found_is_kept l (Given _ h) = plain_kept l (outer l h) (Given l h)
-      found_is_kept l (By _ clause at rest) = by_clause l clause (λ m h isnt. found_is_kept (negated m) (rest m h isnt)) (counted clause at)
-
-      -- where all is found before, an outer literal is found after and so is its negation
-      outer_refutes : IsRefuted before trues → (l : Literal) → IsOuter gates l → IsRefuted after trues
-      outer_refutes refuted l plain =
-          clash after trues consistent l (negated l) refl
-          ((found_is_kept l (refuted_finds before trues l refuted)).0 plain)
-          ((found_is_kept (negated l) (refuted_finds before trues (negated l) refuted)).0 (outer_negated gates l plain))
-
-      -- each clause of a counter names a gate that has an input or a head, which is outer
-      refuted_by_clause : IsRefuted before trues → (clause : List Literal) → ((m : Literal) → has clause m ≡ true → Finds before trues (negated m)) → (AreOuter gates clause × IsNeedless after clause) ⊎ IsOfCounter gates clause → IsRefuted after trues
-      refuted_by_clause refuted clause each (inl (plain, needless)) =
-          all_found_refutes (λ o. resolved after trues consistent o clause (λ m h _. (found_is_kept (negated m) (each m h)).0 (outer_negated gates m (plain m h))) needless)
-      refuted_by_clause refuted clause each (inr (g, inl (i, j, place, whole, left, input))) = outer_refutes refuted ((gates g).x (suc i)) (far.inputs_outer g i place.2)
-      refuted_by_clause refuted clause each (inr (g, inr (inl (i, j, some, place, whole, left)))) = outer_refutes refuted ((gates g).x (suc i)) (far.inputs_outer g i place.2)
-      refuted_by_clause refuted clause each (inr (g, inr (inr (head, place, among, denied, last)))) = outer_refutes refuted head (far.heads_outer g head among)
+      -- what was found before is kept
+      pub found_is_kept : (m : Literal) → Finds before trues m → IsKept m
+      found_is_kept m (Given _ h) = λ l down. ⊎_elim
+          (λ is. subst (λ o. Finds after trues o) (sym is) (Given m h))
+          (λ isnt. refuted_finds after trues l (clash after trues consistent m (negated m) refl (Given m h) (down.0 (outer m h) isnt)))
+          (same_or_not l m)
+      found_is_kept m (By _ clause at rest) = λ l down. by_clause l clause
+          (λ o h. ⊎_elim (λ is. inl (subst (λ p. IsDown l p) is down)) (λ isnt. inr (found_is_kept (negated o) (rest o h isnt))) (same_or_not m o))
+          (counted clause at)
 
       -- what was refuted before is refuted after
       pub refuted_is_kept : IsRefuted before trues → IsRefuted after trues
-      refuted_is_kept refuted = refuted_by_clause refuted refuted.0 refuted.2 (counted refuted.0 refuted.1)
+      refuted_is_kept (clause, at, each) =
+          let found : (l : Literal) → Finds after trues l = λ l. by_clause l clause (λ m h. inr (found_is_kept (negated m) (each m h))) (counted clause at) in
+          clash after trues consistent (Plus 0) (Minus 0) refl (found (Plus 0)) (found (Minus 0))
 
 -- a clause without literals of places that is useful beside the clauses written out was useful beside those of the counters
 pub useful_before : (gates : Gates) (before after : Held) → AreApart gates → IsCounted gates before after → AreWritten gates after → (clause : List Literal) → IsConsistent clause → AreOuter gates clause → IsUseful after clause → IsUseful before clause
@@ -248,7 +192,7 @@ useful_before gates before after far counted written clause consistent outer use
       l,
       useful.1,
       λ hints settles.
-          let again : (more : List ℤ) × Settles after start l more = found_is_settled after start l ((found_is_kept gates after start start_consistent written far before counted start_outer l (settled_is_found before start l hints settles)).0 (outer l useful.1)) in
+          let again : (more : List ℤ) × Settles after start l more = found_is_settled after start l (kept_is_found gates after start l (outer l useful.1) (found_is_kept gates after start start_consistent written far before counted start_outer l (settled_is_found before start l hints settles))) in
           useful.2 again.0 again.1,
     )
 

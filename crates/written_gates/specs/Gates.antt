@@ -1,14 +1,17 @@
--- Gates that say that at least k of some inputs are true where a head is, by a counter each, and with the sets of their inputs
--- written out.
+-- Gates that say that at least so many of some inputs are true where a head is, by a counter each, and with the sets of their
+-- inputs written out.
 use Rattle.std.specs.Prelude.{◌≡◌, ◌≢◌, ◌⊎◌, ℕ, suc, true, ◌+◌, ◌<◌, ◌≤◌, List, [], ◌∷◌, length, map}
 use Rattle.lrat_model.specs.Literal.{Literal, negated, has}
 use Rattle.lrat_model.specs.Clauses.{Held}
 use Rattle.written_gates.specs.Finding.{IsHeld, IsNeedless}
 
--- where one of the heads is true at least k of the inputs x 1 .. x n are; s i j says that j of the inputs x 1 .. x i are
+-- s i j says that j of the inputs x 1 .. x i are true; a row has at most k columns. Where one of the heads is true, k of all
+-- inputs are. Past the first `rows` rows of the n, a row stays where the gate is written out: then each of its literals is a
+-- head of as many inputs as its column says
 pub record Gate : Type 0 where
   pub n : ℕ
   pub k : ℕ
+  pub rows : ℕ
   pub x : ℕ → Literal
   pub s : ℕ → ℕ → Literal
   pub heads : List Literal
@@ -22,16 +25,24 @@ abbrev pub Rises : ℕ → ℕ → List ℕ → Type 0
 Rises low high [] = low ≤ high
 Rises low high (p ∷ ps) = (low < p) × Rises p high ps
 
--- where a head is true, one of any n - k + 1 of the inputs is: no such clause is needed beside those held
+-- the cells of a gate's counter
+abbrev pub IsCell : Gate → ℕ → ℕ → Type 0
+IsCell gate i j = (1 ≤ j) × (j ≤ i) × (i ≤ gate.n) × (j ≤ gate.k)
+
+-- the cells that go
+abbrev pub IsPlace : Gate → ℕ → ℕ → Type 0
+IsPlace gate i j = (i ≤ gate.rows) × IsCell gate i j
+
+-- where h is true, at least t of the inputs are
+abbrev pub IsHeadOf : Gate → Literal → ℕ → Type 0
+IsHeadOf gate h t = ((has gate.heads h ≡ true) × (t ≡ gate.k)) ⊎ ((gate.rows < gate.n) × IsCell gate gate.n t × (h ≡ gate.s gate.n t))
+
+-- where a head of t inputs is true, one of any n - t + 1 of the inputs is: no such clause is needed beside those held
 abbrev pub IsWritten : Gate → Held → Type 0
-IsWritten gate held = (h : Literal) (ps : List ℕ) → has gate.heads h ≡ true → Rises 0 gate.n ps → length ps + gate.k ≡ suc gate.n → IsNeedless held (negated h ∷ map gate.x ps)
+IsWritten gate held = (h : Literal) (t : ℕ) (ps : List ℕ) → IsHeadOf gate h t → Rises 0 gate.n ps → length ps + t ≡ suc gate.n → IsNeedless held (negated h ∷ map gate.x ps)
 
 abbrev pub AreWritten : Gates → Held → Type 0
 AreWritten gates held = (g : ℕ) → IsWritten (gates g) held
-
--- the places of a gate's counter
-abbrev pub IsPlace : Gate → ℕ → ℕ → Type 0
-IsPlace gate i j = (1 ≤ j) × (j ≤ i) × (i ≤ gate.n) × (j ≤ gate.k)
 
 -- l is the literal of a place or its negation
 abbrev pub IsInner : Gates → Literal → Type 0
@@ -42,11 +53,11 @@ IsOuter gates l = IsInner gates l → ⊥
 
 -- s i+1 j → s i j or x i+1, where s i j is false for j > i
 abbrev pub IsFirst : Gate → List Literal → Type 0
-IsFirst gate clause = (i j : ℕ) × IsPlace gate (suc i) j × (has clause (negated (gate.s (suc i) j)) ≡ true) × ((j ≡ suc i) ⊎ ((j ≤ i) × (has clause (gate.s i j) ≡ true))) × (has clause (gate.x (suc i)) ≡ true)
+IsFirst gate clause = (i j : ℕ) × IsCell gate (suc i) j × (has clause (negated (gate.s (suc i) j)) ≡ true) × ((j ≡ suc i) ⊎ ((j ≤ i) × (has clause (gate.s i j) ≡ true))) × (has clause (gate.x (suc i)) ≡ true)
 
 -- s i+1 j+1 → s i j, or another
 abbrev pub IsSecond : Gate → List Literal → Type 0
-IsSecond gate clause = (i j : ℕ) × (1 ≤ j) × IsPlace gate (suc i) (suc j) × (has clause (negated (gate.s (suc i) (suc j))) ≡ true) × (has clause (gate.s i j) ≡ true)
+IsSecond gate clause = (i j : ℕ) × (1 ≤ j) × IsCell gate (suc i) (suc j) × (has clause (negated (gate.s (suc i) (suc j))) ≡ true) × (has clause (gate.s i j) ≡ true)
 
 -- a head → s n k
 abbrev pub IsHead : Gate → List Literal → Type 0
@@ -64,9 +75,10 @@ AreOuter gates clause = (m : Literal) → has clause m ≡ true → IsOuter gate
 abbrev pub IsCounted : Gates → Held → Held → Type 0
 IsCounted gates before after = (clause : List Literal) → IsHeld before clause → (AreOuter gates clause × IsNeedless after clause) ⊎ IsOfCounter gates clause
 
--- the literals of places are told apart, and from inputs and heads
+-- the literals of places are told apart, and from inputs and heads; at most one row stays
 pub record AreApart (gates : Gates) : Type 0 where
   pub same_place : (g h i j a b : ℕ) → IsPlace (gates g) i j → IsPlace (gates h) a b → (gates g).s i j ≡ (gates h).s a b → (g ≡ h) × (i ≡ a) × (j ≡ b)
-  pub not_negated : (g h i j a b : ℕ) → IsPlace (gates g) i j → IsPlace (gates h) a b → (gates g).s i j ≢ negated ((gates h).s a b)
+  pub not_negated : (g h i j a b : ℕ) → (gates g).s i j ≢ negated ((gates h).s a b)
   pub inputs_outer : (g i : ℕ) → suc i ≤ (gates g).n → IsOuter gates ((gates g).x (suc i))
-  pub heads_outer : (g : ℕ) (h : Literal) → has (gates g).heads h ≡ true → IsOuter gates h
+  pub heads_outer : (g t : ℕ) (h : Literal) → IsHeadOf (gates g) h t → IsOuter gates h
+  pub one_row_stays : (g : ℕ) → (gates g).n ≤ suc (gates g).rows

@@ -2,9 +2,9 @@
 ghost use Rattle.std.specs.Prelude.{◌≡◌, ℕ, ◌+◌, ◌-◌, ◌<◌, ◌≤◌, ◌^◌, true};
 ghost use Rattle.lrat_model.specs.Literal.{variable_of};
 ghost use Rattle.written_gates.specs.Gates.{IsPlace};
-ghost use Rattle.written_gates.specs.Counters.{number_at, gate_of, cell_at, ArePlaced, AreNowhere, AreInputsNowhere};
+ghost use Rattle.written_gates.specs.Counters.{number_at, gate_of, cell_at, ArePlaced, AreKept, IsNowhere, AreNowhere, AreInputsNowhere};
 
-use crate::counters::Counter;
+use crate::counters::{Counter, place_rows};
 use clause_store::Lit;
 use std::alloc::{AllocError, Global};
 
@@ -39,19 +39,22 @@ pub fn mark_cells(alloc: Global, counters: &[Counter], vars: u64) -> Result<Vec<
 
 /// Marks the places of a gate.
 fn mark_counter(cells: &mut [Cell], gate: u32, counter: &Counter) {
-    let Ok(rows) = u32::try_from(counter.inputs.len().min(counter.rows.len())) else {
+    let Ok(rows) = u32::try_from(place_rows(counter)) else {
         return;
     };
     for above in 0..rows {
         let row = above + 1;
         let first = number_at(&counter.rows, row as usize);
-        mark_row(cells, gate, row, first, width(counter, row));
+        mark_row(cells, gate, row, first, width_of_row(counter, row as usize));
     }
 }
 
 /// Marks the places of a row, the first of which has this variable.
-fn mark_row(cells: &mut [Cell], gate: u32, row: u32, first: u32, width: u32) {
-    for before in 0..width {
+fn mark_row(cells: &mut [Cell], gate: u32, row: u32, first: u32, width: usize) {
+    let Ok(columns) = u32::try_from(width) else {
+        return;
+    };
+    for before in 0..columns {
         let column = before + 1;
         if let Some(cell) = cells.get_mut(first as usize + before as usize) {
             *cell = Cell { gate, row, column };
@@ -59,18 +62,14 @@ fn mark_row(cells: &mut [Cell], gate: u32, row: u32, first: u32, width: u32) {
     }
 }
 
-/// How many places a row has.
-fn width(counter: &Counter, row: u32) -> u32
+/// How many variables a row has. O(1).
+pub fn width_of_row(counter: &Counter, row: usize) -> usize
     ensures { (j : ℕ) → j ≤ row → j ≤ counter.now.threshold → j ≤ result }
 {
-    if counter.threshold < row as usize {
-        counter.threshold as u32
-    } else {
-        row
-    }
+    counter.threshold.min(row)
 }
 
-/// The number at a position from 1 on, 0 past the end.
+/// The number at a position from 1 on, 0 past the end. O(1).
 pub fn number_at(numbers: &[u32], position: usize) -> u32
     ensures { result ≡ number_at numbers.now position }
 {
@@ -80,7 +79,7 @@ pub fn number_at(numbers: &[u32], position: usize) -> u32
     }
 }
 
-/// The cell of a variable.
+/// The cell of a variable. O(1).
 pub fn cell_at(cells: &[Cell], variable: usize) -> Cell
     ensures { result ≡ cell_at cells.now variable }
 {
@@ -90,7 +89,7 @@ pub fn cell_at(cells: &[Cell], variable: usize) -> Cell
     }
 }
 
-/// Whether the variable of each place has its cell.
+/// Whether the variable of each place has its cell. Linear in the gates, their rows and their places.
 pub fn are_placed(counters: &[Counter], cells: &[Cell]) -> bool
     ensures { result ≡ true → ArePlaced counters.now cells.now }
 {
@@ -109,13 +108,13 @@ pub fn are_placed(counters: &[Counter], cells: &[Cell]) -> bool
 fn is_counter_placed(cells: &[Cell], gate: u32, counter: &Counter) -> bool
     ensures { result ≡ true → (i j : ℕ) → IsPlace (gate_of counter.now) i j → cell_at cells.now (number_at counter.now.rows.items i + (j - 1)) ≡ record { gate = gate; row = i; column = j } }
 {
-    let Ok(rows) = u32::try_from(counter.inputs.len()) else {
+    let Ok(rows) = u32::try_from(place_rows(counter)) else {
         return false;
     };
     for above in 0..rows {
         let row = above + 1;
         let first = number_at(&counter.rows, row as usize);
-        if !is_row_placed(cells, gate, row, first, width(counter, row)) {
+        if !is_row_placed(cells, gate, row, first, width_of_row(counter, row as usize)) {
             return false;
         }
     }
@@ -123,10 +122,13 @@ fn is_counter_placed(cells: &[Cell], gate: u32, counter: &Counter) -> bool
 }
 
 /// Whether the variables of a row's places, the first of which is this one, have their cells.
-fn is_row_placed(cells: &[Cell], gate: u32, row: u32, first: u32, width: u32) -> bool
+fn is_row_placed(cells: &[Cell], gate: u32, row: u32, first: u32, width: usize) -> bool
     ensures { result ≡ true → (j : ℕ) → 1 ≤ j → j ≤ width → cell_at cells.now (first + (j - 1)) ≡ record { gate = gate; row = row; column = j } }
 {
-    for before in 0..width {
+    let Ok(columns) = u32::try_from(width) else {
+        return false;
+    };
+    for before in 0..columns {
         let cell = cell_at(cells, first as usize + before as usize);
         if cell.gate != gate || cell.row != row || cell.column != before + 1 {
             return false;
@@ -135,12 +137,45 @@ fn is_row_placed(cells: &[Cell], gate: u32, row: u32, first: u32, width: u32) ->
     true
 }
 
-/// Whether the inputs and the heads of each gate are the variables of no places.
+/// Whether the inputs, the heads and the row that stays of each gate are the variables of no places. Linear in them.
 pub fn are_inputs_nowhere(counters: &[Counter], cells: &[Cell]) -> bool
     ensures { result ≡ true → AreInputsNowhere counters.now cells.now }
 {
     for counter in counters {
         if !are_nowhere(cells, &counter.inputs) || !are_nowhere(cells, &counter.heads) {
+            return false;
+        }
+        if !are_kept_nowhere(counter, cells) {
+            return false;
+        }
+    }
+    true
+}
+
+/// Whether the variables of the row that stays, if one does, are those of no places.
+fn are_kept_nowhere(counter: &Counter, cells: &[Cell]) -> bool
+    ensures { result ≡ true → AreKept (IsNowhere cells.now) counter.now }
+{
+    if !counter.keeps_last {
+        return true;
+    }
+    let last = counter.inputs.len();
+    is_row_nowhere(
+        cells,
+        number_at(&counter.rows, last),
+        width_of_row(counter, last),
+    )
+}
+
+/// Whether the variables of a row, the first of which is this one, are those of no places.
+fn is_row_nowhere(cells: &[Cell], first: u32, width: usize) -> bool
+    ensures { result ≡ true → (j : ℕ) → 1 ≤ j → j ≤ width → IsNowhere cells.now (first + (j - 1)) }
+{
+    let Ok(columns) = u32::try_from(width) else {
+        return false;
+    };
+    for before in 0..columns {
+        if cell_at(cells, first as usize + before as usize).row != 0 {
             return false;
         }
     }

@@ -5,7 +5,7 @@ ghost use Rattle.lrat_model.specs.Literal.{Literal, Plus, Minus, negated, has};
 ghost use Rattle.lrat_model.specs.Ranges.{IsInRange, AreInRange};
 ghost use Rattle.written_gates.specs.Finding.{IsHeld, IsNeedless};
 ghost use Rattle.written_gates.specs.Gates.{Rises};
-ghost use Rattle.written_gates.specs.Counters.{number_at};
+ghost use Rattle.written_gates.specs.Counters.{number_at, gate_of, IsVariable, AreVariables};
 
 use crate::counters::Counter;
 use crate::writing::Origin;
@@ -79,24 +79,25 @@ fn choose(
     choose(written, origins, origin, inputs, chosen, from + 1, left)
 }
 
-/// Holds, for each set of n - k + 1 of the n inputs of a gate that wants k of them, the clause that the head is false or one
-/// of the set is true, but for tautologies: a head that is true leaves at most n - k of its inputs false. Each clause has this
-/// origin, and its id follows the last one. Where no id is left this is as where no memory is. Time and memory are linear in
-/// the literals of these clauses.
+/// Holds the clauses of a head of t = `wanted` of a gate's n inputs, but for tautologies: for each set of n - t + 1 of them, that
+/// the head is false or one of the set is true. A head that is true leaves at most n - t of the inputs false. Each clause has
+/// this origin, and its id follows the last one. Where no id is left this is as where no memory is. Time and memory are linear
+/// in the literals of these clauses.
 pub fn write_choices(
     written: &mut Store,
     origins: &mut Vec<Origin>,
     origin: Origin,
     counter: &Counter,
     head: u32,
+    wanted: usize,
 ) -> Result<(), AllocError>
-    requires head { (0 < head) × (head < 2 ^ 31) }
-    requires inputs { All (λ x. (0 < x) × (x < 2 ^ 31)) counter.now.inputs.items }
-    ensures choices { OnOk result ((ps : List ℕ) → Rises 0 (length counter.now.inputs.items) ps → length ps + counter.now.threshold ≡ suc (length counter.now.inputs.items) → IsNeedless written.new.held (Minus head ∷ map (λ i. Plus (number_at counter.now.inputs.items i)) ps)) }
+    requires head { IsVariable (2 ^ 31) head }
+    requires inputs { AreVariables (2 ^ 31) counter.now.inputs.items }
+    ensures choices { let gate = gate_of counter.now in OnOk result ((ps : List ℕ) → Rises 0 gate.n ps → length ps + wanted ≡ suc gate.n → IsNeedless written.new.held (Minus head ∷ map gate.x ps)) }
     ensures kept { OnOk result ((clause : List Literal) → IsHeld written.old.held clause → IsHeld written.new.held clause) }
-    ensures range { (vars : ℕ) → AreInRange vars written.old.held → head ≤ vars → All (λ x. x ≤ vars) counter.now.inputs.items → OnOk result (AreInRange vars written.new.held) }
+    ensures range { (vars : ℕ) → AreInRange vars written.old.held → head ≤ vars → AreVariables (vars + 1) counter.now.inputs.items → OnOk result (AreInRange vars written.new.held) }
 {
-    let Some(size) = (counter.inputs.len() + 1).checked_sub(counter.threshold) else {
+    let Some(size) = (counter.inputs.len() + 1).checked_sub(wanted) else {
         return Ok(());
     };
     let mut chosen = Vec::new(*origins.allocator());

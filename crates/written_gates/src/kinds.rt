@@ -1,11 +1,11 @@
 //! Which clauses are those of gates.
-ghost use Rattle.std.specs.Prelude.{◌≡◌, ◌⊎◌, ℕ, ◌+◌, ◌-◌, ◌<◌, ◌≤◌, ◌^◌, true, All, map, length};
+ghost use Rattle.std.specs.Prelude.{◌≡◌, ◌⊎◌, ◌+◌, ◌-◌, ◌<◌, ◌≤◌, ◌^◌, true, All, map};
 ghost use Rattle.lrat_model.specs.Literal.{Literal, Plus, Minus, variable_of, negated, has};
-ghost use Rattle.written_gates.specs.Gates.{Gate, IsPlace, IsFirst, IsSecond, IsHead, IsOfCounter};
+ghost use Rattle.written_gates.specs.Gates.{IsCell, IsPlace, IsFirst, IsSecond, IsHead, IsOfCounter};
 ghost use Rattle.written_gates.specs.Counters.{number_at, gate_of, gates_of, cell_at};
 
 use crate::cells::{Cell, cell_at, is_outer, number_at};
-use crate::counters::Counter;
+use crate::counters::{Counter, place_rows};
 use clause_store::Lit;
 
 /// What a clause is beside gates: it has no place's literal; or it is one of a gate's counter; or neither is seen.
@@ -20,7 +20,7 @@ pub enum Kind {
 const END_OF_VARIABLES: usize = 1 << 31;
 
 /// Of which kind a clause is. Linear in its literals, but for a search by halves among the gate's heads for each of them
-/// where the last place stands positive.
+/// where no place stands negative.
 pub fn kind_of(counters: &[Counter], cells: &[Cell], clause: &[Lit]) -> Kind
     ensures outer { result ≡ Kind.Outer → All (λ l. (cell_at cells.now (variable_of l)).row ≡ 0) clause.now }
     ensures counter { result ≡ Kind.Counter → IsOfCounter (gates_of counters.now) clause.now }
@@ -46,16 +46,16 @@ fn are_outer(cells: &[Cell], clause: &[Lit]) -> bool
     true
 }
 
-/// Whether the clause is one of a counter: the place of its negative literal tells of which row, else that of its positive
-/// one of which gate.
+/// Whether the clause is one of a counter: its first negative literal that is a place's tells from where it leads. Where a head
+/// or a last row that stays is denied, there is none, and its first positive one tells where it leads to.
 fn is_of_counter(counters: &[Counter], cells: &[Cell], clause: &[Lit]) -> bool
     ensures { result ≡ true → IsOfCounter (gates_of counters.now) clause.now }
 {
     let denied = first_place(cells, clause, true);
     if denied.row > 0 {
-        return is_row_clause(counters, denied, clause);
+        return is_from_place(counters, denied, clause);
     }
-    is_head_clause(counters, first_place(cells, clause, false), clause)
+    is_to_place(counters, first_place(cells, clause, false), clause)
 }
 
 /// The cell of the clause's first literal that is a place's, and negative or positive as is asked; one in row 0 where there
@@ -71,7 +71,7 @@ fn first_place(cells: &[Cell], clause: &[Lit], is_negative: bool) -> Cell {
 }
 
 /// Whether the clause leads from this place to the row above.
-fn is_row_clause(counters: &[Counter], place: Cell, clause: &[Lit]) -> bool
+fn is_from_place(counters: &[Counter], place: Cell, clause: &[Lit]) -> bool
     ensures { result ≡ true → IsOfCounter (gates_of counters.now) clause.now }
 {
     let Some(counter) = counters.get(place.gate as usize) else {
@@ -85,41 +85,49 @@ fn is_row_clause(counters: &[Counter], place: Cell, clause: &[Lit]) -> bool
     is_second(counter, row, column, clause)
 }
 
-/// Whether the clause leads from a head to this place's gate.
-fn is_head_clause(counters: &[Counter], place: Cell, clause: &[Lit]) -> bool
+/// Whether the clause leads to this place from a head of its gate or from the row below.
+fn is_to_place(counters: &[Counter], place: Cell, clause: &[Lit]) -> bool
     ensures { result ≡ true → IsOfCounter (gates_of counters.now) clause.now }
 {
     let Some(counter) = counters.get(place.gate as usize) else {
         return false;
     };
-    is_head(counter, clause)
+    let below = place.row as usize + 1;
+    let column = place.column as usize;
+    if is_head(counter, clause) {
+        return true;
+    }
+    if is_first(counter, below, column, clause) {
+        return true;
+    }
+    if is_second(counter, below, column, clause) {
+        return true;
+    }
+    is_second(counter, below, column + 1, clause)
 }
 
 /// Whether the clause says: where j of the inputs up to this one are true, this one is, or j of those before it.
 fn is_first(counter: &Counter, row: usize, column: usize, clause: &[Lit]) -> bool
     ensures { result ≡ true → IsFirst (gate_of counter.now) clause.now }
 {
-    is_denied_place(counter, row, column, clause)
+    is_denied_cell(counter, row, column, clause)
         && has_left(counter, row, column, clause)
         && has_positive(clause, number_at(&counter.inputs, row) as usize)
 }
 
-/// Whether the clause has the place of this column in the row above, or there is none.
+/// Whether the clause has the cell of this column in the row above, or there is none.
 fn has_left(counter: &Counter, row: usize, column: usize, clause: &[Lit]) -> bool
-    requires { IsPlace (gate_of counter.now) row column }
+    requires { IsCell (gate_of counter.now) row column }
     ensures { result ≡ true → (column ≡ row) ⊎ ((column ≤ row - 1) × (has clause.now ((gate_of counter.now).s (row - 1) column) ≡ true)) }
 {
-    if column == row {
-        return true;
-    }
-    column < row && has_positive(clause, variable_at(counter, row - 1, column))
+    column == row || has_positive(clause, variable_at(counter, row - 1, column))
 }
 
 /// Whether the clause says: where more than j of the inputs up to this one are true, j of those before it are.
 fn is_second(counter: &Counter, row: usize, column: usize, clause: &[Lit]) -> bool
     ensures { result ≡ true → IsSecond (gate_of counter.now) clause.now }
 {
-    if column < 2 || !is_denied_place(counter, row, column, clause) {
+    if column < 2 || !is_denied_cell(counter, row, column, clause) {
         return false;
     }
     has_positive(clause, variable_at(counter, row - 1, column - 1))
@@ -136,23 +144,29 @@ fn is_head(counter: &Counter, clause: &[Lit]) -> bool
         && denies_head(&counter.heads, clause)
 }
 
-/// Whether a place is denied.
-fn is_denied_place(counter: &Counter, row: usize, column: usize, clause: &[Lit]) -> bool
-    ensures place { result ≡ true → IsPlace (gate_of counter.now) row column }
+/// Whether the counter has this cell and the clause denies it.
+fn is_denied_cell(counter: &Counter, row: usize, column: usize, clause: &[Lit]) -> bool
+    ensures cell { result ≡ true → IsCell (gate_of counter.now) row column }
     ensures denied { result ≡ true → has clause.now (negated ((gate_of counter.now).s row column)) ≡ true }
-    ensures some { result ≡ true → 1 ≤ row }
 {
-    is_place(counter, row, column) && has_negative(clause, variable_at(counter, row, column))
+    is_cell(counter, row, column) && has_negative(clause, variable_at(counter, row, column))
 }
 
 /// Whether the counter has this place.
 fn is_place(counter: &Counter, row: usize, column: usize) -> bool
     ensures { result ≡ true → IsPlace (gate_of counter.now) row column }
 {
+    row <= place_rows(counter) && is_cell(counter, row, column)
+}
+
+/// Whether the counter has this cell.
+fn is_cell(counter: &Counter, row: usize, column: usize) -> bool
+    ensures { result ≡ true → IsCell (gate_of counter.now) row column }
+{
     1 <= column && column <= row && row <= counter.inputs.len() && column <= counter.threshold
 }
 
-/// The variable of a place.
+/// The variable of a cell.
 fn variable_at(counter: &Counter, row: usize, column: usize) -> usize
     requires { column < 2 ^ 63 }
     ensures { result ≡ number_at counter.now.rows.items row + (column - 1) }

@@ -169,6 +169,7 @@ pub fn read_counter(
         threshold,
         inputs,
         rows,
+        keeps_last: false,
         heads: Vec::new(alloc),
         head_ids: Vec::new(alloc),
         start,

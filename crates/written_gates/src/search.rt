@@ -8,6 +8,9 @@ use std::alloc::{AllocError, Global};
 /// The most clauses that a gate may have for each head.
 const MOST_SETS: u64 = 500;
 
+/// So many rows are written out of the counter of a gate that has more: that takes fewer than 128 clauses.
+const FIRST_ROWS: usize = 7;
+
 /// What a variable is to the counters that were found.
 #[derive(Clone, Copy)]
 enum Role {
@@ -28,14 +31,18 @@ fn count_of_sets(n: u64, k: u64) -> u64 {
     count
 }
 
-/// Whether a counter has few inputs, and few sets of them to be written out.
-fn is_small(counter: &Counter) -> bool {
-    let inputs = counter.inputs.len() as u64;
-    inputs <= u64::from(MOST_INPUTS) && count_of_sets(inputs, counter.threshold as u64) <= MOST_SETS
+/// Whether a counter was read to its end.
+fn is_whole(counter: &Counter) -> bool {
+    counter.inputs.len() as u64 <= u64::from(MOST_INPUTS)
 }
 
-/// The small counters in the order of their clauses, without heads.
-fn small_counters(alloc: Global, formula: &Store) -> Result<Vec<Counter>, AllocError> {
+/// Whether a gate has few sets of inputs.
+fn has_few_sets(counter: &Counter) -> bool {
+    count_of_sets(counter.inputs.len() as u64, counter.threshold as u64) <= MOST_SETS
+}
+
+/// The whole counters in the order of their clauses, without heads.
+fn whole_counters(alloc: Global, formula: &Store) -> Result<Vec<Counter>, AllocError> {
     let mut counters = Vec::new(alloc);
     let mut next = 1;
     for before in 0..formula.last() {
@@ -45,7 +52,7 @@ fn small_counters(alloc: Global, formula: &Store) -> Result<Vec<Counter>, AllocE
         }
         if let Some(counter) = read_counter(alloc, formula, id)? {
             next = counter.end;
-            if is_small(&counter) {
+            if is_whole(&counter) {
                 counters.push(counter)?;
             }
         }
@@ -53,21 +60,77 @@ fn small_counters(alloc: Global, formula: &Store) -> Result<Vec<Counter>, AllocE
     Ok(counters)
 }
 
-/// How many places the counters have: each has a first clause, and each but the first of a row a second.
-fn count_of_places(counters: &[Counter]) -> u64 {
-    let mut count: u64 = 0;
-    for counter in counters {
-        let clauses = counter.end.saturating_sub(counter.start);
-        let rows = counter.inputs.len() as u64;
-        count = count.saturating_add(clauses.saturating_add(rows) / 2);
+/// The id past the clauses of the first rows of a counter.
+fn end_of_rows(counter: &Counter, rows: usize) -> u64 {
+    let mut end = counter.start;
+    for before in 0..rows {
+        let width = before.saturating_add(1).min(counter.threshold) as u64;
+        end = end.saturating_add(width.saturating_mul(2).saturating_sub(1));
     }
-    count
+    end
 }
 
-/// Whether half of the variables are places of the counters. Where fewer are, most counters are left, and a search that knows few
+/// The counter, or its first rows where its gate has many sets.
+fn part_of(alloc: Global, counter: Counter) -> Counter {
+    if has_few_sets(&counter) {
+        return counter;
+    }
+    let end = end_of_rows(&counter, FIRST_ROWS);
+    let Counter {
+        threshold,
+        mut inputs,
+        mut rows,
+        start,
+        ..
+    } = counter;
+    inputs.truncate(FIRST_ROWS);
+    rows.truncate(FIRST_ROWS);
+    Counter {
+        threshold,
+        inputs,
+        rows,
+        keeps_last: true,
+        heads: Vec::new(alloc),
+        head_ids: Vec::new(alloc),
+        start,
+        end,
+    }
+}
+
+/// How many variables a counter has: each has a first clause, and each but the first of a row a second.
+fn count_of_variables(counter: &Counter) -> u64 {
+    let clauses = counter.end.saturating_sub(counter.start);
+    let rows = counter.inputs.len() as u64;
+    clauses.saturating_add(rows) / 2
+}
+
+/// How many variables go where the counter is written out.
+fn count_of_places(counter: &Counter) -> u64 {
+    let all = count_of_variables(counter);
+    if counter.keeps_last {
+        all.saturating_sub(counter.inputs.len().min(counter.threshold) as u64)
+    } else {
+        all
+    }
+}
+
+/// Whether half of the variables are those of the counters. Where fewer are, most counters are left, and a search that knows few
 /// of the gates gains nothing.
 fn are_most(counters: &[Counter], vars: u64) -> bool {
-    count_of_places(counters) >= vars / 2
+    let mut count: u64 = 0;
+    for counter in counters {
+        count = count.saturating_add(count_of_variables(counter));
+    }
+    count >= vars / 2
+}
+
+/// Whether an eighth of the variables goes where the counters are written out. Where fewer do, it gains nothing.
+fn go_many(counters: &[Counter], vars: u64) -> bool {
+    let mut count: u64 = 0;
+    for counter in counters {
+        count = count.saturating_add(count_of_places(counter));
+    }
+    count >= vars / 8
 }
 
 /// Gives a variable a role, where it is in the table.
@@ -201,16 +264,9 @@ fn see_clauses(
     Ok(shared)
 }
 
-/// The gates with counters that are named by nothing but their heads' clauses, and have few sets of inputs to be written out:
-/// at most 500, of at most 32 inputs; none where fewer than half of the variables are theirs. They stand in the order of their
-/// clauses. The ids of the formula are dense from 1 on, and its variables are at most `vars`, else gates may be missed. Time is linear in the literals and `vars`, memory in `vars` and
-/// the gates.
-pub fn find_counters(
-    alloc: Global,
-    formula: &Store,
-    vars: u64,
-) -> Result<Vec<Counter>, AllocError> {
-    let mut counters = small_counters(alloc, formula)?;
+/// The counters that are read whole and named by nothing but their heads' clauses.
+fn own_counters(alloc: Global, formula: &Store, vars: u64) -> Result<Vec<Counter>, AllocError> {
+    let mut counters = whole_counters(alloc, formula)?;
     let shared = see_clauses(alloc, formula, vars, &mut counters)?;
     let mut found = Vec::new(alloc);
     for (counter, is_shared) in counters.into_iter().zip(shared) {
@@ -218,8 +274,29 @@ pub fn find_counters(
             found.push(counter)?;
         }
     }
-    if are_most(&found, vars) {
-        Ok(found)
+    Ok(found)
+}
+
+/// The gates with counters that are named by nothing but their heads' clauses, of at most 32 inputs: whole where they have at
+/// most 500 sets of inputs to be written out, else the first seven rows of their counters. None where fewer than half of the
+/// variables are theirs, or fewer than an eighth go. They stand in the order of their clauses. The ids of the formula are dense
+/// from 1 on, and its variables are at most `vars`, else gates may be missed. Time is linear in the literals and `vars`, memory
+/// in `vars` and the gates.
+pub fn find_counters(
+    alloc: Global,
+    formula: &Store,
+    vars: u64,
+) -> Result<Vec<Counter>, AllocError> {
+    let counters = own_counters(alloc, formula, vars)?;
+    if !are_most(&counters, vars) {
+        return Ok(Vec::new(alloc));
+    }
+    let mut parts = Vec::new(alloc);
+    for counter in counters {
+        parts.push(part_of(alloc, counter))?;
+    }
+    if go_many(&parts, vars) {
+        Ok(parts)
     } else {
         Ok(Vec::new(alloc))
     }

@@ -1,14 +1,14 @@
 //! A formula with its gates written out.
-ghost use Rattle.std.specs.Prelude.{◌≡◌, ℕ, ◌+◌, ◌<◌, ◌≤◌, ◌^◌, true, List, [], Ok, IfOk, IfSome, OnOk};
-ghost use Rattle.lrat_model.specs.Literal.{Literal};
+ghost use Rattle.std.specs.Prelude.{◌≡◌, ℕ, suc, ◌+◌, ◌-◌, ◌<◌, ◌≤◌, ◌^◌, true, List, [], ◌∷◌, length, map, Ok, IfOk, IfSome, OnOk};
+ghost use Rattle.lrat_model.specs.Literal.{Literal, negated, has};
 ghost use Rattle.lrat_model.specs.Ranges.{IsInRange, AreInRange};
-ghost use Rattle.written_gates.specs.Finding.{IsHeld};
-ghost use Rattle.written_gates.specs.Gates.{AreApart, IsWritten, AreWritten, IsCounted};
-ghost use Rattle.written_gates.specs.Counters.{gate_of, gates_of, ArePlaced, AreInputsNowhere, AreVariables, HaveVariables};
+ghost use Rattle.written_gates.specs.Finding.{IsHeld, IsNeedless};
+ghost use Rattle.written_gates.specs.Gates.{Rises, IsCell, AreApart, IsWritten, AreWritten, IsCounted};
+ghost use Rattle.written_gates.specs.Counters.{number_at, gate_of, gates_of, ArePlaced, AreKept, AreInputsNowhere, IsVariable, AreVariables, HaveVariables};
 ghost use Rattle.written_gates.specs.Passing.{IsPassed};
 ghost use Rattle.written_gates.specs.WrittenOut.{IsWrittenOut};
 
-use crate::cells::{Cell, are_inputs_nowhere, are_placed, mark_cells};
+use crate::cells::{Cell, are_inputs_nowhere, are_placed, mark_cells, number_at, width_of_row};
 use crate::choices::write_choices;
 use crate::counters::Counter;
 use crate::kinds::{Kind, kind_of};
@@ -17,7 +17,7 @@ use clause_store::{Lit, Store};
 use std::alloc::{AllocError, Global};
 
 /// Where a clause is from: it is the formula's of this id; or a set of inputs of the gate of this number, where the formula's
-/// clause of this id leads from the head to the gate.
+/// clause of this id leads from the head to the gate. The id is 0 where the head is in the gate's last row.
 #[derive(Clone, Copy)]
 pub enum Origin {
     Formula(u64),
@@ -35,9 +35,10 @@ pub struct Written {
 }
 
 /// The formula with its gates written out: first its clauses but for those of the gates' counters, in order, then for each
-/// gate and each of its heads a clause for each choice of inputs one of which has to be true. `None` where no gate is seen,
-/// or too few of them, and where a clause stands in the way: one that has a counter's literal and is none of the counter's. Time and memory are
-/// linear in the formula, the variables and the clauses that are written.
+/// gate and each of its heads a clause for each choice of inputs one of which has to be true, and where the last row of its
+/// counter stays, such clauses for each variable of that row too. `None` where no gate is seen, or too few of them, and where a
+/// clause stands in the way: one that has a counter's literal and is none of the counter's. Time and memory are linear in the
+/// formula, the variables and the clauses that are written.
 pub fn write_out(alloc: Global, formula: &Store, vars: u64) -> Result<Option<Written>, AllocError>
     requires small { vars < 2 ^ 31 }
     requires range { AreInRange vars formula.now.held }
@@ -59,7 +60,7 @@ pub fn write_out(alloc: Global, formula: &Store, vars: u64) -> Result<Option<Wri
     }))
 }
 
-/// Whether the counters are as the cells say, and their inputs and heads are variables that are no places'.
+/// Whether the counters are as the cells say, and their inputs, heads and row that stays are variables that are no places'.
 fn are_sound(counters: &[Counter], cells: &[Cell], vars: u64) -> bool
     requires small { vars < 2 ^ 31 }
     ensures placed { result ≡ true → ArePlaced counters.now cells.now }
@@ -75,7 +76,7 @@ fn are_sound(counters: &[Counter], cells: &[Cell], vars: u64) -> bool
     have_variables(counters, vars as u32 + 1)
 }
 
-/// Whether the inputs and the heads are variables below this bound.
+/// Whether the inputs, the heads and the row that stays are variables below this bound.
 fn have_variables(counters: &[Counter], bound: u32) -> bool
     ensures { result ≡ true → HaveVariables bound counters.now }
 {
@@ -83,8 +84,33 @@ fn have_variables(counters: &[Counter], bound: u32) -> bool
         if !are_variables(&counter.inputs, bound) || !are_variables(&counter.heads, bound) {
             return false;
         }
+        if !are_kept_variables(counter, bound) {
+            return false;
+        }
     }
     true
+}
+
+/// Whether the row that stays, if one does, has variables below this bound.
+fn are_kept_variables(counter: &Counter, bound: u32) -> bool
+    ensures { result ≡ true → AreKept (IsVariable bound) counter.now }
+{
+    if !counter.keeps_last {
+        return true;
+    }
+    let last = counter.inputs.len();
+    has_row_variables(
+        number_at(&counter.rows, last),
+        width_of_row(counter, last),
+        bound,
+    )
+}
+
+/// Whether a row of this width, whose first number is this one, has variables below this bound.
+fn has_row_variables(first: u32, width: usize, bound: u32) -> bool
+    ensures { result ≡ true → (j : ℕ) → 1 ≤ j → j ≤ width → IsVariable bound (first + (j - 1)) }
+{
+    width == 0 || (0 < first && first <= bound && width <= (bound - first) as usize)
 }
 
 /// Whether the numbers are variables below this bound.
@@ -214,7 +240,7 @@ fn write_gates(
     Ok(())
 }
 
-/// Writes the choices of a gate for each of its heads.
+/// Writes the choices of a gate, for its heads and for the variables of its last row where that stays.
 fn write_gate(
     store: &mut Store,
     origins: &mut Vec<Origin>,
@@ -223,7 +249,28 @@ fn write_gate(
 ) -> Result<(), AllocError>
     requires inputs { AreVariables (2 ^ 31) counter.now.inputs.items }
     requires heads { AreVariables (2 ^ 31) counter.now.heads.items }
+    requires rows { AreKept (IsVariable (2 ^ 31)) counter.now }
     ensures written { OnOk result (IsWritten (gate_of counter.now) store.new.held) }
+    ensures kept { OnOk result ((before : List Literal) → IsHeld store.old.held before → IsHeld store.new.held before) }
+    ensures range { (vars : ℕ) → AreInRange vars store.old.held → AreVariables (vars + 1) counter.now.inputs.items → AreVariables (vars + 1) counter.now.heads.items → AreKept (IsVariable (vars + 1)) counter.now → OnOk result (AreInRange vars store.new.held) }
+{
+    write_heads(store, origins, number, counter)?;
+    if !counter.keeps_last {
+        return Ok(());
+    }
+    write_last_row(store, origins, number, counter)
+}
+
+/// Writes the choices of a gate for each of its heads.
+fn write_heads(
+    store: &mut Store,
+    origins: &mut Vec<Origin>,
+    number: u32,
+    counter: &Counter,
+) -> Result<(), AllocError>
+    requires inputs { AreVariables (2 ^ 31) counter.now.inputs.items }
+    requires heads { AreVariables (2 ^ 31) counter.now.heads.items }
+    ensures written { let gate = gate_of counter.now in OnOk result ((h : Literal) → has gate.heads h ≡ true → (ps : List ℕ) → Rises 0 gate.n ps → length ps + gate.k ≡ suc gate.n → IsNeedless store.new.held (negated h ∷ map gate.x ps)) }
     ensures kept { OnOk result ((before : List Literal) → IsHeld store.old.held before → IsHeld store.new.held before) }
     ensures range { (vars : ℕ) → AreInRange vars store.old.held → AreVariables (vars + 1) counter.now.inputs.items → AreVariables (vars + 1) counter.now.heads.items → OnOk result (AreInRange vars store.new.held) }
 {
@@ -233,9 +280,41 @@ fn write_gate(
             number,
             head: id_at(&counter.head_ids, place),
         };
-        write_choices(store, origins, origin, counter, *head)?;
+        write_choices(store, origins, origin, counter, *head, counter.threshold)?;
     }
     Ok(())
+}
+
+/// Writes the choices of a gate for each variable of its last row, a head of as many inputs as its column says.
+fn write_last_row(
+    store: &mut Store,
+    origins: &mut Vec<Origin>,
+    number: u32,
+    counter: &Counter,
+) -> Result<(), AllocError>
+    requires stays { counter.now.keeps_last ≡ true }
+    requires inputs { AreVariables (2 ^ 31) counter.now.inputs.items }
+    requires rows { AreKept (IsVariable (2 ^ 31)) counter.now }
+    ensures written { let gate = gate_of counter.now in OnOk result ((t : ℕ) → IsCell gate gate.n t → (ps : List ℕ) → Rises 0 gate.n ps → length ps + t ≡ suc gate.n → IsNeedless store.new.held (negated (gate.s gate.n t) ∷ map gate.x ps)) }
+    ensures kept { OnOk result ((before : List Literal) → IsHeld store.old.held before → IsHeld store.new.held before) }
+    ensures range { (vars : ℕ) → AreInRange vars store.old.held → AreVariables (vars + 1) counter.now.inputs.items → AreKept (IsVariable (vars + 1)) counter.now → OnOk result (AreInRange vars store.new.held) }
+{
+    let columns = counter.threshold.min(counter.inputs.len());
+    let origin = Origin::Gate { number, head: 0 };
+    for before in 0..columns {
+        let head = variable_in_last(counter, before);
+        write_choices(store, origins, origin, counter, head, before + 1)?;
+    }
+    Ok(())
+}
+
+/// The variable of the last row behind so many others. O(1).
+fn variable_in_last(counter: &Counter, before: usize) -> u32
+    requires { IsVariable (2 ^ 31) (number_at counter.now.rows.items (length counter.now.inputs.items) + before) }
+    ensures value { result ≡ number_at counter.now.rows.items (length counter.now.inputs.items) + before }
+    ensures variable { IsVariable (2 ^ 31) result }
+{
+    number_at(&counter.rows, counter.inputs.len()) + before as u32
 }
 
 /// The id at a place, 0 past the end.

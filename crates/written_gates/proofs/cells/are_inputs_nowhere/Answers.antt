@@ -1,13 +1,14 @@
 use Rattle.std.proofs.Common.{arith, subst}
-use Rattle.written_gates.specs.Counters.{AreNowhere}
+use Rattle.written_gates.specs.Counters.{IsNowhere, AreNowhere, AreKept}
 use Rattle.written_gates.proofs.Lists.{all_before_more}
 use Rattle.written_gates.proofs.cells.are_inputs_nowhere.Goals as goal
 
 pub loop-counter-preserved : goal.loop-counter-preserved
 loop-counter-preserved c =
-    all_before_more (λ c2. AreNowhere c.args.cells.now c2.inputs.items × AreNowhere c.args.cells.now c2.heads.items) c.args.counters.now c.loop-counter.counter-index c.loop-counter.invariant c.counter-item.result c.counter-item.is (
+    all_before_more (λ c2. AreNowhere c.args.cells.now c2.inputs.items × AreNowhere c.args.cells.now c2.heads.items × AreKept (IsNowhere c.args.cells.now) c2) c.args.counters.now c.loop-counter.counter-index c.loop-counter.invariant c.counter-item.result c.counter-item.is (
       subst (λ vs. AreNowhere c.args.cells.now vs) c.deref.ensures.value (c.are_nowhere.ensures c.if-not-are_nowhere.false),
       subst (λ vs. AreNowhere c.args.cells.now vs) c.deref-else-not-are_nowhere.ensures.value (c.are_nowhere-else-not-are_nowhere.ensures c.if-not-are_nowhere-2.false),
+      c.are_kept_nowhere.ensures c.if-not-are_kept_nowhere.false,
     )
 
 pub returns : goal.returns

@@ -5,9 +5,7 @@ use Rattle.written_gates.proofs.choices.write_choices.Goals as goal
 
 pub returns-clause-choices : goal.returns-clause-choices
 returns-clause-choices c =
-    let inputs = c.args.counter.now.inputs.items in
-    let same_inputs : c.deref.result.now ≡ inputs = search rules in
-    let first : c.push.new.self.items ≡ Minus c.args.head ∷ [] = search rules in
-    let count : c.in-Some.size + c.args.counter.now.threshold ≡ suc (length inputs) = omega (arith, c.args.counter.now.inputs.ok.0) in
+    let start : c.push.new.self.items ≡ Minus c.args.head ∷ [] = search rules in
+    let count : c.in-Some.size + c.args.wanted ≡ suc (length c.args.counter.now.inputs.items) = omega (arith, c.args.counter.now.inputs.ok.0) in
     on_one c.choose.result _ _ c.choose.ensures.choices
-    (choices_are c.choose.new.written.held c.deref.result.now inputs c.push.new.self.items (Minus c.args.head) c.in-Some.size c.args.counter.now.threshold same_inputs first count)
+    (choices_are c.args.counter.now c.choose.new.written.held c.deref.result.now c.push.new.self.items c.args.head c.args.wanted c.in-Some.size c.deref.ensures.value start count)

@@ -2,11 +2,10 @@ use Rattle.std.proofs.Common.{◌^◌, arith}
 use Rattle.written_gates.proofs.WrittenLaws.{one_of, more_gates_written, all_written}
 use Rattle.written_gates.proofs.writing.write_gates.Goals as goal
 
-pub write_gate-requires-clause-inputs : goal.write_gate-requires-clause-inputs
-write_gate-requires-clause-inputs c = (one_of c.args.counters.now (2 ^ 31) c.requires c.loop-place.place c.index-counters-place.result c.index-counters-place.is c.loop-place-test.true).0
-
-pub write_gate-requires-clause-heads : goal.write_gate-requires-clause-heads
-write_gate-requires-clause-heads c = (one_of c.args.counters.now (2 ^ 31) c.requires c.loop-place.place c.index-counters-place.result c.index-counters-place.is c.loop-place-test.true).1
+pub write_gate-requires : goal.write_gate-requires
+write_gate-requires c =
+    let here = one_of c.args.counters.now (2 ^ 31) c.requires c.loop-place.place c.index-counters-place.result c.index-counters-place.is c.loop-place-test.true in
+    record { inputs = here.0; heads = here.1; rows = here.2 }
 
 pub loop-place-preserved : goal.loop-place-preserved
 loop-place-preserved c =

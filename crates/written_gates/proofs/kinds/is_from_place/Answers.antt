@@ -1,5 +1,5 @@
 use Rattle.written_gates.proofs.CounterClauses.{of_first, of_second}
-use Rattle.written_gates.proofs.kinds.is_row_clause.Goals as goal
+use Rattle.written_gates.proofs.kinds.is_from_place.Goals as goal
 
 pub returns-then-is_first : goal.returns-then-is_first
 returns-then-is_first c = λ _.
