@@ -20,14 +20,14 @@ pub const MOST_UNITS: u64 = 4_000_000_000;
 
 /// So many lemmas with a literal a search over the formula itself learns at first: those of most systems that are run are
 /// refuted by fewer, and the gates of one that is not are worth writing out.
-const FEW_UNITS: u64 = 500;
+const FEW_UNITS: u64 = 200;
 
 /// Whether every two quorums (Mazières 2015) share a node once the faulty nodes are deleted, with the evidence: a log that
 /// refutes the intersection formula, or two quorums that share none, or the log of a search that spent the budget.
 ///
 /// The formula is that of version 2. Of the budget each lemma with a literal takes a unit. `TooLarge` comes exactly where the
-/// formula has more than 4,000,000 variables. Where 500 lemmas over the formula decide nothing, the search begins anew with its
-/// gates written out, where these have few sets of inputs, and else over the formula; what the first lemmas took counts nothing. The
+/// formula has more than 4,000,000 variables. Where 200 lemmas over the formula decide nothing, the search begins anew with its
+/// gates written out, where that takes many of its variables away, and else over the formula; what the first lemmas took counts nothing. The
 /// cost is that of the greatest quorum, of `encode` and of the searches.
 pub fn intersect(
     alloc: Global,
