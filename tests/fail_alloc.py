@@ -12,8 +12,10 @@ import subprocess
 import sys
 import tempfile
 
-sys.path.insert(0, os.path.dirname(os.path.abspath(__file__)))
+TOP = os.path.dirname(os.path.dirname(os.path.abspath(__file__)))
+sys.path[:0] = [os.path.join(TOP, "tests"), os.path.join(TOP, "bench")]
 import malicious
+import trials
 
 # Counts the calls that want memory, and refuses those from GROWTH_FIRST to GROWTH_LAST; a refusal makes the file GROWTH_TOLD.
 REFUSER = r"""
@@ -48,6 +50,8 @@ void *realloc(void *old, size_t size) { return is_refused() ? NULL : __libc_real
 
 FOUR = malicious.system("abcd", 3)
 ORGS = b'[{"id":"A","validators":["a","zz"]}]'
+# A search over its formula is not done when that begins anew over gates written out.
+DRAWN = trials.drawn(20, 10, 6, 1).encode()
 
 # What is run over which configuration. 'cert' holds 'old' before, or what is checked.
 RUNS = [
@@ -55,6 +59,8 @@ RUNS = [
     ("intersect config cert --faulty a", malicious.THREE, b"old\n"),
     ("intersect config cert --budget 3", malicious.THREE, b"old\n"),
     ("intersect config cert --orgs orgs --faulty-orgs A", malicious.THREE, b"old\n"),
+    ("intersect config cert", DRAWN, b"old\n"),
+    ("intersect config cert --budget 250", DRAWN, b"old\n"),
     ("blocking config cert", malicious.THREE, b"old\n"),
     ("blocking config cert --budget 3", malicious.THREE, b"old\n"),
     ("dset config cert --set a", FOUR, b"old\n"),

@@ -15,6 +15,10 @@ import threading
 TOP = os.path.dirname(os.path.dirname(os.path.abspath(__file__)))
 BUILT = os.path.join(TOP, "crates", "quorum_cli", "out", "quorum_cli")
 
+sys.path.append(os.path.join(TOP, "bench"))
+import plain_checker
+import trials
+
 USAGE = """usage: quorum_cli COMMAND
 show CONFIG
 closure CONFIG --node NAME
@@ -42,6 +46,14 @@ def system(nodes, threshold, is_rotated=False):
         names = ",".join('"%s"' % name for name in [*nodes[start:], *nodes[:start]])
         sets.append('{"publicKey":"%s","quorumSet":{"threshold":%d,"validators":[%s]}}' % (node, threshold, names))
     return "[" + ",".join(sets) + "]"
+
+
+def lemmas(certificate):
+    """The literals of each lemma of a certificate."""
+    for line in certificate.splitlines():
+        words = line.split(" ")
+        if words[0].isdigit() and words[1] not in ("d", "0"):
+            yield [int(word) for word in words[1 : words.index("0")]]
 
 
 def organisations(count):
@@ -213,6 +225,24 @@ class Trial:
         deletions = [line.split(" ")[2:-1] for line in (self.held("forgetful") or "").splitlines() if " d " in line]
         self.judge("its deletions", (len(deletions) > 0, all(500 <= len(ids) <= 1000 for ids in deletions)), (True, True))
         self.judge("its certificate", self.run("check sixty forgetful"), (0, "accepted refutation\nfrom\nfaulty\n", ""))
+        count = sum(1 for _ in lemmas(self.held("forgetful") or ""))
+        self.judge("its lemmas, of which there are 8,526 by the order that suits organisations", 5000 < count < 15000, True)
+
+    def over_gates(self, size, threshold, is_small):
+        """A search over gates written out: where they are small no lemma has a variable of their counters."""
+        config = trials.drawn(26, size, threshold, 1)
+        with open(self.path("drawn"), "w") as it:
+            it.write(config)
+        os.chmod(self.path("drawn"), 0o666)
+        name = "26 nodes that want %d of %d" % (threshold, size)
+        status, text, error = self.run("intersect drawn shown")
+        self.judge(name, (status, text.splitlines()[-1:], error), (0, ["intersects yes"], ""))
+        self.judge(name + ", checked", self.run("check drawn shown"), (0, "accepted refutation\nfrom\nfaulty\n", ""))
+        certificate = self.held("shown") or ""
+        checked = plain_checker.check(config.encode(), certificate.encode())
+        self.judge(name + ", checked by another", checked, (0, "accepted refutation\nfrom\nfaulty\n"))
+        found = [abs(literal) for lemma in lemmas(certificate) for literal in lemma]
+        self.judge(name + ", the variables of lemmas", (len(found) > 0, max(found, default=0) <= 2 * 26), (True, is_small))
 
     def from_a_pipe(self):
         os.mkfifo(self.path("pipe"))
@@ -259,6 +289,8 @@ def main():
         for row in ROWS:
             trial.row(*row)
         trial.forgets()
+        trial.over_gates(10, 6, True)
+        trial.over_gates(12, 7, False)
         trial.from_a_pipe()
         trial.to_a_full_device()
         trial.full_after_the_certificate()
