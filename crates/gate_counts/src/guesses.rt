@@ -1,0 +1,194 @@
+//! Which clauses of gates' sets may force something. No answer depends on it: each is looked at before it does.
+use crate::gate::Gate;
+use crate::parts::{Side, Table, part};
+use partial_assignment::Assignment;
+use std::alloc::{AllocError, Global};
+
+/// No set is chosen from more inputs.
+const MOST_INPUTS: usize = 64;
+
+/// For each variable the gates whose head it is; how many false inputs a gate has before it may force something; the gates that
+/// have so many; and in how many ways r of n are chosen, at n * 65 + r.
+#[derive(Drop)]
+pub struct Guesses {
+    heads: Table,
+    limits: Vec<u32>,
+    due: Vec<u32>,
+    ways: Vec<u64>,
+    /// The ids of the clauses that may force something.
+    pub ids: Vec<u64>,
+}
+
+impl Guesses {
+    /// Of these gates none has anything false yet.
+    pub fn over(alloc: Global, vars: u32, gates: &[Gate]) -> Result<Guesses, AllocError> {
+        let mut limits = Vec::new(alloc);
+        for gate in gates {
+            let limit = u32::try_from(gate.size.saturating_sub(1)).unwrap_or(u32::MAX);
+            limits.push(limit)?;
+        }
+        let ways = if gates.is_empty() {
+            Vec::new(alloc)
+        } else {
+            ways_of(alloc)?
+        };
+        Ok(Guesses {
+            heads: Table::over(alloc, vars, gates, Side::Head)?,
+            limits,
+            due: Vec::new(alloc),
+            ways,
+            ids: Vec::new(alloc),
+        })
+    }
+
+    /// Sees that an input of these gates became false.
+    pub fn see_inputs(&mut self, list: &[u32], counts: &[u32]) -> Result<(), AllocError> {
+        for g in list {
+            see(&mut self.due, &self.limits, *g, counts)?;
+        }
+        Ok(())
+    }
+
+    /// Sees that the head of gates became true.
+    pub fn see_head(&mut self, head: u32, counts: &[u32]) -> Result<(), AllocError> {
+        for g in part(&self.heads.starts, &self.heads.entries, head) {
+            see(&mut self.due, &self.limits, *g, counts)?;
+        }
+        Ok(())
+    }
+
+    /// Makes of the gates that were seen the ids of clauses that may be false or force something. Linear in their inputs, for
+    /// each input that may be forced.
+    pub fn guess(
+        &mut self,
+        gates: &[Gate],
+        counts: &[u32],
+        assignment: &Assignment,
+    ) -> Result<(), AllocError> {
+        self.ids.clear();
+        for g in &self.due {
+            if let Some(gate) = gates.get(*g as usize)
+                && let Some(count) = counts.get(*g as usize)
+            {
+                guess_of(&mut self.ids, &self.ways, gate, *count as usize, assignment)?;
+            }
+        }
+        self.due.clear();
+        Ok(())
+    }
+}
+
+/// Sees a gate: it is due where so many inputs are false that it may force something.
+fn see(due: &mut Vec<u32>, limits: &[u32], g: u32, counts: &[u32]) -> Result<(), AllocError> {
+    if let Some(limit) = limits.get(g as usize)
+        && let Some(count) = counts.get(g as usize)
+        && *count >= *limit
+    {
+        due.push(g)?;
+    }
+    Ok(())
+}
+
+/// The number of the gate whose clauses are around an id, the last that begins up to it. O(log n).
+pub fn number_of(gates: &[Gate], id: u64) -> usize {
+    let mut from = 0;
+    let mut to = gates.len();
+    while from < to {
+        let middle = from + (to - from) / 2;
+        match gates.get(middle) {
+            Some(gate) if gate.first <= id => from = middle + 1,
+            _ => to = middle,
+        }
+    }
+    from.saturating_sub(1)
+}
+
+/// In how many ways r of n are chosen, for n and r up to 64.
+fn ways_of(alloc: Global) -> Result<Vec<u64>, AllocError> {
+    let room = (MOST_INPUTS + 1) * (MOST_INPUTS + 1);
+    let mut ways = vec![in alloc; 0u64; room]?;
+    for n in 0..MOST_INPUTS + 1 {
+        set_way(&mut ways, n, 0, 1);
+        for r in 1..n + 1 {
+            let sum = way(&ways, n.saturating_sub(1), r.saturating_sub(1)).saturating_add(way(
+                &ways,
+                n.saturating_sub(1),
+                r,
+            ));
+            set_way(&mut ways, n, r, sum);
+        }
+    }
+    Ok(ways)
+}
+
+fn way(ways: &[u64], n: usize, r: usize) -> u64 {
+    match ways.get(n.saturating_mul(MOST_INPUTS + 1).saturating_add(r)) {
+        Some(count) => *count,
+        None => 0,
+    }
+}
+
+fn set_way(ways: &mut Vec<u64>, n: usize, r: usize, count: u64) {
+    if let Some(way) = ways.get_mut(n.saturating_mul(MOST_INPUTS + 1).saturating_add(r)) {
+        *way = count;
+    }
+}
+
+/// The value of a variable, if it has one.
+fn value_of(assignment: &Assignment, variable: u32) -> Option<bool> {
+    let place = *assignment.places().get(variable as usize)?;
+    let l = *assignment.trail().get(place)?;
+    if l.variable() == variable {
+        Some(l.number() > 0)
+    } else {
+        None
+    }
+}
+
+/// The ids of a gate's clauses that may be false or force something, where so many of its inputs are false.
+fn guess_of(
+    ids: &mut Vec<u64>,
+    ways: &[u64],
+    gate: &Gate,
+    falses: usize,
+    assignment: &Assignment,
+) -> Result<(), AllocError> {
+    let head = value_of(assignment, gate.head);
+    let inputs = gate.inputs.as_slice();
+    if head == Some(false) {
+        return Ok(());
+    }
+    if falses >= gate.size {
+        ids.push(id_with(ways, gate, assignment, inputs.len()))?;
+        return Ok(());
+    }
+    if head == None {
+        return Ok(());
+    }
+    for (place, input) in inputs.iter().enumerate() {
+        if value_of(assignment, *input).is_none() {
+            ids.push(id_with(ways, gate, assignment, place))?;
+        }
+    }
+    Ok(())
+}
+
+/// The id of the clause of the first false inputs and the one at a place. Of sets that begin alike those with the next input
+/// come first.
+fn id_with(ways: &[u64], gate: &Gate, assignment: &Assignment, place: usize) -> u64 {
+    let mut id = gate.first;
+    let mut left = gate.size;
+    let mut behind = gate.inputs.len();
+    for (here, input) in gate.inputs.iter().enumerate() {
+        behind = behind.saturating_sub(1);
+        if left == 0 {
+            return id;
+        }
+        if here == place || value_of(assignment, *input) == Some(false) {
+            left -= 1;
+        } else {
+            id = id.saturating_add(way(ways, behind, left - 1));
+        }
+    }
+    id
+}
