@@ -110,6 +110,13 @@ impl Clauses {
         }
     }
 
+    /// The place of the clause of an id, the number of clauses where it has none: as fast as `under`.
+    pub fn place(&self, id: u64) -> usize
+        requires { AllPairs (λ e f. e.0 < f.0) self.now }
+    {
+        place_of(&self.places, &self.guesses, id)
+    }
+
     /// Takes the last clause away.
     pub fn pop(&mut self)
         requires { 0 < length self.old }

@@ -8,6 +8,7 @@ use crate::gate::{Gate, is_among, is_set_of, is_sound};
 use crate::guesses::{Guesses, number_of};
 use crate::parts::{Side, Table, part};
 use lrat_model::Lit;
+use partial_assignment::Assignment;
 use std::alloc::{AllocError, Global};
 
 /// Gates, of each of which it is counted how many inputs are false; up to which place of a trail that was counted; and which
@@ -29,7 +30,8 @@ impl Gates {
     /// the variables and quadratic in each gate's inputs.
     pub fn new(alloc: Global, vars: u32, gates: Vec<Gate>) -> Result<Gates, AllocError>
         requires { vars < 2 ^ 31 }
-        ensures { IfOk result (λ g. (trail : List Literal) → IsCounting g trail) }
+        ensures vars { IfOk result (λ g. g.vars ≡ vars) }
+        ensures counting { IfOk result (λ g. (trail : List Literal) → IsCounting g trail) }
     {
         let made = Gates::over(alloc, vars, gates)?;
         if are_sound(&made.gates, vars) && are_listed(&made.starts, &made.entries, &made.gates) {
@@ -100,6 +102,15 @@ impl Gates {
                 lower(self.counts.as_mut_slice(), list);
             }
         }
+    }
+
+    /// Makes of what was seen since the last guess the ids of clauses that may be false or force something. Nothing but speed
+    /// depends on them. Linear in the inputs of the gates that were seen, for each input that may be forced.
+    pub fn guess(&mut self, assignment: &Assignment) -> Result<(), AllocError>
+        ensures { self.new ≡ record self.old { guesses = self.new.guesses } }
+    {
+        self.guesses.guess(&self.gates, &self.counts, assignment)?;
+        Ok(())
     }
 
     /// Whether the clause of this id is known to be that of a set of a gate's inputs. O(log n) for n gates, and linear in its
