@@ -51,18 +51,18 @@ module _ (n : ℕ) (held : Held) (trues : List Literal) (reasons : List ℕ) (s 
   given_queued pairs pair head long q kept = queued_with held pairs id lits pair long trues reasons head q kept (λ p less decided. absurd (undecided p less decided))
 
   pub given_two : (pairs : List Pair) (a b : Literal) (head : ℕ) → length pairs ≡ length held → IsQueued held pairs trues reasons head → same a b ≡ false → has trues (negated a) ≡ false → has trues (negated b) ≡ false
-      → IsQueued (with_clause held id lits) (pairs ++ record { first = a; second = b } ∷ []) trues reasons head
+      → IsQueued (with_clause held id lits) (pairs ++ record { first = a; second = b; is_counted = false } ∷ []) trues reasons head
   given_two pairs a b head long q differ free_a free_b =
       let free : (k : Literal) → has trues (negated k) ≡ false → has (take head trues) (negated k) ≡ false = λ k f. false_from_ne_true (has (take head trues) (negated k)) (λ h. true≢false (sym (take_within head trues (negated k) h) ∙ f)) in
-      given_queued pairs (record { first = a; second = b }) head long q (inr (record { differ = differ; first_free = free a free_a; second_free = free b free_b }))
+      given_queued pairs (record { first = a; second = b; is_counted = false }) head long q (inr (record { differ = differ; first_free = free a free_a; second_free = free b free_b }))
 
   module _ (l : Literal) (here : has lits l ≡ true) (free : has trues (negated l) ≡ false) (others : (m : Literal) → has lits m ≡ true → (m ≡ l) ⊎ (has trues (negated m) ≡ true)) (left : has trues l ≡ false) (range : IsVariable n l) (below : All (λ e. e.0 < id) held) (some : 0 < id) where
     pub given_forced_state : id < 2 ^ 63 → IsState n (with_clause held id lits) (trues ++ l ∷ []) (reasons ++ id ∷ [])
     given_forced_state less = state_push n (with_clause held id lits) trues reasons given_state id lits l (clause_at-last held id lits below) (forces_only trues lits l here free others) left range some less
 
-    pub given_forced_queued : (pairs : List Pair) (head : ℕ) → length pairs ≡ length held → IsQueued held pairs trues reasons head → IsQueued (with_clause held id lits) (pairs ++ record { first = l; second = l } ∷ []) (trues ++ l ∷ []) (reasons ++ id ∷ []) head
+    pub given_forced_queued : (pairs : List Pair) (head : ℕ) → length pairs ≡ length held → IsQueued held pairs trues reasons head → IsQueued (with_clause held id lits) (pairs ++ record { first = l; second = l; is_counted = false } ∷ []) (trues ++ l ∷ []) (reasons ++ id ∷ []) head
     given_forced_queued pairs head long q =
         let pushed = queued_more held pairs trues reasons head q s.trail.long l id (λ none. absurd (omega (arith, none, some))) in
-        queued_with held pairs id lits (record { first = l; second = l }) long (trues ++ l ∷ []) (reasons ++ id ∷ []) head pushed
+        queued_with held pairs id lits (record { first = l; second = l; is_counted = false }) long (trues ++ l ∷ []) (reasons ++ id ∷ []) head pushed
         (inl (l, here, has-push trues l l ∙ has-first l trues))
         (λ p less decided. absurd (undecided_more trues reasons s.trail.long undecided l id some p less decided))

@@ -79,10 +79,10 @@ module _ (held : Held) (pairs : List Pair) (id : ℕ) (lits : List Literal) (pai
   lits_new p is = ap (λ k. lits_at more_held k) is ∙ ap (λ (e : ℕ × List Literal). e.1) (get_or-append_seam held (id, lits) [] (0, []))
 
   pair_old : (p : ℕ) → p < length held → pair_at more_pairs p ≡ pair_at pairs p
-  pair_old p less = get_or-append pairs (pair ∷ []) (record { first = Plus 0; second = Plus 0 }) p (omega (arith, less, long))
+  pair_old p less = get_or-append pairs (pair ∷ []) (record { first = Plus 0; second = Plus 0; is_counted = false }) p (omega (arith, less, long))
 
   pair_new : (p : ℕ) → p ≡ length held → pair_at more_pairs p ≡ pair
-  pair_new p is = ap (λ k. pair_at more_pairs k) (is ∙ sym long) ∙ get_or-append_seam pairs pair [] (record { first = Plus 0; second = Plus 0 })
+  pair_new p is = ap (λ k. pair_at more_pairs k) (is ∙ sym long) ∙ get_or-append_seam pairs pair [] (record { first = Plus 0; second = Plus 0; is_counted = false })
 
   -- what holds of the old ones and of the new one holds of all
   each_more : (P : List Literal → Pair → Type 0) → ((p : ℕ) → p < length held → P (lits_at held p) (pair_at pairs p)) → P lits pair → (p : ℕ) → p < length more_held → P (lits_at more_held p) (pair_at more_pairs p)

@@ -171,7 +171,7 @@ module _ (held : Held) (pairs : List Pair) (lists : List (List Watch)) (trues : 
       place = watch.place
 
       abbrev pub moved : Pair
-      moved = record { first = o; second = m }
+      moved = record { first = o; second = m; is_counted = false }
 
       abbrev pub now : Watch
       now = record { place = watch.place; blocker = b; third = t }
@@ -186,10 +186,10 @@ module _ (held : Held) (pairs : List Pair) (lists : List (List Watch)) (trues : 
       place_in = (All-middle (IsSound held l) done coming watch v.watched.sound_spare).0
 
       pair_here : pair_at new_pairs place ≡ moved
-      pair_here = get_or-set_same pairs place moved (record { first = Plus 0; second = Plus 0 }) (omega (arith, place_in, v.watched.long))
+      pair_here = get_or-set_same pairs place moved (record { first = Plus 0; second = Plus 0; is_counted = false }) (omega (arith, place_in, v.watched.long))
 
       pair_other : (p : ℕ) → p ≢ place → pair_at new_pairs p ≡ pair_at pairs p
-      pair_other p other = get_or-set_other pairs place p moved (record { first = Plus 0; second = Plus 0 }) other
+      pair_other p other = get_or-set_other pairs place p moved (record { first = Plus 0; second = Plus 0; is_counted = false }) other
 
       o_not_l : o ≢ l
       o_not_l e = ⊎_elim
@@ -305,7 +305,7 @@ same_at (x ∷ xs) zero d e within = refl
 same_at (x ∷ xs) (suc i) d e within = same_at xs i d e (omega arith)
 
 pub pair_found : (pairs : List Pair) (i : ℕ) (pair : Pair) → i < length pairs → pair ≡ get_or pairs i pair → pair_at pairs i ≡ pair
-pair_found pairs i pair within is = same_at pairs i (record { first = Plus 0; second = Plus 0 }) pair within ∙ sym is
+pair_found pairs i pair within is = same_at pairs i (record { first = Plus 0; second = Plus 0; is_counted = false }) pair within ∙ sym is
 
 pub has_other : (clause : List Literal) (pair : Pair) (l o : Literal) → (has clause pair.first ≡ true) × (has clause pair.second ≡ true) → ((pair.first ≡ l) × (pair.second ≡ o)) ⊎ ((pair.second ≡ l) × (pair.first ≡ o)) → has clause o ≡ true
 has_other clause pair l o both is = ⊎_elim (λ h. subst (λ k. has clause k ≡ true) h.1 both.1) (λ h. subst (λ k. has clause k ≡ true) h.1 both.0) is

@@ -24,7 +24,7 @@ lits_at held p = (slice_index_or held p (0, [])).1
 
 -- the literals that the clause at a place watches
 abbrev pub pair_at : List Pair → ℕ → Pair
-pair_at pairs p = slice_index_or pairs p (record { first = Plus 0; second = Plus 0 })
+pair_at pairs p = slice_index_or pairs p (record { first = Plus 0; second = Plus 0; is_counted = false })
 
 -- whether the clause at a place is among these watches
 abbrev pub mentions : List Watch → ℕ → Bool
@@ -40,9 +40,13 @@ pub record IsOpenPair (trues : List Literal) (pair : Pair) : Type 0 where
   pub first_free : has trues (negated pair.first) ≡ false
   pub second_free : has trues (negated pair.second) ≡ false
 
--- the clause is true, or watches two literals that the visited ones do not make false
+-- a clause that is counted watches none
+abbrev pub IsCounted : Pair → Type 0
+IsCounted pair = (pair.is_counted ≡ true) × (same pair.first pair.second ≡ true)
+
+-- the clause is true, or watches two literals that the visited ones do not make false, or is counted
 abbrev pub IsKept : List Literal → List Literal → List Literal → Pair → Type 0
-IsKept visited trues clause pair = IsTrueIn trues clause ⊎ IsOpenPair visited pair
+IsKept visited trues clause pair = IsTrueIn trues clause ⊎ (IsOpenPair visited pair ⊎ IsCounted pair)
 
 abbrev pub AreKept : Held → List Pair → List Literal → List Literal → Type 0
 AreKept held pairs visited trues = (p : ℕ) → p < length held → IsKept visited trues (lits_at held p) (pair_at pairs p)
@@ -59,7 +63,7 @@ IsSound held l watch = (watch.place < length held) × (has (lits_at held watch.p
 abbrev pub IsListed : List (List Watch) → Literal → List Watch → ℕ → Literal → Type 0
 IsListed lists l spare p w = (mentions (list_at lists w) p ≡ true) ⊎ ((w ≡ l) × (mentions spare p ≡ true))
 
--- each clause watches two of its literals, and stands in the lists of both where they differ
+-- the pair of each clause are two of its literals, and it stands in the lists of both where they differ
 pub record IsWatched (held : Held) (pairs : List Pair) (lists : List (List Watch)) (l : Literal) (spare : List Watch) : Type 0 where
   pub long : length pairs ≡ length held
   pub inside : (p : ℕ) → p < length held → (has (lits_at held p) (pair_at pairs p).first ≡ true) × (has (lits_at held p) (pair_at pairs p).second ≡ true)
@@ -67,7 +71,7 @@ pub record IsWatched (held : Held) (pairs : List Pair) (lists : List (List Watch
   pub sound : (m : Literal) → All (IsSound held m) (list_at lists m)
   pub sound_spare : All (IsSound held l) spare
 
--- before each decision, and at the head of the queue, each clause is true or watches two literals that are not false
+-- before each decision, and at the head of the queue, each clause is true, or watches two literals that are not false, or is counted
 pub record IsQueued (held : Held) (pairs : List Pair) (trues : List Literal) (reasons : List ℕ) (head : ℕ) : Type 0 where
   pub within : head ≤ length trues
   pub kept : AreKept held pairs (take head trues) trues
@@ -84,6 +88,7 @@ pub record IsVisiting (held : Held) (pairs : List Pair) (lists : List (List Watc
 pub record IsAsserting (trues : List Literal) (reasons : List ℕ) (jump : ℕ) (lits : List Literal) (pair : Pair) : Type 0 where
   pub first_in : has lits pair.first ≡ true
   pub second_in : has lits pair.second ≡ true
+  pub watched : pair.is_counted ≡ false
   pub first_false : has trues (negated pair.first) ≡ true
   pub first_free : has (take jump trues) (negated pair.first) ≡ false
   pub others_false : (m : Literal) → has lits m ≡ true → (m ≡ pair.first) ⊎ (has (take jump trues) (negated m) ≡ true)

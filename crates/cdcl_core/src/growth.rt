@@ -44,7 +44,7 @@ pub fn back(
 }
 
 /// Lets the clause at a place, the next that has none, watch two of its literals, one where it has no two
-/// that differ. O(its literals). A place takes 32 bits, since propagation waits for the load of watches: more clauses than
+/// that differ, and none where it is counted. O(its literals). A place takes 32 bits, since propagation waits for the load of watches: more clauses than
 /// these can name are want of memory.
 pub fn attach(
     pairs: &mut Vec<Pair>,
@@ -57,14 +57,18 @@ pub fn attach(
     requires inside_second { index_of pair.second < length lists.old }
     ensures pairs { OnOk result (pairs.new.items ≡ pairs.old.items ++ pair ∷ []) }
     ensures lists { OnOk result (length lists.new ≡ length lists.old) }
-    ensures watched { OnOk result ((held : Held) (id : ℕ) → length held ≡ place → has lits.now pair.first ≡ true → has lits.now pair.second ≡ true → ((l : Literal) → IsWatched held pairs.old.items lists.old l []) → (l : Literal) → IsWatched (held ++ (id, lits.now) ∷ []) pairs.new.items lists.new l []) }
+    ensures watched { OnOk result ((held : Held) (id : ℕ) → length held ≡ place → has lits.now pair.first ≡ true → has lits.now pair.second ≡ true → (pair.is_counted ≡ true → same pair.first pair.second ≡ true) → ((l : Literal) → IsWatched held pairs.old.items lists.old l []) → (l : Literal) → IsWatched (held ++ (id, lits.now) ∷ []) pairs.new.items lists.new l []) }
 {
     if place > u32::MAX as usize {
         return Err(AllocError);
     }
+    pairs.push(pair)?;
+    if pair.is_counted {
+        return Ok(());
+    }
     let place = place as u32;
-    let Pair { first, second } = pair;
-    pairs.push(Pair { first, second })?;
+    let first = pair.first;
+    let second = pair.second;
     let watch = Watch {
         place,
         blocker: second,
@@ -179,8 +183,29 @@ pub fn two_free(assignment: &Assignment, clause: &[Lit]) -> Free
     }
 }
 
-/// Lets the next clause be watched, while nothing is decided. Where it forces a literal, that is made true;
-/// false where the clause is false.
+/// What a clause with these two literals watches: both, or, where it is one of a gate's sets, none.
+pub fn pair_for(first: Lit, second: Lit, is_set: bool) -> Pair
+    ensures first { result.first ≡ first }
+    ensures second { result.second ≡ (if is_set then first else second) }
+    ensures counted { result.is_counted ≡ is_set }
+{
+    if is_set {
+        Pair {
+            first,
+            second: first,
+            is_counted: true,
+        }
+    } else {
+        Pair {
+            first,
+            second,
+            is_counted: false,
+        }
+    }
+}
+
+/// Lets the next clause be watched, while nothing is decided; one that is a gate's set with two literals that are not
+/// false is counted. Where it forces a literal, that is made true; false where the clause is false.
 pub fn watch_next(
     pairs: &mut Vec<Pair>,
     lists: &mut WatchLists,
@@ -188,6 +213,7 @@ pub fn watch_next(
     reasons: &mut Vec<u64>,
     id: u64,
     lits: &[Lit],
+    is_set: bool,
 ) -> Result<bool, AllocError>
     requires id { (0 < id) × (id < 2 ^ 63) }
     requires lists { length lists.old ≡ 2 * (assignment.old.vars + 1) }
@@ -197,6 +223,7 @@ pub fn watch_next(
     ensures vars { assignment.new.vars ≡ assignment.old.vars }
     ensures lists { OnOk result (length lists.new ≡ length lists.old) }
     ensures pairs { result ≡ Ok true → length pairs.new.items ≡ length pairs.old.items + 1 }
+    ensures counted { result ≡ Ok true → (pair : Pair) × (pairs.new.items ≡ pairs.old.items ++ pair ∷ []) × (pair.is_counted ≡ true → is_set ≡ true) }
     ensures state { result ≡ Ok true → (held : Held) → All (λ e. e.0 < id) held → IsState assignment.old.vars held assignment.old.trues reasons.old.items → IsState assignment.old.vars (with_clause held id lits.now) assignment.new.trues reasons.new.items }
     ensures undecided { result ≡ Ok true → (p : ℕ) → p < length assignment.new.trues → slice_index reasons.new.items p ≢ 0 }
     ensures watched { result ≡ Ok true → (held : Held) → length held ≡ length pairs.old.items → ((l : Literal) → IsWatched held pairs.old.items lists.old l []) → (l : Literal) → IsWatched (with_clause held id lits.now) pairs.new.items lists.new l [] }
@@ -205,13 +232,15 @@ pub fn watch_next(
 {
     match two_free(assignment, lits) {
         Free::Two(first, second) => {
-            attach(pairs, lists, pairs.len(), lits, Pair { first, second })?;
+            let pair = pair_for(first, second, is_set);
+            attach(pairs, lists, pairs.len(), lits, pair)?;
             Ok(true)
         }
         Free::One(l) => {
             let pair = Pair {
                 first: l,
                 second: l,
+                is_counted: false,
             };
             attach(pairs, lists, pairs.len(), lits, pair)?;
             if !assignment.is_true(l) {

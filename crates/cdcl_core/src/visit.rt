@@ -206,6 +206,7 @@ pub fn visit(
     ensures lists { OnOk result (length lists.new ≡ length lists.old) }
     ensures state { OnOk result (IsState assignment.old.vars clauses.now assignment.new.trues reasons.new.items) }
     ensures longer { OnOk result ((more : List Literal) × (assignment.new.trues ≡ assignment.old.trues ++ more)) }
+    ensures counted { OnOk result ((p : ℕ) → (pair_at pairs.new p).is_counted ≡ true → (pair_at pairs.old p).is_counted ≡ true) }
     ensures stays { (b t : Literal) → result ≡ Ok (Seen.Stays b t) → (head : ℕ) (d : Literal) (done coming : List Watch) → head < length assignment.old.trues → l ≡ negated (slice_index_or assignment.old.trues head d) → IsVisiting clauses.now pairs.old lists.old assignment.old.trues reasons.old.items head l done (watch ∷ coming) → IsVisiting clauses.now pairs.new lists.new assignment.new.trues reasons.new.items head l (done ++ record { place = watch.place; blocker = b; third = t } ∷ []) coming }
     ensures goes { result ≡ Ok Seen.Goes → (head : ℕ) (d : Literal) (done coming : List Watch) → head < length assignment.old.trues → l ≡ negated (slice_index_or assignment.old.trues head d) → IsVisiting clauses.now pairs.old lists.old assignment.old.trues reasons.old.items head l done (watch ∷ coming) → IsVisiting clauses.now pairs.new lists.new assignment.new.trues reasons.new.items head l done coming }
     ensures conflict { (id : ℕ) → result ≡ Ok (Seen.Conflict id) → IsConflict clauses.now assignment.new.trues id × (pairs.new ≡ pairs.old) × (lists.new ≡ lists.old) × (assignment.new.trues ≡ assignment.old.trues) × (reasons.new.items ≡ reasons.old.items) }
@@ -224,6 +225,7 @@ pub fn visit(
             pairs[place as usize] = Pair {
                 first: other,
                 second: free,
+                is_counted: false,
             };
             Ok(Seen::Goes)
         }

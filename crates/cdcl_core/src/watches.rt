@@ -8,11 +8,13 @@ use std::alloc::{AllocError, Global};
 use std::marker::Model;
 use std::mem::replace;
 
-/// The two literals that a clause watches.
+/// The literals that a clause watches, twice the same where it watches one; a clause that is counted watches none: a
+/// gate's count of false inputs tells of it.
 #[derive(Clone, Copy)]
 pub struct Pair {
     pub first: Lit,
     pub second: Lit,
+    pub is_counted: bool,
 }
 
 /// A clause by its place, and one of its literals: while that is true, the clause need not be looked at. Of a

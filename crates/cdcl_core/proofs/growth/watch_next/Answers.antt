@@ -68,7 +68,7 @@ returns-else-not-is_true-clause-queued c = λ _ held head below s long q.
     let l = c.in-One.l in
     let one = c.in-One.ensures.one l refl in
     rw c.in_ok-attach-in-One.ensures.pairs
-    (given_queued c.args.assignment.now.vars held c.args.assignment.now.trues c.args.reasons.now.items s c.requires.undecided c.args.id c.args.lits.now c.args.pairs.now.items (record { first = l; second = l }) head long q
+    (given_queued c.args.assignment.now.vars held c.args.assignment.now.trues c.args.reasons.now.items s c.requires.undecided c.args.id c.args.lits.now c.args.pairs.now.items (record { first = l; second = l; is_counted = false }) head long q
     (inl (l, one.0, sym c.is_true.ensures ∙ c.if-not-is_true.false)))
 
 pub returns-in-Nothing-clause-conflict : goal.returns-in-Nothing-clause-conflict

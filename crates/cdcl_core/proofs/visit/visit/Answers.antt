@@ -32,7 +32,7 @@ returns-in_ok-push-in-Moves-clause-goes c = λ is head d done coming within l_is
     let o = c.in-Moves.other in
     let m = c.in-Moves.free in
     let place = c.args.watch.place in
-    subst (λ (ls : List (List Watch)). IsVisiting c.args.clauses.now (slice_set c.args.pairs.now place (record { first = o; second = m })) ls c.args.assignment.now.trues c.args.reasons.now.items head c.args.l done coming) (sym c.in_ok-push-in-Moves.ensures)
+    subst (λ (ls : List (List Watch)). IsVisiting c.args.clauses.now (slice_set c.args.pairs.now place (record { first = o; second = m; is_counted = false })) ls c.args.assignment.now.trues c.args.reasons.now.items head c.args.l done coming) (sym c.in_ok-push-in-Moves.ensures)
     (visiting_moved c.args.clauses.now c.args.pairs.now c.args.lists.now c.args.assignment.now.trues c.args.reasons.now.items head c.args.l done coming c.args.watch v o m c.in-Moves.blocker c.in-Moves.third d within l_is c.requires.false_now
     seen.0 seen.1 seen.2 seen.3 seen.4 seen.5 seen.6
     (index_within m c.args.assignment.now.vars (length c.args.lists.now) (c.requires.range (id_at c.args.clauses.now place) (lits_at c.args.clauses.now place) (c.requires.ids place c.requires.sound.0).2 m seen.2).1 c.requires.lists))

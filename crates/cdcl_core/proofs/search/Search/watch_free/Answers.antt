@@ -46,7 +46,7 @@ returns-in_ok-attach-in-Two-clause-watched c = λ _.
     let front = take p s.clauses in
     let id = id_at s.clauses p in
     let lits = c.lits-lits.result.now in
-    let pair : Pair = record { first = c.in-Two.first; second = c.in-Two.second } in
+    let pair : Pair = record { first = c.in-Two.first; second = c.in-Two.second; is_counted = false } in
     let some = c.in-Two.ensures.two c.in-Two.first c.in-Two.second refl in
     let made = c.in_ok-attach-in-Two.ensures in
     let long : length s.pairs.items ≡ length front = (was.watched (Plus 0)).long in

@@ -7,7 +7,7 @@ use Rattle.search_guide.specs.Open.{open_count}
 use Rattle.cdcl_core.specs.Watches.{AreKept, IsQueued, IsWatched}
 use Rattle.cdcl_core.proofs.OpenCounts.{open_count-append}
 use Rattle.cdcl_core.proofs.Runs.{written_back, each_id}
-use Rattle.cdcl_core.proofs.search.Search.propagate.Goals as goal
+use Rattle.cdcl_core.proofs.search.Search.visit_watches.Goals as goal
 
 pub propagate-requires-clause-range : goal.propagate-requires-clause-range
 propagate-requires-clause-range c = subst (λ k. InRange k c.args.self.now.clauses) (sym c.requires.searching.vars) c.requires.holding.range
