@@ -1,5 +1,5 @@
 -- Where a search stands, and how it goes on.
-use Rattle.std.specs.Prelude.{◌≡◌, ◌≢◌, ℕ, ◌+◌, ◌*◌, ◌<◌, ◌≤◌, ◌^◌, ◌++◌, ◌∷◌, [], List, ℤ, length, All, AllPairs, slice_index}
+use Rattle.std.specs.Prelude.{true, ◌≡◌, ◌≢◌, ℕ, ◌+◌, ◌*◌, ◌<◌, ◌≤◌, ◌^◌, ◌++◌, ◌∷◌, [], List, ℤ, length, All, AllPairs, slice_index}
 use Rattle.lrat_model.specs.Literal.{Literal}
 use Rattle.lrat_model.specs.Clauses.{Held, with_clause}
 use Rattle.lrat_model.specs.Steps.{Addition, Database}
@@ -10,7 +10,9 @@ use Rattle.cdcl_core.specs.Guides.{IsGuide}
 use Rattle.cdcl_core.specs.Log.{IsBoundedLog}
 use Rattle.cdcl_core.specs.Search.{IsState}
 use Rattle.cdcl_core.specs.Trail.{InRange}
-use Rattle.cdcl_core.specs.Watches.{IsWatched, IsQueued}
+use Rattle.cdcl_core.specs.Watches.{lits_at, pair_at, IsWatched, IsQueued}
+use Rattle.gate_counts.specs.Gates.{IsSet}
+use Rattle.gate_counts.specs.Counts.{IsCounting}
 
 -- the clauses held, with the last id
 abbrev pub database_in : Search → Database
@@ -23,7 +25,13 @@ pub record IsHolding (s : Search) : Type 0 where
   pub ids : All (λ e. (0 < e.0) × (e.0 ≤ s.last)) s.clauses
   pub range : InRange s.vars s.clauses
 
--- the trail is derived from these clauses, which are watched
+-- the gates are counted along the trail; the clauses that are counted are sets of their inputs
+pub record IsGated (held : Held) (s : Search) : Type 0 where
+  pub counting : IsCounting s.gates s.assignment.trues
+  pub vars : s.gates.vars ≡ s.vars
+  pub covered : (p : ℕ) → p < length held → (pair_at s.pairs.items p).is_counted ≡ true → IsSet s.gates.gates.items (lits_at held p)
+
+-- the trail is derived from these clauses, which are watched or counted
 pub record IsSearching (held : Held) (s : Search) : Type 0 where
   pub vars : s.assignment.vars ≡ s.vars
   pub guide : IsGuide s.vars s.guide
@@ -31,6 +39,7 @@ pub record IsSearching (held : Held) (s : Search) : Type 0 where
   pub lists : length s.lists ≡ 2 * (s.vars + 1)
   pub watched : (l : Literal) → IsWatched held s.pairs.items s.lists l []
   pub queued : IsQueued held s.pairs.items s.assignment.trues s.reasons.items s.head
+  pub gated : IsGated held s
 
 -- the clause of this id is false
 pub record IsStuck (s : Search) (conflict : ℕ) : Type 0 where

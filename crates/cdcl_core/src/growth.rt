@@ -6,6 +6,7 @@ ghost use Rattle.lrat_model.specs.Clauses.{Held, with_clause};
 ghost use Rattle.lrat_model.specs.Propagation.{status};
 ghost use Rattle.lrat_model.specs.Steps.{Addition};
 ghost use Rattle.lrat_model.specs.declared.step.ClauseStatus.TheVariants.{Falsified};
+ghost use Rattle.gate_counts.specs.Counts.{IsCounting};
 ghost use Rattle.cdcl_core.specs.Guides.{IsGuide};
 ghost use Rattle.cdcl_core.specs.Search.{IsState};
 ghost use Rattle.cdcl_core.specs.Trail.{IsTrail, IsVariable};
@@ -14,6 +15,7 @@ ghost use Rattle.cdcl_core.specs.Watches.{index_of, IsShort, IsWatched, IsQueued
 use crate::clauses::Clauses;
 use crate::guide::Guide;
 use crate::watches::{Pair, Watch, WatchLists};
+use gate_counts::Gates;
 use lrat_model::Lit;
 use lrat_text::Log;
 use partial_assignment::Assignment;
@@ -21,12 +23,14 @@ use std::alloc::AllocError;
 
 /// Goes back to where a decision stands: it and all above it are taken away.
 pub fn back(
+    gates: &mut Gates,
     guide: &mut Guide,
     assignment: &mut Assignment,
     reasons: &mut Vec<u64>,
     head: &mut usize,
     jump: usize,
 )
+    requires counting { IsCounting gates.old assignment.old.trues }
     requires trail { (held : Held) × IsTrail held assignment.old.trues reasons.old.items }
     requires within { jump < length assignment.old.trues }
     requires decision { slice_index reasons.old.items jump ≡ 0 }
@@ -34,9 +38,12 @@ pub fn back(
     ensures trues { assignment.new.trues ≡ take jump assignment.old.trues }
     ensures reasons { reasons.new.items ≡ take jump reasons.old.items }
     ensures head { head.new ≡ jump }
+    ensures counting { IsCounting gates.new assignment.new.trues }
+    ensures gates { (gates.new.gates ≡ gates.old.gates) × (gates.new.vars ≡ gates.old.vars) }
     ensures guide { (vars : ℕ) → IsGuide vars guide.old → IsGuide vars guide.new }
     ensures queued { (held : Held) (pairs : List Pair) → IsQueued held pairs assignment.old.trues reasons.old.items head.old → IsQueued held pairs assignment.new.trues reasons.new.items head.new }
 {
+    gates.back_to(assignment.trail(), jump);
     guide.leave(&assignment.trail()[jump..], jump);
     assignment.back_to(jump);
     reasons.truncate(jump);
