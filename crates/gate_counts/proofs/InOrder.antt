@@ -1,7 +1,7 @@
 -- That some literals are some of the inputs, step by step.
 use Rattle.std.proofs.Common.{◌≡◌, ℕ, ◌+◌, ◌<◌, true, List, [], ◌∷◌, length, get_or, drop, drop-cons, refl, sym, ap, ◌∙◌, subst, inl, inr, add-one}
 use Rattle.std.proofs.lemmas.Bool.{cases_Bool, false≢true, eq-eqb}
-use Rattle.lrat_model.specs.Literal.{Literal, Plus, Minus, same}
+use Rattle.lrat_model.specs.Literal.{Literal, Plus, same}
 use Rattle.gate_counts.specs.Gates.{is_part}
 
 part_past : (ls : List Literal) (x : ℕ) (xs : List ℕ) → ((m : Literal) (ms : List Literal) → is_part (m ∷ ms) xs ≡ true → is_part ms xs ≡ true) → is_part ls xs ≡ true → is_part ls (x ∷ xs) ≡ true

@@ -32,11 +32,11 @@ apart_more xs n inside later others = λ i j d at order within.
     let whole : take (length xs - (n + 1)) (drop (n + 1) xs) ≡ drop (n + 1) xs = take_all (length xs - (n + 1)) (drop (n + 1) xs) (omega (arith, length-drop (n + 1) xs)) in
     let rest : All (λ x. x ≢ get_or xs n 0) (drop (n + 1) xs) = subst (λ ls. All (λ x. x ≢ get_or xs n 0) ls) whole others in
     rest (j - (n + 1)) d behind (
-      get_or-drop (n + 1) xs (j - (n + 1)) d
-      ∙ ap (λ (k : ℕ). get_or xs k d) place
-      ∙ sym equal
-      ∙ ap (λ (k : ℕ). get_or xs k d) is
-      ∙ get_or_default xs n d 0 inside
+    get_or-drop (n + 1) xs (j - (n + 1)) d
+    ∙ ap (λ (k : ℕ). get_or xs k d) place
+    ∙ sym equal
+    ∙ ap (λ (k : ℕ). get_or xs k d) is
+    ∙ get_or_default xs n d 0 inside
     ))
     (λ (after : n + 1 ≤ i). later i j d after order within)
     (cases_lt i (n + 1))

@@ -11,11 +11,11 @@ loop-input-preserved c =
     let l = c.loop-input in
     elim c.if-done-lits.branch [
       | then-done-lits+then-is_plus w ↦ record {
-          within = omega arith;
-          rest = λ is. take_step lits inputs l.done l.input-index c.loop-input-test.true w.if-done-lits.true w.index-lits-done.result w.index-lits-done.is (w.is_plus.ensures w.if-is_plus.true) l.invariant.rest (subst (λ k. is_part (drop k lits) (drop (l.input-index + 1) inputs) ≡ true) w.done-is is);
-        }
+        within = omega arith;
+        rest = λ is. take_step lits inputs l.done l.input-index c.loop-input-test.true w.if-done-lits.true w.index-lits-done.result w.index-lits-done.is (w.is_plus.ensures w.if-is_plus.true) l.invariant.rest (subst (λ k. is_part (drop k lits) (drop (l.input-index + 1) inputs) ≡ true) w.done-is is);
+      }
       | else-done-lits w ↦ record {
-          within = omega arith;
-          rest = λ is. skip_step lits inputs l.done l.input-index c.loop-input-test.true l.invariant.rest (subst (λ k. is_part (drop k lits) (drop (l.input-index + 1) inputs) ≡ true) w.done-is is);
-        }
+        within = omega arith;
+        rest = λ is. skip_step lits inputs l.done l.input-index c.loop-input-test.true l.invariant.rest (subst (λ k. is_part (drop k lits) (drop (l.input-index + 1) inputs) ≡ true) w.done-is is);
+      }
     ]
