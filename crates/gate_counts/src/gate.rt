@@ -1,7 +1,7 @@
 //! A gate, and the clauses that it stands for.
-ghost use Rattle.std.specs.Prelude.{◌≡◌, ◌≢◌, ℕ, ◌<◌, ◌≤◌, ◌^◌, true, List, All, AllPairs};
+ghost use Rattle.std.specs.Prelude.{◌≡◌, ◌≢◌, ℕ, ◌<◌, ◌≤◌, ◌^◌, true, false, List, All, AllPairs};
 ghost use Rattle.lrat_model.specs.Literal.{Literal, Plus, Minus};
-ghost use Rattle.gate_counts.specs.Gates.{IsGate, IsSetOf, is_part};
+ghost use Rattle.gate_counts.specs.Gates.{IsGate, IsSetOf, is_part, has_number};
 
 use lrat_model::Lit;
 

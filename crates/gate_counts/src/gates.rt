@@ -1,8 +1,8 @@
 //! How many inputs of each gate are false.
 ghost use Rattle.std.specs.Prelude.{◌≡◌, ℕ, ◌+◌, ◌<◌, ◌≤◌, ◌^◌, true, List, [], Ok, All, IfOk, OnOk, length, take, slice_index};
 ghost use Rattle.lrat_model.specs.Literal.{Literal};
-ghost use Rattle.gate_counts.specs.Gates.{IsGate, IsSet};
-ghost use Rattle.gate_counts.specs.Counts.{times, AreListed, IsCounting};
+ghost use Rattle.gate_counts.specs.Gates.{IsGate, IsSet, has_number};
+ghost use Rattle.gate_counts.specs.Counts.{times, part_of, AreListed, IsCounting};
 
 use crate::gate::{Gate, is_among, is_set_of, is_sound};
 use crate::guesses::{Guesses, number_of};

@@ -1,5 +1,5 @@
 //! A table that names for each variable the gates that have it.
-ghost use Rattle.std.specs.Prelude.{◌≡◌};
+ghost use Rattle.std.specs.Prelude.{◌≡◌, slice_index};
 ghost use Rattle.gate_counts.specs.Counts.{part_of};
 
 use crate::gate::Gate;
