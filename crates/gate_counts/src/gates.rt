@@ -1,5 +1,5 @@
 //! How many inputs of each gate are false.
-ghost use Rattle.std.specs.Prelude.{◌≡◌, ℕ, ◌+◌, ◌<◌, ◌≤◌, ◌^◌, true, List, [], Ok, All, IfOk, OnOk, length, take, slice_index};
+ghost use Rattle.std.specs.Prelude.{◌≡◌, ℕ, ◌+◌, ◌-◌, ◌<◌, ◌≤◌, ◌^◌, true, List, [], ◌∷◌, Ok, All, IfOk, OnOk, length, take, slice_index};
 ghost use Rattle.lrat_model.specs.Literal.{Literal};
 ghost use Rattle.gate_counts.specs.Gates.{IsGate, IsSet};
 ghost use Rattle.gate_counts.specs.Counts.{times, AreListed, IsCounting};
@@ -121,12 +121,22 @@ fn raise(counts: &mut [u32], list: &[u32]) -> Result<(), AllocError>
     ensures raised { OnOk result ((g : ℕ) → g < length counts.old → slice_index counts.new g ≡ slice_index counts.old g + times list.now g) }
 {
     for g in list {
-        if let Some(count) = counts.get_mut(*g as usize) {
-            let Some(more) = count.checked_add(1) else {
-                return Err(AllocError);
-            };
-            *count = more;
-        }
+        raise_one(counts, *g)?;
+    }
+    Ok(())
+}
+
+/// Counts this gate once more.
+fn raise_one(counts: &mut [u32], g: u32) -> Result<(), AllocError>
+    ensures long { OnOk result (length counts.new ≡ length counts.old) }
+    ensures raised { OnOk result ((k : ℕ) → k < length counts.old → slice_index counts.new k ≡ slice_index counts.old k + times (g ∷ []) k) }
+{
+    let place = g as usize;
+    if place < counts.len() {
+        let Some(more) = counts[place].checked_add(1) else {
+            return Err(AllocError);
+        };
+        counts[place] = more;
     }
     Ok(())
 }
@@ -138,9 +148,18 @@ fn lower(counts: &mut [u32], list: &[u32])
     ensures lowered { (g : ℕ) → g < length counts.old → slice_index counts.new g + times list.now g ≡ slice_index counts.old g }
 {
     for g in list {
-        if let Some(count) = counts.get_mut(*g as usize) {
-            *count = count.saturating_sub(1);
-        }
+        lower_one(counts, *g);
+    }
+}
+
+/// Counts this gate once less.
+fn lower_one(counts: &mut [u32], g: u32)
+    ensures long { length counts.new ≡ length counts.old }
+    ensures lowered { (k : ℕ) → k < length counts.old → slice_index counts.new k ≡ slice_index counts.old k - times (g ∷ []) k }
+{
+    let place = g as usize;
+    if place < counts.len() {
+        counts[place] = counts[place].saturating_sub(1);
     }
 }
 
