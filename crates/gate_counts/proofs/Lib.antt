@@ -1,3 +1,4 @@
+pub mod CountLaws
 pub mod OpenLaws
 pub mod PartLaws
 pub mod Tallies

@@ -1,5 +1,5 @@
 -- So few of a set's literals are false that its clause is open.
-use Rattle.std.proofs.Common.{◌≡◌, ℕ, ◌+◌, ◌<◌, ◌≤◌, Bool, true, false, not, ◌||◌, cond, List, [], ◌∷◌, length, get_or, filter, ⊎_elim, inl, inr, refl, sym, ap, ◌∙◌, subst, arith}
+use Rattle.std.proofs.Common.{◌≡◌, ◌≢◌, ℕ, ◌+◌, ◌<◌, ◌≤◌, Bool, true, false, not, ◌||◌, cond, List, [], ◌∷◌, length, get_or, filter, ⊎_elim, inl, inr, refl, sym, ap, ◌∙◌, subst, arith}
 use Rattle.std.specs.Prelude.{◌⊎◌, All, AllPairs}
 use Rattle.std.proofs.lemmas.Bool.{false≢true, true≢false, or_parts, not-true}
 use Rattle.std.proofs.lemmas.List.Filters.{length-filter_both}
@@ -59,29 +59,30 @@ two_of (l ∷ m ∷ ls) distinct some = (l, m, has-first l (m ∷ ls), has-rest 
 pub open_denied : (trues set : List Literal) (head : ℕ) → has trues (Minus head) ≡ true → IsOpen trues (Minus head ∷ set)
 open_denied trues set head is = inl (Minus head, has-first (Minus head) set, is)
 
-module _ (trues set : List Literal) (gate : Gate) (size falses : ℕ) (apart : AllPairs (λ x y. x ≢ y) gate.inputs.items) (part : is_part set gate.inputs.items ≡ true) (long : length set ≡ size) (few : length (filter (λ l. has trues (negated l)) set) ≤ falses) where
+module _ (trues set : List Literal) (gate : Gate) (falses : ℕ) (apart : AllPairs (λ x y. x ≢ y) gate.inputs.items) (part : is_part set gate.inputs.items ≡ true) (long : length set ≡ gate.size) (few : length (filter (λ l. has trues (negated l)) set) ≤ falses) where
   -- where all but two are not false
-  pub open_two : falses + 2 ≤ size → IsOpen trues (Minus gate.head ∷ set)
+  pub open_two : falses + 2 ≤ gate.size → IsOpen trues (Minus gate.head ∷ set)
   open_two fewer =
       let two = two_of (not_false trues set) (distinct-filter (λ l. not (has trues (negated l))) set (part_distinct gate.inputs.items set apart part)) (omega (arith, how_many trues set, long, few, fewer)) in
-      let one : (has set two.0 ≡ true) × (has trues (negated two.0) ≡ false) = not_false_parts trues set two.0 two.2.0 in
-      let other : (has set two.1 ≡ true) × (has trues (negated two.1) ≡ false) = not_false_parts trues set two.1 two.2.1 in
-      inr (two.0, two.1, has-rest (Minus gate.head) two.0 set one.0, has-rest (Minus gate.head) two.1 set other.0, two.2.2, one.1, other.1)
+      let one : (has set two.0 ≡ true) × (has trues (negated two.0) ≡ false) = not_false_parts trues set two.0 two.2 in
+      let other : (has set two.1 ≡ true) × (has trues (negated two.1) ≡ false) = not_false_parts trues set two.1 two.3 in
+      inr (two.0, two.1, has-rest (Minus gate.head) two.0 set one.0, has-rest (Minus gate.head) two.1 set other.0, two.4, one.1, other.1)
 
-  one_left : falses < size → (l : Literal) × (has set l ≡ true) × (has trues (negated l) ≡ false)
+  one_left : falses < gate.size → (l : Literal) × (has set l ≡ true) × (has trues (negated l) ≡ false)
   one_left fewer =
       let first : (l : Literal) × (has (not_false trues set) l ≡ true) = first_of (not_false trues set) (omega (arith, how_many trues set, long, few, fewer)) in
-      (first.0, not_false_parts trues set first.0 first.1)
+      let parts : (has set first.0 ≡ true) × (has trues (negated first.0) ≡ false) = not_false_parts trues set first.0 first.1 in
+      (first.0, parts.0, parts.1)
 
   -- where one is not false, and the head is not true
-  pub open_head : falses < size → has trues (Plus gate.head) ≡ false → IsOpen trues (Minus gate.head ∷ set)
+  pub open_head : falses < gate.size → has trues (Plus gate.head) ≡ false → IsOpen trues (Minus gate.head ∷ set)
   open_head fewer free =
       let left = one_left fewer in
       let input : IsInput gate.inputs.items left.0 = part_inputs gate.inputs.items set part left.0 left.1 in
       inr (left.0, Minus gate.head, has-rest (Minus gate.head) left.0 set left.1, has-first (Minus gate.head) set, subst (λ l. same l (Minus gate.head) ≡ false) (sym input.1) refl, left.2, free)
 
   -- where one is not false, and none open
-  pub open_valued : falses < size → ((x : ℕ) → has_number gate.inputs.items x ≡ true → (has trues (Plus x) ≡ true) ⊎ (has trues (Minus x) ≡ true)) → IsOpen trues (Minus gate.head ∷ set)
+  pub open_valued : falses < gate.size → ((x : ℕ) → has_number gate.inputs.items x ≡ true → (has trues (Plus x) ≡ true) ⊎ (has trues (Minus x) ≡ true)) → IsOpen trues (Minus gate.head ∷ set)
   open_valued fewer valued =
       let left = one_left fewer in
       let input : IsInput gate.inputs.items left.0 = part_inputs gate.inputs.items set part left.0 left.1 in
