@@ -15,12 +15,58 @@ use Rattle.gate_counts.proofs.PartLaws.{IsInput, part_inputs, part_distinct}
 abbrev pub AreOpen : List Gate → List Literal → ℕ → Type 0
 AreOpen gates trues n = (g : ℕ) → g < n → g < length gates → (clause : List Literal) → ((d : Gate) → IsSetOf (slice_index_or gates g d) clause) → IsOpen trues clause
 
-pub gate_wider : (a b : ℕ) (gate : Gate) → a ≤ b → IsGate a gate → IsGate b gate
-gate_wider a b gate less is = record {
-  head = (is.head.0, omega (arith, less, is.head.1));
-  inputs = λ i d within. let each = is.inputs i d within in (each.0, omega (arith, less, each.1));
-  apart = is.apart;
-}
+-- the counts are these with a literal more
+abbrev pub IsRaised : List ℕ → List ℕ → List ℕ → List ℕ → Literal → Type 0
+IsRaised starts entries old new l = (g : ℕ) → g < length old → slice_index new g ≡ slice_index old g + tally starts entries (l ∷ []) g
+
+-- no count is less than what the literal has of it
+abbrev pub MayLower : List ℕ → List ℕ → List ℕ → Literal → Type 0
+MayLower starts entries counts l = (g : ℕ) → g < length counts → tally starts entries (l ∷ []) g ≤ slice_index counts g
+
+-- the same of the same lists
+pub raised_same : (starts entries counts s e c new : List ℕ) (l : Literal) → s ≡ starts → e ≡ entries → c ≡ counts → IsRaised s e c new l → IsRaised starts entries counts new l
+raised_same starts entries counts s e c new l s_is e_is c_is raised =
+    subst (λ xs. IsRaised xs entries counts new l) s_is (subst (λ xs. IsRaised s xs counts new l) e_is (subst (λ xs. IsRaised s e xs new l) c_is raised))
+
+pub lowered_same : (starts entries counts s e c new : List ℕ) (l : Literal) → s ≡ starts → e ≡ entries → c ≡ counts
+    → ((g : ℕ) → g < length c → slice_index new g + tally s e (l ∷ []) g ≡ slice_index c g)
+    → (g : ℕ) → g < length counts → slice_index new g + tally starts entries (l ∷ []) g ≡ slice_index counts g
+lowered_same starts entries counts s e c new l s_is e_is c_is lowered =
+    subst (λ xs. (g : ℕ) → g < length counts → slice_index new g + tally xs entries (l ∷ []) g ≡ slice_index counts g) s_is
+    (subst (λ xs. (g : ℕ) → g < length counts → slice_index new g + tally s xs (l ∷ []) g ≡ slice_index counts g) e_is
+    (subst (λ xs. (g : ℕ) → g < length xs → slice_index new g + tally s e (l ∷ []) g ≡ slice_index xs g) c_is lowered))
+
+pub may_lower_same : (starts entries counts s e c : List ℕ) (l : Literal) → s ≡ starts → e ≡ entries → c ≡ counts → MayLower starts entries counts l → MayLower s e c l
+may_lower_same starts entries counts s e c l s_is e_is c_is may =
+    subst (λ xs. MayLower xs e c l) (sym s_is) (subst (λ xs. MayLower starts xs c l) (sym e_is) (subst (λ xs. MayLower starts entries xs l) (sym c_is) may))
+
+module _ (starts entries counts new : List ℕ) (trail : List Literal) (l : Literal) (long : length new ≡ length counts) where
+  tally_at : (n g : ℕ) → n < length trail → l ≡ get_or trail n l → tally starts entries (take (n + 1) trail) g ≡ tally starts entries (take n trail) g + tally starts entries (l ∷ []) g
+  tally_at n g within is =
+      ap (λ ls. tally starts entries ls g) (take_more trail n l within ∙ ap (λ k. take n trail ++ k ∷ []) (sym is)) ∙ tally-push starts entries (take n trail) l g
+
+  -- the trail's next literal is counted
+  pub tallied_more : (n : ℕ) → n < length trail → l ≡ get_or trail n l
+      → ((g : ℕ) → g < length counts → slice_index counts g ≡ tally starts entries (take n trail) g)
+      → ((g : ℕ) → g < length counts → slice_index new g ≡ slice_index counts g + tally starts entries (l ∷ []) g)
+      → (g : ℕ) → g < length new → slice_index new g ≡ tally starts entries (take (n + 1) trail) g
+  tallied_more n within is tallied raised g less =
+      let here : g < length counts = omega (arith, less, long) in
+      omega (arith, tally_at n g within is, tallied g here, raised g here)
+
+  -- the last one that was counted is taken back
+  pub may_lower : (n : ℕ) → n < length trail → l ≡ get_or trail n l
+      → ((g : ℕ) → g < length counts → slice_index counts g ≡ tally starts entries (take (n + 1) trail) g)
+      → (g : ℕ) → g < length counts → tally starts entries (l ∷ []) g ≤ slice_index counts g
+  may_lower n within is tallied g less = omega (arith, tally_at n g within is, tallied g less)
+
+  pub tallied_less : (n : ℕ) → n < length trail → l ≡ get_or trail n l
+      → ((g : ℕ) → g < length counts → slice_index counts g ≡ tally starts entries (take (n + 1) trail) g)
+      → ((g : ℕ) → g < length counts → slice_index new g + tally starts entries (l ∷ []) g ≡ slice_index counts g)
+      → (g : ℕ) → g < length new → slice_index new g ≡ tally starts entries (take n trail) g
+  tallied_less n within is tallied lowered g less =
+      let here : g < length counts = omega (arith, less, long) in
+      omega (arith, tally_at n g within is, tallied g here, lowered g here)
 
 module _ (gates : Gates) (trues : List Literal) (counting : IsCounting gates trues) (counted : gates.counted ≡ length trues) (place : ℕ) (within : place < length gates.gates.items) (gate : Gate) (at : (d : Gate) → slice_index_or gates.gates.items place d ≡ gate) where
   pub sound_at : IsGate gates.vars gate

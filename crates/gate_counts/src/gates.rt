@@ -2,7 +2,7 @@
 ghost use Rattle.std.specs.Prelude.{◌≡◌, ℕ, ◌+◌, ◌-◌, ◌<◌, ◌≤◌, ◌^◌, true, List, [], ◌∷◌, Ok, All, IfOk, OnOk, length, take, slice_index};
 ghost use Rattle.lrat_model.specs.Literal.{Literal};
 ghost use Rattle.gate_counts.specs.Gates.{IsGate, IsSet};
-ghost use Rattle.gate_counts.specs.Counts.{times, AreListed, IsCounting};
+ghost use Rattle.gate_counts.specs.Counts.{times, tally, AreListed, IsCounting};
 
 use crate::gate::{Gate, is_among, is_set_of, is_sound};
 use crate::guesses::{Guesses, number_of};
@@ -72,13 +72,8 @@ impl Gates {
     {
         while self.counted < trail.len() {
             let l = trail[self.counted];
-            if l.number() < 0 {
-                let list = part(&self.starts, &self.entries, l.variable());
-                raise(self.counts.as_mut_slice(), list)?;
-                self.guesses.see_inputs(list, &self.counts)?;
-            } else {
-                self.guesses.see_head(l.variable(), &self.counts)?;
-            }
+            raise_by(self.counts.as_mut_slice(), &self.starts, &self.entries, l)?;
+            see(&mut self.guesses, &self.starts, &self.entries, &self.counts, l)?;
             self.counted += 1;
         }
         Ok(())
@@ -95,10 +90,7 @@ impl Gates {
         while self.counted > len {
             self.counted -= 1;
             let l = trail[self.counted];
-            if l.number() < 0 {
-                let list = part(&self.starts, &self.entries, l.variable());
-                lower(self.counts.as_mut_slice(), list);
-            }
+            lower_by(self.counts.as_mut_slice(), &self.starts, &self.entries, l);
         }
     }
 
@@ -112,6 +104,44 @@ impl Gates {
             Some(gate) => is_set_of(gate, lits),
             None => false,
         }
+    }
+}
+
+/// Counts on by a literal that became true.
+fn raise_by(counts: &mut [u32], starts: &[usize], entries: &[u32], l: Lit) -> Result<(), AllocError>
+    ensures long { OnOk result (length counts.new ≡ length counts.old) }
+    ensures raised { OnOk result ((g : ℕ) → g < length counts.old → slice_index counts.new g ≡ slice_index counts.old g + tally starts.now entries.now (l ∷ []) g) }
+{
+    if l.number() < 0 {
+        raise(counts, part(starts, entries, l.variable()))
+    } else {
+        Ok(())
+    }
+}
+
+/// Takes back what was counted of a literal.
+fn lower_by(counts: &mut [u32], starts: &[usize], entries: &[u32], l: Lit)
+    requires { (g : ℕ) → g < length counts.old → tally starts.now entries.now (l ∷ []) g ≤ slice_index counts.old g }
+    ensures long { length counts.new ≡ length counts.old }
+    ensures lowered { (g : ℕ) → g < length counts.old → slice_index counts.new g + tally starts.now entries.now (l ∷ []) g ≡ slice_index counts.old g }
+{
+    if l.number() < 0 {
+        lower(counts, part(starts, entries, l.variable()));
+    }
+}
+
+/// Sees that a literal became true.
+fn see(
+    guesses: &mut Guesses,
+    starts: &[usize],
+    entries: &[u32],
+    counts: &[u32],
+    l: Lit,
+) -> Result<(), AllocError> {
+    if l.number() < 0 {
+        guesses.see_inputs(part(starts, entries, l.variable()), counts)
+    } else {
+        guesses.see_head(l.variable(), counts)
     }
 }
 
