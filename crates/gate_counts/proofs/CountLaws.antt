@@ -19,6 +19,14 @@ AreOpen gates trues n = (g : ℕ) → g < n → g < length gates → (clause : L
 abbrev pub IsRaised : List ℕ → List ℕ → List ℕ → List ℕ → Literal → Type 0
 IsRaised starts entries old new l = (g : ℕ) → g < length old → slice_index new g ≡ slice_index old g + tally starts entries (l ∷ []) g
 
+-- with a literal less
+abbrev pub IsLowered : List ℕ → List ℕ → List ℕ → List ℕ → Literal → Type 0
+IsLowered starts entries old new l = (g : ℕ) → g < length old → slice_index new g + tally starts entries (l ∷ []) g ≡ slice_index old g
+
+-- the counts are those of these literals
+abbrev pub IsTallied : List ℕ → List ℕ → List ℕ → List Literal → Type 0
+IsTallied starts entries counts trail = (g : ℕ) → g < length counts → slice_index counts g ≡ tally starts entries trail g
+
 -- no count is less than what the literal has of it
 abbrev pub MayLower : List ℕ → List ℕ → List ℕ → Literal → Type 0
 MayLower starts entries counts l = (g : ℕ) → g < length counts → tally starts entries (l ∷ []) g ≤ slice_index counts g
@@ -28,13 +36,9 @@ pub raised_same : (starts entries counts s e c new : List ℕ) (l : Literal) →
 raised_same starts entries counts s e c new l s_is e_is c_is raised =
     subst (λ xs. IsRaised xs entries counts new l) s_is (subst (λ xs. IsRaised s xs counts new l) e_is (subst (λ xs. IsRaised s e xs new l) c_is raised))
 
-pub lowered_same : (starts entries counts s e c new : List ℕ) (l : Literal) → s ≡ starts → e ≡ entries → c ≡ counts
-    → ((g : ℕ) → g < length c → slice_index new g + tally s e (l ∷ []) g ≡ slice_index c g)
-    → (g : ℕ) → g < length counts → slice_index new g + tally starts entries (l ∷ []) g ≡ slice_index counts g
+pub lowered_same : (starts entries counts s e c new : List ℕ) (l : Literal) → s ≡ starts → e ≡ entries → c ≡ counts → IsLowered s e c new l → IsLowered starts entries counts new l
 lowered_same starts entries counts s e c new l s_is e_is c_is lowered =
-    subst (λ xs. (g : ℕ) → g < length counts → slice_index new g + tally xs entries (l ∷ []) g ≡ slice_index counts g) s_is
-    (subst (λ xs. (g : ℕ) → g < length counts → slice_index new g + tally s xs (l ∷ []) g ≡ slice_index counts g) e_is
-    (subst (λ xs. (g : ℕ) → g < length xs → slice_index new g + tally s e (l ∷ []) g ≡ slice_index xs g) c_is lowered))
+    subst (λ xs. IsLowered xs entries counts new l) s_is (subst (λ xs. IsLowered s xs counts new l) e_is (subst (λ xs. IsLowered s e xs new l) c_is lowered))
 
 pub may_lower_same : (starts entries counts s e c : List ℕ) (l : Literal) → s ≡ starts → e ≡ entries → c ≡ counts → MayLower starts entries counts l → MayLower s e c l
 may_lower_same starts entries counts s e c l s_is e_is c_is may =
@@ -46,24 +50,16 @@ module _ (starts entries counts new : List ℕ) (trail : List Literal) (l : Lite
       ap (λ ls. tally starts entries ls g) (take_more trail n l within ∙ ap (λ k. take n trail ++ k ∷ []) (sym is)) ∙ tally-push starts entries (take n trail) l g
 
   -- the trail's next literal is counted
-  pub tallied_more : (n : ℕ) → n < length trail → l ≡ get_or trail n l
-      → ((g : ℕ) → g < length counts → slice_index counts g ≡ tally starts entries (take n trail) g)
-      → ((g : ℕ) → g < length counts → slice_index new g ≡ slice_index counts g + tally starts entries (l ∷ []) g)
-      → (g : ℕ) → g < length new → slice_index new g ≡ tally starts entries (take (n + 1) trail) g
+  pub tallied_more : (n : ℕ) → n < length trail → l ≡ get_or trail n l → IsTallied starts entries counts (take n trail) → IsRaised starts entries counts new l → IsTallied starts entries new (take (n + 1) trail)
   tallied_more n within is tallied raised g less =
       let here : g < length counts = omega (arith, less, long) in
       omega (arith, tally_at n g within is, tallied g here, raised g here)
 
   -- the last one that was counted is taken back
-  pub may_lower : (n : ℕ) → n < length trail → l ≡ get_or trail n l
-      → ((g : ℕ) → g < length counts → slice_index counts g ≡ tally starts entries (take (n + 1) trail) g)
-      → (g : ℕ) → g < length counts → tally starts entries (l ∷ []) g ≤ slice_index counts g
+  pub may_lower : (n : ℕ) → n < length trail → l ≡ get_or trail n l → IsTallied starts entries counts (take (n + 1) trail) → MayLower starts entries counts l
   may_lower n within is tallied g less = omega (arith, tally_at n g within is, tallied g less)
 
-  pub tallied_less : (n : ℕ) → n < length trail → l ≡ get_or trail n l
-      → ((g : ℕ) → g < length counts → slice_index counts g ≡ tally starts entries (take (n + 1) trail) g)
-      → ((g : ℕ) → g < length counts → slice_index new g + tally starts entries (l ∷ []) g ≡ slice_index counts g)
-      → (g : ℕ) → g < length new → slice_index new g ≡ tally starts entries (take n trail) g
+  pub tallied_less : (n : ℕ) → n < length trail → l ≡ get_or trail n l → IsTallied starts entries counts (take (n + 1) trail) → IsLowered starts entries counts new l → IsTallied starts entries new (take n trail)
   tallied_less n within is tallied lowered g less =
       let here : g < length counts = omega (arith, less, long) in
       omega (arith, tally_at n g within is, tallied g here, lowered g here)
