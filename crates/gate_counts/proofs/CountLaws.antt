@@ -1,14 +1,14 @@
 -- What the counts of a trail tell, and how they go on with it.
-use Rattle.std.proofs.Common.{◌≡◌, ◌≢◌, ℕ, ◌+◌, ◌-◌, ◌^◌, ◌<◌, ◌≤◌, true, false, List, [], ◌∷◌, ◌++◌, length, filter, get_or, take, ⊎_elim, inl, inr, refl, sym, ap, ◌∙◌, subst, arith}
-use Rattle.std.specs.Prelude.{All, AllPairs, slice_index, slice_index_or}
+use Rattle.std.proofs.Common.{◌≡◌, ℕ, ◌+◌, ◌<◌, ◌≤◌, true, List, [], ◌∷◌, ◌++◌, length, filter, get_or, take, ⊎_elim, sym, ap, ◌∙◌, subst, arith}
+use Rattle.std.specs.Prelude.{slice_index, slice_index_or}
 use Rattle.std.proofs.lemmas.List.{take_all, take_more}
 use Rattle.std.proofs.lemmas.Bool.{cases_lt}
-use Rattle.lrat_model.specs.Literal.{Literal, Plus, Minus, negated, has}
-use Rattle.gate_counts.specs.Gates.{IsGate, IsSet, IsSetOf, IsOpen, is_part, has_number}
-use Rattle.gate_counts.specs.Counts.{times, part_of, tally, IsCounting}
+use Rattle.lrat_model.specs.Literal.{Literal, Minus, negated, has}
+use Rattle.gate_counts.specs.Gates.{IsGate, IsSetOf, IsOpen, is_part, has_number}
+use Rattle.gate_counts.specs.Counts.{tally, IsCounting}
 use Rattle.gate_counts.specs.declared.gate.Gate.{Gate}
 use Rattle.gate_counts.specs.declared.gates.Gates.{Gates}
-use Rattle.gate_counts.proofs.Tallies.{IsDistinct, AreNaming, falses_counted, tally-push}
+use Rattle.gate_counts.proofs.Tallies.{AreNaming, falses_counted, tally-push}
 use Rattle.gate_counts.proofs.PartLaws.{IsInput, part_inputs, part_distinct}
 
 -- the clauses of the first gates, this many, are open

@@ -1,11 +1,11 @@
 -- So few of a set's literals are false that its clause is open.
-use Rattle.std.proofs.Common.{◌≡◌, ◌≢◌, ℕ, ◌+◌, ◌<◌, ◌≤◌, Bool, true, false, not, ◌||◌, cond, List, [], ◌∷◌, length, get_or, filter, ⊎_elim, inl, inr, refl, sym, ap, ◌∙◌, subst, arith}
-use Rattle.std.specs.Prelude.{◌⊎◌, All, AllPairs}
-use Rattle.std.proofs.lemmas.Bool.{false≢true, true≢false, or_parts, not-true}
+use Rattle.std.proofs.Common.{◌≡◌, ◌≢◌, ℕ, ◌+◌, ◌<◌, ◌≤◌, Bool, true, false, not, cond, List, [], ◌∷◌, length, get_or, filter, ⊎_elim, inl, inr, refl, sym, ◌∙◌, subst, arith}
+use Rattle.std.specs.Prelude.{◌⊎◌, AllPairs}
+use Rattle.std.proofs.lemmas.Bool.{true≢false, or_parts, not-true}
 use Rattle.std.proofs.lemmas.List.Filters.{length-filter_both}
 use Rattle.lrat_model.specs.Literal.{Literal, Plus, Minus, negated, same, has}
 use Rattle.lrat_model.proofs.Literals.{has-first, has-rest, has-filter}
-use Rattle.gate_counts.specs.Gates.{IsOpen, IsGate, is_part, has_number}
+use Rattle.gate_counts.specs.Gates.{IsOpen, is_part, has_number}
 use Rattle.gate_counts.specs.declared.gate.Gate.{Gate}
 use Rattle.gate_counts.proofs.Tallies.{IsDistinct}
 use Rattle.gate_counts.proofs.PartLaws.{IsInput, place_of, part_inputs, part_distinct}

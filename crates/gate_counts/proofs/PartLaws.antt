@@ -1,8 +1,8 @@
 -- Some of the inputs, in their order, as a set of literals.
-use Rattle.std.proofs.Common.{◌≡◌, ◌≢◌, ℕ, suc, ◌+◌, ◌<◌, ◌≤◌, Bool, true, false, ◌||◌, cond, List, [], ◌∷◌, length, get_or, ⊎_elim, refl, sym, ap, ◌∙◌, subst, arith}
-use Rattle.std.specs.Prelude.{◌==◌, All, AllPairs}
-use Rattle.std.proofs.lemmas.Bool.{false≢true, true≢false, or_cases, or_left, or_right, eqb-true, eq-eqb}
-use Rattle.lrat_model.specs.Literal.{Literal, Plus, Minus, negated, same, has}
+use Rattle.std.proofs.Common.{◌≡◌, ◌≢◌, ℕ, suc, ◌<◌, true, false, cond, List, [], ◌∷◌, length, get_or, ⊎_elim, refl, sym, ◌∙◌, subst, arith}
+use Rattle.std.specs.Prelude.{◌==◌, AllPairs}
+use Rattle.std.proofs.lemmas.Bool.{false≢true, or_cases, or_left, or_right, eqb-true, eq-eqb}
+use Rattle.lrat_model.specs.Literal.{Literal, Plus, same, has}
 use Rattle.lrat_model.proofs.Literals.{same-true, has-cons}
 use Rattle.gate_counts.specs.Gates.{is_part, has_number}
 use Rattle.gate_counts.proofs.Tallies.{IsDistinct}

@@ -73,7 +73,13 @@ impl Gates {
         while self.counted < trail.len() {
             let l = trail[self.counted];
             raise_by(self.counts.as_mut_slice(), &self.starts, &self.entries, l)?;
-            see(&mut self.guesses, &self.starts, &self.entries, &self.counts, l)?;
+            see(
+                &mut self.guesses,
+                &self.starts,
+                &self.entries,
+                &self.counts,
+                l,
+            )?;
             self.counted += 1;
         }
         Ok(())

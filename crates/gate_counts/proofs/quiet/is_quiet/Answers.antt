@@ -1,5 +1,5 @@
-use Rattle.std.proofs.Common.{◌≡◌, ◌+◌, ◌<◌, ◌≤◌, ◌∷◌, true, false, List, arith, rules, sym, subst}
-use Rattle.lrat_model.specs.Literal.{Literal, Plus, Minus, has}
+use Rattle.std.proofs.Common.{◌≡◌, ◌∷◌, true, false, rules, sym, subst}
+use Rattle.lrat_model.specs.Literal.{Plus, Minus, has}
 use Rattle.gate_counts.specs.Gates.{IsOpen, has_number}
 use Rattle.gate_counts.proofs.OpenLaws.{open_denied, open_two, open_head, open_valued}
 use Rattle.gate_counts.proofs.quiet.is_quiet.Goals as goal

@@ -1,4 +1,4 @@
-use Rattle.std.proofs.Common.{◌≡◌, ◌+◌, ◌<◌, ◌≤◌, ◌∷◌, true, List, length, filter, arith, rules, sym, subst, ◌∙◌, ap}
+use Rattle.std.proofs.Common.{◌≡◌, ◌<◌, ◌≤◌, ◌∷◌, true, List, length, filter, arith, sym, subst, ◌∙◌}
 use Rattle.std.specs.Prelude.{slice_index, slice_index_or}
 use Rattle.std.proofs.lemmas.List.{get_or_default}
 use Rattle.lrat_model.specs.Literal.{Literal, Minus, has, negated}

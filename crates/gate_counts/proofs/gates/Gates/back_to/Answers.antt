@@ -1,9 +1,7 @@
-use Rattle.std.proofs.Common.{◌≡◌, ◌+◌, ◌-◌, ◌<◌, ◌∷◌, ℕ, List, [], length, take, arith, sym, subst, ap, ◌∙◌, refl}
-use Rattle.std.specs.Prelude.{slice_index}
+use Rattle.std.proofs.Common.{◌≡◌, ◌+◌, ◌-◌, ◌<◌, ℕ, List, length, take, arith, sym, subst, ap, ◌∙◌, refl}
 use Rattle.std.specs.Vec.{with_items}
 use Rattle.std.proofs.lemmas.List.{with_items_is}
 use Rattle.lrat_model.specs.Literal.{Literal}
-use Rattle.gate_counts.specs.Counts.{tally}
 use Rattle.gate_counts.specs.declared.gates.Gates.{Gates}
 use Rattle.gate_counts.proofs.CountLaws.{IsTallied, MayLower, IsLowered, may_lower, may_lower_same, lowered_same, tallied_less}
 use Rattle.gate_counts.proofs.gates.Gates.back_to.Goals as goal

@@ -1,4 +1,4 @@
-use Rattle.std.proofs.Common.{◌≡◌, ◌-◌, length}
+use Rattle.std.proofs.Common.{◌≡◌}
 use Rattle.gate_counts.specs.Counts.{IsCounting}
 use Rattle.gate_counts.proofs.gates.Gates.back_to.Given as goal
 
