@@ -1,8 +1,8 @@
 //! How many inputs of each gate are false.
-ghost use Rattle.std.specs.Prelude.{◌≡◌, ℕ, ◌+◌, ◌<◌, ◌≤◌, ◌^◌, true, List, [], Ok, All, IfOk, OnOk, length, take, slice_index};
+ghost use Rattle.std.specs.Prelude.{◌≡◌, ℕ, ◌+◌, ◌-◌, ◌<◌, ◌≤◌, ◌^◌, true, List, [], ◌∷◌, Ok, All, IfOk, OnOk, length, take, slice_index};
 ghost use Rattle.lrat_model.specs.Literal.{Literal};
 ghost use Rattle.gate_counts.specs.Gates.{IsGate, IsSet, has_number};
-ghost use Rattle.gate_counts.specs.Counts.{times, part_of, AreListed, IsCounting};
+ghost use Rattle.gate_counts.specs.Counts.{times, tally, part_of, AreListed, IsCounting};
 
 use crate::gate::{Gate, is_among, is_set_of, is_sound};
 use crate::guesses::{Guesses, number_of};
@@ -74,13 +74,14 @@ impl Gates {
     {
         while self.counted < trail.len() {
             let l = trail[self.counted];
-            if l.number() < 0 {
-                let list = part(&self.starts, &self.entries, l.variable());
-                raise(self.counts.as_mut_slice(), list)?;
-                self.guesses.see_inputs(list, &self.counts)?;
-            } else {
-                self.guesses.see_head(l.variable(), &self.counts)?;
-            }
+            raise_by(self.counts.as_mut_slice(), &self.starts, &self.entries, l)?;
+            see(
+                &mut self.guesses,
+                &self.starts,
+                &self.entries,
+                &self.counts,
+                l,
+            )?;
             self.counted += 1;
         }
         Ok(())
@@ -97,10 +98,7 @@ impl Gates {
         while self.counted > len {
             self.counted -= 1;
             let l = trail[self.counted];
-            if l.number() < 0 {
-                let list = part(&self.starts, &self.entries, l.variable());
-                lower(self.counts.as_mut_slice(), list);
-            }
+            lower_by(self.counts.as_mut_slice(), &self.starts, &self.entries, l);
         }
     }
 
@@ -126,18 +124,66 @@ impl Gates {
     }
 }
 
+/// Counts on by a literal that became true.
+fn raise_by(counts: &mut [u32], starts: &[usize], entries: &[u32], l: Lit) -> Result<(), AllocError>
+    ensures long { OnOk result (length counts.new ≡ length counts.old) }
+    ensures raised { OnOk result ((g : ℕ) → g < length counts.old → slice_index counts.new g ≡ slice_index counts.old g + tally starts.now entries.now (l ∷ []) g) }
+{
+    if l.number() < 0 {
+        raise(counts, part(starts, entries, l.variable()))
+    } else {
+        Ok(())
+    }
+}
+
+/// Takes back what was counted of a literal.
+fn lower_by(counts: &mut [u32], starts: &[usize], entries: &[u32], l: Lit)
+    requires { (g : ℕ) → g < length counts.old → tally starts.now entries.now (l ∷ []) g ≤ slice_index counts.old g }
+    ensures long { length counts.new ≡ length counts.old }
+    ensures lowered { (g : ℕ) → g < length counts.old → slice_index counts.new g + tally starts.now entries.now (l ∷ []) g ≡ slice_index counts.old g }
+{
+    if l.number() < 0 {
+        lower(counts, part(starts, entries, l.variable()));
+    }
+}
+
+/// Sees that a literal became true.
+fn see(
+    guesses: &mut Guesses,
+    starts: &[usize],
+    entries: &[u32],
+    counts: &[u32],
+    l: Lit,
+) -> Result<(), AllocError> {
+    if l.number() < 0 {
+        guesses.see_inputs(part(starts, entries, l.variable()), counts)
+    } else {
+        guesses.see_head(l.variable(), counts)
+    }
+}
+
 /// Counts these gates once more.
 fn raise(counts: &mut [u32], list: &[u32]) -> Result<(), AllocError>
     ensures long { OnOk result (length counts.new ≡ length counts.old) }
     ensures raised { OnOk result ((g : ℕ) → g < length counts.old → slice_index counts.new g ≡ slice_index counts.old g + times list.now g) }
 {
     for g in list {
-        if let Some(count) = counts.get_mut(*g as usize) {
-            let Some(more) = count.checked_add(1) else {
-                return Err(AllocError);
-            };
-            *count = more;
-        }
+        raise_one(counts, *g)?;
+    }
+    Ok(())
+}
+
+/// Counts this gate once more.
+fn raise_one(counts: &mut [u32], g: u32) -> Result<(), AllocError>
+    ensures long { OnOk result (length counts.new ≡ length counts.old) }
+    ensures raised { OnOk result ((k : ℕ) → k < length counts.old → slice_index counts.new k ≡ slice_index counts.old k + times (g ∷ []) k) }
+{
+    let place = g as usize;
+    if place < counts.len() {
+        let Some(more) = counts[place].checked_add(1) else {
+            return Err(AllocError);
+        };
+        counts[place] = more;
     }
     Ok(())
 }
@@ -149,9 +195,18 @@ fn lower(counts: &mut [u32], list: &[u32])
     ensures lowered { (g : ℕ) → g < length counts.old → slice_index counts.new g + times list.now g ≡ slice_index counts.old g }
 {
     for g in list {
-        if let Some(count) = counts.get_mut(*g as usize) {
-            *count = count.saturating_sub(1);
-        }
+        lower_one(counts, *g);
+    }
+}
+
+/// Counts this gate once less.
+fn lower_one(counts: &mut [u32], g: u32)
+    ensures long { length counts.new ≡ length counts.old }
+    ensures lowered { (k : ℕ) → k < length counts.old → slice_index counts.new k ≡ slice_index counts.old k - times (g ∷ []) k }
+{
+    let place = g as usize;
+    if place < counts.len() {
+        counts[place] = counts[place].saturating_sub(1);
     }
 }
 

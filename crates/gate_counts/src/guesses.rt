@@ -5,7 +5,7 @@ use partial_assignment::Assignment;
 use std::alloc::{AllocError, Global};
 
 /// No set is chosen from more inputs.
-const MOST_INPUTS: usize = 64;
+const MOST_INPUTS: usize = 32;
 
 /// For each variable the gates whose head it is; how many false inputs a gate has before it may force something; the gates that
 /// have so many; and in how many ways r of n are chosen, at n * 65 + r.
@@ -150,41 +150,58 @@ fn guess_of(
     ids: &mut Vec<u64>,
     ways: &[u64],
     gate: &Gate,
-    falses: usize,
+    count: usize,
     assignment: &Assignment,
 ) -> Result<(), AllocError> {
     let head = value_of(assignment, gate.head);
-    let inputs = gate.inputs.as_slice();
     if head == Some(false) {
         return Ok(());
     }
-    if falses >= gate.size {
-        ids.push(id_with(ways, gate, assignment, inputs.len()))?;
+    let falses = inputs_that_are(gate, assignment, Some(false));
+    if count >= gate.size {
+        ids.push(id_of(ways, gate, falses))?;
         return Ok(());
     }
     if head == None {
         return Ok(());
     }
-    for (place, input) in inputs.iter().enumerate() {
-        if value_of(assignment, *input).is_none() {
-            ids.push(id_with(ways, gate, assignment, place))?;
+    let open = inputs_that_are(gate, assignment, None);
+    for place in 0..gate.inputs.len() {
+        let own = bit(place);
+        if open & own != 0 {
+            ids.push(id_of(ways, gate, falses | own))?;
         }
     }
     Ok(())
 }
 
-/// The id of the clause of the first false inputs and the one at a place. Of sets that begin alike those with the next input
-/// come first.
-fn id_with(ways: &[u64], gate: &Gate, assignment: &Assignment, place: usize) -> u64 {
+/// The bit of an input's place.
+fn bit(place: usize) -> u64 {
+    1 << (place % 64)
+}
+
+/// The inputs that have this value, as the bits of their places.
+fn inputs_that_are(gate: &Gate, assignment: &Assignment, value: Option<bool>) -> u64 {
+    let mut bits = 0;
+    for (place, input) in gate.inputs.iter().enumerate() {
+        if value_of(assignment, *input) == value {
+            bits |= bit(place);
+        }
+    }
+    bits
+}
+
+/// The id of the clause of the first inputs of these. Of sets that begin alike those with the next input come first.
+fn id_of(ways: &[u64], gate: &Gate, chosen: u64) -> u64 {
     let mut id = gate.first;
     let mut left = gate.size;
     let mut behind = gate.inputs.len();
-    for (here, input) in gate.inputs.iter().enumerate() {
+    for place in 0..gate.inputs.len() {
         behind = behind.saturating_sub(1);
         if left == 0 {
             return id;
         }
-        if here == place || value_of(assignment, *input) == Some(false) {
+        if chosen & bit(place) != 0 {
             left -= 1;
         } else {
             id = id.saturating_add(way(ways, behind, left - 1));

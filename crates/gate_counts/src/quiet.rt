@@ -1,5 +1,5 @@
 //! That no clause of a gate's set is false or forces anything.
-ghost use Rattle.std.specs.Prelude.{◌≡◌, ◌⊎◌, ℕ, ◌+◌, ◌<◌, ◌≤◌, ◌^◌, true, false, List, ◌∷◌, All, length, filter, map};
+ghost use Rattle.std.specs.Prelude.{◌≡◌, ◌⊎◌, ℕ, ◌+◌, ◌-◌, ◌<◌, ◌≤◌, ◌^◌, true, false, List, ◌∷◌, All, length, filter, map};
 ghost use Rattle.lrat_model.specs.Literal.{Literal, Plus, Minus, has, negated};
 ghost use Rattle.gate_counts.specs.Gates.{IsGate, IsOpen, IsSet, is_part, has_number};
 ghost use Rattle.gate_counts.specs.Counts.{IsCounting};
@@ -30,8 +30,8 @@ impl Gates {
 /// Whether so many false inputs show that of a gate: fewer than all but one of a set's; or the head is false; or they are fewer
 /// than a set has, and the head is not true, or no other input is open.
 fn is_quiet(gate: &Gate, falses: u32, assignment: &Assignment) -> bool
-    requires small { assignment.now.vars < 2 ^ 31 }
-    requires gate { IsGate assignment.now.vars gate.now }
+    requires small { IsGate (2 ^ 31 - 1) gate.now }
+    requires range { IsGate assignment.now.vars gate.now }
     ensures { result ≡ true → (set : List Literal) → length set ≡ gate.now.size → is_part set gate.now.inputs.items ≡ true → length (filter (λ l. has assignment.now.trues (negated l)) set) ≤ falses → IsOpen assignment.now.trues (Minus gate.now.head ∷ set) }
 {
     let falses = falses as usize;
@@ -46,7 +46,7 @@ fn is_quiet(gate: &Gate, falses: u32, assignment: &Assignment) -> bool
 
 /// Whether each of these variables is true or false.
 fn are_valued(assignment: &Assignment, variables: &[u32]) -> bool
-    requires small { assignment.now.vars < 2 ^ 31 }
+    requires small { All (λ x. x < 2 ^ 31) variables.now }
     requires range { All (λ x. (0 < x) × (x ≤ assignment.now.vars)) variables.now }
     ensures { result ≡ true → (x : ℕ) → has_number variables.now x ≡ true → (has assignment.now.trues (Plus x) ≡ true) ⊎ (has assignment.now.trues (Minus x) ≡ true) }
 {
