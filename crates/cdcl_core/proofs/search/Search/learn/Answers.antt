@@ -1,4 +1,5 @@
 use Rattle.std.proofs.Common.{◌+◌, ◌∙◌, Bool, List, length, sym, ap, arith}
+use Rattle.std.proofs.lemmas.Bool.{false≢true}
 use Rattle.lrat_model.specs.Literal.{Plus}
 use Rattle.cdcl_core.proofs.Lemmas.{first_open, lemma_state, lemma_queued, clause_at-last}
 use Rattle.cdcl_core.proofs.Runs.{below_next}
@@ -23,7 +24,7 @@ returns-clause-searching c =
       state = rw (c.in_ok-record.ensures.clauses, c.make_true.ensures.trues, c.in_ok-push.ensures.items, c.back.ensures.trues, c.back.ensures.reasons)
           (lemma_state s.vars s.clauses s.assignment.trues s.reasons.items was.state id lits c.args.pair c.args.jump c.requires.within c.requires.asserting (c.requires.learnt.closed id) at (omega arith) (omega (arith, c.requires.room)));
       lists = c.in_ok-attach.ensures.lists ∙ was.lists;
-      watched = rw c.in_ok-record.ensures.clauses (c.in_ok-attach.ensures.watched s.clauses id (sym c.len.ensures) c.requires.asserting.first_in c.requires.asserting.second_in was.watched);
+      watched = rw c.in_ok-record.ensures.clauses (c.in_ok-attach.ensures.watched s.clauses id (sym c.len.ensures) c.requires.asserting.first_in c.requires.asserting.second_in (λ counted. absurd (false≢true (sym c.requires.asserting.watched ∙ counted))) was.watched);
       queued = rw (c.in_ok-record.ensures.clauses, c.in_ok-attach.ensures.pairs, c.make_true.ensures.trues, c.in_ok-push.ensures.items, c.back.ensures.trues, c.back.ensures.reasons, c.back.ensures.head)
           (lemma_queued s.vars s.clauses s.assignment.trues s.reasons.items was.state id lits c.args.pair c.args.jump c.requires.within c.requires.asserting s.pairs.items s.head was.queued (was.watched (Plus 0)).long c.requires.decision (omega arith));
     }
