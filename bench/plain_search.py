@@ -25,6 +25,7 @@ CRATES = [
     "clause_store",
     "partial_assignment",
     "search_guide",
+    "gate_counts",
     "cdcl_core",
     "rat_candidates",
     "lrat_checker",
@@ -124,6 +125,7 @@ mod lrat_text;
 mod clause_store;
 mod partial_assignment;
 mod search_guide;
+mod gate_counts;
 mod cdcl_core;
 mod rat_candidates;
 mod lrat_checker;

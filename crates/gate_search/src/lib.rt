@@ -3,6 +3,7 @@
 
 mod carrier;
 mod carrying;
+mod counted;
 mod hints;
 mod searching;
 mod values;

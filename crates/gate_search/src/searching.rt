@@ -7,6 +7,7 @@ ghost use Rattle.gate_search.specs.Finding.{IsFound};
 
 use crate::carrier::Carrier;
 use crate::carrying::{Led, carry};
+use crate::counted::counted_gates;
 use cdcl_core::{Budget, Solver, Verdict};
 use clause_store::Store;
 use lrat_text::Log;
@@ -68,7 +69,8 @@ fn search_over(
     if written.store.last() >= MOST_ID {
         return Ok(None);
     }
-    let mut solver = Solver::start(alloc, &written.store, vars)?;
+    let gates = counted_gates(alloc, written)?;
+    let mut solver = Solver::with_gates(alloc, &written.store, vars, gates)?;
     solver.decide_by_scores();
     let told = run(alloc, &mut solver, vars, budget);
     let log = solver.into_log();
