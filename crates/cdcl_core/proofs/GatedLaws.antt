@@ -21,12 +21,12 @@ covered_with gates held pairs old long id lits pair own p within counted =
     let none : Pair = record { first = Plus 0; second = Plus 0; is_counted = false } in
     ⊎_elim
     (λ less.
-    let clause : lits_at (with_clause held id lits) p ≡ lits_at held p = ap (λ e. e.1) (get_or-append held ((id, lits) ∷ []) p (0, []) less) in
-    let same_pair : pair_at (pairs ++ pair ∷ []) p ≡ pair_at pairs p = get_or-append pairs (pair ∷ []) p none (omega (arith, less, long)) in
+    let clause : lits_at (with_clause held id lits) p ≡ lits_at held p = ap (λ (e : ℕ × List Literal). e.1) (get_or-append held ((id, lits) ∷ []) (0, []) p less) in
+    let same_pair : pair_at (pairs ++ pair ∷ []) p ≡ pair_at pairs p = get_or-append pairs (pair ∷ []) none p (omega (arith, less, long)) in
     subst (λ (ls : List Literal). IsSet gates ls) (sym clause) (old p less (ap (λ (x : Pair). x.is_counted) (sym same_pair) ∙ counted)))
     (λ more.
     let is : p ≡ length held = omega (arith, all, more) in
-    let clause : lits_at (with_clause held id lits) p ≡ lits = ap (λ k. lits_at (with_clause held id lits) k) is ∙ ap (λ e. e.1) (get_or-append_seam held (id, lits) [] (0, [])) in
+    let clause : lits_at (with_clause held id lits) p ≡ lits = ap (λ k. lits_at (with_clause held id lits) k) is ∙ ap (λ (e : ℕ × List Literal). e.1) (get_or-append_seam held (id, lits) [] (0, [])) in
     let same_pair : pair_at (pairs ++ pair ∷ []) p ≡ pair = ap (λ k. pair_at (pairs ++ pair ∷ []) k) (is ∙ sym long) ∙ get_or-append_seam pairs pair [] none in
     subst (λ (ls : List Literal). IsSet gates ls) (sym clause) (own (ap (λ (x : Pair). x.is_counted) (sym same_pair) ∙ counted)))
     (cases_lt p (length held))
