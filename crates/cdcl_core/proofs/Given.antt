@@ -2,7 +2,7 @@
 use Rattle.std.proofs.Common.{◌≡◌, ◌≢◌, ℕ, ◌^◌, ◌<◌, true, false, List, [], ◌∷◌, ◌++◌, ⊎_elim, inl, inr, sym, ap, ◌∙◌, subst, arith, length, get_or, take, length-append}
 use Rattle.std.specs.Prelude.{◌⊎◌, slice_index, All}
 use Rattle.std.proofs.lemmas.List.{take_all}
-use Rattle.std.proofs.lemmas.Bool.{true≢false, cases_lt, false_from_ne_true}
+use Rattle.std.proofs.lemmas.Bool.{cases_lt}
 use Rattle.std.proofs.Math.ListN.{get_or-append}
 use Rattle.std.proofs.Math.Seq.{get_or-append_seam}
 use Rattle.lrat_model.specs.Literal.{Literal, negated, same, has}
@@ -11,7 +11,7 @@ use Rattle.lrat_model.proofs.Literals.{has-first, has-push}
 use Rattle.cdcl_core.specs.Search.{IsState, IsClosed}
 use Rattle.cdcl_core.specs.Trail.{IsVariable}
 use Rattle.cdcl_core.proofs.States.{state_back, state_push}
-use Rattle.cdcl_core.proofs.Tops.{take_within}
+use Rattle.cdcl_core.proofs.FreePairs.{IsPairFor, free_queued}
 use Rattle.cdcl_core.specs.declared.watches.Pair.{Pair}
 use Rattle.cdcl_core.specs.Watches.{IsKept, IsQueued}
 use Rattle.cdcl_core.proofs.Visits.{queued_more}
@@ -50,11 +50,10 @@ module _ (n : ℕ) (held : Held) (trues : List Literal) (reasons : List ℕ) (s 
   pub given_queued : (pairs : List Pair) (pair : Pair) (head : ℕ) → length pairs ≡ length held → IsQueued held pairs trues reasons head → IsKept (take head trues) trues lits pair → IsQueued (with_clause held id lits) (pairs ++ pair ∷ []) trues reasons head
   given_queued pairs pair head long q kept = queued_with held pairs id lits pair long trues reasons head q kept (λ p less decided. absurd (undecided p less decided))
 
-  pub given_two : (pairs : List Pair) (a b : Literal) (head : ℕ) → length pairs ≡ length held → IsQueued held pairs trues reasons head → same a b ≡ false → has trues (negated a) ≡ false → has trues (negated b) ≡ false
-      → IsQueued (with_clause held id lits) (pairs ++ record { first = a; second = b; is_counted = false } ∷ []) trues reasons head
-  given_two pairs a b head long q differ free_a free_b =
-      let free : (k : Literal) → has trues (negated k) ≡ false → has (take head trues) (negated k) ≡ false = λ k f. false_from_ne_true (has (take head trues) (negated k)) (λ h. true≢false (sym (take_within head trues (negated k) h) ∙ f)) in
-      given_queued pairs (record { first = a; second = b; is_counted = false }) head long q (inr (record { differ = differ; first_free = free a free_a; second_free = free b free_b }))
+  -- the pair are two literals that are not false, or it is counted
+  pub given_two : (pairs : List Pair) (pair : Pair) (a b : Literal) (head : ℕ) → length pairs ≡ length held → IsQueued held pairs trues reasons head → IsPairFor a b pair → same a b ≡ false → has trues (negated a) ≡ false → has trues (negated b) ≡ false
+      → IsQueued (with_clause held id lits) (pairs ++ pair ∷ []) trues reasons head
+  given_two pairs pair a b head long q either differ free_a free_b = free_queued n held trues reasons s id lits pairs pair head long q a b differ free_a free_b either
 
   module _ (l : Literal) (here : has lits l ≡ true) (free : has trues (negated l) ≡ false) (others : (m : Literal) → has lits m ≡ true → (m ≡ l) ⊎ (has trues (negated m) ≡ true)) (left : has trues l ≡ false) (range : IsVariable n l) (below : All (λ e. e.0 < id) held) (some : 0 < id) where
     pub given_forced_state : id < 2 ^ 63 → IsState n (with_clause held id lits) (trues ++ l ∷ []) (reasons ++ id ∷ [])

@@ -110,6 +110,23 @@ module _ (held : Held) (pairs : List Pair) (id : ℕ) (lits : List Literal) (pai
     at_decisions = λ q less decided. kept_with (take q trues) (take q trues) (s.at_decisions q less decided) (at q less decided);
   }
 
+  -- a clause that is counted stands in no list
+  pub watched_without : (lists : List (List Watch)) → same pair.first pair.second ≡ true → has lits pair.first ≡ true → has lits pair.second ≡ true → ((l : Literal) → IsWatched held pairs lists l []) → (l : Literal) → IsWatched more_held more_pairs lists l []
+  watched_without lists alike has_first has_second w l = record {
+    long = omega (arith, long, length-append held ((id, lits) ∷ []), length-append pairs (pair ∷ []));
+    inside = each_more (λ ls x. (has ls x.first ≡ true) × (has ls x.second ≡ true)) (w l).inside (has_first, has_second);
+    listed = λ p within differ.
+        let all : p < length held + 1 = omega (arith, within, length-append held ((id, lits) ∷ [])) in
+        ⊎_elim
+        (λ less.
+        let both = (w l).listed p less (subst (λ (x : Pair). same x.first x.second ≡ false) (pair_old p less) differ) in
+        subst (λ (x : Pair). IsListed lists l [] p x.first × IsListed lists l [] p x.second) (sym (pair_old p less)) both)
+        (λ more. absurd (true≢false (sym alike ∙ subst (λ (x : Pair). same x.first x.second ≡ false) (pair_new p (omega (arith, all, more))) differ)))
+        (cases_lt p (length held));
+    sound = λ k. All-weaker (IsSound held k) (IsSound more_held k) (sound_more k) (list_at lists k) ((w l).sound k);
+    sound_spare = All-nil (IsSound more_held l);
+  }
+
   module _ (lists : List (List Watch)) (third_one third_two : Literal) (short_one : same third_one pair.first ≡ false → IsShort lits pair.first pair.second third_one) (short_two : same third_two pair.second ≡ false → IsShort lits pair.second pair.first third_two) (has_first : has lits pair.first ≡ true) (has_second : has lits pair.second ≡ true) (inside_first : index_of pair.first < length lists) (inside_second : index_of pair.second < length lists) where
     abbrev pub one : Watch
     one = record { place = length held; blocker = pair.second; third = third_one }

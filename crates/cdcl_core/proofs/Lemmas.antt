@@ -56,11 +56,11 @@ module _ (n : ℕ) (held : Held) (trues : List Literal) (reasons : List ℕ) (s 
       let own : slice_index reasons p ≡ 0 = sym (get_or-append (take jump reasons) (id ∷ []) 0 p (omega (arith, below, long_reasons)) ∙ get_or-take jump reasons p 0 below) ∙ decided in
       let same_front : take p (front ++ pair.first ∷ []) ≡ take p trues = take-append-le p front (pair.first ∷ []) (omega (arith, below, long_front)) ∙ take_take p jump trues (omega (arith, below)) in
       let free = a.second_free p below own in
-      subst (λ ls. IsKept ls ls lits pair) (sym same_front) (inr (record {
+      subst (λ ls. IsKept ls ls lits pair) (sym same_front) (inr (inl (record {
         differ = free.0;
         first_free = false_from_ne_true (has (take p trues) (negated pair.first)) (λ h. true≢false (sym (take_mono p jump trues (omega (arith, below)) (negated pair.first) h) ∙ a.first_free));
         second_free = free.1;
-      })))
+      }))))
       (λ above.
       let is : p ≡ jump = omega (arith, all, above) in
       let own : slice_index (take jump reasons ++ id ∷ []) p ≡ id = ap (λ k. get_or (take jump reasons ++ id ∷ []) k 0) (is ∙ sym long_reasons) ∙ get_or-append_seam (take jump reasons) id [] 0 in

@@ -131,10 +131,11 @@ module _ (held : Held) (trail : List Literal) (reasons : List ℕ) (sound : IsTr
   on : has trail (negated pair.first) ≡ true
   on = ap (λ k. has trail k) back ∙ has-at trail q t within t_is
 
-  asserts_alone : rest ≡ [] → pair.second ≡ pair.first → above ≡ 0 → IsAsserting trail reasons jump (reverse lits) pair
-  asserts_alone empty second_is at_start = record {
+  asserts_alone : pair.is_counted ≡ false → rest ≡ [] → pair.second ≡ pair.first → above ≡ 0 → IsAsserting trail reasons jump (reverse lits) pair
+  asserts_alone watched empty second_is at_start = record {
     first_in = first_in;
     second_in = subst (λ k. has (reverse lits) k ≡ true) (sym second_is) first_in;
+    watched = watched;
     first_false = on;
     first_free = free;
     others_false = λ m h. ⊎_elim (λ f. inl f) (λ nothing. absurd (false≢true (subst (λ (ls : List Literal). has ls m ≡ true) empty nothing))) (here m h);
@@ -159,10 +160,11 @@ module _ (held : Held) (trail : List Literal) (reasons : List ℕ) (sound : IsTr
         let one : t ≡ u = sym back ∙ ap negated (same-true pair.first pair.second alike) ∙ back_u in
         true≢false (sym (subst (λ k. has (take q trail) k ≡ true) (sym one) u_low) ∙ t_not_at q (omega arith)))
 
-    asserts_with : IsAsserting trail reasons jump (reverse lits) pair
-    asserts_with = record {
+    asserts_with : pair.is_counted ≡ false → IsAsserting trail reasons jump (reverse lits) pair
+    asserts_with watched = record {
       first_in = first_in;
       second_in = in_lits pair.second (has-rest (negated t) pair.second rest in_rest);
+      watched = watched;
       first_false = on;
       first_free = free;
       others_false = λ m h. ⊎_elim (λ f. inl f) (λ there. inr (take_mono above jump trail from (negated m) (all m there))) (here m h);
@@ -195,8 +197,8 @@ module _ (held : Held) (trail : List Literal) (reasons : List ℕ) (sound : IsTr
   jump_below : last < length trail → above ≤ last → jump ≤ last
   jump_below inside low = ⊎_elim (λ more. absurd (none last low more (decided inside))) (λ less. less) (cases_lt last jump)
 
-  pub paired_asserts : (lits : List Literal) (pair : Pair) → IsPaired trail last 0 above lits → IsPairOf lits pair → IsAsserting trail reasons jump (reverse lits) pair × (jump < length trail) × (slice_index reasons jump ≡ 0)
-  paired_asserts lits pair paired is =
+  pub paired_asserts : (lits : List Literal) (pair : Pair) → IsPaired trail last 0 above lits → IsPairOf lits pair × (pair.is_counted ≡ false) → IsAsserting trail reasons jump (reverse lits) pair × (jump < length trail) × (slice_index reasons jump ≡ 0)
+  paired_asserts lits pair paired (is, watched) =
       ⊎_elim
       (λ empty. absurd (pair_some lits pair is empty.0))
       (λ s. from_first s.0 s.1 s.2 s.3 s.4 s.5 s.6 s.8)
@@ -208,8 +210,8 @@ module _ (held : Held) (trail : List Literal) (reasons : List ℕ) (sound : IsTr
           let first_is : pair.first ≡ negated t = pair_first lits pair (negated t) rest is lits_are in
           let inside : jump < length trail = omega (arith, low, high, within) in (
             ⊎_elim
-                (λ e. asserts_alone held trail reasons sound last above jump from low none lits pair t q rest lits_are high within t_is first_is e.0 (pair_alone lits pair (negated t) is (lits_are ∙ ap (λ (ls : List Literal). negated t ∷ ls) e.0)) e.1)
-                (λ o. asserts_with held trail reasons sound last above jump from low none lits pair t q rest lits_are high within t_is first_is o.0 o.1 o.2 o.3 o.4 o.5 o.7 (pair_second lits pair (negated t) (negated o.0) o.1 is (lits_are ∙ ap (λ (ls : List Literal). negated t ∷ ls) o.2)))
+                (λ e. asserts_alone held trail reasons sound last above jump from low none lits pair t q rest lits_are high within t_is first_is watched e.0 (pair_alone lits pair (negated t) is (lits_are ∙ ap (λ (ls : List Literal). negated t ∷ ls) e.0)) e.1)
+                (λ o. asserts_with held trail reasons sound last above jump from low none lits pair t q rest lits_are high within t_is first_is o.0 o.1 o.2 o.3 o.4 o.5 o.7 (pair_second lits pair (negated t) (negated o.0) o.1 is (lits_are ∙ ap (λ (ls : List Literal). negated t ∷ ls) o.2)) watched)
                 others,
             inside,
             at_jump (omega (arith, inside, sound.long)),

@@ -1,6 +1,6 @@
 -- A list that is taken out and put in again, and the queue's end.
 use Rattle.std.proofs.Common.{◌≡◌, ◌≢◌, ℕ, suc, ◌+◌, ◌*◌, ◌<◌, ◌≤◌, true, false, not, cond, List, [], ◌∷◌, ◌++◌, ⊎_elim, inl, inr, refl, sym, ap, ◌∙◌, subst, arith, length, get_or, set, get_or-set_same, get_or-set_other, Some}
-use Rattle.std.specs.Prelude.{◌==◌, All}
+use Rattle.std.specs.Prelude.{◌⊎◌, ◌==◌, All}
 use Rattle.std.specs.List.{list_all}
 use Rattle.std.proofs.lemmas.List.{take_all}
 use Rattle.std.proofs.lemmas.List.Folds.{list_any-append}
@@ -16,7 +16,7 @@ use Rattle.lrat_model.proofs.Literals.{has-cons, same-true, same-itself, has-fil
 use Rattle.cdcl_core.specs.Fixpoint.{IsQuiet, IsFixpoint}
 use Rattle.cdcl_core.specs.declared.watches.Watch.{Watch}
 use Rattle.cdcl_core.specs.declared.watches.Pair.{Pair}
-use Rattle.cdcl_core.specs.Watches.{index_of, list_at, lits_at, pair_at, mentions, IsKept, AreKept, IsSound, IsListed, IsWatched, IsQueued, IsVisiting}
+use Rattle.cdcl_core.specs.Watches.{index_of, list_at, lits_at, pair_at, mentions, IsTrueIn, IsOpenPair, IsCounted, IsKept, AreKept, IsSound, IsListed, IsWatched, IsQueued, IsVisiting}
 use Rattle.cdcl_core.proofs.Visits.{kept_next, index-apart, same_or_not, same_at, index_within}
 
 module _ (held : Held) (pairs : List Pair) (lists : List (List Watch)) (trues : List Literal) (reasons : List ℕ) (head : ℕ) (l : Literal) (inside_l : index_of l < length lists) where
@@ -48,13 +48,15 @@ module _ (held : Held) (pairs : List Pair) (lists : List (List Watch)) (trues : 
         visited = λ p less.
             let pair : Pair = pair_at pairs p in
             ⊎_elim (λ t. inr (inl t))
+            (λ rest. ⊎_elim
             (λ o.
             let both = w.listed p less o.differ in
             ⊎_elim (λ e. inl (subst (λ x. mentions (list_at lists x) p ≡ true) e (at p pair.first both.0)))
             (λ first. ⊎_elim (λ e. inl (subst (λ x. mentions (list_at lists x) p ≡ true) e (at p pair.second both.1)))
-            (λ second. inr (kept_next trues (lits_at held p) head d l pair within is (λ _. (first, second)) (inr o)))
+            (λ second. inr (kept_next trues (lits_at held p) head d l pair within is (λ _. (first, second)) (inr (inl o))))
             (same_or_not l pair.second))
             (same_or_not l pair.first))
+            (λ counted. inr (inr (inr counted))) rest)
             (q.kept p less);
       }
 
@@ -85,8 +87,8 @@ queued_next held pairs lists trues reasons head l done within v = record {
   at_decisions = v.queued.at_decisions;
 }
 
--- a clause that is kept is quiet
-pub kept_quiet : (trues clause : List Literal) (pair : Pair) → ((l : Literal) → has trues l ≡ true → has trues (negated l) ≡ false) → (has clause pair.first ≡ true) × (has clause pair.second ≡ true) → IsKept trues trues clause pair → IsQuiet trues (status trues clause)
+-- a clause that is true or watches two open literals is quiet
+pub kept_quiet : (trues clause : List Literal) (pair : Pair) → ((l : Literal) → has trues l ≡ true → has trues (negated l) ≡ false) → (has clause pair.first ≡ true) × (has clause pair.second ≡ true) → IsTrueIn trues clause ⊎ IsOpenPair trues pair → IsQuiet trues (status trues clause)
 kept_quiet trues clause pair consistent inside kept =
     let left : (l : Literal) → has clause l ≡ true → has trues (negated l) ≡ false → has (not_false trues clause) l ≡ true = λ l there free. has-filter_from (λ j. not (has trues (negated j))) clause l there (not_from_false (has trues (negated l)) free) in
     ⊎_elim (λ t. quiet_with (not_false trues clause) t.0 (left t.0 t.1 (consistent t.0 t.2)) t.2)
@@ -118,11 +120,13 @@ place_found (e ∷ held) id clause at =
       | false ↦ λ is. let rest : (p : ℕ) × (p < length held) × (lits_at held p ≡ clause) = place_found held id clause is in (suc rest.0, omega (arith, rest.1), rest.2)
     ] at
 
--- where all clauses are kept, propagation is at a fixpoint
-pub kept_fixpoint : (held : Held) (pairs : List Pair) (trues : List Literal) → ((l : Literal) → has trues l ≡ true → has trues (negated l) ≡ false) → ((p : ℕ) → p < length held → (has (lits_at held p) (pair_at pairs p).first ≡ true) × (has (lits_at held p) (pair_at pairs p).second ≡ true)) → AreKept held pairs trues trues → IsFixpoint held trues
-kept_fixpoint held pairs trues consistent inside kept id clause at =
+-- where all clauses are kept, and those that are counted are quiet, propagation is at a fixpoint
+pub kept_fixpoint : (held : Held) (pairs : List Pair) (trues : List Literal) → ((l : Literal) → has trues l ≡ true → has trues (negated l) ≡ false) → ((p : ℕ) → p < length held → (has (lits_at held p) (pair_at pairs p).first ≡ true) × (has (lits_at held p) (pair_at pairs p).second ≡ true)) → AreKept held pairs trues trues → ((p : ℕ) → p < length held → IsCounted (pair_at pairs p) → IsQuiet trues (status trues (lits_at held p))) → IsFixpoint held trues
+kept_fixpoint held pairs trues consistent inside kept quiet id clause at =
     let found : (p : ℕ) × (p < length held) × (lits_at held p ≡ clause) = place_found held id clause at in
-    subst (λ c. IsQuiet trues (status trues c)) found.2 (kept_quiet trues (lits_at held found.0) (pair_at pairs found.0) consistent (inside found.0 found.1) (kept found.0 found.1))
+    let p = found.0 in
+    let watched : IsTrueIn trues (lits_at held p) ⊎ IsOpenPair trues (pair_at pairs p) → IsQuiet trues (status trues (lits_at held p)) = kept_quiet trues (lits_at held p) (pair_at pairs p) consistent (inside p found.1) in
+    subst (λ c. IsQuiet trues (status trues c)) found.2 (⊎_elim (λ t. watched (inl t)) (λ rest. ⊎_elim (λ o. watched (inr o)) (λ counted. quiet p found.1 counted) rest) (kept p found.1))
 
 pub kept_at_end : (held : Held) (pairs : List Pair) (trues : List Literal) (reasons : List ℕ) (head : ℕ) → IsQueued held pairs trues reasons head → length trues ≤ head → AreKept held pairs trues trues
 kept_at_end held pairs trues reasons head q end p less = subst (λ ls. IsKept ls trues (lits_at held p) (pair_at pairs p)) (take_all head trues end) (q.kept p less)

@@ -6,7 +6,7 @@ use Rattle.std.proofs.Math.Seq.{get_or-append_seam, take-append_seam}
 use Rattle.std.proofs.lemmas.List.{take-append-le, take_more, length-set}
 use Rattle.std.proofs.lemmas.List.Folds.{list_any-append}
 use Rattle.std.proofs.lemmas.List.Elements.{All-head, All-tail, All-cons, All-push}
-use Rattle.std.proofs.lemmas.Bool.{cases_eq, cases_lt, eqb-true, eq-eqb, or_cases, or_left, or_right, true≢false, false_from_ne_true}
+use Rattle.std.proofs.lemmas.Bool.{cases_eq, cases_lt, eqb-true, eq-eqb, or_cases, or_left, or_right, true≢false, false≢true, false_from_ne_true}
 use Rattle.lrat_model.specs.Literal.{Literal, Plus, Minus, variable_of, negated, same, has}
 use Rattle.lrat_model.specs.Clauses.{Held}
 use Rattle.lrat_model.proofs.Literals.{has-cons, has-push, negated-negated, same-true, same-itself}
@@ -76,11 +76,20 @@ free_next trues head d l w within is free other =
 
 pub kept_next : (trues clause : List Literal) (head : ℕ) (d l : Literal) (pair : Pair) → head < length trues → l ≡ negated (get_or trues head d) → (same pair.first pair.second ≡ false → (pair.first ≢ l) × (pair.second ≢ l)) → IsKept (take head trues) trues clause pair → IsKept (take (head + 1) trues) trues clause pair
 kept_next trues clause head d l pair within is others k =
-    ⊎_elim (λ t. inl t) (λ o. inr (record {
+    ⊎_elim (λ t. inl t) (λ rest. inr (⊎_elim
+    (λ o. inl (record {
       differ = o.differ;
       first_free = free_next trues head d l pair.first within is o.first_free (others o.differ).0;
       second_free = free_next trues head d l pair.second within is o.second_free (others o.differ).1;
-    })) k
+    }))
+    (λ counted. inr counted) rest)) k
+
+-- no clause more is counted where one that is not is put in
+pub counted_set : (pairs : List Pair) (place : ℕ) (pair : Pair) → place < length pairs → pair.is_counted ≡ false → (p : ℕ) → (pair_at (set pairs place pair) p).is_counted ≡ true → (pair_at pairs p).is_counted ≡ true
+counted_set pairs place pair within watched p is = ⊎_elim
+    (λ e. absurd (false≢true (sym watched ∙ ap (λ (x : Pair). x.is_counted) (sym (ap (λ k. pair_at (set pairs place pair) k) e ∙ get_or-set_same pairs place pair (record { first = Plus 0; second = Plus 0; is_counted = false }) within)) ∙ is)))
+    (λ e. ap (λ (x : Pair). x.is_counted) (sym (get_or-set_other pairs place p pair (record { first = Plus 0; second = Plus 0; is_counted = false }) e)) ∙ is)
+    (cases_eq p place)
 
 pub index-apart : (a b : Literal) → index_of a ≡ index_of b → a ≡ b
 index-apart (Plus x) (Plus y) e = ap Plus (omega (arith, e))
@@ -208,11 +217,14 @@ module _ (held : Held) (pairs : List Pair) (lists : List (List Watch)) (trues : 
 
       -- at any literals that do not make m false
       kept_here : (visited now_true : List Literal) → has visited (negated m) ≡ false → IsKept visited now_true (lits_at held place) (pair_at pairs place) → IsKept visited now_true (lits_at held place) moved
-      kept_here visited now_true free_m k = ⊎_elim (λ t. inl t) (λ old. inr (record {
-        differ = same-sym m o not_o;
-        first_free = ⊎_elim (λ h. subst (λ x. has visited (negated x) ≡ false) h.1 old.second_free) (λ h. subst (λ x. has visited (negated x) ≡ false) h.1 old.first_free) pair_is;
-        second_free = free_m;
-      })) k
+      kept_here visited now_true free_m k =
+          ⊎_elim (λ t. inl t) (λ rest. inr (inl (⊎_elim
+          (λ old. record {
+            differ = same-sym m o not_o;
+            first_free = ⊎_elim (λ h. subst (λ x. has visited (negated x) ≡ false) h.1 old.second_free) (λ h. subst (λ x. has visited (negated x) ≡ false) h.1 old.first_free) pair_is;
+            second_free = free_m;
+          })
+          (λ counted. absurd (true≢false (sym counted.1 ∙ differ))) rest))) k
 
       at_place : (p : ℕ) → p ≡ place → (visited now_true : List Literal) → IsKept visited now_true (lits_at held place) moved → IsKept visited now_true (lits_at held p) (pair_at new_pairs p)
       at_place p e visited now_true k = subst (λ x. IsKept visited now_true (lits_at held x) (pair_at new_pairs x)) (sym e) (subst (λ x. IsKept visited now_true (lits_at held place) x) (sym pair_here) k)

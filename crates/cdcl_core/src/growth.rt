@@ -1,6 +1,6 @@
 //! What a search holds more: a jump back on the trail, a clause that begins to be watched, a lemma that is
 //! held and logged.
-ghost use Rattle.std.specs.Prelude.{◌≡◌, ◌≢◌, ◌⊎◌, ℕ, ◌<◌, ◌≤◌, ◌^◌, ◌+◌, ◌*◌, ◌++◌, [], ◌∷◌, true, false, List, Ok, None, All, OnOk, OnErr, length, take, slice_index};
+ghost use Rattle.std.specs.Prelude.{◌≡◌, ◌≢◌, ◌⊎◌, ℕ, ◌<◌, ◌≤◌, ◌^◌, ◌+◌, ◌*◌, ◌++◌, if◌then◌else◌, [], ◌∷◌, true, false, List, Ok, None, All, OnOk, OnErr, length, take, slice_index};
 ghost use Rattle.lrat_model.specs.Literal.{Literal, has, negated, same, variable_of};
 ghost use Rattle.lrat_model.specs.Clauses.{Held, with_clause};
 ghost use Rattle.lrat_model.specs.Propagation.{status};
@@ -69,13 +69,20 @@ pub fn attach(
     if place > u32::MAX as usize {
         return Err(AllocError);
     }
-    pairs.push(pair)?;
-    if pair.is_counted {
+    let place = place as u32;
+    let Pair {
+        first,
+        second,
+        is_counted,
+    } = pair;
+    pairs.push(Pair {
+        first,
+        second,
+        is_counted,
+    })?;
+    if is_counted {
         return Ok(());
     }
-    let place = place as u32;
-    let first = pair.first;
-    let second = pair.second;
     let watch = Watch {
         place,
         blocker: second,

@@ -5,7 +5,7 @@ use Rattle.cdcl_core.specs.Search.{IsState}
 use Rattle.cdcl_core.proofs.States.{state_on_variables}
 use Rattle.cdcl_core.specs.declared.watches.Watch.{Watch}
 use Rattle.cdcl_core.specs.Watches.{IsVisiting, IsWatched, index_of, list_at}
-use Rattle.cdcl_core.proofs.Queues.{take_out, put_in, queued_next, kept_fixpoint, kept_at_end, index_of_false}
+use Rattle.cdcl_core.proofs.Queues.{take_out, put_in, queued_next, kept_at_end, index_of_false}
 use Rattle.cdcl_core.proofs.propagation.propagate.Goals as goal
 
 pub take-list-requires : goal.take-list-requires
@@ -111,13 +111,13 @@ loop-head-preserved c =
       lists = ap (λ (xs : List (List Watch)). length xs) c.put.ensures ∙ length-set new.lists (index_of l) new.list.items ∙ did.lists ∙ ap (λ (xs : List (List Watch)). length xs) c.take-list.ensures.rest ∙ length-set s.lists (index_of l) [] ∙ inv.lists;
       state = subst (λ k. IsState k held new.assignment.trues new.reasons.items) inv.vars did.state;
       longer = (inv.longer.0 ++ did.longer.0, did.longer.1 ∙ ap (λ (ls : List Literal). ls ++ did.longer.0) inv.longer.1 ∙ append_assoc c.args.assignment.now.trues inv.longer.0 did.longer.0);
+      counted = λ p is. inv.counted p (did.counted p is);
       watched = λ k. subst (λ (xs : List (List Watch)). IsWatched held new.pairs xs k []) (sym c.put.ensures)
           (put_in held new.pairs new.lists new.assignment.trues new.reasons.items s.head l inside_new new.list.items (subst (λ (ws : List Watch). IsWatched held new.pairs new.lists l ws) (append-nil new.list.items) v.watched) v.taken_out k);
       queued = queued_next held new.pairs new.lists new.assignment.trues new.reasons.items s.head l new.list.items within_new v;
     }
 
-pub returns-clause-fixpoint : goal.returns-clause-fixpoint
-returns-clause-fixpoint c = λ _.
+pub returns-clause-kept : goal.returns-clause-kept
+returns-clause-kept c = λ _.
     let s = c.loop-head in
-    kept_fixpoint c.args.clauses.now s.pairs s.assignment.trues s.invariant.state.trail.consistent (s.invariant.watched (Plus 0)).inside
     (kept_at_end c.args.clauses.now s.pairs s.assignment.trues s.reasons.items s.head s.invariant.queued (omega (arith, c.loop-head-test.false, ap (λ (ls : List Literal). length ls) c.trail.ensures)))

@@ -72,5 +72,6 @@ loop-i-preserved c =
       lists = did.lists ∙ inv.lists;
       state = subst (λ k. IsState k held c.visit.new.assignment.trues c.visit.new.reasons.items) inv.vars did.state;
       longer = (inv.longer.0 ++ did.longer.0, did.longer.1 ∙ ap (λ (ls : List Literal). ls ++ did.longer.0) inv.longer.1 ∙ append_assoc c.args.assignment.now.trues inv.longer.0 did.longer.0);
+      counted = λ p is. inv.counted p (did.counted p is);
       visiting = both.2;
     }

@@ -1,7 +1,7 @@
-use Rattle.std.proofs.Common.{◌≡◌, ◌≤◌, ◌++◌, List, take, drop, length, ◌-◌}
+use Rattle.std.proofs.Common.{◌≡◌, ◌≤◌, ◌++◌, ℕ, true, List, take, drop, length, ◌-◌}
 use Rattle.lrat_model.specs.Literal.{Literal}
 use Rattle.cdcl_core.specs.Search.{IsState}
-use Rattle.cdcl_core.specs.Watches.{IsVisiting}
+use Rattle.cdcl_core.specs.Watches.{pair_at, IsVisiting}
 use Rattle.cdcl_core.proofs.propagation.visit_all.Given as goal
 
 abbrev pub invariant-loop-i : goal.invariant-loop-i
@@ -12,6 +12,7 @@ invariant-loop-i l = record {
   lists : length l.lists ≡ length l.initial.lists;
   state : IsState l.initial.assignment.vars l.clauses l.assignment.trues l.reasons.items;
   longer : (more : List Literal) × (l.assignment.trues ≡ l.initial.assignment.trues ++ more);
+  counted : (p : ℕ) → (pair_at l.pairs p).is_counted ≡ true → (pair_at l.initial.pairs p).is_counted ≡ true;
   visiting : IsVisiting l.clauses l.pairs l.lists l.assignment.trues l.reasons.items l.head l.l (take l.kept l.list.items) (drop l.i l.list.items);
 }
 

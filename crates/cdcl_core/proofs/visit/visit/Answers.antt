@@ -1,4 +1,4 @@
-use Rattle.std.proofs.Common.{◌≡◌, ◌++◌, ◌∷◌, [], ◌∙◌, List, ap, subst, sym, arith, refl, length}
+use Rattle.std.proofs.Common.{◌≡◌, ◌++◌, ◌∷◌, [], ◌∙◌, false, List, ap, subst, sym, arith, refl, length}
 use Rattle.std.specs.Prelude.{slice_set}
 use Rattle.lrat_model.specs.Clauses.{clause_at}
 use Rattle.lrat_model.specs.Propagation.{status}
@@ -6,7 +6,7 @@ use Rattle.lrat_model.specs.declared.step.ClauseStatus.TheVariants.{Forces}
 use Rattle.cdcl_core.proofs.States.{state_push}
 use Rattle.cdcl_core.specs.declared.watches.Watch.{Watch}
 use Rattle.cdcl_core.specs.Watches.{IsVisiting, lits_at, id_at}
-use Rattle.cdcl_core.proofs.Visits.{visiting_true, visiting_stale, visiting_moved, visiting_push, index_within}
+use Rattle.cdcl_core.proofs.Visits.{visiting_true, visiting_stale, visiting_moved, visiting_push, counted_set, index_within}
 use Rattle.lrat_model.proofs.Literals.{has-push, has-first}
 use Rattle.cdcl_core.proofs.Forced.{forces_only, falsified_all}
 use Rattle.cdcl_core.proofs.visit.visit.Goals as goal
@@ -36,6 +36,9 @@ returns-in_ok-push-in-Moves-clause-goes c = λ is head d done coming within l_is
     (visiting_moved c.args.clauses.now c.args.pairs.now c.args.lists.now c.args.assignment.now.trues c.args.reasons.now.items head c.args.l done coming c.args.watch v o m c.in-Moves.blocker c.in-Moves.third d within l_is c.requires.false_now
     seen.0 seen.1 seen.2 seen.3 seen.4 seen.5 seen.6
     (index_within m c.args.assignment.now.vars (length c.args.lists.now) (c.requires.range (id_at c.args.clauses.now place) (lits_at c.args.clauses.now place) (c.requires.ids place c.requires.sound.0).2 m seen.2).1 c.requires.lists))
+
+pub returns-in_ok-push-in-Moves-clause-counted : goal.returns-in_ok-push-in-Moves-clause-counted
+returns-in_ok-push-in-Moves-clause-counted c = counted_set c.args.pairs.now c.args.watch.place (record { first = c.in-Moves.other; second = c.in-Moves.free; is_counted = false }) (omega (arith, c.requires.long, c.requires.sound.0)) refl
 
 pub push-requires : goal.push-requires
 push-requires c =

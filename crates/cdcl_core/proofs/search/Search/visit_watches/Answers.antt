@@ -1,10 +1,10 @@
-use Rattle.std.proofs.Common.{◌≡◌, ◌+◌, ◌*◌, ◌++◌, [], ◌∙◌, List, sym, ap, subst, arith, length, take, drop}
+use Rattle.std.proofs.Common.{◌≡◌, ◌+◌, ◌*◌, ◌++◌, [], ◌∙◌, true, List, sym, ap, subst, arith, length, take, drop}
 use Rattle.lrat_model.specs.Literal.{Literal, Plus}
 use Rattle.cdcl_core.specs.declared.watches.Pair.{Pair}
 use Rattle.cdcl_core.specs.Search.{IsState}
 use Rattle.cdcl_core.specs.Trail.{InRange}
 use Rattle.search_guide.specs.Open.{open_count}
-use Rattle.cdcl_core.specs.Watches.{AreKept, IsQueued, IsWatched}
+use Rattle.cdcl_core.specs.Watches.{pair_at, AreKept, IsQueued, IsWatched}
 use Rattle.cdcl_core.proofs.OpenCounts.{open_count-append}
 use Rattle.cdcl_core.proofs.Runs.{written_back, each_id}
 use Rattle.cdcl_core.proofs.search.Search.visit_watches.Goals as goal
@@ -43,14 +43,23 @@ returns-clause-searching c =
       queued = subst (λ (ps : List Pair). IsQueued s.clauses ps new.assignment.trues new.reasons.items new.head) (sym pairs_are) did.queued;
     }
 
-pub returns-clause-fixpoint : goal.returns-clause-fixpoint
-returns-clause-fixpoint c = λ is.
+pub returns-clause-counted : goal.returns-clause-counted
+returns-clause-counted c = λ p is.
     let s = c.args.self.now in
     let was = c.requires.searching in
     let did = c.in_ok-found.ensures in
     let new = c.propagate.new in
     let pairs_are : take s.pairs.len (new.pairs ++ drop (length new.pairs) s.pairs.items) ≡ new.pairs = written_back s.pairs.len new.pairs s.pairs.items ((did.watched (Plus 0)).long ∙ sym (was.watched (Plus 0)).long ∙ sym s.pairs.ok.0) in
-    (did.fixpoint is, subst (λ (ps : List Pair). AreKept s.clauses ps new.assignment.trues new.assignment.trues) (sym pairs_are) (did.kept is))
+    subst (λ (ps : List Pair). (pair_at ps p).is_counted ≡ true) c.deref_mut.ensures.value (did.counted p (subst (λ (ps : List Pair). (pair_at ps p).is_counted ≡ true) pairs_are is))
+
+pub returns-clause-kept : goal.returns-clause-kept
+returns-clause-kept c = λ is.
+    let s = c.args.self.now in
+    let was = c.requires.searching in
+    let did = c.in_ok-found.ensures in
+    let new = c.propagate.new in
+    let pairs_are : take s.pairs.len (new.pairs ++ drop (length new.pairs) s.pairs.items) ≡ new.pairs = written_back s.pairs.len new.pairs s.pairs.items ((did.watched (Plus 0)).long ∙ sym (was.watched (Plus 0)).long ∙ sym s.pairs.ok.0) in
+    subst (λ (ps : List Pair). AreKept s.clauses ps new.assignment.trues new.assignment.trues) (sym pairs_are) (did.kept is)
 
 pub returns-clause-fewer : goal.returns-clause-fewer
 returns-clause-fewer c =

@@ -1,10 +1,10 @@
-use Rattle.std.proofs.Common.{◌≡◌, ◌≤◌, ◌+◌, [], ◌∙◌, true, List, refl, sym, ap, subst, arith, length, take}
+use Rattle.std.proofs.Common.{◌≡◌, ◌<◌, ◌≤◌, ◌+◌, false, [], ◌∙◌, true, List, refl, sym, ap, subst, arith, length, take}
 use Rattle.lrat_model.specs.Literal.{Literal, Plus, has, variable_of}
 use Rattle.lrat_model.specs.Clauses.{Held, with_clause}
 use Rattle.cdcl_core.specs.declared.watches.Pair.{Pair}
 use Rattle.cdcl_core.specs.Search.{IsState}
-use Rattle.cdcl_core.specs.Watches.{IsQueued, IsWatched, id_at, lits_at}
-use Rattle.cdcl_core.proofs.FreePairs.{free_queued, free_state}
+use Rattle.cdcl_core.specs.Watches.{index_of, IsQueued, IsWatched, id_at, lits_at}
+use Rattle.cdcl_core.proofs.FreePairs.{free_queued, free_state, pair_for_either, pair_for_counted, pair_for_second}
 use Rattle.cdcl_core.proofs.Fronts.{take_next}
 use Rattle.cdcl_core.proofs.Runs.{each_id}
 use Rattle.cdcl_core.proofs.Visits.{index_within}
@@ -26,7 +26,8 @@ attach-requires-clause-inside_first c =
     let at = (each_id s.clauses s.last all.rise all.ids (omega (arith, c.requires.room)) p c.requires.place).2 in
     let range = λ (m : Literal) (h : has (lits_at s.clauses p) m ≡ true). (all.range (id_at s.clauses p) (lits_at s.clauses p) at m h).1 in
     let some = c.in-Two.ensures.two c.in-Two.first c.in-Two.second refl in
-    index_within c.in-Two.first s.vars (length s.lists) (range c.in-Two.first (subst (λ (ls : List Literal). has ls c.in-Two.first ≡ true) c.lits-lits.ensures some.0)) c.requires.searching.lists
+    subst (λ k. index_of k < length s.lists) (sym c.pair_for-pair.ensures.first)
+    (index_within c.in-Two.first s.vars (length s.lists) (range c.in-Two.first (subst (λ (ls : List Literal). has ls c.in-Two.first ≡ true) c.lits-lits.ensures some.0)) c.requires.searching.lists)
 
 pub attach-requires-clause-inside_second : goal.attach-requires-clause-inside_second
 attach-requires-clause-inside_second c =
@@ -36,7 +37,10 @@ attach-requires-clause-inside_second c =
     let at = (each_id s.clauses s.last all.rise all.ids (omega (arith, c.requires.room)) p c.requires.place).2 in
     let range = λ (m : Literal) (h : has (lits_at s.clauses p) m ≡ true). (all.range (id_at s.clauses p) (lits_at s.clauses p) at m h).1 in
     let some = c.in-Two.ensures.two c.in-Two.first c.in-Two.second refl in
-    index_within c.in-Two.second s.vars (length s.lists) (range c.in-Two.second (subst (λ (ls : List Literal). has ls c.in-Two.second ≡ true) c.lits-lits.ensures some.1)) c.requires.searching.lists
+    let says = c.pair_for-pair.ensures in
+    pair_for_second false c.in-Two.first c.in-Two.second c.pair_for-pair.result says.first says.second says.counted (λ k. index_of k < length s.lists)
+    (index_within c.in-Two.first s.vars (length s.lists) (range c.in-Two.first (subst (λ (ls : List Literal). has ls c.in-Two.first ≡ true) c.lits-lits.ensures some.0)) c.requires.searching.lists)
+    (index_within c.in-Two.second s.vars (length s.lists) (range c.in-Two.second (subst (λ (ls : List Literal). has ls c.in-Two.second ≡ true) c.lits-lits.ensures some.1)) c.requires.searching.lists)
 
 pub returns-in_ok-attach-in-Two-clause-watched : goal.returns-in_ok-attach-in-Two-clause-watched
 returns-in_ok-attach-in-Two-clause-watched c = λ _.
@@ -46,18 +50,22 @@ returns-in_ok-attach-in-Two-clause-watched c = λ _.
     let front = take p s.clauses in
     let id = id_at s.clauses p in
     let lits = c.lits-lits.result.now in
-    let pair : Pair = record { first = c.in-Two.first; second = c.in-Two.second; is_counted = false } in
+    let a = c.in-Two.first in
+    let b = c.in-Two.second in
+    let pair = c.pair_for-pair.result in
+    let says = c.pair_for-pair.ensures in
     let some = c.in-Two.ensures.two c.in-Two.first c.in-Two.second refl in
     let made = c.in_ok-attach-in-Two.ensures in
     let long : length s.pairs.items ≡ length front = (was.watched (Plus 0)).long in
     let next : take (p + 1) s.clauses ≡ with_clause front id lits = take_next s.clauses p c.requires.place ∙ ap (λ (ls : List Literal). with_clause front id ls) (sym c.lits-lits.ensures) in
-    let watched = made.watched front id (sym long ∙ sym c.requires.next) some.0 some.1 was.watched in
-    let inside = (subst (λ (ps : List Pair). IsWatched (with_clause front id lits) ps c.attach.new.lists (Plus 0) []) made.pairs (watched (Plus 0))).inside in
+    let watched = made.watched front id (sym long ∙ sym c.requires.next) (ap (λ k. has lits k) says.first ∙ some.0)
+        (pair_for_second false a b pair says.first says.second says.counted (λ k. has lits k ≡ true) some.0 some.1)
+        (pair_for_counted false a b pair says.first says.second says.counted) was.watched in
     record {
       vars = was.vars;
       guide = was.guide;
-      state = subst (λ (h : Held). IsState s.vars h s.assignment.trues s.reasons.items) (sym next) (free_state s.vars front s.assignment.trues s.reasons.items was.state id lits s.pairs.items pair s.head long was.queued some.2 some.3 some.4 inside);
+      state = subst (λ (h : Held). IsState s.vars h s.assignment.trues s.reasons.items) (sym next) (free_state s.vars front s.assignment.trues s.reasons.items was.state id lits s.pairs.items pair s.head long was.queued a b some.2 some.3 some.4 some.0 some.1);
       lists = made.lists ∙ was.lists;
       watched = λ l. subst (λ (h : Held). IsWatched h c.attach.new.pairs.items c.attach.new.lists l []) (sym next) (watched l);
-      queued = subst (λ (h : Held). IsQueued h c.attach.new.pairs.items s.assignment.trues s.reasons.items s.head) (sym next) (subst (λ (ps : List Pair). IsQueued (with_clause front id lits) ps s.assignment.trues s.reasons.items s.head) (sym made.pairs) (free_queued s.vars front s.assignment.trues s.reasons.items was.state id lits s.pairs.items pair s.head long was.queued some.2 some.3 some.4));
+      queued = subst (λ (h : Held). IsQueued h c.attach.new.pairs.items s.assignment.trues s.reasons.items s.head) (sym next) (subst (λ (ps : List Pair). IsQueued (with_clause front id lits) ps s.assignment.trues s.reasons.items s.head) (sym made.pairs) (free_queued s.vars front s.assignment.trues s.reasons.items was.state id lits s.pairs.items pair s.head long was.queued a b some.2 some.3 some.4 (pair_for_either false a b pair says.first says.second says.counted)));
     }
