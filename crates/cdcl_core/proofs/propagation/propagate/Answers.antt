@@ -120,4 +120,4 @@ loop-head-preserved c =
 pub returns-clause-kept : goal.returns-clause-kept
 returns-clause-kept c = λ _.
     let s = c.loop-head in
-    (kept_at_end c.args.clauses.now s.pairs s.assignment.trues s.reasons.items s.head s.invariant.queued (omega (arith, c.loop-head-test.false, ap (λ (ls : List Literal). length ls) c.trail.ensures)))
+    kept_at_end c.args.clauses.now s.pairs s.assignment.trues s.reasons.items s.head s.invariant.queued (omega (arith, c.loop-head-test.false, ap (λ (ls : List Literal). length ls) c.trail.ensures))
