@@ -60,8 +60,8 @@ returns-in_ok-attach-in-Two-clause-watched c = λ _.
     let long : length s.pairs.items ≡ length front = (was.watched (Plus 0)).long in
     let next : take (p + 1) s.clauses ≡ with_clause front id lits = take_next s.clauses p c.requires.place ∙ ap (λ (ls : List Literal). with_clause front id ls) (sym c.lits-lits.ensures) in
     let watched = made.watched front id (sym long ∙ sym c.requires.next) (ap (λ k. has lits k) says.first ∙ some.0)
-        (pair_for_second c.is_set-is_set.result a b pair says.first says.second says.counted (λ k. has lits k ≡ true) some.0 some.1)
-        (pair_for_counted c.is_set-is_set.result a b pair says.first says.second says.counted) was.watched in
+    (pair_for_second c.is_set-is_set.result a b pair says.first says.second says.counted (λ k. has lits k ≡ true) some.0 some.1)
+    (pair_for_counted c.is_set-is_set.result a b pair says.first says.second says.counted) was.watched in
     record {
       vars = was.vars;
       guide = was.guide;
