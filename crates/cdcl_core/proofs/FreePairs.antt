@@ -1,8 +1,8 @@
 -- A clause that begins to be watched where two of its literals are not false.
-use Rattle.std.proofs.Common.{◌≡◌, ℕ, ◌<◌, true, false, List, [], ◌∷◌, ◌++◌, ⊎_elim, inl, inr, refl, ap, cond, Bool, sym, ◌∙◌, subst, arith, length, take}
+use Rattle.std.proofs.Common.{◌≡◌, ℕ, true, false, List, [], ◌∷◌, ◌++◌, ⊎_elim, inl, inr, ap, cond, Bool, sym, ◌∙◌, subst, arith, length, take}
 use Rattle.std.specs.Prelude.{◌⊎◌}
 use Rattle.std.proofs.lemmas.List.{take_all}
-use Rattle.std.proofs.lemmas.Bool.{true≢false, false≢true, false_from_ne_true}
+use Rattle.std.proofs.lemmas.Bool.{true≢false, false_from_ne_true}
 use Rattle.lrat_model.specs.Literal.{Literal, negated, same, has}
 use Rattle.lrat_model.specs.Clauses.{Held, with_clause}
 use Rattle.lrat_model.proofs.Literals.{same-itself}
@@ -19,7 +19,7 @@ abbrev pub IsPairFor : Literal → Literal → Pair → Type 0
 IsPairFor a b pair = ((pair.first ≡ a) × (pair.second ≡ b)) ⊎ IsCounted pair
 
 -- what a clause with two literals watches, as `pair_for` tells
-module _ (is_set : Bool) (a b : Literal) (pair : Pair) (first : pair.first ≡ a) (second : pair.second ≡ cond is_set a b) (counted : pair.is_counted ≡ is_set) where
+module _ {is_set : Bool} (a b : Literal) (pair : Pair) (first : pair.first ≡ a) (second : pair.second ≡ cond is_set a b) (counted : pair.is_counted ≡ is_set) where
   pub pair_for_either : IsPairFor a b pair
   pair_for_either = either is_set second counted
     where

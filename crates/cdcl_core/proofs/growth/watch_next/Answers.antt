@@ -16,7 +16,7 @@ pub attach-requires-clause-inside_second : goal.attach-requires-clause-inside_se
 attach-requires-clause-inside_second c =
     let says = c.pair_for-pair.ensures in
     let some = c.in-Two.ensures.two c.in-Two.first c.in-Two.second refl in
-    pair_for_second c.args.is_set c.in-Two.first c.in-Two.second c.pair_for-pair.result says.first says.second says.counted (λ k. index_of k < length c.args.lists.now)
+    pair_for_second c.in-Two.first c.in-Two.second c.pair_for-pair.result says.first says.second says.counted (λ k. index_of k < length c.args.lists.now)
     (index_within c.in-Two.first c.args.assignment.now.vars (length c.args.lists.now) (c.requires.range c.in-Two.first some.0).1 c.requires.lists)
     (index_within c.in-Two.second c.args.assignment.now.vars (length c.args.lists.now) (c.requires.range c.in-Two.second some.1).1 c.requires.lists)
 
@@ -37,8 +37,8 @@ returns-in_ok-attach-in-Two-clause-watched c = λ _ held long w.
     let some = c.in-Two.ensures.two c.in-Two.first c.in-Two.second refl in
     c.in_ok-attach-in-Two.ensures.watched held c.args.id (long ∙ sym c.args.pairs.now.ok.0 ∙ sym c.len.ensures)
     (ap (λ k. has lits k) says.first ∙ some.0)
-    (pair_for_second c.args.is_set c.in-Two.first c.in-Two.second pair says.first says.second says.counted (λ k. has lits k ≡ true) some.0 some.1)
-    (pair_for_counted c.args.is_set c.in-Two.first c.in-Two.second pair says.first says.second says.counted)
+    (pair_for_second c.in-Two.first c.in-Two.second pair says.first says.second says.counted (λ k. has lits k ≡ true) some.0 some.1)
+    (pair_for_counted c.in-Two.first c.in-Two.second pair says.first says.second says.counted)
     w
 
 pub returns-in_ok-attach-in-Two-clause-counted : goal.returns-in_ok-attach-in-Two-clause-counted
@@ -53,7 +53,7 @@ returns-in_ok-attach-in-Two-clause-queued c = λ _ held head below s long q.
     let pair = c.pair_for-pair.result in
     let some = c.in-Two.ensures.two c.in-Two.first c.in-Two.second refl in
     rw c.in_ok-attach-in-Two.ensures.pairs (given_two c.args.assignment.now.vars held c.args.assignment.now.trues c.args.reasons.now.items s c.requires.undecided c.args.id c.args.lits.now c.args.pairs.now.items pair c.in-Two.first c.in-Two.second head long q
-    (pair_for_either c.args.is_set c.in-Two.first c.in-Two.second pair says.first says.second says.counted) some.2 some.3 some.4)
+    (pair_for_either c.in-Two.first c.in-Two.second pair says.first says.second says.counted) some.2 some.3 some.4)
 
 pub returns-in_ok-push-in-One-clause-state : goal.returns-in_ok-push-in-One-clause-state
 returns-in_ok-push-in-One-clause-state c = λ _ held below s.

@@ -1,6 +1,6 @@
 use Rattle.std.proofs.Common.{◌≡◌, ◌<◌, ◌++◌, [], List, length, get_or, sym, ap, ◌∙◌, subst, arith, append_assoc, length-append, Ok}
 use Rattle.std.proofs.lemmas.List.{length-set, append-nil}
-use Rattle.lrat_model.specs.Literal.{Literal, negated, Plus}
+use Rattle.lrat_model.specs.Literal.{Literal, negated}
 use Rattle.cdcl_core.specs.Search.{IsState}
 use Rattle.cdcl_core.proofs.States.{state_on_variables}
 use Rattle.cdcl_core.specs.declared.watches.Watch.{Watch}

@@ -39,7 +39,7 @@ attach-requires-clause-inside_second c =
     let range = λ (m : Literal) (h : has (lits_at s.clauses p) m ≡ true). (all.range (id_at s.clauses p) (lits_at s.clauses p) at m h).1 in
     let some = c.in-Two.ensures.two c.in-Two.first c.in-Two.second refl in
     let says = c.pair_for-pair.ensures in
-    pair_for_second c.is_set-is_set.result c.in-Two.first c.in-Two.second c.pair_for-pair.result says.first says.second says.counted (λ k. index_of k < length s.lists)
+    pair_for_second c.in-Two.first c.in-Two.second c.pair_for-pair.result says.first says.second says.counted (λ k. index_of k < length s.lists)
     (index_within c.in-Two.first s.vars (length s.lists) (range c.in-Two.first (subst (λ (ls : List Literal). has ls c.in-Two.first ≡ true) c.lits-lits.ensures some.0)) c.requires.searching.lists)
     (index_within c.in-Two.second s.vars (length s.lists) (range c.in-Two.second (subst (λ (ls : List Literal). has ls c.in-Two.second ≡ true) c.lits-lits.ensures some.1)) c.requires.searching.lists)
 
@@ -60,15 +60,15 @@ returns-in_ok-attach-in-Two-clause-watched c = λ _.
     let long : length s.pairs.items ≡ length front = (was.watched (Plus 0)).long in
     let next : take (p + 1) s.clauses ≡ with_clause front id lits = take_next s.clauses p c.requires.place ∙ ap (λ (ls : List Literal). with_clause front id ls) (sym c.lits-lits.ensures) in
     let watched = made.watched front id (sym long ∙ sym c.requires.next) (ap (λ k. has lits k) says.first ∙ some.0)
-    (pair_for_second c.is_set-is_set.result a b pair says.first says.second says.counted (λ k. has lits k ≡ true) some.0 some.1)
-    (pair_for_counted c.is_set-is_set.result a b pair says.first says.second says.counted) was.watched in
+    (pair_for_second a b pair says.first says.second says.counted (λ k. has lits k ≡ true) some.0 some.1)
+    (pair_for_counted a b pair says.first says.second says.counted) was.watched in
     record {
       vars = was.vars;
       guide = was.guide;
       state = subst (λ (h : Held). IsState s.vars h s.assignment.trues s.reasons.items) (sym next) (free_state s.vars front s.assignment.trues s.reasons.items was.state id lits s.pairs.items pair s.head long was.queued a b some.2 some.3 some.4 some.0 some.1);
       lists = made.lists ∙ was.lists;
       watched = λ l. subst (λ (h : Held). IsWatched h c.attach.new.pairs.items c.attach.new.lists l []) (sym next) (watched l);
-      queued = subst (λ (h : Held). IsQueued h c.attach.new.pairs.items s.assignment.trues s.reasons.items s.head) (sym next) (subst (λ (ps : List Pair). IsQueued (with_clause front id lits) ps s.assignment.trues s.reasons.items s.head) (sym made.pairs) (free_queued s.vars front s.assignment.trues s.reasons.items was.state id lits s.pairs.items pair s.head long was.queued a b some.2 some.3 some.4 (pair_for_either c.is_set-is_set.result a b pair says.first says.second says.counted)));
+      queued = subst (λ (h : Held). IsQueued h c.attach.new.pairs.items s.assignment.trues s.reasons.items s.head) (sym next) (subst (λ (ps : List Pair). IsQueued (with_clause front id lits) ps s.assignment.trues s.reasons.items s.head) (sym made.pairs) (free_queued s.vars front s.assignment.trues s.reasons.items was.state id lits s.pairs.items pair s.head long was.queued a b some.2 some.3 some.4 (pair_for_either a b pair says.first says.second says.counted)));
       gated = record {
         counting = was.gated.counting;
         vars = was.gated.vars;
