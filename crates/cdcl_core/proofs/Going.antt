@@ -45,6 +45,7 @@ searching_guide s a rest guide was =
       lists = was.lists;
       watched = was.watched;
       queued = was.queued;
+      gated = record { counting = was.gated.counting; vars = was.gated.vars; covered = was.gated.covered };
     } in
     subst (λ (x : Search). IsSearching x.clauses x) (sym rest) made
 

@@ -13,6 +13,7 @@ use Rattle.cdcl_core.specs.Remembering.{IsRemembering}
 use Rattle.cdcl_core.specs.Search.{IsState, Searched}
 use Rattle.cdcl_core.specs.Searching.{IsHolding, IsSearching, database_in}
 use Rattle.cdcl_core.specs.Watches.{IsQueued, IsWatched}
+use Rattle.cdcl_core.proofs.GatedLaws.{AreCovered}
 use Rattle.cdcl_core.proofs.Lives.{bounded_later, others_kept, short_ended, short_open}
 use Rattle.cdcl_core.proofs.Runs.{id_found}
 
@@ -37,6 +38,11 @@ one_unwatched s held last id lits is was =
       lists = was.lists;
       watched = λ l. subst (λ (h : Held). IsWatched h s.pairs.items s.lists l []) (sym front) (was.watched l);
       queued = subst (λ (h : Held). IsQueued h s.pairs.items s.assignment.trues s.reasons.items s.head) (sym front) was.queued;
+      gated = record {
+        counting = was.gated.counting;
+        vars = was.gated.vars;
+        covered = subst (λ (h : Held). AreCovered s.gates.gates.items h s.pairs.items) (sym front) was.gated.covered;
+      };
     }
 
 -- nothing is watched yet

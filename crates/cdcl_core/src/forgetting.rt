@@ -4,6 +4,7 @@ ghost use Rattle.std.specs.List.Sorted.{IsNonDecreasingBy};
 ghost use Rattle.lrat_model.specs.Steps.{Deletion, ProofStep};
 ghost use Rattle.lrat_model.specs.Clauses.{has_id, without, IsUnsatisfiable};
 ghost use Rattle.lrat_model.specs.Propagation.{Closes};
+ghost use Rattle.gate_counts.specs.Counts.{IsCounting};
 ghost use Rattle.cdcl_core.specs.Guides.{IsGuide};
 ghost use Rattle.cdcl_core.specs.Log.{EndsEmpty, HasNoEmptyLemma, least_live, most_live};
 ghost use Rattle.cdcl_core.specs.Remembering.{HasDeletion, IsChosen, IsRemembering};
@@ -126,6 +127,8 @@ fn forget(search: &mut Search, gone: &[u64]) -> Result<(), AllocError>
     requires chosen { IsChosen search.old.memory.ids.items search.old.reasons.items gone.now }
     requires fewest { 500 ≤ length gone.now }
     requires earned { least_live search.old.memory.deletions ≤ length search.old.memory.ids.items }
+    requires counting { IsCounting search.old.gates search.old.assignment.trues }
+    requires gate_vars { search.old.gates.vars ≡ search.old.vars }
     requires vars { search.old.assignment.vars ≡ search.old.vars }
     requires guide { IsGuide search.old.vars search.old.guide }
     ensures vars { search.new.vars ≡ search.old.vars }
@@ -148,6 +151,8 @@ fn delete(search: &mut Search, gone: &[u64]) -> Result<(), AllocError>
     requires few { search.old.vars < 2 ^ 31 }
     requires spared { All (λ k. has_id search.old.reasons.items k ≡ false) gone.now }
     requires earned { least_live search.old.memory.deletions ≤ length search.old.memory.ids.items }
+    requires counting { IsCounting search.old.gates search.old.assignment.trues }
+    requires gate_vars { search.old.gates.vars ≡ search.old.vars }
     requires vars { search.old.assignment.vars ≡ search.old.vars }
     requires guide { IsGuide search.old.vars search.old.guide }
     ensures deletion { OnOk result (HasDeletion search.old search.new gone.now) }

@@ -237,6 +237,7 @@ pub fn watch_next(
     ensures vars { assignment.new.vars ≡ assignment.old.vars }
     ensures lists { OnOk result (length lists.new ≡ length lists.old) }
     ensures pairs { result ≡ Ok true → length pairs.new.items ≡ length pairs.old.items + 1 }
+    ensures longer { result ≡ Ok true → (more : List Literal) × (assignment.new.trues ≡ assignment.old.trues ++ more) }
     ensures counted { result ≡ Ok true → (pair : Pair) × (pairs.new.items ≡ pairs.old.items ++ pair ∷ []) × (pair.is_counted ≡ true → is_set ≡ true) }
     ensures state { result ≡ Ok true → (held : Held) → All (λ e. e.0 < id) held → IsState assignment.old.vars held assignment.old.trues reasons.old.items → IsState assignment.old.vars (with_clause held id lits.now) assignment.new.trues reasons.new.items }
     ensures undecided { result ≡ Ok true → (p : ℕ) → p < length assignment.new.trues → slice_index reasons.new.items p ≢ 0 }

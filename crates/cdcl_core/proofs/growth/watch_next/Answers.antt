@@ -1,4 +1,4 @@
-use Rattle.std.proofs.Common.{◌≡◌, ◌<◌, ◌∙◌, ap, subst, length, sym, true, false, refl, inl}
+use Rattle.std.proofs.Common.{◌≡◌, ◌<◌, ◌∙◌, ◌∷◌, [], append-nil, ap, subst, length, sym, true, false, refl, inl}
 use Rattle.std.proofs.lemmas.Bool.{false≢true}
 use Rattle.lrat_model.specs.Literal.{has}
 use Rattle.lrat_model.proofs.Literals.{same-itself}
@@ -44,6 +44,9 @@ returns-in_ok-attach-in-Two-clause-watched c = λ _ held long w.
 pub returns-in_ok-attach-in-Two-clause-counted : goal.returns-in_ok-attach-in-Two-clause-counted
 returns-in_ok-attach-in-Two-clause-counted c = λ _. (c.pair_for-pair.result, c.in_ok-attach-in-Two.ensures.pairs, λ is. sym c.pair_for-pair.ensures.counted ∙ is)
 
+pub returns-in_ok-attach-in-Two-clause-longer : goal.returns-in_ok-attach-in-Two-clause-longer
+returns-in_ok-attach-in-Two-clause-longer c = λ _. ([], sym (append-nil c.args.assignment.now.trues))
+
 pub returns-in_ok-attach-in-Two-clause-queued : goal.returns-in_ok-attach-in-Two-clause-queued
 returns-in_ok-attach-in-Two-clause-queued c = λ _ held head below s long q.
     let says = c.pair_for-pair.ensures in
@@ -72,6 +75,9 @@ returns-in_ok-push-in-One-clause-watched c = λ _ held long w.
 pub returns-in_ok-push-in-One-clause-counted : goal.returns-in_ok-push-in-One-clause-counted
 returns-in_ok-push-in-One-clause-counted c = λ _. (record { first = c.in-One.l; second = c.in-One.l; is_counted = false }, c.in_ok-attach-in-One.ensures.pairs, λ counted. absurd (false≢true counted))
 
+pub returns-in_ok-push-in-One-clause-longer : goal.returns-in_ok-push-in-One-clause-longer
+returns-in_ok-push-in-One-clause-longer c = λ _. (c.in-One.l ∷ [], c.make_true.ensures.trues)
+
 pub returns-in_ok-push-in-One-clause-queued : goal.returns-in_ok-push-in-One-clause-queued
 returns-in_ok-push-in-One-clause-queued c = λ _ held head below s long q.
     let l = c.in-One.l in
@@ -90,6 +96,9 @@ returns-else-not-is_true-clause-watched c = λ _ held long w.
 
 pub returns-else-not-is_true-clause-counted : goal.returns-else-not-is_true-clause-counted
 returns-else-not-is_true-clause-counted c = λ _. (record { first = c.in-One.l; second = c.in-One.l; is_counted = false }, c.in_ok-attach-in-One.ensures.pairs, λ counted. absurd (false≢true counted))
+
+pub returns-else-not-is_true-clause-longer : goal.returns-else-not-is_true-clause-longer
+returns-else-not-is_true-clause-longer c = λ _. ([], sym (append-nil c.args.assignment.now.trues))
 
 pub returns-else-not-is_true-clause-queued : goal.returns-else-not-is_true-clause-queued
 returns-else-not-is_true-clause-queued c = λ _ held head below s long q.

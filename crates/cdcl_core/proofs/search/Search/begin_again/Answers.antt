@@ -1,5 +1,8 @@
-use Rattle.std.proofs.Common.{◌∙◌}
+use Rattle.std.proofs.Common.{◌∙◌, sym, subst}
+use Rattle.std.specs.Global.{Vec}
+use Rattle.gate_counts.specs.declared.gate.Gate.{Gate}
 use Rattle.cdcl_core.proofs.Fronts.{state_cut}
+use Rattle.cdcl_core.proofs.GatedLaws.{AreCovered}
 use Rattle.cdcl_core.proofs.search.Search.begin_again.Goals as goal
 
 pub returns-then-first-len-clause-searching : goal.returns-then-first-len-clause-searching
@@ -12,4 +15,9 @@ returns-then-first-len-clause-searching c = λ held was.
       lists = was.lists;
       watched = was.watched;
       queued = c.back.ensures.queued held s.pairs.items was.queued;
+      gated = record {
+        counting = c.back.ensures.counting;
+        vars = c.back.ensures.gates.1 ∙ was.gated.vars;
+        covered = subst (λ (gs : Vec Gate). AreCovered gs.items held s.pairs.items) (sym c.back.ensures.gates.0) was.gated.covered;
+      };
     }

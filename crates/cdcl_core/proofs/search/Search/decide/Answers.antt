@@ -1,5 +1,6 @@
-use Rattle.std.proofs.Common.{◌∙◌, arith}
+use Rattle.std.proofs.Common.{◌∙◌, ◌∷◌, [], arith}
 use Rattle.cdcl_core.specs.Trail.{IsVariable}
+use Rattle.gate_counts.proofs.Countings.{counting_more}
 use Rattle.cdcl_core.proofs.Trails.{open_count-push}
 use Rattle.cdcl_core.proofs.States.{state_decide}
 use Rattle.cdcl_core.proofs.Visits.{queued_more}
@@ -23,6 +24,11 @@ returns-in_ok-push-in-Some-clause-searching c =
       lists = was.lists;
       watched = was.watched;
       queued = rw (c.make_true.ensures.trues, c.in_ok-push-in-Some.ensures.items) (queued_more s.clauses s.pairs.items trues s.reasons.items s.head was.queued was.state.trail.long l 0 (λ _. c.requires.kept));
+      gated = record {
+        counting = rw c.make_true.ensures.trues (counting_more s.gates trues (l ∷ []) was.gated.counting);
+        vars = was.gated.vars;
+        covered = was.gated.covered;
+      };
     }
 
 pub returns-in_ok-push-in-Some-clause-fewer : goal.returns-in_ok-push-in-Some-clause-fewer

@@ -10,4 +10,5 @@ returns-then-len-clause-searching c = λ held was.
       lists = was.lists;
       watched = was.watched;
       queued = was.queued;
+      gated = record { counting = was.gated.counting; vars = was.gated.vars; covered = was.gated.covered };
     }

@@ -13,4 +13,5 @@ returns-then-is_restart_due-clause-searching c =
       lists = was.lists;
       watched = was.watched;
       queued = was.queued;
+      gated = record { counting = was.gated.counting; vars = was.gated.vars; covered = was.gated.covered };
     }))

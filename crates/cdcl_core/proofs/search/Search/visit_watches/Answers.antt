@@ -3,6 +3,8 @@ use Rattle.lrat_model.specs.Literal.{Literal, Plus}
 use Rattle.cdcl_core.specs.declared.watches.Pair.{Pair}
 use Rattle.cdcl_core.specs.Search.{IsState}
 use Rattle.cdcl_core.specs.Trail.{InRange}
+use Rattle.gate_counts.specs.Counts.{IsCounting}
+use Rattle.gate_counts.proofs.Countings.{counting_more}
 use Rattle.search_guide.specs.Open.{open_count}
 use Rattle.cdcl_core.specs.Watches.{pair_at, AreKept, IsQueued, IsWatched}
 use Rattle.cdcl_core.proofs.OpenCounts.{open_count-append}
@@ -41,6 +43,12 @@ returns-clause-searching c =
       lists = did.lists ∙ was.lists;
       watched = λ l. subst (λ (ps : List Pair). IsWatched s.clauses ps new.lists l []) (sym pairs_are) (did.watched l);
       queued = subst (λ (ps : List Pair). IsQueued s.clauses ps new.assignment.trues new.reasons.items new.head) (sym pairs_are) did.queued;
+      gated = record {
+        counting = subst (λ (ls : List Literal). IsCounting s.gates ls) (sym did.longer.1) (counting_more s.gates s.assignment.trues did.longer.0 was.gated.counting);
+        vars = was.gated.vars;
+        covered = λ p within is. was.gated.covered p within
+            (subst (λ (ps : List Pair). (pair_at ps p).is_counted ≡ true) c.deref_mut.ensures.value (did.counted p (subst (λ (ps : List Pair). (pair_at ps p).is_counted ≡ true) pairs_are is)));
+      };
     }
 
 pub returns-clause-counted : goal.returns-clause-counted

@@ -5,6 +5,7 @@ use Rattle.cdcl_core.specs.declared.watches.Pair.{Pair}
 use Rattle.cdcl_core.specs.Search.{IsState}
 use Rattle.cdcl_core.specs.Watches.{index_of, IsQueued, IsWatched, id_at, lits_at}
 use Rattle.cdcl_core.proofs.FreePairs.{free_queued, free_state, pair_for_either, pair_for_counted, pair_for_second}
+use Rattle.cdcl_core.proofs.GatedLaws.{AreCovered, covered_with}
 use Rattle.cdcl_core.proofs.Fronts.{take_next}
 use Rattle.cdcl_core.proofs.Runs.{each_id}
 use Rattle.cdcl_core.proofs.Visits.{index_within}
@@ -68,4 +69,10 @@ returns-in_ok-attach-in-Two-clause-watched c = λ _.
       lists = made.lists ∙ was.lists;
       watched = λ l. subst (λ (h : Held). IsWatched h c.attach.new.pairs.items c.attach.new.lists l []) (sym next) (watched l);
       queued = subst (λ (h : Held). IsQueued h c.attach.new.pairs.items s.assignment.trues s.reasons.items s.head) (sym next) (subst (λ (ps : List Pair). IsQueued (with_clause front id lits) ps s.assignment.trues s.reasons.items s.head) (sym made.pairs) (free_queued s.vars front s.assignment.trues s.reasons.items was.state id lits s.pairs.items pair s.head long was.queued a b some.2 some.3 some.4 (pair_for_either a b pair says.first says.second says.counted)));
+      gated = record {
+        counting = was.gated.counting;
+        vars = was.gated.vars;
+        covered = subst (λ (h : Held). AreCovered s.gates.gates.items h c.attach.new.pairs.items) (sym next) (subst (λ (ps : List Pair). AreCovered s.gates.gates.items (with_clause front id lits) ps) (sym made.pairs)
+            (covered_with s.gates.gates.items front s.pairs.items was.gated.covered long id lits pair (λ counted. c.is_set-is_set.ensures (sym says.counted ∙ counted))));
+      };
     }

@@ -8,6 +8,11 @@ use Rattle.cdcl_core.specs.Watches.{IsQueued, IsWatched, id_at, lits_at}
 use Rattle.std.proofs.lemmas.List.{take_all}
 use Rattle.std.specs.Prelude.{All}
 use Rattle.lrat_model.specs.Propagation.{status}
+use Rattle.gate_counts.specs.Gates.{IsSet}
+use Rattle.gate_counts.specs.Counts.{IsCounting}
+use Rattle.gate_counts.proofs.Countings.{counting_more}
+use Rattle.cdcl_core.specs.declared.watches.Pair.{Pair}
+use Rattle.cdcl_core.proofs.GatedLaws.{AreCovered, covered_with}
 use Rattle.cdcl_core.proofs.Fronts.{clause_at-take, front_below, state_more, take_next}
 use Rattle.cdcl_core.proofs.Runs.{each_id}
 use Rattle.cdcl_core.proofs.Same.{holding_same}
@@ -21,7 +26,7 @@ watch_next-requires-clause-range c = λ m h.
     let all = holding_same c.args.self.now s inv.same c.requires.holding in
     let inside : p < length s.clauses = omega (arith, c.loop-place-test.true, c.len.ensures) in
     let at = (each_id s.clauses s.last all.rise all.ids (omega (arith, c.requires.room, inv.same.last)) p inside).2 in
-    subst (λ k. IsVariable k m) (sym inv.searching.vars) (all.range (id_at s.clauses p) (lits_at s.clauses p) at m (subst (λ (ls : List Literal). has ls m ≡ true) c.lits.ensures h))
+    subst (λ k. IsVariable k m) (sym inv.searching.vars) (all.range (id_at s.clauses p) (lits_at s.clauses p) at m (subst (λ (ls : List Literal). has ls m ≡ true) c.lits-in-loop-place.ensures h))
 
 pub returns-then-not-is_watched-clause-stuck : goal.returns-then-not-is_watched-clause-stuck
 returns-then-not-is_watched-clause-stuck c = λ id is.
@@ -43,7 +48,7 @@ returns-then-not-is_watched-clause-stuck c = λ id is.
       finds = (
         lits,
         ap (λ k. clause_at s.clauses k) (sym own ∙ c.id-id.ensures) ∙ at,
-        ap (λ (ls : List Literal). status ls lits) false_there.1 ∙ ap (λ (ls : List Literal). status s.assignment.trues ls) (sym c.lits.ensures) ∙ false_there.0,
+        ap (λ (ls : List Literal). status ls lits) false_there.1 ∙ ap (λ (ls : List Literal). status s.assignment.trues ls) (sym c.lits-in-loop-place.ensures) ∙ false_there.0,
       );
     }
 
@@ -59,13 +64,14 @@ loop-place-preserved c =
     let was = inv.searching in
     let p = c.loop-place.place in
     let id = c.id-id.result in
-    let lits = c.lits.result.now in
+    let lits = c.lits-in-loop-place.result.now in
     let front = take p s.clauses in
     let all = holding_same c.args.self.now s inv.same c.requires.holding in
     let inside : p < length s.clauses = omega (arith, c.loop-place-test.true, c.len.ensures) in
-    let next : take (p + 1) s.clauses ≡ with_clause front id lits = take_next s.clauses p inside ∙ ap (λ k. with_clause front k (lits_at s.clauses p)) (sym c.id-id.ensures) ∙ ap (λ (ls : List Literal). with_clause front id ls) (sym c.lits.ensures) in
+    let next : take (p + 1) s.clauses ≡ with_clause front id lits = take_next s.clauses p inside ∙ ap (λ k. with_clause front k (lits_at s.clauses p)) (sym c.id-id.ensures) ∙ ap (λ (ls : List Literal). with_clause front id ls) (sym c.lits-in-loop-place.ensures) in
     let below : All (λ e. e.0 < id) front = subst (λ k. All (λ e. e.0 < k) front) (sym c.id-id.ensures) (front_below s.clauses all.rise p inside) in
     let made = c.in_ok-is_watched.ensures in
+    let own : c.lits.result.now ≡ lits = c.lits.ensures ∙ sym c.lits-in-loop-place.ensures in
     let yes : Ok c.in_ok-is_watched.is_watched ≡ Ok true = ap Ok c.if-not-is_watched.false in
     let new = c.watch_next.new in
     let state = subst (λ k. IsState k front s.assignment.trues s.reasons.items) (sym was.vars) was.state in
@@ -80,6 +86,12 @@ loop-place-preserved c =
         lists = made.lists ∙ was.lists;
         watched = λ l. subst (λ (h : Held). IsWatched h new.pairs.items new.lists l []) (sym next) (made.watched yes front (sym long) was.watched l);
         queued = subst (λ (h : Held). IsQueued h new.pairs.items new.assignment.trues new.reasons.items s.head) (sym next) (made.queued yes front s.head below state long was.queued);
+        gated = record {
+          counting = subst (λ (ls : List Literal). IsCounting s.gates ls) (sym (made.longer yes).1) (counting_more s.gates s.assignment.trues (made.longer yes).0 was.gated.counting);
+          vars = was.gated.vars;
+          covered = subst (λ (h : Held). AreCovered s.gates.gates.items h new.pairs.items) (sym next) (subst (λ (ps : List Pair). AreCovered s.gates.gates.items (with_clause front id lits) ps) (sym (made.counted yes).1)
+              (covered_with s.gates.gates.items front s.pairs.items was.gated.covered long id lits (made.counted yes).0 (λ counted. subst (λ (ls : List Literal). IsSet s.gates.gates.items ls) own (c.is_set-is_set.ensures ((made.counted yes).2 counted)))));
+        };
       };
       undecided = made.undecided yes;
     }
