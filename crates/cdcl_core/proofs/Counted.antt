@@ -8,6 +8,7 @@ use Rattle.gate_counts.specs.Gates.{IsOpen, IsSet}
 use Rattle.gate_counts.specs.Counts.{IsCounting}
 use Rattle.gate_counts.specs.declared.gate.Gate.{Gate}
 use Rattle.gate_counts.specs.declared.gates.Gates.{Gates}
+use Rattle.gate_counts.specs.declared.guesses.Guesses.{Guesses}
 use Rattle.cdcl_core.specs.declared.search.Search.{Search}
 use Rattle.cdcl_core.specs.Fixpoint.{IsFixpoint, IsQuiet}
 use Rattle.cdcl_core.specs.Searching.{IsGated, IsSearching}
@@ -48,3 +49,7 @@ searching_gates held s gates is counting same vars = record {
     covered = λ p less counted. subst (λ (v : Vec Gate). IsSet v.items (lits_at held p)) (sym same) (is.gated.covered p less counted);
   };
 }
+
+-- what may force something is no part of what is counted
+pub counting_guesses : (gates : Gates) (guesses : Guesses) (trail : List Literal) → IsCounting gates trail → IsCounting (record gates { guesses = guesses }) trail
+counting_guesses gates guesses trail c = search c
