@@ -1,17 +1,16 @@
 -- Clauses that are counted: that they are quiet, and what a search owes them while its trail and gates change.
-use Rattle.std.proofs.Common.{◌≡◌, ℕ, ◌<◌, ◌∙◌, true, false, List, ⊎_elim, inl, inr, sym, subst, Some, length}
+use Rattle.std.proofs.Common.{◌≡◌, ℕ, ◌<◌, ◌∙◌, true, false, List, ⊎_elim, inl, inr, sym, subst, length}
 use Rattle.std.specs.Global.{Vec}
 use Rattle.lrat_model.specs.Literal.{Literal, Plus, negated, has}
-use Rattle.lrat_model.specs.Clauses.{Held, clause_at}
+use Rattle.lrat_model.specs.Clauses.{Held}
 use Rattle.lrat_model.specs.Propagation.{status}
 use Rattle.gate_counts.specs.Gates.{IsOpen, IsSet}
 use Rattle.gate_counts.specs.Counts.{IsCounting}
 use Rattle.gate_counts.specs.declared.gate.Gate.{Gate}
 use Rattle.gate_counts.specs.declared.gates.Gates.{Gates}
-use Rattle.gate_counts.specs.declared.guesses.Guesses.{Guesses}
 use Rattle.cdcl_core.specs.declared.search.Search.{Search}
 use Rattle.cdcl_core.specs.Fixpoint.{IsFixpoint, IsQuiet}
-use Rattle.cdcl_core.specs.Searching.{IsGated, IsSearching}
+use Rattle.cdcl_core.specs.Searching.{IsSearching}
 use Rattle.cdcl_core.specs.Watches.{AreKept, lits_at}
 use Rattle.cdcl_core.proofs.Queues.{kept_fixpoint, kept_quiet, place_found}
 
@@ -51,5 +50,7 @@ searching_gates held s gates is counting same vars = record {
 }
 
 -- what may force something is no part of what is counted
-pub counting_guesses : (gates : Gates) (guesses : Guesses) (trail : List Literal) → IsCounting gates trail → IsCounting (record gates { guesses = guesses }) trail
-counting_guesses gates guesses trail c = search c
+pub counting_guesses : (gates new : Gates) (trail : List Literal) → new ≡ record gates { guesses = new.guesses } → IsCounting gates trail → IsCounting new trail
+counting_guesses gates new trail is c =
+    let own : IsCounting (record gates { guesses = new.guesses }) trail = search c in
+    subst (λ (g : Gates). IsCounting g trail) (sym is) own

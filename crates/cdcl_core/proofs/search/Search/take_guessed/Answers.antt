@@ -1,8 +1,5 @@
-use Rattle.std.proofs.Common.{◌≡◌, ◌∙◌, refl, sym, ap, subst, arith, Ok}
-use Rattle.gate_counts.specs.Counts.{IsCounting}
+use Rattle.std.proofs.Common.{◌∙◌, refl, ap, arith, Ok}
 use Rattle.gate_counts.specs.declared.gates.Gates.{Gates}
-use Rattle.cdcl_core.specs.declared.search.Search.{Search}
-use Rattle.cdcl_core.specs.Searching.{IsSearching}
 use Rattle.cdcl_core.proofs.Counted.{counting_guesses, searching_gates}
 use Rattle.cdcl_core.proofs.Same.{same_more}
 use Rattle.cdcl_core.proofs.search.Search.take_guessed.Goals.{then-place-len+in_ok-take_at+in-Nothing, then-place-len+in_ok-take_at+in-Forced, else-place-len}
@@ -15,7 +12,7 @@ loop-next-init c =
     let made = c.guess.ensures in
     record {
       same = record { vars = refl; last = refl; clauses = refl; log = refl; lemmas = refl; deletions = refl };
-      searching = searching_gates s.clauses s c.guess.new.self was (subst (λ (g : Gates). IsCounting g s.assignment.trues) (sym made) (counting_guesses s.gates c.guess.new.self.guesses s.assignment.trues was.gated.counting)) (ap (λ (g : Gates). g.gates) made) (ap (λ (g : Gates). g.vars) made);
+      searching = searching_gates s.clauses s c.guess.new.self was (counting_guesses s.gates c.guess.new.self s.assignment.trues made was.gated.counting) (ap (λ (g : Gates). g.gates) made) (ap (λ (g : Gates). g.vars) made);
       counted = refl;
       unchanged = λ _. (refl, refl);
       forced = λ is. cc;
