@@ -1,12 +1,13 @@
 -- Gates that are counted along a trail, and the clauses that are sets of their inputs.
-use Rattle.std.proofs.Common.{◌≡◌, ℕ, ◌+◌, ◌<◌, true, false, List, [], ◌∷◌, ◌++◌, ⊎_elim, sym, ap, ◌∙◌, subst, arith, length, length-append}
+use Rattle.std.proofs.Common.{◌≡◌, ℕ, ◌+◌, ◌<◌, true, false, List, [], ◌∷◌, ◌++◌, ⊎_elim, sym, ap, ◌∙◌, subst, arith, length, length-append, refl}
 use Rattle.std.proofs.Math.ListN.{get_or-append}
 use Rattle.std.proofs.Math.Seq.{get_or-append_seam}
-use Rattle.std.proofs.lemmas.Bool.{cases_lt}
+use Rattle.std.proofs.lemmas.Bool.{cases_lt, false≢true}
 use Rattle.lrat_model.specs.Literal.{Literal, Plus}
 use Rattle.lrat_model.specs.Clauses.{Held, with_clause}
 use Rattle.gate_counts.specs.declared.gate.Gate.{Gate}
 use Rattle.gate_counts.specs.Gates.{IsSet}
+use Rattle.cdcl_core.specs.Search.{IsState}
 use Rattle.cdcl_core.specs.declared.watches.Pair.{Pair}
 use Rattle.cdcl_core.specs.Watches.{lits_at, pair_at}
 
@@ -30,3 +31,17 @@ covered_with gates held pairs old long id lits pair own p within counted =
     let same_pair : pair_at (pairs ++ pair ∷ []) p ≡ pair = ap (λ k. pair_at (pairs ++ pair ∷ []) k) (is ∙ sym long) ∙ get_or-append_seam pairs pair [] none in
     subst (λ (ls : List Literal). IsSet gates ls) (sym clause) (own (ap (λ (x : Pair). x.is_counted) (sym same_pair) ∙ counted)))
     (cases_lt p (length held))
+
+-- a search begins with an empty trail
+pub state_first : (n : ℕ) (trues : List Literal) (reasons : List ℕ) → trues ≡ [] → reasons ≡ [] → IsState n [] trues reasons
+state_first n trues reasons no_trues no_reasons = subst (λ ls. IsState n [] ls reasons) (sym no_trues) (subst (λ rs. IsState n [] [] rs) (sym no_reasons) (record {
+  trail = record {
+    long = refl;
+    fresh = λ place d less. absurd (omega (arith, less));
+    consistent = λ l h. absurd (false≢true h);
+    derived = λ place less. absurd (omega (arith, less));
+  };
+  closed = λ place less. absurd (omega (arith, less));
+  range = λ m h. absurd (false≢true h);
+  small = λ i d less. absurd (omega (arith, less));
+}))

@@ -1,5 +1,6 @@
 use Rattle.std.proofs.Common.{arith, rules}
 use Rattle.std.proofs.lemmas.Grind.{common_steps}
+use Rattle.cdcl_core.proofs.GatedLaws.{state_first}
 use Rattle.cdcl_core.proofs.search.Search.over.Goals as goal
 
 pub returns-clause-searching : goal.returns-clause-searching
@@ -7,7 +8,7 @@ returns-clause-searching c =
     record {
       vars = grind (arith, common_steps);
       guide = grind (arith, common_steps);
-      state = grind (arith, common_steps);
+      state = state_first c.args.vars c.in_ok-assignment.assignment.trues c.new-8.result.items (grind (arith, common_steps)) (grind (arith, common_steps));
       lists = grind (arith, common_steps);
       watched = λ l. search rules;
       queued = grind (arith, common_steps);
