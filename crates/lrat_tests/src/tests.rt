@@ -4,7 +4,7 @@ ghost use Rattle.lrat_model.specs.Literal.{variable_of};
 ghost use Rattle.lrat_model.specs.Ranges.{AreInRange};
 
 use crate::shared::{TWO_OF_TWO, are_in_range, lits, same};
-use cdcl_core::{Budget, Solver, Verdict};
+use cdcl_core::{Budget, Gate, Solver, Verdict};
 use clause_store::Store;
 use lrat_checker::{IdleChecker, Rule};
 use lrat_model::{Lit, Progress};
@@ -126,6 +126,71 @@ fn two_searches_by_scores(alloc: Global, solver: &mut Solver) -> Result<String, 
 {
     solver.decide_by_scores();
     two_searches_checked(alloc, solver)
+}
+
+// Of five variables three are true, by the first variable's gate, and no three are.
+static THREE_OF_FIVE: [&[i32]; 21] = [
+    &[1],
+    &[-1, 2, 3, 4],
+    &[-1, 2, 3, 5],
+    &[-1, 2, 3, 6],
+    &[-1, 2, 4, 5],
+    &[-1, 2, 4, 6],
+    &[-1, 2, 5, 6],
+    &[-1, 3, 4, 5],
+    &[-1, 3, 4, 6],
+    &[-1, 3, 5, 6],
+    &[-1, 4, 5, 6],
+    &[-2, -3, -4],
+    &[-2, -3, -5],
+    &[-2, -3, -6],
+    &[-2, -4, -5],
+    &[-2, -4, -6],
+    &[-2, -5, -6],
+    &[-3, -4, -5],
+    &[-3, -4, -6],
+    &[-3, -5, -6],
+    &[-4, -5, -6],
+];
+
+// A solver of these, where clauses 2 to 11 are not watched: the false inputs of the gate are counted.
+fn counting(alloc: Global) -> Result<Solver, AllocError>
+    ensures few { IfOk result (λ solver. solver.database.last ≤ 100) }
+{
+    let store = store(alloc, &THREE_OF_FIVE, 6)?;
+    let mut inputs = Vec::new(alloc);
+    for input in 2..7 {
+        inputs.push(input)?;
+    }
+    let mut gates = Vec::new(alloc);
+    gates.push(Gate {
+        head: 1,
+        inputs,
+        size: 3,
+        first: 2,
+    })?;
+    Solver::with_gates(alloc, &store, 6, gates)
+}
+
+// A search, and whether its log is a refutation.
+fn search_counting(alloc: Global, solver: &mut Solver) -> Result<String, AllocError>
+    requires { solver.old.database.last ≤ 100 }
+{
+    let mut budget = Budget::of(100);
+    let verdict = solve(solver, &mut budget)?;
+    let is_refuted = is_refutation(alloc, &THREE_OF_FIVE, 6, solver.log())?;
+    format!(in alloc; "{verdict:?} {is_refuted}")
+}
+
+// The same of a solver that is owned here alone.
+fn counted(alloc: Global) -> Result<String, AllocError> {
+    let mut solver = counting(alloc)?;
+    search_counting(alloc, &mut solver)
+}
+
+#[test]
+fn sets_of_inputs_that_are_counted_are_refuted(rt: HostRuntime) {
+    same(&rt, counted(rt.alloc()), "Unsat true");
 }
 
 // Two empty clauses.

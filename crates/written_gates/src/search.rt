@@ -5,10 +5,10 @@ use crate::reading::{MOST_INPUTS, read_counter};
 use clause_store::{Lit, Store};
 use std::alloc::{AllocError, Global};
 
-/// The most clauses that a gate may have for each head.
-const MOST_SETS: u64 = 500;
+/// The most clauses that all sets of inputs of whole gates may take.
+const MOST_SETS: u64 = 1 << 20;
 
-/// So many rows are written out of the counter of a gate that has more: that takes fewer than 128 clauses.
+/// So many rows are written out of the counter of a gate whose sets are too many: that takes fewer than 128 clauses.
 const FIRST_ROWS: usize = 7;
 
 /// What a variable is to the counters that were found.
@@ -36,9 +36,10 @@ fn is_whole(counter: &Counter) -> bool {
     counter.inputs.len() as u64 <= u64::from(MOST_INPUTS)
 }
 
-/// Whether a gate has few sets of inputs.
-fn has_few_sets(counter: &Counter) -> bool {
-    count_of_sets(counter.inputs.len() as u64, counter.threshold as u64) <= MOST_SETS
+/// How many clauses a gate's sets of inputs take, for all its heads.
+fn count_of_clauses(counter: &Counter) -> u64 {
+    let sets = count_of_sets(counter.inputs.len() as u64, counter.threshold as u64);
+    sets.saturating_mul(counter.heads.len() as u64)
 }
 
 /// The whole counters in the order of their clauses, without heads.
@@ -70,9 +71,11 @@ fn end_of_rows(counter: &Counter, rows: usize) -> u64 {
     end
 }
 
-/// The counter, or its first rows where its gate has many sets.
-fn part_of(alloc: Global, counter: Counter) -> Counter {
-    if has_few_sets(&counter) {
+/// The counter, if so many clauses are left as its gate takes; else its first rows.
+fn part_of(alloc: Global, counter: Counter, left: &mut u64) -> Counter {
+    let count = count_of_clauses(&counter);
+    if count <= *left {
+        *left -= count;
         return counter;
     }
     let end = end_of_rows(&counter, FIRST_ROWS);
@@ -277,8 +280,8 @@ fn own_counters(alloc: Global, formula: &Store, vars: u64) -> Result<Vec<Counter
     Ok(found)
 }
 
-/// The gates with counters that are named by nothing but their heads' clauses, of at most 32 inputs: whole where they have at
-/// most 500 sets of inputs to be written out, else the first seven rows of their counters. None where fewer than half of the
+/// The gates with counters that are named by nothing but their heads' clauses, of at most 32 inputs: whole while
+/// their sets of inputs take no more than a million clauses in all, of others the first seven rows of their counters. None where fewer than half of the
 /// variables are theirs, or fewer than an eighth go. They stand in the order of their clauses. The ids of the formula are dense
 /// from 1 on, and its variables are at most `vars`, else gates may be missed. Time is linear in the literals and `vars`, memory
 /// in `vars` and the gates.
@@ -292,8 +295,9 @@ pub fn find_counters(
         return Ok(Vec::new(alloc));
     }
     let mut parts = Vec::new(alloc);
+    let mut left = MOST_SETS;
     for counter in counters {
-        parts.push(part_of(alloc, counter))?;
+        parts.push(part_of(alloc, counter, &mut left))?;
     }
     if go_many(&parts, vars) {
         Ok(parts)
