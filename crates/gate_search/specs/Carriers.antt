@@ -12,9 +12,8 @@ use Rattle.written_gates.specs.declared.cells.Cell.{Cell}
 use Rattle.gate_search.specs.Moved.{AreMoved}
 use Rattle.gate_search.specs.declared.carrier.Carrier.{Carrier}
 
--- the checker holds what is held, takes steps without RAT hints, and is between two
+-- the checker takes steps without RAT hints, and is between two
 pub record IsReady (c : Carrier) : Type 0 where
-  pub database : c.checker.database ≡ c.clauses
   pub vars : c.checker.vars ≡ c.vars
   pub rule : c.checker.rule ≡ Rup
   pub closed : c.checker.open_addition ≡ None
@@ -36,35 +35,26 @@ pub record IsShown (cells : List Cell) (vars : ℕ) (held : Database) (lits : Li
 abbrev pub Shows : List Cell → ℕ → Database → List Literal → Step → Type 0
 Shows cells vars held lits step = (hints : List ℤ) × (step_of step ≡ Addition (held.last + 1) lits hints) × IsShown cells vars held lits hints
 
--- the clauses held and the log are as they were
-pub record HasSame (old new : Carrier) : Type 0 where
-  pub clauses : new.clauses ≡ old.clauses
-  pub log : new.log ≡ old.log
-  pub vars : new.vars ≡ old.vars
-
 -- the checker has taken the step
 pub record HasChecked (old new : Carrier) (step : ProofStep) : Type 0 where
-  pub database : new.checker.database ≡ after_step old.clauses step
-  pub vars : new.checker.vars ≡ old.vars
-  pub rule : new.checker.rule ≡ Rup
-  pub closed : new.checker.open_addition ≡ None
-
--- the step is taken, held and logged
-pub record HasStep (old new : Carrier) (step : ProofStep) : Type 0 where
   pub ready : IsReady new
-  pub clauses : new.clauses ≡ after_step old.clauses step
-  pub log : new.log ≡ old.log ++ step ∷ []
+  pub database : new.checker.database ≡ after_step old.checker.database step
   pub vars : new.vars ≡ old.vars
 
--- the lemma is shown, held and logged
+-- the step is taken and logged
+pub record HasStep (old new : Carrier) (step : ProofStep) : Type 0 where
+  pub checked : HasChecked old new step
+  pub log : new.log ≡ old.log ++ step ∷ []
+
+-- the lemma is shown, taken and logged
 abbrev pub HasLemma : List Cell → Carrier → Carrier → List Literal → Type 0
-HasLemma cells old new lits = (hints : List ℤ) × IsShown cells old.vars old.clauses lits hints × HasStep old new (Addition (old.clauses.last + 1) lits hints)
+HasLemma cells old new lits = (hints : List ℤ) × IsShown cells old.vars old.checker.database lits hints × HasStep old new (Addition (old.checker.database.last + 1) lits hints)
 
 -- the deletion of these lemmas, under their new ids, is taken and logged
 abbrev pub HasDeletion : ℕ → ℕ → List ℕ → Carrier → Carrier → Type 0
 HasDeletion from to ids old new =
-    (news : List ℕ) × AreMoved from to ids news × (step_fault old.vars old.clauses (Deletion old.clauses.last news) ≡ None)
-    × HasNumbers (Deletion old.clauses.last news) × HasStep old new (Deletion old.clauses.last news)
+    (news : List ℕ) × AreMoved from to ids news × (step_fault old.vars old.checker.database (Deletion old.checker.database.last news) ≡ None)
+    × HasNumbers (Deletion old.checker.database.last news) × HasStep old new (Deletion old.checker.database.last news)
 
 -- a step was carried over and the search goes on: a lemma with a literal, which takes a unit, or a deletion
 abbrev pub GoesOn : List Cell → ℕ → ℕ → ProofStep → Carrier → ℕ → Carrier → ℕ → Type 0
@@ -78,13 +68,13 @@ Refutes cells (Deletion id ids) old new = ⊥
 
 -- no unit is left for a lemma with a literal, which is shown
 abbrev pub WantsUnit : List Cell → ProofStep → Carrier → ℕ → Type 0
-WantsUnit cells (Addition id lits hints) old left = (0 < length lits) × (left ≡ 0) × ((more : List ℤ) × IsShown cells old.vars old.clauses lits more)
+WantsUnit cells (Addition id lits hints) old left = (0 < length lits) × (left ≡ 0) × ((more : List ℤ) × IsShown cells old.vars old.checker.database lits more)
 WantsUnit cells (Deletion id ids) old left = ⊥
 
 -- what is carried over the formula so far is a log of it
 pub record IsCarried (vars : ℕ) (formula : Database) (c : Carrier) : Type 0 where
   pub ready : IsReady c
   pub variables : c.vars ≡ vars
-  pub run : Run vars formula c.log c.clauses
+  pub run : Run vars formula c.log c.checker.database
   pub lemmas : AreLemmas vars formula c.log
   pub numbers : All HasNumbers c.log

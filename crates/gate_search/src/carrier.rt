@@ -5,7 +5,7 @@ ghost use Rattle.lrat_model.specs.Ranges.{AreInRange};
 ghost use Rattle.lrat_model.specs.Steps.{Addition, step_of};
 ghost use Rattle.lrat_text.specs.Texts.{IsId};
 ghost use Rattle.cdcl_core.specs.Log.{NamesClause};
-ghost use Rattle.gate_search.specs.Carriers.{AreLitsNowhere, IsReady, Shows, HasSame, HasChecked, HasLemma, HasDeletion};
+ghost use Rattle.gate_search.specs.Carriers.{AreLitsNowhere, IsReady, Shows, HasChecked, HasLemma, HasDeletion};
 ghost use Rattle.gate_search.specs.Moved.{AreMoved};
 
 use crate::hints::{Bases, Hints};
@@ -19,12 +19,10 @@ use written_gates::{Cell, Written, is_outer};
 /// No id that is given out here is greater.
 const MOST_ID: u64 = 1 << 62;
 
-/// A checker over the formula; what it holds once more, since hints are looked up there; the hints of the lemma that is carried;
-/// and the log so far.
+/// A checker over the formula, where hints are looked up too; the hints of the lemma that is carried; and the log so far.
 #[derive(Drop)]
 pub struct Carrier {
     pub checker: Checker,
-    pub clauses: Store,
     pub vars: u64,
     pub hints: Hints,
     pub log: Log,
@@ -37,7 +35,7 @@ impl Carrier {
         requires small { vars < 2 ^ 31 }
         requires range { AreInRange vars formula.now.held }
         ensures ready { IfOk result (λ found. IfSome found IsReady) }
-        ensures clauses { IfOk result (λ found. IfSome found (λ c. c.clauses ≡ formula.now)) }
+        ensures database { IfOk result (λ found. IfSome found (λ c. c.checker.database ≡ formula.now)) }
         ensures vars { IfOk result (λ found. IfSome found (λ c. c.vars ≡ vars)) }
         ensures log { IfOk result (λ found. IfSome found (λ c. c.log ≡ [])) }
     {
@@ -45,12 +43,8 @@ impl Carrier {
         let Some(checker) = checker_of(alloc, formula, vars)? else {
             return Ok(None);
         };
-        let Some(clauses) = copy_of(alloc, formula)? else {
-            return Ok(None);
-        };
         Ok(Some(Carrier {
             checker,
-            clauses,
             vars,
             hints,
             log: Log::new(alloc),
@@ -58,7 +52,7 @@ impl Carrier {
     }
 
     /// Shows a lemma over the formula, if hints are found that do: the step that adds it. The checker has taken it then, and
-    /// nothing is held or logged yet.
+    /// it is not logged yet.
     pub fn show(
         &mut self,
         alloc: Global,
@@ -68,17 +62,17 @@ impl Carrier {
         hints: HintsRef<'_>,
     ) -> Result<Option<Step>, AllocError>
         requires ready { IsReady self.old }
-        ensures shows { IfOk result (λ found. IfSome found (Shows written.now.cells.items self.old.vars self.old.clauses lits.now)) }
+        ensures shows { IfOk result (λ found. IfSome found (Shows written.now.cells.items self.old.vars self.old.checker.database lits.now)) }
         ensures checked { IfOk result (λ found. IfSome found (λ step. HasChecked self.old self.new (step_of step))) }
-        ensures same { HasSame self.old self.new }
+        ensures log { self.new.log ≡ self.old.log }
     {
-        let last = self.clauses.last();
+        let last = self.checker.last();
         if last >= MOST_ID || !are_outer(&written.cells, lits) {
             return Ok(None);
         }
         self.hints
-            .look_for(&self.clauses, written, bases, lits, hints)?;
-        if !are_named(&self.clauses, &self.hints.ids)
+            .look_for(&self.checker, written, bases, lits, hints)?;
+        if !are_named(&self.checker, &self.hints.ids)
             || self.hints.ids.len() as u64 > self.vars + 1
         {
             return Ok(None);
@@ -106,8 +100,6 @@ impl Carrier {
         let Some(step) = self.show(alloc, written, bases, lits, hints)? else {
             return Ok(false);
         };
-        let id = self.clauses.last() + 1;
-        self.clauses.push(id, lits)?;
         self.log.push(step)?;
         Ok(true)
     }
@@ -117,14 +109,11 @@ impl Carrier {
         requires ready { IsReady self.old }
         ensures { result ≡ Ok true → HasDeletion bases.written bases.formula ids.now self.old self.new }
     {
-        let last = self.clauses.last();
+        let last = self.checker.last();
         let Some(news) = moved(alloc, bases, ids)? else {
             return Ok(false);
         };
         if last == 0 || last >= MOST_ID || self.checker.delete(&news).is_err() {
-            return Ok(false);
-        }
-        if self.clauses.remove_all(&news).is_err() {
             return Ok(false);
         }
         self.log.push_deletion(last, &news)?;
@@ -181,23 +170,23 @@ fn are_outer(cells: &[Cell], lits: &[Lit]) -> bool
 }
 
 /// Whether each id is that of a clause held, and none is too great.
-fn are_named(clauses: &Store, ids: &[u64]) -> bool
-    ensures named { result ≡ true → All (NamesClause clauses.now.held) (map pos ids.now) }
+fn are_named(checker: &Checker, ids: &[u64]) -> bool
+    ensures named { result ≡ true → All (NamesClause checker.now.database.held) (map pos ids.now) }
     ensures numbers { result ≡ true → All IsId ids.now }
 {
     for id in ids {
-        if !is_named(clauses, *id) {
+        if !is_named(checker, *id) {
             return false;
         }
     }
     true
 }
 
-fn is_named(clauses: &Store, id: u64) -> bool
-    ensures named { result ≡ true → NamesClause clauses.now.held (pos id) }
+fn is_named(checker: &Checker, id: u64) -> bool
+    ensures named { result ≡ true → NamesClause checker.now.database.held (pos id) }
     ensures number { result ≡ true → IsId id }
 {
-    0 < id && id < MOST_ID && clauses.lits(id).is_some()
+    0 < id && id < MOST_ID && checker.lits(id).is_some()
 }
 
 /// The step that adds a lemma with these ids as its hints.

@@ -3,7 +3,7 @@ ghost use Rattle.std.specs.Prelude.{◌≡◌, ◌<◌, ◌^◌, [], Ok};
 ghost use Rattle.lrat_text.specs.Lent.{lent_step};
 ghost use Rattle.cdcl_core.specs.Log.{AreLemmas, IsBoundedLog};
 ghost use Rattle.written_gates.specs.WrittenOut.{IsWrittenOut};
-ghost use Rattle.gate_search.specs.Carriers.{IsReady, HasSame, GoesOn, Refutes, WantsUnit};
+ghost use Rattle.gate_search.specs.Carriers.{IsReady, GoesOn, Refutes, WantsUnit};
 ghost use Rattle.gate_search.specs.Found.{IsRefuting, IsSpending};
 
 use crate::carrier::Carrier;
@@ -34,7 +34,7 @@ fn carry_step(
     ensures on { result ≡ Ok Led.On → GoesOn written.now.cells.items bases.written bases.formula (lent_step step.entry) carrier.old left.old carrier.new left.new }
     ensures refuted { result ≡ Ok Led.Refuted → Refutes written.now.cells.items (lent_step step.entry) carrier.old carrier.new }
     ensures spent { result ≡ Ok Led.Spent → WantsUnit written.now.cells.items (lent_step step.entry) carrier.old left.old }
-    ensures same { result ≡ Ok Led.Spent → HasSame carrier.old carrier.new }
+    ensures log { result ≡ Ok Led.Spent → carrier.new.log ≡ carrier.old.log }
 {
     match step {
         StepRef::Add { id: _, lits, hints } => {
@@ -74,14 +74,14 @@ pub fn carry(
 ) -> Result<Led, AllocError>
     requires ready { IsReady carrier.old }
     requires nothing { carrier.old.log ≡ [] }
-    requires out { IsWrittenOut carrier.old.vars carrier.old.clauses.held written.now }
+    requires out { IsWrittenOut carrier.old.vars carrier.old.checker.database.held written.now }
     requires lemmas { AreLemmas carrier.old.vars written.now.store log.now }
     requires bounded { IsBoundedLog carrier.old.vars log.now }
-    ensures refuted { result ≡ Ok Led.Refuted → IsRefuting carrier.old.vars carrier.old.clauses budget carrier.new.log }
-    ensures spent { result ≡ Ok Led.Spent → IsSpending carrier.old.vars carrier.old.clauses budget carrier.new.log }
+    ensures refuted { result ≡ Ok Led.Refuted → IsRefuting carrier.old.vars carrier.old.checker.database budget carrier.new.log }
+    ensures spent { result ≡ Ok Led.Spent → IsSpending carrier.old.vars carrier.old.checker.database budget carrier.new.log }
 {
     let bases = Bases {
-        formula: carrier.clauses.last(),
+        formula: carrier.checker.last(),
         written: written.store.last(),
     };
     let mut left = budget;

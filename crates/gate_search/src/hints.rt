@@ -3,7 +3,7 @@
 ghost use Rattle.std.specs.Prelude.{◌<◌, ◌^◌};
 
 use crate::values::{Sight, Values};
-use clause_store::Store;
+use lrat_checker::Checker;
 use lrat_model::Lit;
 use lrat_text::HintsRef;
 use std::alloc::{AllocError, Global};
@@ -41,7 +41,7 @@ impl Hints {
     /// inputs those of the gate's counter).
     pub fn look_for(
         &mut self,
-        clauses: &Store,
+        checker: &Checker,
         written: &Written,
         bases: Bases,
         lits: &[Lit],
@@ -49,8 +49,8 @@ impl Hints {
     ) -> Result<(), AllocError> {
         self.begin(lits)?;
         match hints {
-            HintsRef::Short(ids) => self.follow_short(clauses, written, bases, ids),
-            HintsRef::Wide(ids) => self.follow_wide(clauses, written, bases, ids),
+            HintsRef::Short(ids) => self.follow_short(checker, written, bases, ids),
+            HintsRef::Wide(ids) => self.follow_wide(checker, written, bases, ids),
         }
     }
 
@@ -67,26 +67,26 @@ impl Hints {
 
     fn follow_short(
         &mut self,
-        clauses: &Store,
+        checker: &Checker,
         written: &Written,
         bases: Bases,
         ids: &[u32],
     ) -> Result<(), AllocError> {
         for id in ids {
-            self.follow(clauses, written, bases, u64::from(*id))?;
+            self.follow(checker, written, bases, u64::from(*id))?;
         }
         Ok(())
     }
 
     fn follow_wide(
         &mut self,
-        clauses: &Store,
+        checker: &Checker,
         written: &Written,
         bases: Bases,
         ids: &[i64],
     ) -> Result<(), AllocError> {
         for id in ids {
-            self.follow(clauses, written, bases, id.unsigned_abs())?;
+            self.follow(checker, written, bases, id.unsigned_abs())?;
         }
         Ok(())
     }
@@ -95,7 +95,7 @@ impl Hints {
     /// is gone through unless the set is true already.
     fn follow(
         &mut self,
-        clauses: &Store,
+        checker: &Checker,
         written: &Written,
         bases: Bases,
         id: u64,
@@ -104,10 +104,10 @@ impl Hints {
             return Ok(());
         }
         if id > bases.written {
-            return self.offer(clauses, (id - bases.written).saturating_add(bases.formula));
+            return self.offer(checker, (id - bases.written).saturating_add(bases.formula));
         }
         match origin_of(written, id) {
-            Origin::Formula(own) => self.offer(clauses, own),
+            Origin::Formula(own) => self.offer(checker, own),
             Origin::Gate { number, head } => {
                 let Some(set) = written.store.lits(id) else {
                     return Ok(());
@@ -116,7 +116,7 @@ impl Hints {
                     return Ok(());
                 }
                 match written.counters.get(number as usize) {
-                    Some(counter) => self.count(clauses, counter, head, set.len()),
+                    Some(counter) => self.count(checker, counter, head, set.len()),
                     None => Ok(()),
                 }
             }
@@ -133,21 +133,21 @@ impl Hints {
     /// so many of the inputs may be false.
     fn count(
         &mut self,
-        clauses: &Store,
+        checker: &Checker,
         counter: &Counter,
         head: u64,
         length: usize,
     ) -> Result<(), AllocError> {
-        self.offer(clauses, head)?;
-        let falses = self.rise(clauses, counter)?;
+        self.offer(checker, head)?;
+        let falses = self.rise(checker, counter)?;
         if falses.saturating_add(2) == length {
-            self.fall(clauses, counter, falses)?;
+            self.fall(checker, counter, falses)?;
         }
-        self.offer(clauses, head)
+        self.offer(checker, head)
     }
 
     /// Up the rows: where f of the first i inputs are false, the places past i - f of row i are. How many inputs are false.
-    fn rise(&mut self, clauses: &Store, counter: &Counter) -> Result<usize, AllocError> {
+    fn rise(&mut self, checker: &Checker, counter: &Counter) -> Result<usize, AllocError> {
         let mut falses: usize = 0;
         let mut row: usize = 0;
         let mut id = counter.start;
@@ -157,7 +157,7 @@ impl Hints {
             falses = falses.saturating_add(usize::from(is_false));
             let width = row.min(counter.threshold);
             let from = row.saturating_sub(falses).saturating_add(1);
-            self.rise_in(clauses, id, from, width, is_false)?;
+            self.rise_in(checker, id, from, width, is_false)?;
             id = id.saturating_add(size_of_row(width));
         }
         Ok(falses)
@@ -167,7 +167,7 @@ impl Hints {
     /// false, and else by its second.
     fn rise_in(
         &mut self,
-        clauses: &Store,
+        checker: &Checker,
         id: u64,
         from: usize,
         width: usize,
@@ -175,7 +175,7 @@ impl Hints {
     ) -> Result<(), AllocError> {
         for column in from..width.saturating_add(1) {
             self.offer(
-                clauses,
+                checker,
                 first_clause(id, column).saturating_add(u64::from(!is_first)),
             )?;
         }
@@ -186,7 +186,7 @@ impl Hints {
     /// is false.
     fn fall(
         &mut self,
-        clauses: &Store,
+        checker: &Checker,
         counter: &Counter,
         falses: usize,
     ) -> Result<(), AllocError> {
@@ -198,21 +198,21 @@ impl Hints {
             id = id.saturating_sub(size_of_row(width));
             let first = first_clause(id, row.saturating_sub(left));
             row -= 1;
-            self.offer(clauses, first)?;
+            self.offer(checker, first)?;
             match counter.inputs.get(row) {
                 Some(input) if self.values.is_false(*input) => left = left.saturating_sub(1),
-                _ => self.offer(clauses, first.saturating_add(1))?,
+                _ => self.offer(checker, first.saturating_add(1))?,
             }
         }
         Ok(())
     }
 
     /// Takes a clause for a hint where it forces a literal or has all false; after one with all false none is wanted.
-    fn offer(&mut self, clauses: &Store, id: u64) -> Result<(), AllocError> {
+    fn offer(&mut self, checker: &Checker, id: u64) -> Result<(), AllocError> {
         if self.has_conflict {
             return Ok(());
         }
-        let Some(clause) = clauses.lits(id) else {
+        let Some(clause) = checker.lits(id) else {
             return Ok(());
         };
         match self.values.see(clause) {

@@ -2,6 +2,7 @@
 mod adding;
 
 ghost use Rattle.std.specs.Prelude.{◌≡◌, ◌≢◌, ℕ, ◌<◌, ◌^◌, [], ◌∷◌, Some, None, Err, IsSome, IfSome, IfOk, IfErr, OnErr, OnOk, MatchBool};
+ghost use Rattle.std.specs.Option.{option_copied};
 ghost use Rattle.lrat_model.specs.Clauses.{clause_at, with_clause, without};
 ghost use Rattle.lrat_model.specs.Steps.{step_of, deletion_fault, after_step, progress_of, progress_at};
 ghost use Rattle.lrat_model.specs.Rules.{step_fault_by, addition_fault_by};
@@ -78,6 +79,13 @@ impl Checker {
         ensures none_above { (k : ℕ) → self.now.database.last < k → clause_at self.now.database.held k ≡ None }
     {
         self.clauses.store().last()
+    }
+
+    /// The literals of the clause held under an id. As fast as `Store::lits`.
+    pub fn lits(&self, id: u64) -> Option<&[Lit]>
+        ensures { option_copied result ≡ clause_at self.now.database.held id }
+    {
+        self.clauses.store().lits(id)
     }
 
     /// Takes a step, or answers its first fault: of an addition its id, then its literals in order, then

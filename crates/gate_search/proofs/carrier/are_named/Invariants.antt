@@ -3,4 +3,4 @@ use Rattle.gate_search.proofs.CarrierLaws.{AreNamed}
 use Rattle.gate_search.proofs.carrier.are_named.Given as goal
 
 abbrev pub invariant-loop-id : goal.invariant-loop-id
-invariant-loop-id l = AreNamed l.clauses.held (take l.id-index l.ids)
+invariant-loop-id l = AreNamed l.checker.database.held (take l.id-index l.ids)

@@ -5,4 +5,4 @@ use Rattle.gate_search.proofs.carrying.carry.Given as goal
 
 abbrev pub invariant-loop-place : goal.invariant-loop-place
 invariant-loop-place l =
-    IsOn l.initial.carrier.vars l.initial.carrier.clauses l.written.store (gates_of l.written.counters.items) l.budget (take l.place l.log) (drop l.place l.log) l.carrier l.left
+    IsOn l.initial.carrier.vars l.initial.carrier.checker.database l.written.store (gates_of l.written.counters.items) l.budget (take l.place l.log) (drop l.place l.log) l.carrier l.left

@@ -10,7 +10,7 @@ returns-in-Refuted c =
     let from = c.in-Some.carrier in
     let log = c.carry.new.carrier.log in
     let vars : from.vars ≡ c.args.vars = subst (λ (o : Option Carrier). IfSome o (λ (x : Carrier). x.vars ≡ c.args.vars)) c.in-Some.is c.in_ok-carrier.ensures.vars in
-    let clauses : from.clauses ≡ c.args.formula.now = subst (λ (o : Option Carrier). IfSome o (λ (x : Carrier). x.clauses ≡ c.args.formula.now)) c.in-Some.is c.in_ok-carrier.ensures.clauses in
-    let there : IsRefuting from.vars from.clauses c.args.budget log = c.in_ok-carry.ensures.refuted (ap Ok c.in-Refuted.is) in
-    let among : IsRefuting c.args.vars from.clauses c.args.budget log = subst (λ (n : ℕ). IsRefuting n from.clauses c.args.budget log) vars there in
-    subst (λ (d : Database). IsRefuting c.args.vars d c.args.budget log) clauses among
+    let database : from.checker.database ≡ c.args.formula.now = subst (λ (o : Option Carrier). IfSome o (λ (x : Carrier). x.checker.database ≡ c.args.formula.now)) c.in-Some.is c.in_ok-carrier.ensures.database in
+    let there : IsRefuting from.vars from.checker.database c.args.budget log = c.in_ok-carry.ensures.refuted (ap Ok c.in-Refuted.is) in
+    let among : IsRefuting c.args.vars from.checker.database c.args.budget log = subst (λ (n : ℕ). IsRefuting n from.checker.database c.args.budget log) vars there in
+    subst (λ (d : Database). IsRefuting c.args.vars d c.args.budget log) database among
