@@ -1,8 +1,12 @@
 //! Which clauses of gates' sets may force something. No answer depends on it: each is looked at before it does.
 use crate::gate::Gate;
 use crate::parts::{Side, Table, part};
+use lrat_model::Lit;
 use partial_assignment::Assignment;
 use std::alloc::{AllocError, Global};
+
+/// No variable is greater, since a literal is a signed number of 32 bits.
+const MOST_VARIABLE: u32 = i32::MAX as u32;
 
 /// No set is chosen from more inputs.
 const MOST_INPUTS: usize = 32;
@@ -41,10 +45,10 @@ impl Guesses {
         })
     }
 
-    /// Sees that an input of these gates became false.
+    /// Sees that an input of these gates became false. Those that had so many before are passed over: their heads are false.
     pub fn see_inputs(&mut self, list: &[u32], counts: &[u32]) -> Result<(), AllocError> {
         for g in list {
-            see(&mut self.due, &self.limits, *g, counts)?;
+            see(&mut self.due, &self.limits, *g, counts, 1)?;
         }
         Ok(())
     }
@@ -52,7 +56,7 @@ impl Guesses {
     /// Sees that the head of gates became true.
     pub fn see_head(&mut self, head: u32, counts: &[u32]) -> Result<(), AllocError> {
         for g in part(&self.heads.starts, &self.heads.entries, head) {
-            see(&mut self.due, &self.limits, *g, counts)?;
+            see(&mut self.due, &self.limits, *g, counts, u32::MAX)?;
         }
         Ok(())
     }
@@ -78,11 +82,18 @@ impl Guesses {
     }
 }
 
-/// Sees a gate: it is due where so many inputs are false that it may force something.
-fn see(due: &mut Vec<u32>, limits: &[u32], g: u32, counts: &[u32]) -> Result<(), AllocError> {
+/// Sees a gate: it is due where so many inputs are false that it may force something, and no more than so many beyond.
+fn see(
+    due: &mut Vec<u32>,
+    limits: &[u32],
+    g: u32,
+    counts: &[u32],
+    most_beyond: u32,
+) -> Result<(), AllocError> {
     if let Some(limit) = limits.get(g as usize)
         && let Some(count) = counts.get(g as usize)
-        && *count >= *limit
+        && let Some(beyond) = count.checked_sub(*limit)
+        && beyond <= most_beyond
     {
         due.push(g)?;
     }
@@ -136,10 +147,13 @@ fn set_way(ways: &mut Vec<u64>, n: usize, r: usize, count: u64) {
 
 /// The value of a variable, if it has one.
 fn value_of(assignment: &Assignment, variable: u32) -> Option<bool> {
-    let place = *assignment.places().get(variable as usize)?;
-    let l = *assignment.trail().get(place)?;
-    if l.variable() == variable {
-        Some(l.number() > 0)
+    if variable == 0 || u64::from(variable) > assignment.vars() || variable > MOST_VARIABLE {
+        return None;
+    }
+    if assignment.is_true(Lit::negative(variable)) {
+        Some(false)
+    } else if assignment.is_true(Lit::positive(variable)) {
+        Some(true)
     } else {
         None
     }
@@ -157,15 +171,14 @@ fn guess_of(
     if head == Some(false) {
         return Ok(());
     }
-    let falses = inputs_that_are(gate, assignment, Some(false));
+    if count < gate.size && head == None {
+        return Ok(());
+    }
+    let (falses, open) = sides_of(gate, assignment);
     if count >= gate.size {
         ids.push(id_of(ways, gate, falses))?;
         return Ok(());
     }
-    if head == None {
-        return Ok(());
-    }
-    let open = inputs_that_are(gate, assignment, None);
     for place in 0..gate.inputs.len() {
         let own = bit(place);
         if open & own != 0 {
@@ -180,15 +193,18 @@ fn bit(place: usize) -> u64 {
     1 << (place % 64)
 }
 
-/// The inputs that have this value, as the bits of their places.
-fn inputs_that_are(gate: &Gate, assignment: &Assignment, value: Option<bool>) -> u64 {
-    let mut bits = 0;
+/// The inputs that are false, and those that are open, as the bits of their places.
+fn sides_of(gate: &Gate, assignment: &Assignment) -> (u64, u64) {
+    let mut falses = 0;
+    let mut open = 0;
     for (place, input) in gate.inputs.iter().enumerate() {
-        if value_of(assignment, *input) == value {
-            bits |= bit(place);
+        match value_of(assignment, *input) {
+            Some(false) => falses |= bit(place),
+            Some(true) => {}
+            None => open |= bit(place),
         }
     }
-    bits
+    (falses, open)
 }
 
 /// The id of the clause of the first inputs of these. Of sets that begin alike those with the next input come first.
