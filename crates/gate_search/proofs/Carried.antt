@@ -15,9 +15,7 @@ use Rattle.lrat_model.proofs.Literals.{negated-negated, has-cons, has-first, has
 use Rattle.lrat_model.proofs.Runs.{follows_unless, refuted}
 use Rattle.cdcl_core.specs.Log.{IsLemma, IsForgetting, NamesClause, EndsEmpty}
 use Rattle.written_gates.specs.Finding.{Finds, Given, By, IsRefuted}
-use Rattle.written_gates.specs.Gates.{Gates}
 use Rattle.written_gates.proofs.Finding.{negated-differs, refuted_finds, conflict_refutes, found_is_settled}
-use Rattle.gate_search.specs.Beside.{AreBeside}
 
 -- ---- useful lemmas
 

@@ -3,34 +3,17 @@ use Rattle.std.proofs.Common.{◌≡◌, ℕ, ◌<◌, ◌≤◌, ◌+◌, ◌-�
 use Rattle.std.specs.Prelude.{All, AllPairs}
 use Rattle.std.specs.List.{AllByRecursion}
 use Rattle.std.proofs.lemmas.List.{take_more, take_all}
-use Rattle.std.proofs.lemmas.List.Elements.{All-weaker, All-map, All-push, All-more, recursion_from_All}
+use Rattle.std.proofs.lemmas.List.Elements.{All-map, All-push, All-more, recursion_from_All}
 use Rattle.lrat_model.specs.Literal.{Literal, variable_of}
 use Rattle.lrat_model.specs.Clauses.{Held, clause_at, with_clause}
 use Rattle.lrat_model.specs.Steps.{Database}
 use Rattle.lrat_text.specs.Texts.{IsId, IsHint}
 use Rattle.clause_store.specs.Nearest.{IsFirstAbove}
-use Rattle.cdcl_core.specs.Log.{NamesClause}
 use Rattle.cdcl_core.proofs.Stores.{IsAhead, ahead_at_first, ahead_more, all_taken}
 use Rattle.written_gates.specs.Counters.{cell_at}
 use Rattle.written_gates.specs.declared.cells.Cell.{Cell}
 use Rattle.gate_search.specs.Carriers.{AreLitsNowhere}
 use Rattle.gate_search.specs.Moved.{IsMoved, AreMoved}
-
--- each id is that of a clause held, and in range
-abbrev pub IsNamed : Held → ℕ → Type 0
-IsNamed held id = NamesClause held (pos id) × IsId id
-
-abbrev pub AreNamed : Held → List ℕ → Type 0
-AreNamed held ids = All (IsNamed held) ids
-
-pub named_hints : (held : Held) (ids : List ℕ) → AreNamed held ids → All (NamesClause held) (map pos ids)
-named_hints held ids named = All-map (NamesClause held) pos ids (All-weaker (IsNamed held) (λ id. NamesClause held (pos id)) (λ id both. both.0) ids named)
-
-pub named_ids : (held : Held) (ids : List ℕ) → AreNamed held ids → All IsId ids
-named_ids held ids named = All-weaker (IsNamed held) IsId (λ id both. both.1) ids named
-
-pub named_whole : (held : Held) (ids : List ℕ) (i : ℕ) → length ids ≤ i → AreNamed held (take i ids) → AreNamed held ids
-named_whole held ids i end named = subst (λ (xs : List ℕ). AreNamed held xs) (take_all i ids end) named
 
 -- literals of no places
 pub nowhere_more : (cells : List Cell) (lits : List Literal) (i : ℕ) (l : Literal) → i < length lits → AreLitsNowhere cells (take i lits) → l ≡ get_or lits i l → (cell_at cells (variable_of l)).row ≡ 0 → AreLitsNowhere cells (take (i + 1) lits)

@@ -1,26 +1,23 @@
 -- A log over what is written out, carried over the formula step by step.
-use Rattle.std.proofs.Common.{◌≡◌, ℕ, ◌+◌, ◌<◌, true, cond, List, [], ◌∷◌, ◌++◌, length, take, drop, take-append-drop, get_or, ⊎_elim, refl, sym, ap, ◌∙◌, subst, arith, None, ℤ}
+use Rattle.std.proofs.Common.{◌≡◌, ℕ, ◌+◌, ◌<◌, cond, List, [], ◌∷◌, ◌++◌, length, take, drop, take-append-drop, get_or, refl, sym, ap, ◌∙◌, subst, arith, None, ℤ}
 use Rattle.std.specs.Prelude.{All, ◌==◌}
-use Rattle.std.proofs.lemmas.Bool.{false≢true}
 use Rattle.std.proofs.lemmas.List.{take_more, drop_more}
-use Rattle.std.proofs.lemmas.List.Elements.{All-head, All-tail, All-nil, All-push}
-use Rattle.lrat_model.specs.Literal.{Literal, variable_of, has, IsConsistent}
+use Rattle.std.proofs.lemmas.List.Elements.{All-nil, All-push}
+use Rattle.lrat_model.specs.Literal.{Literal, has, IsConsistent}
 use Rattle.lrat_model.specs.Clauses.{clause_at}
 use Rattle.lrat_model.specs.Propagation.{Closes, Follows}
 use Rattle.lrat_model.specs.Lemmas.{IsUseful}
 use Rattle.lrat_model.specs.Steps.{ProofStep, Addition, Deletion, Database, step_fault, after_step, progress_at, progress_of}
 use Rattle.lrat_model.specs.Runs.{Run}
 use Rattle.lrat_model.specs.declared.step.Progress.TheVariants.{Going, Refuted}
-use Rattle.lrat_model.proofs.Literals.{has-cons, variable_of-negated}
 use Rattle.lrat_text.specs.Texts.{HasNumbers}
 use Rattle.cdcl_core.specs.Log.{AreLemmas, IsLemma, IsBoundedLog, HasNoEmptyLemma, EndsEmpty, units}
 use Rattle.cdcl_core.proofs.Logs.{run_push, lemmas_append}
 use Rattle.cdcl_core.proofs.Lives.{units-append, short_open, short_ended}
 use Rattle.cdcl_core.proofs.Runs.{not_empty}
-use Rattle.written_gates.specs.Gates.{Gates, IsOuter, AreOuter}
-use Rattle.written_gates.specs.Counters.{gates_of, cell_at, ArePlaced}
+use Rattle.written_gates.specs.Gates.{Gates, AreOuter}
+use Rattle.written_gates.specs.Counters.{gates_of}
 use Rattle.written_gates.specs.WrittenOut.{IsWrittenOut}
-use Rattle.written_gates.specs.declared.counters.Counter.{Counter}
 use Rattle.written_gates.specs.declared.cells.Cell.{Cell}
 use Rattle.written_gates.specs.declared.writing.Written.{Written}
 use Rattle.written_gates.proofs.Apart.{are_outer}
@@ -28,7 +25,7 @@ use Rattle.written_gates.proofs.WritingOut.{useful_before, closes_after}
 use Rattle.gate_search.specs.Moved.{IsMoved, AreMovedSteps}
 use Rattle.gate_search.specs.Beside.{AreBeside}
 use Rattle.gate_search.specs.Found.{IsRefuting, IsSpending}
-use Rattle.gate_search.specs.Carriers.{IsReady, AreLitsNowhere, IsShown, HasStep, HasLemma, HasDeletion, GoesOn, Refutes, WantsUnit, IsCarried}
+use Rattle.gate_search.specs.Carriers.{IsReady, IsShown, HasStep, HasLemma, HasDeletion, GoesOn, Refutes, WantsUnit, IsCarried}
 use Rattle.gate_search.specs.declared.carrier.Carrier.{Carrier}
 use Rattle.gate_search.proofs.MovedLogs.{bounded_moved, bounded_front, moved_more}
 use Rattle.gate_search.proofs.BesideLaws.{beside_at_first, beside_addition, beside_deletion, beside_counted, beside_written}

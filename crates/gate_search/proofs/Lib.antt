@@ -1,3 +1,4 @@
+pub mod NamedLaws
 pub mod MovedLogs
 pub mod BesideLaws
 pub mod Carried

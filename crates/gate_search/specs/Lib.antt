@@ -1,3 +1,4 @@
+pub mod Named
 pub mod Moved
 pub mod Beside
 pub mod Found

@@ -4,20 +4,16 @@ ghost use Rattle.std.specs.Prelude.{◌≡◌, ◌+◌, ◌<◌, ◌≤◌, ◌^
 ghost use Rattle.lrat_model.specs.Ranges.{AreInRange};
 ghost use Rattle.lrat_model.specs.Steps.{Addition, step_of};
 ghost use Rattle.lrat_text.specs.Texts.{IsId};
-ghost use Rattle.cdcl_core.specs.Log.{NamesClause};
 ghost use Rattle.gate_search.specs.Carriers.{AreLitsNowhere, IsReady, Shows, HasChecked, HasLemma, HasDeletion};
 ghost use Rattle.gate_search.specs.Moved.{AreMoved};
 
-use crate::hints::{Bases, Hints};
+use crate::hints::{Bases, Hints, MOST_ID};
 use clause_store::Store;
 use lrat_checker::{Checker, Rule, Step, StepFault};
 use lrat_model::Lit;
 use lrat_text::{HintsRef, Log};
 use std::alloc::{AllocError, Global};
 use written_gates::{Cell, Written, is_outer};
-
-/// No id that is given out here is greater.
-const MOST_ID: u64 = 1 << 62;
 
 /// A checker over the formula, where hints are looked up too; the hints of the lemma that is carried; and the log so far.
 #[derive(Drop)]
@@ -72,9 +68,7 @@ impl Carrier {
         }
         self.hints
             .look_for(&self.checker, written, bases, lits, hints)?;
-        if !are_named(&self.checker, &self.hints.ids)
-            || self.hints.ids.len() as u64 > self.vars + 1
-        {
+        if self.hints.ids.len() as u64 > self.vars + 1 {
             return Ok(None);
         }
         let step = addition(alloc, last + 1, lits, &self.hints.ids)?;
@@ -167,26 +161,6 @@ fn are_outer(cells: &[Cell], lits: &[Lit]) -> bool
         }
     }
     true
-}
-
-/// Whether each id is that of a clause held, and none is too great.
-fn are_named(checker: &Checker, ids: &[u64]) -> bool
-    ensures named { result ≡ true → All (NamesClause checker.now.database.held) (map pos ids.now) }
-    ensures numbers { result ≡ true → All IsId ids.now }
-{
-    for id in ids {
-        if !is_named(checker, *id) {
-            return false;
-        }
-    }
-    true
-}
-
-fn is_named(checker: &Checker, id: u64) -> bool
-    ensures named { result ≡ true → NamesClause checker.now.database.held (pos id) }
-    ensures number { result ≡ true → IsId id }
-{
-    0 < id && id < MOST_ID && checker.lits(id).is_some()
 }
 
 /// The step that adds a lemma with these ids as its hints.

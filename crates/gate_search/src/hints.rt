@@ -1,6 +1,7 @@
-//! The hints of a lemma over the formula, from those over its gates written out. No answer depends on them, since each lemma
-//! is checked.
-ghost use Rattle.std.specs.Prelude.{◌<◌, ◌^◌};
+//! The hints of a lemma over the formula, from those over its gates written out. Each is the id of a clause held, as a log wants
+//! it; that they show the lemma is not said here, since each lemma is checked.
+ghost use Rattle.std.specs.Prelude.{◌≡◌, ◌<◌, ◌^◌, []};
+ghost use Rattle.gate_search.specs.Named.{AreNamed};
 
 use crate::values::{Sight, Values};
 use lrat_checker::Checker;
@@ -8,6 +9,9 @@ use lrat_model::Lit;
 use lrat_text::HintsRef;
 use std::alloc::{AllocError, Global};
 use written_gates::{Counter, Origin, Written};
+
+/// No id that is given out here is greater.
+pub const MOST_ID: u64 = 1 << 62;
 
 /// The ids that were found for a lemma, the values that they lead to, and whether they lead to a clause with all literals
 /// false.
@@ -46,7 +50,9 @@ impl Hints {
         bases: Bases,
         lits: &[Lit],
         hints: HintsRef<'_>,
-    ) -> Result<(), AllocError> {
+    ) -> Result<(), AllocError>
+        ensures { AreNamed checker.now.database.held self.new.ids.items }
+    {
         self.begin(lits)?;
         match hints {
             HintsRef::Short(ids) => self.follow_short(checker, written, bases, ids),
@@ -55,7 +61,9 @@ impl Hints {
     }
 
     /// The lemma's literals are false, and there is no hint yet.
-    fn begin(&mut self, lits: &[Lit]) -> Result<(), AllocError> {
+    fn begin(&mut self, lits: &[Lit]) -> Result<(), AllocError>
+        ensures { self.new.ids.items ≡ [] }
+    {
         self.ids.clear();
         self.values.clear();
         self.has_conflict = false;
@@ -71,7 +79,10 @@ impl Hints {
         written: &Written,
         bases: Bases,
         ids: &[u32],
-    ) -> Result<(), AllocError> {
+    ) -> Result<(), AllocError>
+        requires { AreNamed checker.now.database.held self.old.ids.items }
+        ensures { AreNamed checker.now.database.held self.new.ids.items }
+    {
         for id in ids {
             self.follow(checker, written, bases, u64::from(*id))?;
         }
@@ -84,7 +95,10 @@ impl Hints {
         written: &Written,
         bases: Bases,
         ids: &[i64],
-    ) -> Result<(), AllocError> {
+    ) -> Result<(), AllocError>
+        requires { AreNamed checker.now.database.held self.old.ids.items }
+        ensures { AreNamed checker.now.database.held self.new.ids.items }
+    {
         for id in ids {
             self.follow(checker, written, bases, id.unsigned_abs())?;
         }
@@ -99,7 +113,10 @@ impl Hints {
         written: &Written,
         bases: Bases,
         id: u64,
-    ) -> Result<(), AllocError> {
+    ) -> Result<(), AllocError>
+        requires { AreNamed checker.now.database.held self.old.ids.items }
+        ensures { AreNamed checker.now.database.held self.new.ids.items }
+    {
         if self.has_conflict {
             return Ok(());
         }
@@ -137,7 +154,10 @@ impl Hints {
         counter: &Counter,
         head: u64,
         length: usize,
-    ) -> Result<(), AllocError> {
+    ) -> Result<(), AllocError>
+        requires { AreNamed checker.now.database.held self.old.ids.items }
+        ensures { AreNamed checker.now.database.held self.new.ids.items }
+    {
         self.offer(checker, head)?;
         let falses = self.rise(checker, counter)?;
         if falses.saturating_add(2) == length {
@@ -147,7 +167,10 @@ impl Hints {
     }
 
     /// Up the rows: where f of the first i inputs are false, the places past i - f of row i are. How many inputs are false.
-    fn rise(&mut self, checker: &Checker, counter: &Counter) -> Result<usize, AllocError> {
+    fn rise(&mut self, checker: &Checker, counter: &Counter) -> Result<usize, AllocError>
+        requires { AreNamed checker.now.database.held self.old.ids.items }
+        ensures { AreNamed checker.now.database.held self.new.ids.items }
+    {
         let mut falses: usize = 0;
         let mut row: usize = 0;
         let mut id = counter.start;
@@ -172,7 +195,10 @@ impl Hints {
         from: usize,
         width: usize,
         is_first: bool,
-    ) -> Result<(), AllocError> {
+    ) -> Result<(), AllocError>
+        requires { AreNamed checker.now.database.held self.old.ids.items }
+        ensures { AreNamed checker.now.database.held self.new.ids.items }
+    {
         for column in from..width.saturating_add(1) {
             self.offer(
                 checker,
@@ -189,7 +215,10 @@ impl Hints {
         checker: &Checker,
         counter: &Counter,
         falses: usize,
-    ) -> Result<(), AllocError> {
+    ) -> Result<(), AllocError>
+        requires { AreNamed checker.now.database.held self.old.ids.items }
+        ensures { AreNamed checker.now.database.held self.new.ids.items }
+    {
         let mut left = falses;
         let mut row = counter.inputs.len();
         let mut id = counter.end;
@@ -207,27 +236,25 @@ impl Hints {
         Ok(())
     }
 
-    /// Takes a clause for a hint where it forces a literal or has all false; after one with all false none is wanted.
-    fn offer(&mut self, checker: &Checker, id: u64) -> Result<(), AllocError> {
-        if self.has_conflict {
+    /// Takes a clause for a hint where one is held under the id, and it forces a literal or has all false; after one with all
+    /// false none is wanted.
+    fn offer(&mut self, checker: &Checker, id: u64) -> Result<(), AllocError>
+        requires { AreNamed checker.now.database.held self.old.ids.items }
+        ensures { AreNamed checker.now.database.held self.new.ids.items }
+    {
+        if self.has_conflict || id == 0 || id >= MOST_ID {
             return Ok(());
         }
         let Some(clause) = checker.lits(id) else {
             return Ok(());
         };
         match self.values.see(clause) {
-            Sight::Fails => {
-                self.has_conflict = true;
-                self.ids.push(id)?;
-                Ok(())
-            }
-            Sight::Forces(l) => {
-                self.values.make_true(l)?;
-                self.ids.push(id)?;
-                Ok(())
-            }
-            _ => Ok(()),
+            Sight::Fails => self.has_conflict = true,
+            Sight::Forces(l) => self.values.make_true(l)?,
+            _ => return Ok(()),
         }
+        self.ids.push(id)?;
+        Ok(())
     }
 }
 
