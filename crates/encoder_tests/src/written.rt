@@ -21,13 +21,13 @@ static THREE_OF_FOUR: &str =
 static TWO_OF_FOUR: &str =
     r#"[{"publicKey":"a","quorumSet":{"threshold":2,"validators":["a","b","c","d"]}},{"publicKey":"b","quorumSet":{"threshold":2,"validators":["a","b","c","d"]}},{"publicKey":"c","quorumSet":{"threshold":2,"validators":["a","b","c","d"]}},{"publicKey":"d","quorumSet":{"threshold":2,"validators":["a","b","c","d"]}}]"#;
 
-/// The names of twelve nodes.
-static TWELVE: &str = r#""a","b","c","d","e","f","g","h","i","j","k","l""#;
+/// The names of seventeen nodes.
+static SEVENTEEN: &str = r#""a","b","c","d","e","f","g","h","i","j","k","l","m","n","o","p","q""#;
 
-/// The configuration of twelve nodes, each of which wants so many of them.
-fn of_twelve(alloc: Global, threshold: u64) -> Result<String, AllocError> {
+/// The configuration of seventeen nodes, each of which wants so many of them.
+fn of_seventeen(alloc: Global, threshold: u64) -> Result<String, AllocError> {
     let mut text = String::from_str(alloc, "[")?;
-    for name in TWELVE.split(',') {
+    for name in SEVENTEEN.split(',') {
         if text.len() > 1 {
             text.push_str(",")?;
         }
@@ -35,7 +35,7 @@ fn of_twelve(alloc: Global, threshold: u64) -> Result<String, AllocError> {
         text.push_str(name)?;
         let wanted = format!(in alloc;
             ",\"quorumSet\":{{\"threshold\":{},\"validators\":[{}]}}}}",
-            threshold, TWELVE
+            threshold, SEVENTEEN
         )?;
         text.push_str(&wanted)?;
     }
@@ -154,7 +154,7 @@ fn a_search_over_gates_written_out_tells(rt: HostRuntime) {
 #[test]
 fn first_rows_are_written_out_of_a_gate_with_many_sets(rt: HostRuntime) {
     let alloc = rt.alloc();
-    let found = match of_twelve(alloc, 7) {
+    let found = match of_seventeen(alloc, 9) {
         Ok(config) => asked_of(alloc, &config, Asked::Gates),
         Err(error) => Err(error),
     };
@@ -168,7 +168,7 @@ fn first_rows_are_written_out_of_a_gate_with_many_sets(rt: HostRuntime) {
 #[test]
 fn a_search_over_first_rows_tells(rt: HostRuntime) {
     let alloc = rt.alloc();
-    let found = match of_twelve(alloc, 6) {
+    let found = match of_seventeen(alloc, 8) {
         Ok(config) => asked_of(alloc, &config, Asked::Search(1000)),
         Err(error) => Err(error),
     };
@@ -178,7 +178,7 @@ fn a_search_over_first_rows_tells(rt: HostRuntime) {
 #[test]
 fn a_search_over_first_rows_refutes(rt: HostRuntime) {
     let alloc = rt.alloc();
-    let found = match of_twelve(alloc, 8) {
+    let found = match of_seventeen(alloc, 11) {
         Ok(config) => asked_of(alloc, &config, Asked::Search(1000)),
         Err(error) => Err(error),
     };

@@ -5,8 +5,11 @@ use crate::reading::{MOST_INPUTS, read_counter};
 use clause_store::{Lit, Store};
 use std::alloc::{AllocError, Global};
 
-/// The most clauses that all sets of inputs of whole gates may take.
-const MOST_SETS: u64 = 1 << 20;
+/// The most sets of inputs that a whole gate may have.
+const MOST_SETS: u64 = 1 << 14;
+
+/// The most clauses that the sets of all whole gates may take, for all their heads.
+const MOST_CLAUSES: u64 = 1 << 20;
 
 /// So many rows are written out of the counter of a gate whose sets are too many: that takes fewer than 128 clauses.
 const FIRST_ROWS: usize = 7;
@@ -36,10 +39,13 @@ fn is_whole(counter: &Counter) -> bool {
     counter.inputs.len() as u64 <= u64::from(MOST_INPUTS)
 }
 
-/// How many clauses a gate's sets of inputs take, for all its heads.
-fn count_of_clauses(counter: &Counter) -> u64 {
+/// How many clauses are left when a gate is written out whole, if its sets of inputs are not too many.
+fn left_behind(counter: &Counter, left: u64) -> Option<u64> {
     let sets = count_of_sets(counter.inputs.len() as u64, counter.threshold as u64);
-    sets.saturating_mul(counter.heads.len() as u64)
+    if sets > MOST_SETS {
+        return None;
+    }
+    left.checked_sub(sets.saturating_mul(counter.heads.len() as u64))
 }
 
 /// The whole counters in the order of their clauses, without heads.
@@ -73,9 +79,8 @@ fn end_of_rows(counter: &Counter, rows: usize) -> u64 {
 
 /// The counter, if so many clauses are left as its gate takes; else its first rows.
 fn part_of(alloc: Global, counter: Counter, left: &mut u64) -> Counter {
-    let count = count_of_clauses(&counter);
-    if count <= *left {
-        *left -= count;
+    if let Some(behind) = left_behind(&counter, *left) {
+        *left = behind;
         return counter;
     }
     let end = end_of_rows(&counter, FIRST_ROWS);
@@ -280,8 +285,9 @@ fn own_counters(alloc: Global, formula: &Store, vars: u64) -> Result<Vec<Counter
     Ok(found)
 }
 
-/// The gates with counters that are named by nothing but their heads' clauses, of at most 32 inputs: whole while
-/// their sets of inputs take no more than a million clauses in all, of others the first seven rows of their counters. None where fewer than half of the
+/// The gates with counters that are named by nothing but their heads' clauses, of at most 32 inputs: whole where
+/// they have at most 16,384 sets of inputs, and these take no more than a million clauses in all; of others the first seven rows
+/// of their counters. None where fewer than half of the
 /// variables are theirs, or fewer than an eighth go. They stand in the order of their clauses. The ids of the formula are dense
 /// from 1 on, and its variables are at most `vars`, else gates may be missed. Time is linear in the literals and `vars`, memory
 /// in `vars` and the gates.
@@ -295,7 +301,7 @@ pub fn find_counters(
         return Ok(Vec::new(alloc));
     }
     let mut parts = Vec::new(alloc);
-    let mut left = MOST_SETS;
+    let mut left = MOST_CLAUSES;
     for counter in counters {
         parts.push(part_of(alloc, counter, &mut left))?;
     }
