@@ -154,14 +154,14 @@ fn a_search_over_gates_written_out_tells(rt: HostRuntime) {
 #[test]
 fn first_rows_are_written_out_of_a_gate_with_many_sets(rt: HostRuntime) {
     let alloc = rt.alloc();
-    let found = match of_seventeen(alloc, 9) {
+    let found = match of_seventeen(alloc, 11) {
         Ok(config) => asked_of(alloc, &config, Asked::Gates),
         Err(error) => Err(error),
     };
     same(
         &rt,
         found,
-        "7 of [1, 2, 3, 4, 5, 6, 7] for [], which goes on, 7 of [13, 14, 15, 16, 17, 18, 19] for [], which goes on, 424 clauses",
+        "11 of [1, 2, 3, 4, 5, 6, 7] for [], which goes on, 11 of [18, 19, 20, 21, 22, 23, 24] for [], which goes on, 705 clauses",
     );
 }
 
@@ -172,7 +172,7 @@ fn a_search_over_first_rows_tells(rt: HostRuntime) {
         Ok(config) => asked_of(alloc, &config, Asked::Search(1000)),
         Err(error) => Err(error),
     };
-    same(&rt, found, "told 138 values");
+    same(&rt, found, "told 250 values");
 }
 
 #[test]
@@ -182,5 +182,5 @@ fn a_search_over_first_rows_refutes(rt: HostRuntime) {
         Ok(config) => asked_of(alloc, &config, Asked::Search(1000)),
         Err(error) => Err(error),
     };
-    same(&rt, found, "refuted in 77 steps");
+    same(&rt, found, "refuted in 260 steps");
 }
