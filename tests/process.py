@@ -228,8 +228,8 @@ class Trial:
         count = sum(1 for _ in lemmas(self.held("forgetful") or ""))
         self.judge("its lemmas, of which there are 8,526 by the order that suits organisations", 5000 < count < 15000, True)
 
-    def over_gates(self, size, threshold, is_small):
-        """A search over gates written out: where they are small no lemma has a variable of their counters."""
+    def over_gates(self, size, threshold, is_whole):
+        """A search over gates written out: where they are whole no lemma has a variable of their counters."""
         config = trials.drawn(26, size, threshold, 1)
         with open(self.path("drawn"), "w") as it:
             it.write(config)
@@ -242,7 +242,7 @@ class Trial:
         checked = plain_checker.check(config.encode(), certificate.encode())
         self.judge(name + ", checked by another", checked, (0, "accepted refutation\nfrom\nfaulty\n"))
         found = [abs(literal) for lemma in lemmas(certificate) for literal in lemma]
-        self.judge(name + ", the variables of lemmas", (len(found) > 0, max(found, default=0) <= 2 * 26), (True, is_small))
+        self.judge(name + ", the variables of lemmas", (len(found) > 0, max(found, default=0) <= 2 * 26), (True, is_whole))
 
     def from_a_pipe(self):
         os.mkfifo(self.path("pipe"))
@@ -290,7 +290,8 @@ def main():
             trial.row(*row)
         trial.forgets()
         trial.over_gates(10, 6, True)
-        trial.over_gates(12, 7, False)
+        trial.over_gates(12, 7, True)
+        trial.over_gates(17, 11, False)
         trial.from_a_pipe()
         trial.to_a_full_device()
         trial.full_after_the_certificate()
