@@ -9,3 +9,4 @@ mod searching;
 mod values;
 
 pub use searching::{Found, search};
+pub use written_gates::has_gates;

@@ -11,6 +11,7 @@ use crate::answers::{Answer, AskError};
 use crate::gates::by_gates;
 use crate::searching::{End, Formula, Search, end_of, formula_of, start};
 use fbas_core::System;
+use gate_search::has_gates;
 use greatest_quorum::available;
 use name_set::NodeSet;
 use std::alloc::Global;
@@ -18,17 +19,17 @@ use std::alloc::Global;
 /// The most units that a question may have.
 pub const MOST_UNITS: u64 = 4_000_000_000;
 
-/// So many lemmas with a literal a search over the formula itself learns at first: those of most systems that are run are
-/// refuted by fewer, and the gates of one that is not are worth writing out.
-const FEW_UNITS: u64 = 200;
+/// Where gates are worth writing out, so many lemmas with a literal a search over the formula itself learns before: a system that
+/// fewer decide needs no writing, and each of them costs as much as five over gates written out.
+const FEW_UNITS: u64 = 50;
 
 /// Whether every two quorums (Mazières 2015) share a node once the faulty nodes are deleted, with the evidence: a log that
 /// refutes the intersection formula, or two quorums that share none, or the log of a search that spent the budget.
 ///
 /// The formula is that of version 2. Of the budget each lemma with a literal takes a unit. `TooLarge` comes exactly where the
-/// formula has more than 4,000,000 variables. Where 200 lemmas over the formula decide nothing, the search begins anew with its
-/// gates written out, where that takes many of its variables away, and else over the formula; what the first lemmas took counts nothing. The
-/// cost is that of the greatest quorum, of `encode` and of the searches.
+/// formula has more than 4,000,000 variables. Where writing the formula's gates out takes many of its variables away, the search
+/// goes over them once 50 lemmas over the formula decided nothing; what these took counts nothing. Else, and where that led
+/// nowhere, it goes over the formula. The cost is that of the greatest quorum, of `encode` and of the searches.
 pub fn intersect(
     alloc: Global,
     system: &System,
@@ -41,30 +42,73 @@ pub fn intersect(
     ensures small { OnOk result (vars_of system.now.sets faulty.now ≤ MOST_VARS) }
     ensures too_large { (vars : ℕ) → result ≡ Err (AskError.TooLarge vars) → (vars ≡ vars_of system.now.sets faulty.now) × (MOST_VARS < vars) }
 {
-    if budget <= FEW_UNITS {
-        return by_formula(alloc, system, faulty, budget);
+    match formula_of(alloc, system, faulty) {
+        Ok(formula) => by_formula(alloc, system, faulty, formula, budget),
+        Err(error) => Err(error),
     }
-    match at_once(alloc, system, faulty, budget) {
+}
+
+/// What is found within the budget: over the formula itself, unless its gates are worth writing out.
+fn by_formula(
+    alloc: Global,
+    system: &System,
+    faulty: &NodeSet,
+    formula: Formula,
+    budget: u64,
+) -> Result<Answer, AskError>
+    requires same_n { length faulty.now ≡ length system.now.sets }
+    requires few { budget ≤ MOST_UNITS }
+    requires formula { IsFormula system.now.sets faulty.now formula }
+    ensures shows { IfOk result (Shows system.now.sets faulty.now budget) }
+    ensures too_large { (vars : ℕ) → result ≡ Err (AskError.TooLarge vars) → (vars ≡ vars_of system.now.sets faulty.now) × (MOST_VARS < vars) }
+{
+    if budget <= FEW_UNITS {
+        return search_on(alloc, system, faulty, formula, budget);
+    }
+    match has_gates(alloc, &formula.store, formula.size.vars) {
+        Ok(true) => in_turn(alloc, system, faulty, formula, budget),
+        Ok(false) => search_on(alloc, system, faulty, formula, budget),
+        Err(_) => Err(AskError::Memory),
+    }
+}
+
+/// What few lemmas over the formula show, or else the whole budget, with its gates written out.
+fn in_turn(
+    alloc: Global,
+    system: &System,
+    faulty: &NodeSet,
+    formula: Formula,
+    budget: u64,
+) -> Result<Answer, AskError>
+    requires same_n { length faulty.now ≡ length system.now.sets }
+    requires few { budget ≤ MOST_UNITS }
+    requires more { FEW_UNITS < budget }
+    requires formula { IsFormula system.now.sets faulty.now formula }
+    ensures shows { IfOk result (Shows system.now.sets faulty.now budget) }
+    ensures too_large { (vars : ℕ) → result ≡ Err (AskError.TooLarge vars) → (vars ≡ vars_of system.now.sets faulty.now) × (MOST_VARS < vars) }
+{
+    match at_once(alloc, system, faulty, formula, budget) {
         Ok(Some(answer)) => Ok(answer),
         Ok(None) => at_length(alloc, system, faulty, budget),
         Err(error) => Err(error),
     }
 }
 
-/// What few lemmas show, of a greater budget.
+/// What few lemmas over the formula show, of a greater budget.
 fn at_once(
     alloc: Global,
     system: &System,
     faulty: &NodeSet,
+    formula: Formula,
     budget: u64,
 ) -> Result<Option<Answer>, AskError>
     requires same_n { length faulty.now ≡ length system.now.sets }
     requires more { FEW_UNITS < budget }
+    requires formula { IsFormula system.now.sets faulty.now formula }
     ensures shows { IfOk result (λ found. IfSome found (Shows system.now.sets faulty.now budget)) }
-    ensures small { OnOk result (vars_of system.now.sets faulty.now ≤ MOST_VARS) }
-    ensures too_large { (vars : ℕ) → result ≡ Err (AskError.TooLarge vars) → (vars ≡ vars_of system.now.sets faulty.now) × (MOST_VARS < vars) }
+    ensures memory { IfErr result (λ error. error ≡ AskError.Memory) }
 {
-    match by_formula(alloc, system, faulty, FEW_UNITS) {
+    match search_on(alloc, system, faulty, formula, FEW_UNITS) {
         Ok(Answer::Yes(log, size)) => Ok(Some(Answer::Yes(log, size))),
         Ok(Answer::No(pair)) => Ok(Some(Answer::No(pair))),
         Ok(Answer::Spent(_, _)) => Ok(None),
@@ -82,30 +126,10 @@ fn at_length(
     requires same_n { length faulty.now ≡ length system.now.sets }
     requires few { budget ≤ MOST_UNITS }
     ensures shows { IfOk result (Shows system.now.sets faulty.now budget) }
-    ensures small { OnOk result (vars_of system.now.sets faulty.now ≤ MOST_VARS) }
     ensures too_large { (vars : ℕ) → result ≡ Err (AskError.TooLarge vars) → (vars ≡ vars_of system.now.sets faulty.now) × (MOST_VARS < vars) }
 {
     match formula_of(alloc, system, faulty) {
         Ok(formula) => answer(alloc, system, faulty, formula, budget),
-        Err(error) => Err(error),
-    }
-}
-
-/// What a search over the formula itself shows within the budget.
-fn by_formula(
-    alloc: Global,
-    system: &System,
-    faulty: &NodeSet,
-    budget: u64,
-) -> Result<Answer, AskError>
-    requires same_n { length faulty.now ≡ length system.now.sets }
-    requires few { budget ≤ MOST_UNITS }
-    ensures shows { IfOk result (Shows system.now.sets faulty.now budget) }
-    ensures small { OnOk result (vars_of system.now.sets faulty.now ≤ MOST_VARS) }
-    ensures too_large { (vars : ℕ) → result ≡ Err (AskError.TooLarge vars) → (vars ≡ vars_of system.now.sets faulty.now) × (MOST_VARS < vars) }
-{
-    match formula_of(alloc, system, faulty) {
-        Ok(formula) => search_on(alloc, system, faulty, formula, budget),
         Err(error) => Err(error),
     }
 }

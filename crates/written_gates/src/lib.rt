@@ -13,4 +13,5 @@ mod writing;
 
 pub use cells::{Cell, is_outer};
 pub use counters::Counter;
+pub use search::has_gates;
 pub use writing::{Origin, Written, write_out};

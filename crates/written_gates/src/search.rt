@@ -311,3 +311,10 @@ pub fn find_counters(
         Ok(Vec::new(alloc))
     }
 }
+
+/// Whether the formula has gates that are worth writing out, as `find_counters` finds them. Costs what that does, and nothing
+/// is written.
+pub fn has_gates(alloc: Global, formula: &Store, vars: u64) -> Result<bool, AllocError> {
+    let counters = find_counters(alloc, formula, vars)?;
+    Ok(!counters.is_empty())
+}
