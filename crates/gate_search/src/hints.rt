@@ -29,6 +29,13 @@ pub struct Bases {
     pub written: u64,
 }
 
+/// The variable of a row's first place, and the id of its first clause.
+#[derive(Clone, Copy)]
+struct Row {
+    variable: usize,
+    id: u64,
+}
+
 impl Hints {
     /// None, among this many variables.
     pub fn new(alloc: Global, vars: u64) -> Result<Hints, AllocError>
@@ -41,8 +48,8 @@ impl Hints {
         })
     }
 
-    /// Looks for the hints of a lemma. O(the literals of the clauses that are hints, and for each hint that is a set of a gate's
-    /// inputs those of the gate's counter).
+    /// Looks for the hints of a lemma. O(the literals of the clauses and sets that its own hints name, and for each of these that
+    /// is a set of a gate's inputs the rows and cells of the gate's counter).
     pub fn look_for(
         &mut self,
         checker: &Checker,
@@ -106,7 +113,7 @@ impl Hints {
     }
 
     /// Goes after one hint: a lemma, a clause of the formula, or a set of the inputs of a gate, for which the gate's counter
-    /// is gone through unless the set is true already.
+    /// is gone through.
     fn follow(
         &mut self,
         checker: &Checker,
@@ -129,111 +136,144 @@ impl Hints {
                 let Some(set) = written.store.lits(id) else {
                     return Ok(());
                 };
-                if self.holds(set) {
-                    return Ok(());
-                }
                 match written.counters.get(number as usize) {
-                    Some(counter) => self.count(checker, counter, head, set.len()),
+                    Some(counter) => self.count(checker, counter, head, set),
                     None => Ok(()),
                 }
             }
         }
     }
 
-    /// Whether a literal of the set is true.
-    fn holds(&self, set: &[Lit]) -> bool {
-        matches!(self.values.see(set), Sight::Holds)
-    }
-
-    /// Goes through a gate's counter: from the head to the gate; up its rows, where inputs are false; down again, where so many
-    /// are that all others have to be true; and from the gate to the head. A set's clause has its head and one literal more than
-    /// so many of the inputs may be false.
+    /// Goes through a gate's counter for a set of its inputs, which has the head's negation first, where that forces a literal or
+    /// has all false: from the head to the gate; up the rows, where inputs of the set are false; and down again to the input that
+    /// is forced, or else from the gate to the head. O(the set's literals, and where it is gone through the rows and cells of the
+    /// counter).
     fn count(
         &mut self,
         checker: &Checker,
         counter: &Counter,
         head: u64,
-        length: usize,
+        set: &[Lit],
     ) -> Result<(), AllocError>
         requires { AreNamed checker.now.database.held self.old.ids.items }
         ensures { AreNamed checker.now.database.held self.new.ids.items }
     {
+        let forces_input = match self.values.see(set) {
+            Sight::Forces(l) => l.number() > 0,
+            Sight::Fails => false,
+            Sight::Holds | Sight::Open => return Ok(()),
+        };
+        let Some((_, inputs)) = set.split_first() else {
+            return Ok(());
+        };
         self.offer(checker, head)?;
-        let falses = self.rise(checker, counter)?;
-        if falses.saturating_add(2) == length {
-            self.fall(checker, counter, falses)?;
+        self.rise(checker, counter, inputs)?;
+        if forces_input {
+            self.fall(checker, counter, inputs)
+        } else {
+            self.offer(checker, head)
         }
-        self.offer(checker, head)
     }
 
-    /// Up the rows: where f of the first i inputs are false, the places past i - f of row i are. How many inputs are false.
-    fn rise(&mut self, checker: &Checker, counter: &Counter) -> Result<usize, AllocError>
+    /// Up the rows: where f of the first i inputs are of the set and false, the places past i - f of row i are. Those past the
+    /// head's column are not wanted, since no place leads to one in a later column.
+    fn rise(&mut self, checker: &Checker, counter: &Counter, set: &[Lit]) -> Result<(), AllocError>
         requires { AreNamed checker.now.database.held self.old.ids.items }
         ensures { AreNamed checker.now.database.held self.new.ids.items }
     {
+        let last = column_of(counter, set);
+        let mut met: usize = 0;
         let mut falses: usize = 0;
-        let mut row: usize = 0;
+        let mut number: usize = 0;
         let mut id = counter.start;
         for input in &counter.inputs {
-            row = row.saturating_add(1);
-            let is_false = self.values.is_false(*input);
+            number = number.saturating_add(1);
+            let is_met = is_at(set, met, *input);
+            let is_false = is_met && self.values.is_false(*input);
+            met = met.saturating_add(usize::from(is_met));
             falses = falses.saturating_add(usize::from(is_false));
-            let width = row.min(counter.threshold);
-            let from = row.saturating_sub(falses).saturating_add(1);
-            self.rise_in(checker, id, from, width, is_false)?;
+            let width = number.min(counter.threshold);
+            let from = number.saturating_sub(falses).saturating_add(1);
+            let row = Row {
+                variable: variable_at(counter, number, 1),
+                id,
+            };
+            self.rise_in(checker, row, from, width.min(last), is_false)?;
             id = id.saturating_add(size_of_row(width));
         }
-        Ok(falses)
+        Ok(())
     }
 
-    /// In a row whose clauses begin at this id: the places from a column on, each by its first clause where the row's input is
-    /// false, and else by its second.
+    /// In a row: the places from a column on to another are false, each by its first clause where the row's input is, and else by
+    /// its second.
     fn rise_in(
         &mut self,
         checker: &Checker,
-        id: u64,
+        row: Row,
         from: usize,
-        width: usize,
+        to: usize,
         is_first: bool,
     ) -> Result<(), AllocError>
         requires { AreNamed checker.now.database.held self.old.ids.items }
         ensures { AreNamed checker.now.database.held self.new.ids.items }
     {
-        for column in from..width.saturating_add(1) {
-            self.offer(
-                checker,
-                first_clause(id, column).saturating_add(u64::from(!is_first)),
-            )?;
+        for column in from..to.saturating_add(1) {
+            let variable = row.variable.saturating_add(column.saturating_sub(1));
+            let clause = first_clause(row.id, column).saturating_add(u64::from(!is_first));
+            self.force(checker, variable, false, clause)?;
         }
         Ok(())
     }
 
-    /// Down the rows: place (i, i - f) is true where f of the first i inputs are false, and with it the i-th input, unless that
-    /// is false.
-    fn fall(
+    /// Down the rows to the input that is forced, the one of the set that is not false: where f of the first i inputs are of the
+    /// set and false, place i - f of row i is true, by the first clause of the true place below it where input i + 1 is one of
+    /// them, and else by the second.
+    fn fall(&mut self, checker: &Checker, counter: &Counter, set: &[Lit]) -> Result<(), AllocError>
+        requires { AreNamed checker.now.database.held self.old.ids.items }
+        ensures { AreNamed checker.now.database.held self.new.ids.items }
+    {
+        let mut left = set.len();
+        let mut column = column_of(counter, set);
+        let mut row = counter.inputs.len();
+        let mut id = counter.end;
+        while row > 0 {
+            id = id.saturating_sub(size_of_row(row.min(counter.threshold)));
+            let first = first_clause(id, column);
+            row -= 1;
+            let input = input_at(counter, row);
+            let is_met = is_at(set, left.saturating_sub(1), input);
+            if is_met && !self.values.is_false(input) {
+                return self.force(checker, input as usize, true, first);
+            }
+            left = left.saturating_sub(usize::from(is_met));
+            column = column.saturating_sub(usize::from(!is_met));
+            let clause = first.saturating_add(u64::from(!is_met));
+            self.force(checker, variable_at(counter, row, column), true, clause)?;
+        }
+        Ok(())
+    }
+
+    /// Takes for a hint the clause of this id, which gives a variable this value, as is known from the counter without a look at
+    /// it. None is wanted where the variable has the value already, and none after a conflict.
+    fn force(
         &mut self,
         checker: &Checker,
-        counter: &Counter,
-        falses: usize,
+        variable: usize,
+        value: bool,
+        id: u64,
     ) -> Result<(), AllocError>
         requires { AreNamed checker.now.database.held self.old.ids.items }
         ensures { AreNamed checker.now.database.held self.new.ids.items }
     {
-        let mut left = falses;
-        let mut row = counter.inputs.len();
-        let mut id = counter.end;
-        while row > 0 {
-            let width = row.min(counter.threshold);
-            id = id.saturating_sub(size_of_row(width));
-            let first = first_clause(id, row.saturating_sub(left));
-            row -= 1;
-            self.offer(checker, first)?;
-            match counter.inputs.get(row) {
-                Some(input) if self.values.is_false(*input) => left = left.saturating_sub(1),
-                _ => self.offer(checker, first.saturating_add(1))?,
-            }
+        if self.has_conflict {
+            return Ok(());
         }
-        Ok(())
+        match self.values.of(variable) {
+            None => self.values.set(variable, value)?,
+            Some(known) if known == value => return Ok(()),
+            Some(_) => self.has_conflict = true,
+        }
+        self.name(checker, id)
     }
 
     /// Takes a clause for a hint where one is held under the id, and it forces a literal or has all false; after one with all
@@ -242,7 +282,7 @@ impl Hints {
         requires { AreNamed checker.now.database.held self.old.ids.items }
         ensures { AreNamed checker.now.database.held self.new.ids.items }
     {
-        if self.has_conflict || id == 0 || id >= MOST_ID {
+        if self.has_conflict {
             return Ok(());
         }
         let Some(clause) = checker.lits(id) else {
@@ -251,10 +291,61 @@ impl Hints {
         match self.values.see(clause) {
             Sight::Fails => self.has_conflict = true,
             Sight::Forces(l) => self.values.make_true(l)?,
-            _ => return Ok(()),
+            Sight::Holds | Sight::Open => return Ok(()),
         }
+        self.name(checker, id)
+    }
+
+    /// The id is one of the hints from here on, if it is in range and a clause is held under it.
+    fn name(&mut self, checker: &Checker, id: u64) -> Result<(), AllocError>
+        requires { AreNamed checker.now.database.held self.old.ids.items }
+        ensures { AreNamed checker.now.database.held self.new.ids.items }
+    {
+        if id == 0 || id >= MOST_ID {
+            return Ok(());
+        }
+        let Some(_clause) = checker.lits(id) else {
+            return Ok(());
+        };
         self.ids.push(id)?;
         Ok(())
+    }
+}
+
+/// The column of the last row's place that is true where the head is. So many inputs are true then, and a set has one more than
+/// may be false.
+fn column_of(counter: &Counter, set: &[Lit]) -> usize {
+    counter
+        .inputs
+        .len()
+        .saturating_add(1)
+        .saturating_sub(set.len())
+}
+
+/// Whether the set has this input at this place. It has inputs in their order, so that each is met in turn.
+fn is_at(set: &[Lit], place: usize, input: u32) -> bool {
+    match set.get(place) {
+        Some(l) => l.variable() == input,
+        None => false,
+    }
+}
+
+/// The input after so many others; 0 past the last, which is none.
+fn input_at(counter: &Counter, before: usize) -> u32 {
+    match counter.inputs.get(before) {
+        Some(input) => *input,
+        None => 0,
+    }
+}
+
+/// The variable of a place, its row and its column from 1 on; 0, which is none, where the counter has no such row.
+fn variable_at(counter: &Counter, row: usize, column: usize) -> usize {
+    let (Some(above), Some(before)) = (row.checked_sub(1), column.checked_sub(1)) else {
+        return 0;
+    };
+    match counter.rows.get(above) {
+        Some(first) => (*first as usize).saturating_add(before),
+        None => 0,
     }
 }
 

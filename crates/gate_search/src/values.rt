@@ -13,11 +13,11 @@ pub enum Sight {
     Open,
 }
 
-/// The value of each variable, at its number, and the literals that are true.
+/// The value of each variable, at its number, and the variables that have one.
 #[derive(Drop)]
 pub struct Values {
     by_variable: Vec<Option<bool>>,
-    trues: Vec<Lit>,
+    known: Vec<usize>,
 }
 
 impl Values {
@@ -27,8 +27,16 @@ impl Values {
     {
         Ok(Values {
             by_variable: vec![in alloc; None; vars as usize + 1]?,
-            trues: Vec::new(alloc),
+            known: Vec::new(alloc),
         })
+    }
+
+    /// The value of a variable, if it has one.
+    pub fn of(&self, variable: usize) -> Option<bool> {
+        match self.by_variable.get(variable) {
+            Some(value) => *value,
+            None => None,
+        }
     }
 
     /// Whether the literal is true, if its variable has a value.
@@ -44,23 +52,28 @@ impl Values {
         matches!(self.by_variable.get(variable as usize), Some(Some(false)))
     }
 
-    /// The literal is true from here on.
-    pub fn make_true(&mut self, l: Lit) -> Result<(), AllocError> {
-        if let Some(value) = self.by_variable.get_mut(l.variable() as usize) {
-            *value = Some(l.number() > 0);
+    /// A variable has this value from here on. Of one past the last nothing is kept.
+    pub fn set(&mut self, variable: usize, value: bool) -> Result<(), AllocError> {
+        if let Some(place) = self.by_variable.get_mut(variable) {
+            *place = Some(value);
         }
-        self.trues.push(l)?;
+        self.known.push(variable)?;
         Ok(())
     }
 
-    /// No variable has a value any more: O(the literals that are true).
+    /// The literal is true from here on.
+    pub fn make_true(&mut self, l: Lit) -> Result<(), AllocError> {
+        self.set(l.variable() as usize, l.number() > 0)
+    }
+
+    /// No variable has a value any more: O(the variables that have one).
     pub fn clear(&mut self) {
-        for l in &self.trues {
-            if let Some(value) = self.by_variable.get_mut(l.variable() as usize) {
-                *value = None;
+        for variable in &self.known {
+            if let Some(place) = self.by_variable.get_mut(*variable) {
+                *place = None;
             }
         }
-        self.trues.clear();
+        self.known.clear();
     }
 
     /// What is seen of a clause: O(its literals), up to a true one or the second that is left.
