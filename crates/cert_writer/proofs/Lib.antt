@@ -13,6 +13,7 @@ pub mod ListRuns
 pub mod ListLaws
 pub mod WritingLaws
 pub mod TextSteps
+pub mod StepTexts
 pub mod Ends
 pub mod Found
 pub mod ListFound

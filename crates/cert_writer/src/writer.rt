@@ -1,12 +1,14 @@
 //! The writer.
 ghost use Rattle.std.specs.Prelude.{◌≡◌, Bool, All, map, IfSome, if◌then◌else◌, slice_index_or, decimal, ◌+◌, ◌<◌, ◌≤◌, ◌++◌, [], ◌∷◌, true, false, length, take, IsTrue, IfOk, OnOk, IsErr, ◌↔◌, codes};
+ghost use Rattle.std.specs.Fmt.{signed_decimal};
 ghost use Rattle.desk_io.specs.State.{DeskState};
 ghost use Rattle.desk_io.specs.Faults.{Faults};
 ghost use Rattle.fbas_model.specs.Restriction.{kept};
 ghost use Rattle.lrat_text.specs.Left.{spaced};
 ghost use Rattle.fbas_model.specs.Nodes.{members};
-ghost use Rattle.lrat_text.specs.Lent.{lent_step};
-ghost use Rattle.lrat_text.specs.Texts.{line_of, HasNumbers};
+ghost use Rattle.lrat_model.specs.Steps.{Addition, Deletion};
+ghost use Rattle.lrat_text.specs.Lent.{lent_step, lent_hints};
+ghost use Rattle.lrat_text.specs.Texts.{line_of, literal_text, HasNumbers};
 ghost use Rattle.blocking_lists.specs.Lines.{line_of as said_line};
 ghost use Rattle.cert_writer.specs.Texts.{joined, name_if_any, header_lines, pair_front, kind_of, log_front, list_kind_of, set_line, journal_line, list_front};
 ghost use Rattle.cert_writer.specs.Listing.{CanBeLine};
@@ -17,9 +19,9 @@ use certificate_file::{Aim, Header, Pair};
 use desk_io::{Desk, To, WriteFailed, put_all};
 use digest_text::digits;
 use fbas_core::System;
-use itoa::Buffer;
+use itoa::{Buffer, Integer};
 use list_journal::ListKind;
-use lrat_text::{Log, StepRef, write_lent};
+use lrat_text::{HintsRef, Lit, Log, StepRef};
 use name_set::{Names, NodeSet};
 use std::alloc::{AllocError, Global};
 use std::marker::Model;
@@ -112,12 +114,44 @@ impl CertWriter {
         self.keep(byte);
     }
 
-    /// Writes some bytes.
-    fn text<D: Desk>(&mut self, desk: &mut D, text: &[u8])
+    /// Holds some bytes, where there is room for all of them.
+    fn hold_all(&mut self, text: &[u8])
+        requires { length self.old.held + length text.now ≤ BUFFER }
+        ensures held { self.new.held ≡ self.old.held ++ text.now }
+        ensures failed { self.new.failed ≡ self.old.failed }
+    {
+        let end = self.filled + text.len();
+        self.bytes[self.filled..end].copy_from_slice(text);
+        self.filled = end;
+    }
+
+    /// Holds some bytes that there is room for, where no put failed.
+    fn keep_all(&mut self, text: &[u8])
+        requires { length self.old.held + length text.now ≤ BUFFER }
+        ensures { (tells : Bool) (s : DeskState) (f : Faults) → Writes tells text.now self.old s f self.new s f }
+    {
+        if !self.has_failed {
+            self.hold_all(text);
+        }
+    }
+
+    /// Writes some bytes one by one.
+    fn each_byte<D: Desk>(&mut self, desk: &mut D, text: &[u8])
         ensures { Writes D.tells text.now self.old (D.state desk.old) (D.faults desk.old) self.new (D.state desk.new) (D.faults desk.new) }
     {
         for byte in text {
             self.byte(desk, *byte);
+        }
+    }
+
+    /// Writes some bytes: in one go where there is room for all of them.
+    fn text<D: Desk>(&mut self, desk: &mut D, text: &[u8])
+        ensures { Writes D.tells text.now self.old (D.state desk.old) (D.faults desk.old) self.new (D.state desk.new) (D.faults desk.new) }
+    {
+        if text.len() <= BUFFER - self.filled {
+            self.keep_all(text);
+        } else {
+            self.each_byte(desk, text);
         }
     }
 
@@ -133,8 +167,43 @@ impl CertWriter {
     fn number<D: Desk>(&mut self, desk: &mut D, number: u64)
         ensures { Writes D.tells (32 ∷ decimal number) self.old (D.state desk.old) (D.faults desk.old) self.new (D.state desk.new) (D.faults desk.new) }
     {
+        self.integer(desk, number);
+    }
+
+    /// Writes a space and a number of any type, with a minus where it is negative.
+    fn integer<D: Desk, I: Integer>(&mut self, desk: &mut D, number: I)
+        ensures { Writes D.tells (32 ∷ I.text number) self.old (D.state desk.old) (D.faults desk.old) self.new (D.state desk.new) (D.faults desk.new) }
+    {
         let mut buffer = Buffer::new();
         self.word(desk, buffer.format(number).as_bytes());
+    }
+
+    /// Writes a space and a number for each of a list.
+    fn integers<D: Desk, I: Integer>(&mut self, desk: &mut D, numbers: &[I])
+        ensures { Writes D.tells (spaced (map I.text numbers.now)) self.old (D.state desk.old) (D.faults desk.old) self.new (D.state desk.new) (D.faults desk.new) }
+    {
+        for number in numbers {
+            self.integer(desk, *number);
+        }
+    }
+
+    /// Writes a space and a number for each literal, with a minus where it is negated.
+    fn literals<D: Desk>(&mut self, desk: &mut D, lits: &[Lit])
+        ensures { Writes D.tells (spaced (map literal_text lits.now)) self.old (D.state desk.old) (D.faults desk.old) self.new (D.state desk.new) (D.faults desk.new) }
+    {
+        for l in lits {
+            self.integer(desk, l.number());
+        }
+    }
+
+    /// Writes a space and a number for each hint, however wide they are kept.
+    fn hints<D: Desk>(&mut self, desk: &mut D, hints: HintsRef<'_>)
+        ensures { Writes D.tells (spaced (map signed_decimal (lent_hints hints.entry))) self.old (D.state desk.old) (D.faults desk.old) self.new (D.state desk.new) (D.faults desk.new) }
+    {
+        match hints {
+            HintsRef::Short(ids) => self.integers(desk, ids),
+            HintsRef::Wide(numbers) => self.integers(desk, numbers),
+        }
     }
 
     /// Writes a space and a name for each node of a set.
@@ -185,16 +254,44 @@ impl CertWriter {
         self.text(desk, b"\n");
     }
 
+    /// Writes the id of a step, with no space before it.
+    fn step_id<D: Desk>(&mut self, desk: &mut D, id: u64)
+        ensures { Writes D.tells (decimal id) self.old (D.state desk.old) (D.faults desk.old) self.new (D.state desk.new) (D.faults desk.new) }
+    {
+        let mut buffer = Buffer::new();
+        self.text(desk, buffer.format(id).as_bytes());
+    }
+
+    /// Writes the line of a lemma: its id, and its literals and its hints with a zero behind each list.
+    fn lemma<D: Desk>(&mut self, desk: &mut D, id: u64, lits: &[Lit], hints: HintsRef<'_>)
+        ensures { Writes D.tells (line_of (Addition id lits.now (lent_hints hints.entry)) ++ 10 ∷ []) self.old (D.state desk.old) (D.faults desk.old) self.new (D.state desk.new) (D.faults desk.new) }
+    {
+        self.step_id(desk, id);
+        self.literals(desk, lits);
+        self.text(desk, b" 0");
+        self.hints(desk, hints);
+        self.text(desk, b" 0\n");
+    }
+
+    /// Writes the line of a deletion: its id, a mark, and the ids of the clauses with a zero behind them.
+    fn deletion<D: Desk>(&mut self, desk: &mut D, id: u64, ids: &[u64])
+        ensures { Writes D.tells (line_of (Deletion id ids.now) ++ 10 ∷ []) self.old (D.state desk.old) (D.faults desk.old) self.new (D.state desk.new) (D.faults desk.new) }
+    {
+        self.step_id(desk, id);
+        self.text(desk, b" d");
+        self.integers(desk, ids);
+        self.text(desk, b" 0\n");
+    }
+
     /// Writes the line of a step that is lent.
     fn step<D: Desk>(&mut self, desk: &mut D, step: StepRef<'_>)
         requires { HasNumbers (lent_step step) }
         ensures { Writes D.tells (line_of (lent_step step.entry) ++ 10 ∷ []) self.old (D.state desk.old) (D.faults desk.old) self.new (D.state desk.new) (D.faults desk.new) }
     {
-        let mut bytes = write_lent(step);
-        while let Some(byte) = bytes.next() {
-            self.byte(desk, byte);
+        match step {
+            StepRef::Add { id, lits, hints } => self.lemma(desk, id, lits, hints),
+            StepRef::Delete { id, ids } => self.deletion(desk, id, ids),
         }
-        self.byte(desk, b'\n');
     }
 
     /// Writes the lines of a log's steps, or those until a put failed.
