@@ -1,4 +1,4 @@
-use Rattle.std.proofs.Common.{List, map, ap, take}
+use Rattle.std.proofs.Common.{List, map, ap}
 use Rattle.std.proofs.lemmas.List.{take_all}
 use Rattle.lrat_text.specs.Left.{spaced}
 use Rattle.cert_writer.proofs.WritingLaws.{writes_more, writes_same, writes_nothing}

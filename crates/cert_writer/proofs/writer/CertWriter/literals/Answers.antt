@@ -1,4 +1,4 @@
-use Rattle.std.proofs.Common.{rules, List, map, ap, take, ℤ, ◌∷◌, ◌∙◌, w32}
+use Rattle.std.proofs.Common.{rules, List, map, ap, ℤ, ◌∷◌, ◌∙◌, w32}
 use Rattle.std.proofs.lemmas.Int.{to_z-of_z}
 use mir.Val.{SFits}
 use Rattle.std.specs.Fmt.{signed_decimal}
