@@ -3,14 +3,17 @@
 use crate::entries::entry_or;
 use std::alloc::{AllocError, Global};
 
-/// The room of the table. Ids that are so far apart, or twice so far, share an entry.
+/// The most room of the table. Ids that are so far apart, or twice so far, share an entry.
 const ROOM: usize = 262_144;
+
+/// The least room, where there is any.
+const LEAST_ROOM: usize = 1024;
 
 /// Of how many conflicts the uses are late. Found by trials.
 const LATE: u32 = 2000;
 
 /// The number of the last conflict that used each id, and of the last of all; or nothing, where uses are not to count.
-/// Takes no memory before the first.
+/// Takes no memory before the first, and as much as the ids want since, for most searches are short.
 #[derive(Drop)]
 pub struct Uses {
     last: Vec<u32>,
@@ -28,14 +31,12 @@ impl Uses {
         }
     }
 
-    /// Takes note that the lemma of this id came from these. Linear in them, but for the first.
+    /// Takes note that the lemma of this id, the greatest, came from these. Linear in them, amortised.
     pub fn see(&mut self, id: u64, hints: &[i64]) -> Result<(), AllocError> {
         if self.is_left {
             return Ok(());
         }
-        if self.last.len() == 0 {
-            self.last = vec![in *self.last.allocator(); 0u32; ROOM]?;
-        }
+        self.make_room(place_of(id))?;
         self.now = self.now.saturating_add(1);
         self.use_now(id);
         for hint in hints {
@@ -50,17 +51,25 @@ impl Uses {
         self.is_left = true;
     }
 
+    /// Makes the table reach a place, and twice as far while it may.
+    fn make_room(&mut self, place: usize) -> Result<(), AllocError> {
+        if place >= self.last.len() {
+            let room = place.saturating_mul(2).max(LEAST_ROOM).min(ROOM);
+            self.last.resize(room, 0)?;
+        }
+        Ok(())
+    }
+
     /// Writes down that the conflict of now uses an id.
     fn use_now(&mut self, id: u64) {
-        let place = (id % ROOM as u64) as usize;
-        if let Some(last) = self.last.get_mut(place) {
+        if let Some(last) = self.last.get_mut(place_of(id)) {
             *last = self.now;
         }
     }
 
     /// Whether a late conflict used the lemma of an id.
     pub fn are_late(&self, id: u64) -> bool {
-        let last = entry_or(&self.last, (id % ROOM as u64) as usize, 0);
+        let last = entry_or(&self.last, place_of(id), 0);
         self.now.saturating_sub(last) < LATE
     }
 
@@ -74,4 +83,9 @@ impl Uses {
             is_left: self.is_left,
         })
     }
+}
+
+/// The place of an id in the table.
+fn place_of(id: u64) -> usize {
+    (id % ROOM as u64) as usize
 }
