@@ -13,7 +13,6 @@ use Rattle.std.proofs.Math.Bool.{or-true}
 use denote.Ref.{Bor}
 use Rattle.fbas_model.specs.Names.{Name, name_cmp, is_among}
 use Rattle.node_json.specs.SeenNames.{AreSeen}
-use Rattle.node_json.specs.declared.slots.TheConstants.{SLOTS}
 use Rattle.node_json.proofs.NamesInOrder.{is_among-insert_key, insert_key-sorted, missed, apart}
 
 -- a name that is among names in order is not put in a second time
@@ -47,7 +46,7 @@ pub seen_more : (names : List Name) (slots : List (Option (Bor (List ℕ)))) (sl
     → AreSeen (insert_key name_cmp names name.now) (slice_set slots slot (Some name))
 seen_more names slots slot name seen = record {
   sorted = insert_key-sorted name.now names seen.sorted;
-  size = length-set slots slot (Some name) ∙ seen.size;
+  some = rw (length-set slots slot (Some name)) seen.some;
   among = All-set (λ s. IfSome s (λ n. IsTrue (is_among n.now (insert_key name_cmp names name.now)))) slots slot (Some name) (among_now name.now names)
       (All-weaker (λ s. IfSome s (λ n. IsTrue (is_among n.now names))) (λ s. IfSome s (λ n. IsTrue (is_among n.now (insert_key name_cmp names name.now)))) still slots seen.among);
 }
@@ -71,9 +70,9 @@ none_only R never None h = refl
 none_only R never (Some x) h = absurd (never x h)
 
 -- slots without a name
-pub none_seen : (n : ℕ) → n ≡ SLOTS → AreSeen [] (replicate n None)
+pub none_seen : (n : ℕ) → 0 < n → AreSeen [] (replicate n None)
 unfolding IsStrictlySortedBy
-none_seen n size = record { sorted = tt; size = length-replicate n None ∙ size; among = all_none n }
+none_seen n above = record { sorted = tt; some = rw (length-replicate {A = Option (Bor (List ℕ))} n None) above; among = all_none n }
   where
     all_none : (k : ℕ) → All (λ (s : Option (Bor (List ℕ))). IfSome s (λ n. IsTrue (is_among n.now []))) (replicate k None)
     all_none k = All-replicate (λ (s : Option (Bor (List ℕ))). IfSome s (λ n. IsTrue (is_among n.now []))) k None tt

@@ -3,7 +3,7 @@ ghost use Rattle.std.specs.Prelude.{◌≡◌, ◌<◌, [], ◌∷◌, IfOk, OnO
 ghost use Rattle.node_json.specs.NamesInOrder.{with_names};
 ghost use Rattle.node_json.specs.View.{names_view};
 
-use crate::slots::{SLOTS, slot_of};
+use crate::slots::{slot_of, slots_for};
 use std::alloc::{AllocError, Global};
 use std::collections::BTreeSet;
 use std::marker::Model;
@@ -30,13 +30,13 @@ impl<'v> Model for SeenNames<'v> {
 }
 
 impl<'v> SeenNames<'v> {
-    /// No names yet.
-    pub(crate) fn new(alloc: Global) -> Result<SeenNames<'v>, AllocError>
+    /// No names yet. The text's length in bytes says only how large the table of slots is.
+    pub(crate) fn new(alloc: Global, text: usize) -> Result<SeenNames<'v>, AllocError>
         ensures { IfOk result (λ names. names ≡ []) }
     {
         Ok(SeenNames {
             ordered: BTreeSet::new(alloc),
-            slots: vec![in alloc; None; SLOTS]?,
+            slots: vec![in alloc; None; slots_for(text)]?,
         })
     }
 
@@ -44,7 +44,7 @@ impl<'v> SeenNames<'v> {
     pub(crate) fn add(&mut self, name: &'v str) -> Result<(), AllocError>
         ensures { OnOk result (self.new ≡ with_names self.old (name.now ∷ [])) }
     {
-        let slot = slot_of(name);
+        let slot = slot_of(name, self.slots.len());
         if let Some(seen) = self.slots[slot] {
             if seen == name {
                 return Ok(());

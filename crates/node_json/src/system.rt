@@ -79,9 +79,10 @@ fn numbered_if_any(
     }
 }
 
-// For each name its quorum set, at its place.
+// For each name its quorum set, at its place. The text's length in bytes says only how large the table of guesses is.
 fn placed_sets(
     alloc: Global,
+    text: usize,
     names: &Names,
     nodes: &[NamedNode],
 ) -> Result<Vec<Option<QuorumSet>>, AllocError>
@@ -89,7 +90,7 @@ fn placed_sets(
     ensures { IfOk result (λ v. v.items ≡ map (λ name. option_map (numbered names.now) (set_named (nodes_view nodes.now) name)) names.now) }
 {
     let mut sets = no_sets(alloc, names)?;
-    let mut guesses = Guesses::new(alloc)?;
+    let mut guesses = Guesses::new(alloc, text)?;
     for node in nodes {
         let set = numbered_if_any(alloc, names, &mut guesses, &node.quorum_set)?;
         if let Some(at) = names.find(node.key.as_bytes()) {
@@ -136,8 +137,14 @@ fn count_entries(sets: &[Option<QuorumSet>]) -> Option<u64>
     Some(n)
 }
 
-// The system of the nodes, of which these are the names, within the limits.
-fn system(alloc: Global, nodes: &[NamedNode], found: BTreeSet<&str>) -> Result<System, ConfigFault>
+// The system of the nodes, of which these are the names, within the limits. The text is its length in bytes, which says only
+// how large tables are.
+fn system(
+    alloc: Global,
+    text: usize,
+    nodes: &[NamedNode],
+    found: BTreeSet<&str>,
+) -> Result<System, ConfigFault>
     requires sound { AreSound (nodes_view nodes.now) }
     requires names { names_view found.keys ≡ in_order (all_names (nodes_view nodes.now)) }
     ensures ok { IfOk result (λ s. system_with (nodes_view nodes.now) ≡ Ok s) }
@@ -149,7 +156,7 @@ fn system(alloc: Global, nodes: &[NamedNode], found: BTreeSet<&str>) -> Result<S
     }
     // At most 16,384 names come so far, so that numbers of 32 bits suffice.
     let names = owned_names(alloc, found)?;
-    let sets = placed_sets(alloc, &names, nodes)?;
+    let sets = placed_sets(alloc, text, &names, nodes)?;
     let entries = count_entries(&sets).ok_or(ConfigFault::Memory)?;
     if entries > MOST_ENTRIES {
         return Err(ConfigFault::TooManyEntries(entries));
@@ -158,15 +165,15 @@ fn system(alloc: Global, nodes: &[NamedNode], found: BTreeSet<&str>) -> Result<S
     Ok(system)
 }
 
-// The system of a tree.
-fn system_in_tree(alloc: Global, tree: &Value) -> Result<System, ConfigFault>
+// The system of a tree. The text is its length in bytes, which says only how large tables are.
+fn system_in_tree(alloc: Global, text: usize, tree: &Value) -> Result<System, ConfigFault>
     ensures ok { IfOk result (λ s. and_then system_with (nodes_in (view tree.now)) ≡ Ok s) }
     ensures err { IfErr result (λ e. (e ≡ ConfigFault.Memory) ⊎ (and_then system_with (nodes_in (view tree.now)) ≡ Err e)) }
     ensures means { IfOk result (λ s. (nodes : List Declared) × (nodes_in (view tree.now) ≡ Ok nodes) × IsSystemOf nodes s) }
 {
-    let mut names = SeenNames::new(alloc)?;
+    let mut names = SeenNames::new(alloc, text)?;
     let nodes = read_nodes(alloc, &mut names, tree)?;
-    system(alloc, &nodes, names.in_order())
+    system(alloc, text, &nodes, names.in_order())
 }
 
 /// The system of a configuration, or its first fault.
@@ -190,5 +197,5 @@ pub fn read_config(alloc: Global, bytes: &[u8]) -> Result<System, ConfigFault>
 {
     let mut scratch = Scratch::new(alloc);
     let tree = read_tree(alloc, bytes, &mut scratch)?;
-    system_in_tree(alloc, &tree)
+    system_in_tree(alloc, bytes.len(), &tree)
 }
