@@ -19,17 +19,23 @@ use std::alloc::Global;
 /// The most units that a question may have.
 pub const MOST_UNITS: u64 = 4_000_000_000;
 
-/// Where gates are worth writing out, so many lemmas with a literal a search over the formula itself learns before: a system that
-/// fewer decide needs no writing, and each of them costs as much as five over gates written out.
-const FEW_UNITS: u64 = 50;
+/// Where gates are worth writing out, at least so many lemmas with a literal a search over the formula itself learns before: a
+/// system that fewer decide needs no writing, and each of them costs as much as five over gates written out.
+const FEWEST_UNITS: u64 = 64;
+
+/// So many it learns at most: what writing out costs goes by the formula.
+const FEW_UNITS: u64 = 200;
+
+/// So many clauses of the formula bring one lemma.
+const CLAUSES_PER_UNIT: u64 = 200;
 
 /// Whether every two quorums (Mazières 2015) share a node once the faulty nodes are deleted, with the evidence: a log that
 /// refutes the intersection formula, or two quorums that share none, or the log of a search that spent the budget.
 ///
 /// The formula is that of version 2. Of the budget each lemma with a literal takes a unit. `TooLarge` comes exactly where the
 /// formula has more than 4,000,000 variables. Where writing the formula's gates out takes many of its variables away, the search
-/// goes over them once 50 lemmas over the formula decided nothing; what these took counts nothing. Else, and where that led
-/// nowhere, it goes over the formula. The cost is that of the greatest quorum, of `encode` and of the searches.
+/// goes over them once 64 to 200 lemmas over the formula, as it is small or large, decided nothing; what these took counts
+/// nothing. Else, and where that led nowhere, it goes over the formula. The cost is that of the greatest quorum, of `encode` and of the searches.
 pub fn intersect(
     alloc: Global,
     system: &System,
@@ -62,14 +68,20 @@ fn by_formula(
     ensures shows { IfOk result (Shows system.now.sets faulty.now budget) }
     ensures too_large { (vars : ℕ) → result ≡ Err (AskError.TooLarge vars) → (vars ≡ vars_of system.now.sets faulty.now) × (MOST_VARS < vars) }
 {
-    if budget <= FEW_UNITS {
+    let first = first_units(formula.size.clauses);
+    if budget <= first {
         return search_on(alloc, system, faulty, formula, budget);
     }
     match has_gates(alloc, &formula.store, formula.size.vars) {
-        Ok(true) => in_turn(alloc, system, faulty, formula, budget),
+        Ok(true) => in_turn(alloc, system, faulty, formula, first, budget),
         Ok(false) => search_on(alloc, system, faulty, formula, budget),
         Err(_) => Err(AskError::Memory),
     }
+}
+
+/// How many lemmas over a formula of so many clauses are learnt before its gates are written out.
+fn first_units(clauses: u64) -> u64 {
+    (clauses / CLAUSES_PER_UNIT).clamp(FEWEST_UNITS, FEW_UNITS)
 }
 
 /// What few lemmas over the formula show, or else the whole budget, with its gates written out.
@@ -78,16 +90,17 @@ fn in_turn(
     system: &System,
     faulty: &NodeSet,
     formula: Formula,
+    first: u64,
     budget: u64,
 ) -> Result<Answer, AskError>
     requires same_n { length faulty.now ≡ length system.now.sets }
     requires few { budget ≤ MOST_UNITS }
-    requires more { FEW_UNITS < budget }
+    requires more { first < budget }
     requires formula { IsFormula system.now.sets faulty.now formula }
     ensures shows { IfOk result (Shows system.now.sets faulty.now budget) }
     ensures too_large { (vars : ℕ) → result ≡ Err (AskError.TooLarge vars) → (vars ≡ vars_of system.now.sets faulty.now) × (MOST_VARS < vars) }
 {
-    match at_once(alloc, system, faulty, formula, budget) {
+    match at_once(alloc, system, faulty, formula, first, budget) {
         Ok(Some(answer)) => Ok(answer),
         Ok(None) => at_length(alloc, system, faulty, budget),
         Err(error) => Err(error),
@@ -100,15 +113,17 @@ fn at_once(
     system: &System,
     faulty: &NodeSet,
     formula: Formula,
+    first: u64,
     budget: u64,
 ) -> Result<Option<Answer>, AskError>
     requires same_n { length faulty.now ≡ length system.now.sets }
-    requires more { FEW_UNITS < budget }
+    requires few { budget ≤ MOST_UNITS }
+    requires more { first < budget }
     requires formula { IsFormula system.now.sets faulty.now formula }
     ensures shows { IfOk result (λ found. IfSome found (Shows system.now.sets faulty.now budget)) }
     ensures memory { IfErr result (λ error. error ≡ AskError.Memory) }
 {
-    match search_on(alloc, system, faulty, formula, FEW_UNITS) {
+    match search_on(alloc, system, faulty, formula, first) {
         Ok(Answer::Yes(log, size)) => Ok(Some(Answer::Yes(log, size))),
         Ok(Answer::No(pair)) => Ok(Some(Answer::No(pair))),
         Ok(Answer::Spent(_, _)) => Ok(None),
