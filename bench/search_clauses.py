@@ -10,7 +10,7 @@ prints the variables and clauses of each:
     written.cnf      each gate of up to ten inputs as the sets of its inputs one of which has to be true, without its counter, and
                      without its own variable where that makes no clause more
 
-Variables are numbered anew without gaps. What is found over the last two is not shown over the formula (docs/PERFORMANCE.md,
+Variables are numbered anew without gaps. What is found over the last two is not shown over the formula (docs/history/searches-and-times-2026-11.md,
 'Trials'): these are for trials of a search alone, and nothing of the gate uses them.
 """
 import heapq

@@ -16,6 +16,8 @@ DOCUMENTS = ["README.md", "CONTRIBUTING.md", *("docs/" + name for name in sorted
 NAMED = re.compile(r"`([a-z_0-9]+/(?:src|specs|proofs|must-fail)/[\w./]+)`((?:: `[^`]+`(?:(?:,| and) `[^`]+`)*)?)")
 # Names as the code has them: words joined by `_` or `::`, or with a capital inside, or a file's name.
 CODED = re.compile(r"`((?:[A-Za-z]\w*::)*[A-Za-z]\w*(?:\.antt|\.rt|\.py|\.edit)?)`")
+# The most words of a document, so that it stays one that is read.
+BUDGETS = {"docs/DECISIONS.md": 4500, "docs/GUIDE.md": 1800, "docs/PERFORMANCE.md": 2000, "docs/PROVING.md": 1200}
 # Names of the toolchain that the documents cite.
 FOREIGN = {"TheConstants"}
 PATH = re.compile(r"`((?:crates|docs|tools|tests|bench|examples|\.ci)/[\w./-]+)`")
@@ -85,6 +87,12 @@ class Trial:
                 parts = [cited] if "." in cited else cited.split("::")
                 self.judge(all(part in self.words for part in parts), "%s names %s, which stands nowhere" % (name, cited))
 
+    def budget(self, name, text):
+        """A document has no more words than it is given."""
+        if name in BUDGETS:
+            count = len(text.split())
+            self.judge(count <= BUDGETS[name], "%s has %d words, and %d are its budget" % (name, count, BUDGETS[name]))
+
     def links(self, name, text):
         for link in re.findall(r"\]\(([^)\s]+)\)", text):
             if re.match(r"[a-z]+:", link):
@@ -131,6 +139,7 @@ def main():
         trial.definitions(name, text)
         trial.names(name, text)
         trial.links(name, text)
+        trial.budget(name, text)
     trial.crates()
     print("documents: %d passed, %d failed" % (trial.passed, trial.failed))
     return 1 if trial.failed else 0
