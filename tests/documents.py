@@ -17,7 +17,7 @@ NAMED = re.compile(r"`([a-z_0-9]+/(?:src|specs|proofs|must-fail)/[\w./]+)`((?:: 
 # Names as the code has them: words joined by `_` or `::`, or with a capital inside, or a file's name.
 CODED = re.compile(r"`((?:[A-Za-z]\w*::)*[A-Za-z]\w*(?:\.antt|\.rt|\.py|\.edit)?)`")
 # The most words of a document, so that it stays one that is read.
-BUDGETS = {"docs/DECISIONS.md": 4500, "docs/GUIDE.md": 1800, "docs/PERFORMANCE.md": 2000, "docs/PROVING.md": 1200}
+BUDGETS = {"docs/DECISIONS.md": 4500, "docs/GLOSSARY.md": 300, "docs/GUIDE.md": 1800, "docs/PERFORMANCE.md": 2000, "docs/PROVING.md": 1200}
 # Names of the toolchain that the documents cite.
 FOREIGN = {"TheConstants"}
 PATH = re.compile(r"`((?:crates|docs|tools|tests|bench|examples|\.ci)/[\w./-]+)`")
@@ -90,7 +90,7 @@ class Trial:
     def budget(self, name, text):
         """A document has no more words than it is given."""
         if name in BUDGETS:
-            count = len(text.split())
+            count = sum(1 for word in text.split() if re.search(r"\w", word))
             self.judge(count <= BUDGETS[name], "%s has %d words, and %d are its budget" % (name, count, BUDGETS[name]))
 
     def links(self, name, text):
