@@ -1,9 +1,9 @@
-//! The list of the minimal blocking sets.
+//! The list of all minimal sets of a kind.
 ghost use Rattle.std.specs.Prelude.{◌≡◌, ◌+◌, ◌<◌, ◌^◌, [], length, None, Ok, Err, All, IfOk, IfErr, IfSome, OnOk};
 ghost use Rattle.fbas_model.specs.Nodes.{members, size};
 ghost use Rattle.lrat_model.specs.Propagation.{Closes};
 ghost use Rattle.greatest_quorum.specs.Greatest.{greatest_of};
-ghost use Rattle.blocking_lists.specs.Lines.{AreBetween, HasLineNumbers, HasFewWords, blocks_in, merged};
+ghost use Rattle.blocking_lists.specs.Lines.{AreBetween, HasLineNumbers, HasFewWords, listed_in, merged};
 ghost use Rattle.blocking_lists.specs.Outcomes.{OutcomeHolds, journal_in};
 ghost use Rattle.blocking_lists.specs.Search.{AreInNameOrder, IsListing, IsWholeListing};
 
@@ -14,25 +14,26 @@ use cdcl_core::{Budget, Log, Solver};
 use clause_store::Store;
 use fbas_core::System;
 use greatest_quorum::greatest;
-use list_journal::rising;
+use list_journal::{Listed, rising};
 use name_set::NodeSet;
 use std::alloc::{AllocError, Global};
 
-/// All minimal blocking sets once the faulty nodes are deleted, in name order, or the journal of the search for them where
+/// All minimal sets of a kind once the faulty nodes are deleted, in name order, or the journal of the search for them where
 /// the budget was spent: one unit for each lemma with a literal, and for each quorum and blocking set that is listed.
 ///
 /// The solver's assignments are sets of nodes of the greatest quorum. Where a quorum is outside such a set, a minimal one is
 /// listed, and else a minimal blocking set inside it: the set is then no assignment any more. Beside the solver's work, a line
 /// costs a `shrink` for each node of its set, and keeps a set in memory.
-pub fn list(
+pub fn list_all(
     alloc: Global,
+    sought: Listed,
     system: &System,
     faulty: &NodeSet,
     budget: &mut Budget,
 ) -> Result<ListOutcome, AllocError>
     requires same_faulty { length faulty.now ≡ length system.now.sets }
     requires room { budget.old + 1 < 2 ^ 63 }
-    ensures outcome { IfOk result (λ outcome. OutcomeHolds system.now.sets faulty.now budget.old budget.new outcome) }
+    ensures outcome { IfOk result (λ outcome. OutcomeHolds sought system.now.sets faulty.now budget.old budget.new outcome) }
     ensures numbers { IfOk result (λ outcome. All HasLineNumbers (journal_in outcome)) }
     ensures few_words { IfOk result (λ outcome. All (HasFewWords (size (greatest_of system.now.sets faulty.now))) (journal_in outcome)) }
 {
@@ -44,6 +45,7 @@ pub fn list(
         Ok(mut solver) => {
             let found = found_sets(
                 alloc,
+                sought,
                 system,
                 faulty,
                 &greatest,
@@ -55,6 +57,38 @@ pub fn list(
         }
         Err(e) => Err(e),
     }
+}
+
+/// All minimal blocking sets once the faulty nodes are deleted: `list_all` of them.
+pub fn list(
+    alloc: Global,
+    system: &System,
+    faulty: &NodeSet,
+    budget: &mut Budget,
+) -> Result<ListOutcome, AllocError>
+    requires same_faulty { length faulty.now ≡ length system.now.sets }
+    requires room { budget.old + 1 < 2 ^ 63 }
+    ensures outcome { IfOk result (λ outcome. OutcomeHolds Listed.Blocking system.now.sets faulty.now budget.old budget.new outcome) }
+    ensures numbers { IfOk result (λ outcome. All HasLineNumbers (journal_in outcome)) }
+    ensures few_words { IfOk result (λ outcome. All (HasFewWords (size (greatest_of system.now.sets faulty.now))) (journal_in outcome)) }
+{
+    list_all(alloc, Listed::Blocking, system, faulty, budget)
+}
+
+/// All minimal quorums once the faulty nodes are deleted: `list_all` of them.
+pub fn list_quorums(
+    alloc: Global,
+    system: &System,
+    faulty: &NodeSet,
+    budget: &mut Budget,
+) -> Result<ListOutcome, AllocError>
+    requires same_faulty { length faulty.now ≡ length system.now.sets }
+    requires room { budget.old + 1 < 2 ^ 63 }
+    ensures outcome { IfOk result (λ outcome. OutcomeHolds Listed.Quorum system.now.sets faulty.now budget.old budget.new outcome) }
+    ensures numbers { IfOk result (λ outcome. All HasLineNumbers (journal_in outcome)) }
+    ensures few_words { IfOk result (λ outcome. All (HasFewWords (size (greatest_of system.now.sets faulty.now))) (journal_in outcome)) }
+{
+    list_all(alloc, Listed::Quorum, system, faulty, budget)
 }
 
 /// A solver over so many variables, without a clause.
@@ -87,10 +121,11 @@ fn outcome_of(
     })
 }
 
-/// The minimal blocking sets in name order, or none where the budget was spent first. The solver is lent: a function that owns
+/// The minimal sets of the kind in name order, or none where the budget was spent first. The solver is lent: a function that owns
 /// one is dear to prove at each of its ways out.
 fn found_sets(
     alloc: Global,
+    sought: Listed,
     system: &System,
     faulty: &NodeSet,
     greatest: &NodeSet,
@@ -101,15 +136,17 @@ fn found_sets(
     requires same_faulty { length faulty.now ≡ length system.now.sets }
     requires greatest { greatest.now ≡ greatest_of system.now.sets faulty.now }
     requires room { budget.old + 1 < 2 ^ 63 }
-    requires start { IsListing system.now.sets (members faulty.now) greatest.now budget.old budget.old listed.old.items solver.old }
+    requires start { IsListing sought system.now.sets (members faulty.now) greatest.now budget.old budget.old listed.old.items solver.old }
     ensures between { OnOk result (AreBetween 0 (length solver.new.log) listed.new.items) }
-    ensures whole { IfOk result (λ found. IfSome found (λ sets. IsWholeListing system.now.sets (members faulty.now) greatest.now budget.old budget.new listed.new.items solver.new.log × AreInNameOrder (blocks_in listed.new.items) sets.items)) }
-    ensures part { result ≡ Ok None → IsListing system.now.sets (members faulty.now) greatest.now budget.old budget.new listed.new.items solver.new }
+    ensures whole { IfOk result (λ found. IfSome found (λ sets. IsWholeListing sought system.now.sets (members faulty.now) greatest.now budget.old budget.new listed.new.items solver.new.log × AreInNameOrder (listed_in sought listed.new.items) sets.items)) }
+    ensures part { result ≡ Ok None → IsListing sought system.now.sets (members faulty.now) greatest.now budget.old budget.new listed.new.items solver.new }
     ensures spent { result ≡ Ok None → budget.new ≡ 0 }
     ensures unclosed { result ≡ Ok None → Closes solver.new.database.held → ⊥ }
 {
-    if run(alloc, system, faulty, greatest, solver, listed, budget)? {
-        let sets = sets_of(alloc, listed)?;
+    if run(
+        alloc, sought, system, faulty, greatest, solver, listed, budget,
+    )? {
+        let sets = sets_of(alloc, sought, listed)?;
         let ordered = rising(sets);
         return Ok(Some(ordered));
     }

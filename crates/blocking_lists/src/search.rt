@@ -4,7 +4,7 @@ ghost use Rattle.fbas_model.specs.Nodes.{members, ◌⊆◌, size};
 ghost use Rattle.lrat_model.specs.Clauses.{Satisfies, with_clause};
 ghost use Rattle.lrat_model.specs.Propagation.{Closes};
 ghost use Rattle.cdcl_core.specs.Solving.{assignment};
-ghost use Rattle.list_journal.specs.Listed.{clause_for};
+ghost use Rattle.list_journal.specs.Numbering.{clause_for};
 ghost use Rattle.greatest_quorum.specs.Greatest.{greatest_of};
 ghost use Rattle.blocking_lists.specs.Search.{IsListing, IsWholeListing};
 
@@ -21,6 +21,7 @@ use std::alloc::{AllocError, Global};
 /// Adds the clause of a set to the solver, and lists the set behind the steps of the solver's log.
 fn add_line(
     alloc: Global,
+    sought: Listed,
     which: Listed,
     n: u32,
     greatest: &NodeSet,
@@ -35,12 +36,12 @@ fn add_line(
     requires vars { solver.old.vars ≡ size greatest.now }
     requires room { solver.old.database.last + 1 < 2 ^ 63 }
     ensures listed { OnOk result (listed.new.items ≡ listed.old.items ++ record { after = length solver.old.log; which = which; id = solver.old.database.last + 1; set = set } ∷ []) }
-    ensures held { OnOk result (solver.new.database.held ≡ with_clause solver.old.database.held (solver.old.database.last + 1) (clause_for which greatest.now set)) }
+    ensures held { OnOk result (solver.new.database.held ≡ with_clause solver.old.database.held (solver.old.database.last + 1) (clause_for sought greatest.now which set)) }
     ensures last { OnOk result (solver.new.database.last ≡ solver.old.database.last + 1) }
     ensures log { solver.new.log ≡ solver.old.log }
     ensures vars { solver.new.vars ≡ solver.old.vars }
 {
-    let clause = clause_of(alloc, which, n, greatest, &set)?;
+    let clause = clause_of(alloc, sought, which, n, greatest, &set)?;
     let after = solver.log().len();
     let id = solver.add(&clause)?;
     listed.push(ListLine {
@@ -56,6 +57,7 @@ fn add_line(
 /// is none a minimal blocking set inside it.
 fn turn(
     alloc: Global,
+    sought: Listed,
     system: &System,
     faulty: &NodeSet,
     greatest: &NodeSet,
@@ -67,25 +69,44 @@ fn turn(
     requires vars { solver.old.vars ≡ size greatest.now }
     requires room { solver.old.database.last + 1 < 2 ^ 63 }
     requires solves { Satisfies (assignment solver.old) solver.old.database.held }
-    ensures goes_on { OnOk result ((total left : ℕ) → total < 2 ^ 63 → IsListing system.now.sets (members faulty.now) greatest.now total (left + 1) listed.old.items solver.old → IsListing system.now.sets (members faulty.now) greatest.now total left listed.new.items solver.new) }
+    ensures goes_on { OnOk result ((total left : ℕ) → total < 2 ^ 63 → IsListing sought system.now.sets (members faulty.now) greatest.now total (left + 1) listed.old.items solver.old → IsListing sought system.now.sets (members faulty.now) greatest.now total left listed.new.items solver.new) }
 {
     let n = system.len();
-    let mut set = model_set(solver, n, greatest);
+    let mut set = model_set(solver, sought, n, greatest);
     let mut outside = NodeSet::new(n);
     let mut scratch = NodeSet::new(n);
     if blocks(system, &set, faulty, &mut outside) {
         minimal_block(system, &mut set, faulty, &mut scratch);
-        add_line(alloc, Listed::Blocking, n, greatest, set, solver, listed)?;
+        add_line(
+            alloc,
+            sought,
+            Listed::Blocking,
+            n,
+            greatest,
+            set,
+            solver,
+            listed,
+        )?;
         return Ok(());
     }
     minimal_quorum(system, &mut outside, faulty, &mut scratch);
-    add_line(alloc, Listed::Quorum, n, greatest, outside, solver, listed)?;
+    add_line(
+        alloc,
+        sought,
+        Listed::Quorum,
+        n,
+        greatest,
+        outside,
+        solver,
+        listed,
+    )?;
     Ok(())
 }
 
 /// Lists a set for each assignment of the solver, until there is none more, which it answers by true, or no unit is left.
 pub fn run(
     alloc: Global,
+    sought: Listed,
     system: &System,
     faulty: &NodeSet,
     greatest: &NodeSet,
@@ -96,9 +117,9 @@ pub fn run(
     requires same_faulty { length faulty.now ≡ length system.now.sets }
     requires greatest { greatest.now ≡ greatest_of system.now.sets faulty.now }
     requires room { budget.old + 1 < 2 ^ 63 }
-    requires start { IsListing system.now.sets (members faulty.now) greatest.now budget.old budget.old listed.old.items solver.old }
-    ensures whole { result ≡ Ok true → IsWholeListing system.now.sets (members faulty.now) greatest.now budget.old budget.new listed.new.items solver.new.log }
-    ensures part { result ≡ Ok false → IsListing system.now.sets (members faulty.now) greatest.now budget.old budget.new listed.new.items solver.new }
+    requires start { IsListing sought system.now.sets (members faulty.now) greatest.now budget.old budget.old listed.old.items solver.old }
+    ensures whole { result ≡ Ok true → IsWholeListing sought system.now.sets (members faulty.now) greatest.now budget.old budget.new listed.new.items solver.new.log }
+    ensures part { result ≡ Ok false → IsListing sought system.now.sets (members faulty.now) greatest.now budget.old budget.new listed.new.items solver.new }
     ensures spent { result ≡ Ok false → budget.new ≡ 0 }
     ensures unclosed { result ≡ Ok false → Closes solver.new.database.held → ⊥ }
 {
@@ -111,7 +132,7 @@ pub fn run(
                     return Ok(false);
                 }
                 budget.take();
-                turn(alloc, system, faulty, greatest, solver, listed)?;
+                turn(alloc, sought, system, faulty, greatest, solver, listed)?;
             }
         }
     }

@@ -13,8 +13,10 @@ use Rattle.fbas_model.proofs.Kept.{length-kept}
 use Rattle.fbas_model.proofs.Renumbered.{length-restricted_sets}
 use Rattle.greatest_quorum.specs.Greatest.{greatest_of}
 use Rattle.lrat_model.specs.Steps.{Database}
-use Rattle.list_journal.specs.Journals.{JournalLine, QuorumLine, BlockingLine, StepLine, JournalRun, IsWholeJournal, after_line, nothing_held, blocking_sets}
-use Rattle.list_journal.specs.Lists.{IsListOfBlocks}
+use Rattle.list_journal.specs.Journals.{JournalLine, SetLine, StepLine, list_of, JournalRun, IsWholeJournal, after_line, nothing_held, sets_in}
+use Rattle.list_journal.specs.Lists.{IsListOf}
+use Rattle.list_journal.specs.declared.kinds.Listed.{Listed}
+use Rattle.list_journal.specs.declared.kinds.Listed.TheVariants as listed
 use Rattle.list_journal.specs.Order.{ordered}
 use Rattle.list_journal.specs.declared.kinds.ListKind.{ListKind}
 use Rattle.list_journal.specs.declared.kinds.ListKind.TheVariants as kind
@@ -22,6 +24,7 @@ use Rattle.list_journal.proofs.Greatest.{counted_greatest}
 use Rattle.list_journal.proofs.OrderLaws.{HavePlaces, is_ordered}
 use Rattle.list_journal.proofs.Whole.{whole_has_each}
 use Rattle.blocking_lists.specs.Lines.{HasLineNumbers}
+use Rattle.blocking_lists.specs.Outcomes.{rules}
 use Rattle.blocking_lists.specs.declared.outcome.ListOutcome.{ListOutcome}
 use Rattle.blocking_lists.specs.declared.outcome.ListOutcome.TheVariants.{Whole, Spent}
 use Rattle.certificate_file.specs.Known.{IsPart}
@@ -48,13 +51,14 @@ keeps nodes s t e e' =
     ∙ same_order nodes s t e e'
 
 -- the listed sets, raised and put in order, are the list, raised
-raised_list : (f : Fbas) (b nodes : Table) (sets : List Table) (journal : List JournalLine) → length b ≡ length f → length f ≡ size nodes → IsListOfBlocks f (members b) sets → IsWholeJournal f (members b) (greatest_of f b) journal
-    → ordered (map (raised_table nodes) (blocking_sets journal)) ≡ map (raised_table nodes) sets
-raised_list f b nodes sets journal same count list whole =
-    let each = whole_has_each f (members b) (greatest_of f b) journal (counted_greatest f b same) whole in
-    let sizes : HavePlaces (length f) (blocking_sets journal) = λ s there. ((each s).0 there).0 in
-    let is : sets ≡ ordered (blocking_sets journal) = is_ordered (length f) sets (blocking_sets journal) sizes list.rising (λ s. (λ there. (each s).1 ((list.exact s).0 there), λ there. (list.exact s).1 ((each s).0 there))) in
-    ordered-map (length f) (raised_table nodes) (λ s t e e'. keeps nodes s t (e ∙ count) (e' ∙ count)) (blocking_sets journal) sizes ∙ ap (λ (xs : List Table). map (raised_table nodes) xs) (sym is)
+raised_list : (sought : Listed) (f : Fbas) (b nodes : Table) (sets : List Table) (journal : List JournalLine) → length b ≡ length f → length f ≡ size nodes → IsListOf sought f (members b) sets → IsWholeJournal (rules sought f b) journal
+    → ordered (map (raised_table nodes) (sets_in sought journal)) ≡ map (raised_table nodes) sets
+raised_list sought f b nodes sets journal same count list whole =
+    let each = whole_has_each sought f (members b) (greatest_of f b) (counted_greatest f b same) journal whole in
+    let sizes : HavePlaces (length f) (sets_in sought journal) = λ s there. ((each s).0 there).0 in
+    let is : sets ≡ ordered (sets_in sought journal) =
+    is_ordered (length f) sets (sets_in sought journal) sizes list.rising (λ s. (λ there. (each s).1 ((list.exact s).0 there), λ there. (list.exact s).1 ((each s).0 there))) in
+    ordered-map (length f) (raised_table nodes) (λ s t e e'. keeps nodes s t (e ∙ count) (e' ∙ count)) (sets_in sought journal) sizes ∙ ap (λ (xs : List Table). map (raised_table nodes) xs) (sym is)
 
 -- ---- what is found
 
@@ -83,7 +87,7 @@ module _ (s : Search) (is : IsSystem s.whole.names s.whole.sets) (sorted : IsStr
         cert_is = refl;
         accepted =
             list_of_accepted s.whole s.digest s.header is sorted long bytes head (part s) kind.Whole journal refl (record { new = whole.after; run = whole.run; numbers = r.numbers; few_words = r.few_words; few = few; ends = whole.ends })
-            ∙ ap (λ (xs : List Table). Ok (record { header = s.header; answer = shown.Blocking xs })) (raised_list (part s).sets (faulty s) nodes sets.items journal same count holds.list whole);
+            ∙ ap (λ (xs : List Table). Ok (record { header = s.header; answer = shown.Blocking xs })) (raised_list listed.Blocking (part s).sets (faulty s) nodes sets.items journal same count holds.list whole);
       }
   list_found (Spent journal) r =
       let holds = r.holds.1 in
@@ -98,15 +102,14 @@ module _ (s : Search) (is : IsSystem s.whole.names s.whole.sets) (sorted : IsStr
 
 -- ---- what can be written
 
-lines_can : (kind : ListKind) (f : Fbas) (b g : Table) (n : ℕ) (old new : Database) (lines : List JournalLine) → n ≡ length f → JournalRun kind f (members b) g old lines new → All HasLineNumbers lines → All (CanBeLine n) lines
-lines_can kind f b g n old new [] size run numbers = All-nil (CanBeLine n)
-lines_can kind f b g n old new (QuorumLine id u ∷ lines) size run numbers =
-    All-cons (CanBeLine n) (QuorumLine id u) lines (run.0.1 ∙ sym size) (lines_can kind f b g n (after_line g old (QuorumLine id u)) new lines size run.2 (All-tail HasLineNumbers (QuorumLine id u) lines numbers))
-lines_can kind f b g n old new (BlockingLine id u ∷ lines) size run numbers =
-    All-cons (CanBeLine n) (BlockingLine id u) lines (run.0.1 ∙ sym size) (lines_can kind f b g n (after_line g old (BlockingLine id u)) new lines size run.2 (All-tail HasLineNumbers (BlockingLine id u) lines numbers))
-lines_can kind f b g n old new (StepLine step ∷ lines) size run numbers =
-    All-cons (CanBeLine n) (StepLine step) lines (All-head HasLineNumbers (StepLine step) lines numbers) (lines_can kind f b g n (after_line g old (StepLine step)) new lines size run.2 (All-tail HasLineNumbers (StepLine step) lines numbers))
+lines_can : (sought : Listed) (kind : ListKind) (f : Fbas) (b g : Table) (n : ℕ) (old new : Database) (lines : List JournalLine) → n ≡ length f → JournalRun (list_of sought f (members b) g) kind old lines new → All HasLineNumbers lines → All (CanBeLine n) lines
+lines_can sought kind f b g n old new [] size run numbers = All-nil (CanBeLine n)
+lines_can sought kind f b g n old new (SetLine which id u ∷ lines) size run numbers =
+    All-cons (CanBeLine n) (SetLine which id u) lines (run.0.1.0 ∙ sym size)
+    (lines_can sought kind f b g n (after_line (list_of sought f (members b) g) old (SetLine which id u)) new lines size run.2 (All-tail HasLineNumbers (SetLine which id u) lines numbers))
+lines_can sought kind f b g n old new (StepLine step ∷ lines) size run numbers =
+    All-cons (CanBeLine n) (StepLine step) lines (All-head HasLineNumbers (StepLine step) lines numbers) (lines_can sought kind f b g n (after_line (list_of sought f (members b) g) old (StepLine step)) new lines size run.2 (All-tail HasLineNumbers (StepLine step) lines numbers))
 
 pub can_be_listed : (f : System) (b : Table) (budget : ℕ) (outcome : ListOutcome) → length f.names ≡ length f.sets → ListShows f.sets b budget outcome → CanBeListed (length f.names) outcome
-can_be_listed f b budget (Whole sets journal) same r = lines_can kind.Whole f.sets b (greatest_of f.sets b) (length f.names) nothing_held r.holds.journal_is.after journal same r.holds.journal_is.run r.numbers
-can_be_listed f b budget (Spent journal) same r = lines_can kind.Partial f.sets b (greatest_of f.sets b) (length f.names) nothing_held r.holds.1.after journal same r.holds.1.journal_is.run r.numbers
+can_be_listed f b budget (Whole sets journal) same r = lines_can listed.Blocking kind.Whole f.sets b (greatest_of f.sets b) (length f.names) nothing_held r.holds.journal_is.after journal same r.holds.journal_is.run r.numbers
+can_be_listed f b budget (Spent journal) same r = lines_can listed.Blocking kind.Partial f.sets b (greatest_of f.sets b) (length f.names) nothing_held r.holds.1.after journal same r.holds.1.journal_is.run r.numbers

@@ -18,13 +18,14 @@ use Rattle.greatest_quorum.specs.Greatest.{greatest_of}
 use Rattle.greatest_quorum.proofs.GreatestLaws.{length-greatest_of}
 use Rattle.lrat_model.specs.Steps.{Addition, Deletion, Database, after_step}
 use Rattle.lrat_model.specs.declared.step.Progress.TheVariants.{Going as going, Refuted}
-use Rattle.list_journal.specs.Journals.{JournalLine, QuorumLine, BlockingLine, StepLine, JournalRun, after_line, line_progress, nothing_held, blocking_sets, journal_units}
+use Rattle.list_journal.specs.Journals.{JournalLine, SetLine, StepLine, Rules, list_of, JournalRun, after_line, line_progress, nothing_held, sets_in, journal_units}
 use Rattle.list_journal.specs.declared.kinds.ListKind.{ListKind}
 use Rattle.list_journal.specs.declared.kinds.ListKind.TheVariants.{Whole, Partial as Part}
 use Rattle.list_journal.specs.declared.kinds.Listed.TheVariants as listed
 use Rattle.list_journal.specs.Order.{ordered}
 use Rattle.list_journal.proofs.Runs.{sets_append}
 use Rattle.blocking_lists.specs.Lines.{HasLineNumbers, HasFewWords}
+use Rattle.blocking_lists.specs.Outcomes.{rules}
 use Rattle.certificate_file.specs.Acceptance.{take_line, checked, list_part, listing_on, list_checking, no_listing}
 use Rattle.certificate_file.specs.Meaning.{part_from}
 use Rattle.certificate_file.specs.Known.{IsPart}
@@ -36,7 +37,7 @@ use Rattle.certificate_file.specs.declared.places.State.TheVariants.{Going, Done
 use Rattle.certificate_file.proofs.WholeLaws.{part_is}
 use Rattle.cert_lines.specs.declared.lines.TheConstants.{MAX_LINES}
 use Rattle.cert_writer.specs.Texts.{Text, header_lines, list_kind_of, journal_line, list_lines, list_text, raised_table}
-use Rattle.cert_writer.specs.Promises.{IsHeader, subject, part_of, raised_sets, ListEndsAs, shown_by_list, IsJournalOf}
+use Rattle.cert_writer.specs.Promises.{IsHeader, subject, part_of, raised_sets, ListEndsAs, rules_in, shown_by_list, IsJournalOf}
 use Rattle.cert_writer.proofs.Joined.{Takes, takes-append, IsLine, AreLines, are_lines-append, accepted_text}
 use Rattle.cert_writer.proofs.Words.{is_plain}
 use Rattle.cert_writer.proofs.Names.{AreNames, are_keys, names-kept}
@@ -55,13 +56,11 @@ line_kind : (kind : ListKind) → IsLine (list_kind_of kind)
 line_kind Whole = record { plain = is_plain (codes "kind blocking") refl; short = omega arith }
 line_kind Part = record { plain = is_plain (codes "kind partial-blocking") refl; short = omega arith }
 
-lines_journal : (kind : ListKind) (f : Fbas) (b g : Table) (names : List Name) (old new : Database) (lines : List JournalLine) → AreNames names → length names ≤ MOST_NODES → size g ≤ MOST_NODES → JournalRun kind f (members b) g old lines new
+lines_journal : (kind : ListKind) (f : Fbas) (b g : Table) (names : List Name) (old new : Database) (lines : List JournalLine) → AreNames names → length names ≤ MOST_NODES → size g ≤ MOST_NODES → JournalRun (list_of listed.Blocking f (members b) g) kind old lines new
     → AllByRecursion (λ line. HasLineNumbers line × HasFewWords (size g) line) lines → AreLines (map (journal_line names) lines)
 lines_journal kind f b g names old new [] are few small run fine = tt
-lines_journal kind f b g names old new (QuorumLine id u ∷ lines) are few small run fine =
-    (line_set listed.Quorum id names u are few fine.0.0, lines_journal kind f b g names (after_line g old (QuorumLine id u)) new lines are few small run.2 fine.1)
-lines_journal kind f b g names old new (BlockingLine id u ∷ lines) are few small run fine =
-    (line_set listed.Blocking id names u are few fine.0.0, lines_journal kind f b g names (after_line g old (BlockingLine id u)) new lines are few small run.2 fine.1)
+lines_journal kind f b g names old new (SetLine which id u ∷ lines) are few small run fine =
+    (line_set which id names u are few fine.0.0, lines_journal kind f b g names (after_line (list_of listed.Blocking f (members b) g) old (SetLine which id u)) new lines are few small run.2 fine.1)
 lines_journal kind f b g names old new (StepLine (Deletion id ids) ∷ lines) are few small run fine =
     (line_deletion id ids fine.0.0.0 fine.0.0.1 fine.0.1.1, lines_journal kind f b g names (after_step old (Deletion id ids)) new lines are few small run.2 fine.1)
 lines_journal kind f b g names old new (StepLine (Addition id lits hints) ∷ lines) are few small run fine =
@@ -74,18 +73,16 @@ lines_journal kind f b g names old new (StepLine (Addition id lits hints) ∷ li
 
 -- ---- the last line
 
-run_split : (kind : ListKind) (f : Fbas) (b g : Table) (old new : Database) (lines : List JournalLine) (last : JournalLine) → JournalRun kind f (members b) g old (lines ++ last ∷ []) new
-    → (middle : Database) × JournalRun kind f (members b) g old lines middle × JournalRun kind f (members b) g middle (last ∷ []) new
-run_split kind f b g old new [] last run = (old, refl, run)
-run_split kind f b g old new (line ∷ lines) last run = let rest = run_split kind f b g (after_line g old line) new lines last run.2 in (rest.0, (run.0, run.1, rest.1), rest.2)
+run_split : (r : Rules) (kind : ListKind) (old new : Database) (lines : List JournalLine) (last : JournalLine) → JournalRun r kind old (lines ++ last ∷ []) new → (middle : Database) × JournalRun r kind old lines middle × JournalRun r kind middle (last ∷ []) new
+run_split r kind old new [] last run = (old, refl, run)
+run_split r kind old new (line ∷ lines) last run = let rest = run_split r kind (after_line r old line) new lines last run.2 in (rest.0, (run.0, run.1, rest.1), rest.2)
 
 split_lines : (names : List Name) (xs : List JournalLine) (y : JournalLine) (zs : List Text) → map (journal_line names) (xs ++ y ∷ []) ++ zs ≡ map (journal_line names) xs ++ journal_line names y ∷ zs
 split_lines names [] y zs = refl
 split_lines names (x ∷ xs) y zs = ap (λ (ls : List Text). journal_line names x ∷ ls) (split_lines names xs y zs)
 
-no_set : (last : JournalLine) → line_progress last ≡ Refuted → blocking_sets (last ∷ []) ≡ []
-no_set (QuorumLine id u) ends = absurd cc
-no_set (BlockingLine id u) ends = absurd cc
+no_set : (last : JournalLine) → line_progress last ≡ Refuted → sets_in listed.Blocking (last ∷ []) ≡ []
+no_set (SetLine which id u) ends = absurd cc
 no_set (StepLine step) ends = refl
 
 both_all : {A : Type 0} (P Q : A → Type 0) (xs : List A) → AllByRecursion P xs → AllByRecursion Q xs → AllByRecursion (λ x. P x × Q x) xs
@@ -108,6 +105,9 @@ module _ (f : System) (d : List ℕ) (h : Header) (is : IsSystem f.names f.sets)
   abbrev greatest : Table
   greatest = greatest_of fbas gone
 
+  abbrev r : Rules
+  r = rules listed.Blocking fbas gone
+
   part : IsPart f h.from nodes
   part = part_is f h.from is (subst (λ n. IfSome h.from (λ v. v < n)) (sym is.places) head.node)
 
@@ -129,32 +129,32 @@ module _ (f : System) (d : List ℕ) (h : Header) (is : IsSystem f.names f.sets)
   abbrev IsFine : JournalLine → Type 0
   IsFine line = HasLineNumbers line × HasFewWords (size greatest) line
 
-  takes_body : (kind : ListKind) (new : Database) (journal : List JournalLine) → JournalRun kind fbas (members gone) greatest nothing_held journal new → AllByRecursion IsFine journal → ListEndsAs kind journal
-      → Takes f d 6 (Going (AtList (subject f h) (no_listing f kind (subject f h)))) (map (journal_line (kept nodes f.names)) journal ++ codes "end" ∷ []) (Done (record { header = h; answer = shown_by_list f h kind journal }))
+  takes_body : (kind : ListKind) (new : Database) (journal : List JournalLine) → JournalRun r kind nothing_held journal new → AllByRecursion IsFine journal → ListEndsAs kind journal
+      → Takes f d 6 (Going (AtList (subject f h) (no_listing f kind (subject f h)))) (map (journal_line (kept nodes f.names)) journal ++ codes "end" ∷ []) (Done (record { header = h; answer = shown_by_list f h r kind journal }))
   takes_body Part new journal run fine ends =
       let s = subject f h in
       let on = recursion_from_All (λ line. line_progress line ≡ going) journal ends in
-      let sets = map (spread nodes) (blocking_sets journal) in
-      let taken = takes_journal f d s Part are part_names (part.places ∙ is.places) same count (omega (arith, small)) 6 nothing_held new [] sets 0 (journal_units journal) journal fine on run refl (omega arith) in
+      let sets = map (spread nodes) (sets_in listed.Blocking journal) in
+      let taken = takes_journal f d s Part are part_names (part.places ∙ is.places) same count (omega (arith, small)) 6 nothing_held new [] sets 0 (journal_units r journal) journal fine on run refl (omega arith) in
       let lines = map (journal_line (kept nodes f.names)) journal in
-      takes-append f d 6 (6 + length lines) (Going (AtList s (no_listing f Part s))) (Going (AtList s (listing_on Part (list_part f s) (list_checking (size greatest) new) sets (journal_units journal)))) (Done (record { header = h; answer = PartialBlocking (journal_units journal) })) lines (codes "end" ∷ []) refl taken
-      (takes_part_end f d s (6 + length lines) (size greatest) new sets (journal_units journal))
+      takes-append f d 6 (6 + length lines) (Going (AtList s (no_listing f Part s))) (Going (AtList s (listing_on Part (list_part f s) (list_checking (size greatest) new) sets (journal_units r journal)))) (Done (record { header = h; answer = PartialBlocking (journal_units r journal) })) lines (codes "end" ∷ []) refl taken
+      (takes_part_end f d s (6 + length lines) (size greatest) new sets (journal_units r journal))
   takes_body Whole new journal run fine ends =
       let s = subject f h in
       let before = ends.before in
       let last = ends.last in
       let each = front_all IsFine before last (subst (λ (ls : List JournalLine). AllByRecursion IsFine ls) ends.is fine) in
-      let split = run_split Whole fbas gone greatest nothing_held new before last (subst (λ (ls : List JournalLine). JournalRun Whole fbas (members gone) greatest nothing_held ls new) ends.is run) in
+      let split = run_split r Whole nothing_held new before last (subst (λ (ls : List JournalLine). JournalRun r Whole nothing_held ls new) ends.is run) in
       let on = recursion_from_All (λ line. line_progress line ≡ going) before ends.only in
-      let sets = map (spread nodes) (blocking_sets before) in
-      let taken = takes_journal f d s Whole are part_names (part.places ∙ is.places) same count (omega (arith, small)) 6 nothing_held split.0 [] sets 0 (journal_units before) before each.0 on split.1 refl (omega arith) in
+      let sets = map (spread nodes) (sets_in listed.Blocking before) in
+      let taken = takes_journal f d s Whole are part_names (part.places ∙ is.places) same count (omega (arith, small)) 6 nothing_held split.0 [] sets 0 (journal_units r before) before each.0 on split.1 refl (omega arith) in
       let lines = map (journal_line (kept nodes f.names)) before in
-      let end = takes_refuted f d s are part_names (part.places ∙ is.places) same count (omega (arith, small)) (6 + length lines) split.0 new sets (journal_units before) last each.1 ends.ends split.2 in
-      let whole = takes-append f d 6 (6 + length lines) (Going (AtList s (no_listing f Whole s))) (Going (AtList s (listing_on Whole (list_part f s) (list_checking (size greatest) split.0) sets (journal_units before)))) (Done (record { header = h; answer = Blocking (ordered sets) })) lines (journal_line (kept nodes f.names) last ∷ codes "end" ∷ []) refl taken end in
+      let end = takes_refuted f d s are part_names (part.places ∙ is.places) same count (omega (arith, small)) (6 + length lines) split.0 new sets (journal_units r before) last each.1 ends.ends split.2 in
+      let whole = takes-append f d 6 (6 + length lines) (Going (AtList s (no_listing f Whole s))) (Going (AtList s (listing_on Whole (list_part f s) (list_checking (size greatest) split.0) sets (journal_units r before)))) (Done (record { header = h; answer = Blocking (ordered sets) })) lines (journal_line (kept nodes f.names) last ∷ codes "end" ∷ []) refl taken end in
       let texts : lines ++ journal_line (kept nodes f.names) last ∷ codes "end" ∷ [] ≡ map (journal_line (kept nodes f.names)) journal ++ codes "end" ∷ [] =
       sym (split_lines (kept nodes f.names) before last (codes "end" ∷ [])) ∙ ap (λ (ls : List JournalLine). map (journal_line (kept nodes f.names)) ls ++ codes "end" ∷ []) (sym ends.is) in
-      let blocks : blocking_sets before ≡ blocking_sets journal = sym (append-nil (blocking_sets before)) ∙ ap (λ (xs : List Table). blocking_sets before ++ xs) (sym (no_set last ends.ends)) ∙ sym (sets_append before (last ∷ [])) ∙ ap blocking_sets (sym ends.is) in
-      let raised : sets ≡ raised_sets f h (blocking_sets journal) = all_raised nodes (blocking_sets before) ∙ ap (λ (xs : List Table). map (raised_table nodes) xs) blocks in
+      let blocks : sets_in listed.Blocking before ≡ sets_in listed.Blocking journal = sym (append-nil (sets_in listed.Blocking before)) ∙ ap (λ (xs : List Table). sets_in listed.Blocking before ++ xs) (sym (no_set last ends.ends)) ∙ sym (sets_append listed.Blocking before (last ∷ [])) ∙ ap (sets_in listed.Blocking) (sym ends.is) in
+      let raised : sets ≡ raised_sets f h (sets_in listed.Blocking journal) = all_raised nodes (sets_in listed.Blocking before) ∙ ap (λ (xs : List Table). map (raised_table nodes) xs) blocks in
       subst (λ (xs : List Table). Takes f d 6 (Going (AtList s (no_listing f Whole s))) (map (journal_line (kept nodes f.names)) journal ++ codes "end" ∷ []) (Done (record { header = h; answer = Blocking (ordered xs) }))) raised
       (subst (λ (ls : List Text). Takes f d 6 (Going (AtList s (no_listing f Whole s))) ls (Done (record { header = h; answer = Blocking (ordered sets) }))) texts whole)
 
@@ -163,15 +163,15 @@ module _ (f : System) (d : List ℕ) (h : Header) (is : IsSystem f.names f.sets)
   kind_taken Whole = refl
   kind_taken Part = refl
 
-  list_accepted : (kind : ListKind) (new : Database) (journal : List JournalLine) → JournalRun kind fbas (members gone) greatest nothing_held journal new → All HasLineNumbers journal → All (HasFewWords (size greatest)) journal → length journal + 6 ≤ MAX_LINES → ListEndsAs kind journal
-      → checked f d (list_text f.names (kept nodes f.names) d h kind journal) ≡ Ok (record { header = h; answer = shown_by_list f h kind journal })
+  list_accepted : (kind : ListKind) (new : Database) (journal : List JournalLine) → JournalRun r kind nothing_held journal new → All HasLineNumbers journal → All (HasFewWords (size greatest)) journal → length journal + 6 ≤ MAX_LINES → ListEndsAs kind journal
+      → checked f d (list_text f.names (kept nodes f.names) d h kind journal) ≡ Ok (record { header = h; answer = shown_by_list f h r kind journal })
   list_accepted kind new journal run numbers words few ends =
       let s = subject f h in
       let fine = both_all HasLineNumbers (HasFewWords (size greatest)) journal (recursion_from_All HasLineNumbers journal numbers) (recursion_from_All (HasFewWords (size greatest)) journal words) in
       let head_lines = header_lines f.names d h in
       let texts = map (journal_line (kept nodes f.names)) journal in
       let body = list_lines (kept nodes f.names) kind journal in
-      let answer : Answer = shown_by_list f h kind journal in
+      let answer : Answer = shown_by_list f h r kind journal in
       let taken : Takes f d 5 (Going (AtKind s)) body (Done (record { header = h; answer = answer })) = (Going (AtList s (no_listing f kind s)), kind_taken kind, takes_body kind new journal run fine ends) in
       let whole = takes-append f d 1 5 (Going AtTitle) (Going (AtKind s)) (Done (record { header = h; answer = answer })) head_lines body refl (takes_header f d h are size_is bytes head) taken in
       let last_line : IsLine (codes "end") = record { plain = is_plain (codes "end") refl; short = omega arith } in
@@ -181,12 +181,14 @@ module _ (f : System) (d : List ℕ) (h : Header) (is : IsSystem f.names f.sets)
       accepted_text f d (head_lines ++ body) (record { header = h; answer = answer }) lines total whole
 
   -- the same over the system of the part
-  pub list_of_accepted : (p : System) (kind : ListKind) (journal : List JournalLine) → p ≡ part_of f h.from → IsJournalOf f h kind journal → checked f d (list_text f.names p.names d h kind journal) ≡ Ok (record { header = h; answer = shown_by_list f h kind journal })
+  pub list_of_accepted : (p : System) (kind : ListKind) (journal : List JournalLine) → p ≡ part_of f h.from → IsJournalOf f h kind journal
+      → checked f d (list_text f.names p.names d h kind journal) ≡ Ok (record { header = h; answer = shown_by_list f h (rules_in listed.Blocking f h) kind journal })
   list_of_accepted p kind journal p_is j =
       let e : part_of f h.from ≡ restricted nodes f = part_is_restricted f h.from is in
       ap (λ (x : System). checked f d (list_text f.names x.names d h kind journal)) (p_is ∙ e)
       ∙ list_accepted kind j.new journal
-      (subst (λ (x : System). JournalRun kind x.sets (members gone) (greatest_of x.sets gone) nothing_held journal j.new) e j.run)
+      (subst (λ (x : System). JournalRun (rules listed.Blocking x.sets gone) kind nothing_held journal j.new) e j.run)
       j.numbers
       (subst (λ (x : System). All (HasFewWords (size (greatest_of x.sets gone))) journal) e j.few_words)
       j.few j.ends
+      ∙ ap (λ (x : System). Ok (record { header = h; answer = shown_by_list f h (rules listed.Blocking x.sets gone) kind journal })) (sym e)

@@ -1,5 +1,5 @@
 -- The lines of a journal, taken.
-use Rattle.std.proofs.Common.{◌≡◌, ℕ, ◌+◌, ◌<◌, List, [], ◌∷◌, ◌++◌, length, map, Bool, false, not, ◌&&◌, ◌==◌, if◌then◌else◌, cond, Option, None, Result, Ok, refl, sym, ◌∙◌, ap, arith, codes, append_assoc, ℤ}
+use Rattle.std.proofs.Common.{◌≡◌, ℕ, ◌+◌, ◌<◌, List, [], ◌∷◌, ◌++◌, length, map, Bool, true, false, not, ◌&&◌, ◌==◌, if◌then◌else◌, cond, Option, None, Result, Ok, refl, sym, ◌∙◌, ap, arith, codes, append_assoc, ℤ}
 use Rattle.std.specs.List.{All, AllByRecursion}
 use Rattle.std.specs.Fmt.{decimal}
 use Rattle.std.specs.Str.{bytes_eq}
@@ -23,7 +23,8 @@ use Rattle.lrat_text.specs.Left.{spaced}
 use Rattle.lrat_text.proofs.BackLaws.{step_back}
 use Rattle.cdcl_core.specs.Trail.{IsVariable}
 use Rattle.lrat_model.specs.Rules.{step_fault_by}
-use Rattle.list_journal.specs.Journals.{JournalLine, QuorumLine, BlockingLine, StepLine, JournalRun, IsNewStep, after_line, line_progress, blocking_sets, journal_units}
+use Rattle.list_journal.specs.Kinds.{is_sought, asks_new}
+use Rattle.list_journal.specs.Journals.{JournalLine, SetLine, StepLine, Rules, JournalRun, IsNewStep, after_line, line_progress, put_if, sets_in, journal_units}
 use Rattle.list_journal.specs.declared.kinds.ListKind.{ListKind}
 use Rattle.list_journal.specs.declared.kinds.ListKind.TheVariants.{Whole, Partial as Part}
 use Rattle.list_journal.specs.declared.kinds.Listed.{Listed}
@@ -34,7 +35,8 @@ use Rattle.cert_lines.specs.Saying.{or_bad_line}
 use Rattle.cert_lines.specs.Words.{Word, words_of}
 use Rattle.cert_lines.specs.declared.faults.CertError.{CertError}
 use Rattle.cert_lines.specs.declared.faults.CertError.TheVariants.{NotNew}
-use Rattle.certificate_file.specs.Acceptance.{and_then, listed_by, literal_in, is_old_step, with_step, after_list_step, list_step, list_step_unless, list_end, list_text, list_part, listing_on, list_checking, take_line, asks_new, is_covered}
+use Rattle.certificate_file.specs.Acceptance.{and_then, listed_by, literal_in, is_old_step, with_step, after_list_step, list_step, list_step_unless, list_end, list_text, list_part, listing_on, list_checking, take_line, is_covered, put_last, with_sought}
+use Rattle.certificate_file.specs.Known.{rules_of}
 use Rattle.certificate_file.specs.declared.places.Subject.{Subject}
 use Rattle.certificate_file.specs.declared.places.Listing.{Listing}
 use Rattle.certificate_file.specs.declared.places.Place.TheVariants.{AtList, AtEnd}
@@ -83,11 +85,11 @@ literal_there Whole l step on = refl
 literal_there Part l step on = rw on refl
 
 step_is_new : (kind : ListKind) (k : Listing) (id : ℕ) (lits : List Literal) (hints : List ℤ) → k.kind ≡ kind → IsNewStep kind k.checker.database.held (Addition id lits hints) → is_old_step k (Addition id lits hints) ≡ false
-step_is_new Whole k id lits hints same new = ap (λ (x : ListKind). asks_new x listed.Quorum && is_covered k.checker.database.held id lits) same
-step_is_new Part k id lits hints same new = ap (λ (x : ListKind). asks_new x listed.Quorum && is_covered k.checker.database.held id lits) same ∙ new_uncovered k.checker.database.held id lits new
+step_is_new Whole k id lits hints same new = ap (λ (x : ListKind). asks_new listed.Blocking x listed.Quorum && is_covered k.checker.database.held id lits) same
+step_is_new Part k id lits hints same new = ap (λ (x : ListKind). asks_new listed.Blocking x listed.Quorum && is_covered k.checker.database.held id lits) same ∙ new_uncovered k.checker.database.held id lits new
 
 -- a deletion adds nothing that could be old
-never_old : (kind : ListKind) → (asks_new kind listed.Quorum && false) ≡ false
+never_old : (kind : ListKind) → (asks_new listed.Blocking kind listed.Quorum && false) ≡ false
 never_old Whole = refl
 never_old Part = refl
 
@@ -106,11 +108,19 @@ step_taken f d s k l step read none literal fault fresh =
 
 -- ---- a journal
 
+-- the sets so far with one more, raised, and those of the lines behind it
+set_behind : (b : Bool) (nodes : Table) (sets : List Table) (u : Table) (more : List Table) → (sets ++ map (spread nodes) (put_if b u more)) ≡ put_last b sets (spread nodes u) ++ map (spread nodes) more
+set_behind true nodes sets u more = sym (append_assoc sets (spread nodes u ∷ []) (map (spread nodes) more))
+set_behind false nodes sets u more = refl
+
 module _ (f : System) (d : List ℕ) (s : Subject) (kind : ListKind) (are : AreNames f.names) (part : AreNames (kept s.nodes f.names)) (places : length s.nodes ≡ length f.names)
     (same : length (list_part f s).faulty ≡ length (list_part f s).system.sets) (count : length (list_part f s).system.sets ≡ size s.nodes) (small : size (list_part f s).greatest < 2147483648) where
-  -- the journal's rule over the part
+  -- the journal's rules over the part
+  abbrev pub list_rules : Rules
+  list_rules = rules_of listed.Blocking (list_part f s)
+
   abbrev pub Runs : Database → List JournalLine → Database → Type 0
-  Runs old lines new = JournalRun kind (list_part f s).system.sets (members (list_part f s).faulty) (list_part f s).greatest old lines new
+  Runs old lines new = JournalRun list_rules kind old lines new
 
   -- the list where so much is held, with these sets and units
   abbrev pub at : Database → List Table → ℕ → Listing
@@ -137,24 +147,18 @@ module _ (f : System) (d : List ℕ) (s : Subject) (kind : ListKind) (are : AreN
 
   -- the lines before the empty lemma
   pub takes_journal : (l : ℕ) (old new : Database) (sets all : List Table) (units total : ℕ) (lines : List JournalLine) → AllByRecursion IsFine lines → AllByRecursion (λ line. line_progress line ≡ going) lines → Runs old lines new
-      → all ≡ sets ++ map (spread s.nodes) (blocking_sets lines) → total ≡ units + journal_units lines
+      → all ≡ sets ++ map (spread s.nodes) (sets_in listed.Blocking lines) → total ≡ units + journal_units list_rules lines
       → Takes f d l (Going (AtList s (at old sets units))) (map (journal_line (kept s.nodes f.names)) lines) (Going (AtList s (at new all total)))
   takes_journal l old new sets all units total [] fine on run all_is total_is =
       let one : units ≡ total = omega (arith, total_is) in
       let two : sets ≡ all = sym (all_is ∙ append-nil sets) in
       ap (λ (n : ℕ). Going (AtList s (at old sets n))) one ∙ ap (λ (xs : List Table). Going (AtList s (at old xs total))) two ∙ ap (λ (x : Database). Going (AtList s (at x all total))) (sym run)
-  takes_journal l old new sets all units total (QuorumLine id u ∷ lines) fine on run all_is total_is =
-      let next : Database = after_line (list_part f s).greatest old (QuorumLine id u) in (
-        Going (AtList s (at next sets (units + 1))),
-        set_line_taken f s (at old sets units) l listed.Quorum id u places same count run.0 run.1 d are part fine.0.0,
-        takes_journal (l + 1) next new sets all (units + 1) total lines fine.1 on.1 run.2 all_is (omega (arith, total_is)),
-      )
-  takes_journal l old new sets all units total (BlockingLine id u ∷ lines) fine on run all_is total_is =
-      let next : Database = after_line (list_part f s).greatest old (BlockingLine id u) in
-      let now : List Table = sets ++ spread s.nodes u ∷ [] in (
+  takes_journal l old new sets all units total (SetLine which id u ∷ lines) fine on run all_is total_is =
+      let next : Database = after_line list_rules old (SetLine which id u) in
+      let now : List Table = with_sought listed.Blocking sets which (spread s.nodes u) in (
         Going (AtList s (at next now (units + 1))),
-        set_line_taken f s (at old sets units) l listed.Blocking id u places same count run.0 run.1 d are part fine.0.0,
-        takes_journal (l + 1) next new now all (units + 1) total lines fine.1 on.1 run.2 (all_is ∙ sym (append_assoc sets (spread s.nodes u ∷ []) (map (spread s.nodes) (blocking_sets lines)))) (omega (arith, total_is)),
+        set_line_taken f s (at old sets units) l which id u places same count run.0.0 run.0.1 run.1 d are part fine.0.0,
+        takes_journal (l + 1) next new now all (units + 1) total lines fine.1 on.1 run.2 (all_is ∙ set_behind (is_sought listed.Blocking which) s.nodes sets u (sets_in listed.Blocking lines)) (omega (arith, total_is)),
       )
   takes_journal l old new sets all units total (StepLine (Deletion id ids) ∷ lines) fine on run all_is total_is =
       let next : Database = after_step old (Deletion id ids) in (
@@ -165,7 +169,7 @@ module _ (f : System) (d : List ℕ) (s : Subject) (kind : ListKind) (are : AreN
   takes_journal l old new sets all units total (StepLine (Addition id lits hints) ∷ lines) fine on run all_is total_is =
       let next : Database = after_step old (Addition id lits hints) in
       let long : (length lits == 0) ≡ false = (going_long lits on.0).1 in
-      let one : total ≡ units + (1 + journal_units lines) = total_is ∙ ap (λ (b : Bool). units + (cond b 0 1 + journal_units lines)) long in (
+      let one : total ≡ units + (1 + journal_units list_rules lines) = total_is ∙ ap (λ (b : Bool). units + (cond b 0 1 + journal_units list_rules lines)) long in (
         Going (AtList s (at next sets (units + 1))),
         lemma_taken l id lits hints old sets units fine.0 (literal_there kind l (Addition id lits hints) on.0) run.0 run.1 ∙ ap (λ (p : Progress). Ok (after_list_step s (at next sets (units + 1)) p)) on.0,
         takes_journal (l + 1) next new sets all (units + 1) total lines fine.1 on.1 run.2 all_is (omega (arith, one)),
@@ -177,11 +181,10 @@ module _ (f : System) (d : List ℕ) (s : Subject) (kind : ListKind) (are : AreN
 pub takes_refuted : (f : System) (d : List ℕ) (s : Subject) (are : AreNames f.names) (part : AreNames (kept s.nodes f.names)) (places : length s.nodes ≡ length f.names)
     (same : length (list_part f s).faulty ≡ length (list_part f s).system.sets) (count : length (list_part f s).system.sets ≡ size s.nodes) (small : size (list_part f s).greatest < 2147483648)
     (l : ℕ) (old new : Database) (sets : List Table) (units : ℕ) (last : JournalLine) → HasLineNumbers last × HasFewWords (size (list_part f s).greatest) last → line_progress last ≡ Refuted
-    → JournalRun Whole (list_part f s).system.sets (members (list_part f s).faulty) (list_part f s).greatest old (last ∷ []) new
+    → JournalRun (rules_of listed.Blocking (list_part f s)) Whole old (last ∷ []) new
     → Takes f d l (Going (AtList s (listing_on Whole (list_part f s) (list_checking (size (list_part f s).greatest) old) sets units))) (journal_line (kept s.nodes f.names) last ∷ codes "end" ∷ []) (Done (record { header = s.header; answer = Blocking (ordered sets) }))
 unfolding take_line
-takes_refuted f d s are part places same count small l old new sets units (QuorumLine id u) fine ends run = absurd cc
-takes_refuted f d s are part places same count small l old new sets units (BlockingLine id u) fine ends run = absurd cc
+takes_refuted f d s are part places same count small l old new sets units (SetLine which id u) fine ends run = absurd cc
 takes_refuted f d s are part places same count small l old new sets units (StepLine (Deletion id ids)) fine ends run = absurd cc
 takes_refuted f d s are part places same count small l old new sets units (StepLine (Addition id lits hints)) fine ends run = (
   Going (AtEnd (record { header = s.header; answer = Blocking (ordered sets) })),

@@ -1,5 +1,5 @@
 -- The line of a listed set, taken.
-use Rattle.std.proofs.Common.{◌≡◌, ℕ, ◌≤◌, ◌<◌, List, ◌∷◌, length, Bool, false, not, ◌&&◌, if◌then◌else◌, Option, Some, ok_or, Result, Ok, refl, sym, ◌∙◌, ap, arith, codes, length-append}
+use Rattle.std.proofs.Common.{◌≡◌, ℕ, ◌≤◌, ◌<◌, List, ◌∷◌, length, Bool, true, false, not, ◌&&◌, if◌then◌else◌, Option, Some, ok_or, Result, Ok, refl, sym, ◌∙◌, ap, arith, codes, length-append}
 use Rattle.std.specs.Fmt.{decimal}
 use Rattle.std.specs.Str.{bytes_eq}
 use Rattle.std.proofs.lemmas.Bool.{lt-ltb}
@@ -11,31 +11,31 @@ use Rattle.fbas_model.specs.Restriction.{kept}
 use Rattle.fbas_model.proofs.Kept.{kept_le}
 use Rattle.fbas_model.proofs.QuorumLaw.{quorum-from}
 use Rattle.fbas_model.specs.declared.TheConstants.{MOST_NODES}
+use Rattle.lrat_model.specs.Literal.{Literal}
 use Rattle.lrat_model.specs.Clauses.{Held}
 use Rattle.lrat_model.specs.declared.step.StepFault.TheVariants.{IdOrder}
 use Rattle.lrat_text.specs.Left.{spaced}
 use Rattle.lrat_text.specs.Texts.{IsId}
 use Rattle.lrat_text.proofs.TextLaws.{id_back}
-use Rattle.list_journal.specs.Journals.{IsTaken, IsNewLine}
-use Rattle.list_journal.specs.Listed.{list_line as listed_line, clause_for}
-use Rattle.list_journal.specs.Tests.{is_least}
-use Rattle.list_journal.specs.declared.kinds.ListKind.{ListKind}
-use Rattle.list_journal.specs.declared.kinds.ListKind.TheVariants.{Whole, Partial as Part}
+use Rattle.list_journal.specs.Kinds.{asks_new}
+use Rattle.list_journal.specs.Numbering.{clause_for}
+use Rattle.list_journal.specs.Journals.{IsListedFor, IsNewIf}
+use Rattle.list_journal.specs.Tests.{is_minimal}
 use Rattle.list_journal.specs.declared.kinds.Listed.{Listed}
 use Rattle.list_journal.specs.declared.kinds.Listed.TheVariants as listed
-use Rattle.list_journal.proofs.TestLaws.{blocks_from, least_from}
+use Rattle.list_journal.proofs.TestLaws.{blocks_from, minimal_from}
 use Rattle.cert_lines.specs.Limits.{unless}
 use Rattle.cert_lines.specs.Words.{Word, words_of, names_in}
 use Rattle.cert_lines.specs.declared.faults.CertError.{CertError}
 use Rattle.cert_lines.specs.declared.faults.CertError.TheVariants.{BadLine, Step, NotQuorum, NotBlocking, NotMinimal, NotNew}
-use Rattle.certificate_file.specs.Acceptance.{and_then, nodes_of, within, is_covered, listed_by, Numbered, numbered_if_any, numbered_in, right_set, asks_new, new_set, with_listed, list_set, set_line as take_set_line, list_end, list_text, take_line}
+use Rattle.certificate_file.specs.Acceptance.{and_then, nodes_of, within, is_covered, listed_by, Numbered, numbered_if_any, numbered_in, right_set, new_set, with_listed, list_set, set_line as take_set_line, list_end, list_text, take_line}
 use Rattle.certificate_file.specs.declared.places.Subject.{Subject}
 use Rattle.certificate_file.specs.declared.places.Listing.{Listing}
 use Rattle.certificate_file.specs.declared.places.Place.TheVariants.{AtList}
 use Rattle.certificate_file.specs.declared.places.State.{State}
 use Rattle.certificate_file.specs.declared.places.State.TheVariants.{Going}
 use Rattle.certificate_file.proofs.PartLaws.{apart_from_others}
-use Rattle.cert_writer.specs.Texts.{Text, set_line}
+use Rattle.cert_writer.specs.Texts.{Text, letter, set_line}
 use Rattle.cert_writer.proofs.Joined.{IsLine}
 use Rattle.cert_writer.proofs.Words.{IsWord, is_word, words_of-worded, plain-worded, length-spaced_keys}
 use Rattle.cert_writer.proofs.Names.{AreNames, keys-kept, words-keys, short-keys, names_in-kept, nodes_of-kept}
@@ -46,11 +46,6 @@ use Rattle.cert_writer.proofs.Runs.{new_uncovered}
 use Rattle.cert_writer.proofs.StepLines.{decimal_word}
 
 -- ---- the words
-
--- the letter of what a set is listed for
-abbrev pub letter : Listed → Text
-letter listed.Quorum = codes "q"
-letter listed.Blocking = codes "b"
 
 letter_word : (which : Listed) → IsWord (letter which)
 letter_word listed.Quorum = is_word (codes "q") refl
@@ -92,51 +87,48 @@ line_set which id names set are few is = record {
 within_part : (s : Subject) (l : ℕ) (set : Table) → within s l (spread s.nodes set) ≡ Ok (spread s.nodes set)
 within_part s l set = apart_from_others s l (spread s.nodes set) (λ m. not_others s.nodes m.0 m.2 (out_spread s.nodes set m.0 m.1).0)
 
--- the set is what it is listed for
-right : (k : Listing) (l : ℕ) (which : Listed) (id : ℕ) (set : Table) → length k.part.faulty ≡ length k.part.system.sets → IsTaken k.part.system.sets (members k.part.faulty) k.part.greatest k.checker.database (listed_line which id set) → right_set k l which set ≡ Ok set
-right k l listed.Quorum id set same taken =
-    ap (λ (b : Bool). unless (NotQuorum l) b (Ok set)) (quorum-from k.part.system.sets k.part.faulty set (same ∙ sym taken.1) (sym taken.1) taken.2)
-right k l listed.Blocking id set same taken =
-    ap (λ (b : Bool). unless (NotBlocking l) b (unless (NotMinimal l) (is_least k.part.system.sets k.part.faulty set) (Ok set))) (blocks_from k.part.system.sets k.part.faulty set taken.2.blocks)
-    ∙ ap (λ (b : Bool). unless (NotMinimal l) b (Ok set)) (least_from k.part.system.sets k.part.faulty set same taken.2.least)
+-- the set is what it is listed for in the part
+abbrev pub IsRightIn : Listing → Listed → Table → Type 0
+IsRightIn k which set = IsListedFor listed.Blocking k.part.system.sets (members k.part.faulty) k.part.greatest which set
+
+right : (k : Listing) (l : ℕ) (which : Listed) (set : Table) → length k.part.faulty ≡ length k.part.system.sets → IsRightIn k which set → right_set k l which set ≡ Ok set
+right k l listed.Quorum set same is =
+    ap (λ (b : Bool). unless (NotQuorum l) b (Ok set)) (quorum-from k.part.system.sets k.part.faulty set (same ∙ sym is.0) (sym is.0) is.1.0)
+right k l listed.Blocking set same is =
+    ap (λ (b : Bool). unless (NotBlocking l) b (unless (NotMinimal l) (is_minimal listed.Blocking k.part.system.sets k.part.faulty set) (Ok set))) (blocks_from k.part.system.sets k.part.faulty set is.1.blocks)
+    ∙ ap (λ (b : Bool). unless (NotMinimal l) b (Ok set)) (minimal_from listed.Blocking k.part.system.sets k.part.faulty set same is.1.least)
 
 -- its clause is as new as the kind asks
-uncovered : (kind : ListKind) (which : Listed) (g : Table) (held : Held) (id : ℕ) (set : Table) → IsNewLine kind g held (listed_line which id set) → (asks_new kind which && is_covered held id (clause_for which g set)) ≡ false
-uncovered Whole listed.Quorum g held id set new = refl
-uncovered Whole listed.Blocking g held id set new = new_uncovered held id (clause_for listed.Blocking g set) new
-uncovered Part listed.Quorum g held id set new = new_uncovered held id (clause_for listed.Quorum g set) new
-uncovered Part listed.Blocking g held id set new = new_uncovered held id (clause_for listed.Blocking g set) new
+uncovered : (asked : Bool) (held : Held) (id : ℕ) (clause : List Literal) → IsNewIf asked held clause → (asked && is_covered held id clause) ≡ false
+uncovered true held id clause new = new_uncovered held id clause new
+uncovered false held id clause new = refl
 
-new : (k : Listing) (l : ℕ) (which : Listed) (id : ℕ) (set : Table) → IsNewLine k.kind k.part.greatest k.checker.database.held (listed_line which id set) → new_set k l which id set ≡ Ok set
-new k l which id set is = ap (λ (b : Bool). unless (NotNew l) (not b) (Ok set)) (uncovered k.kind which k.part.greatest k.checker.database.held id set is)
+-- as the list asks
+abbrev pub IsNewIn : Listing → Listed → Table → Type 0
+IsNewIn k which set = IsNewIf (asks_new listed.Blocking k.kind which) k.checker.database.held (clause_for listed.Blocking k.part.greatest which set)
 
-taken_id : (which : Listed) (k : Listing) (id : ℕ) (set : Table) → IsTaken k.part.system.sets (members k.part.faulty) k.part.greatest k.checker.database (listed_line which id set) → k.checker.database.last < id
-taken_id listed.Quorum k id set taken = taken.0
-taken_id listed.Blocking k id set taken = taken.0
-
-taken_places : (which : Listed) (k : Listing) (id : ℕ) (set : Table) → IsTaken k.part.system.sets (members k.part.faulty) k.part.greatest k.checker.database (listed_line which id set) → length set ≡ length k.part.system.sets
-taken_places listed.Quorum k id set taken = taken.1
-taken_places listed.Blocking k id set taken = taken.1
+new : (k : Listing) (l : ℕ) (which : Listed) (id : ℕ) (set : Table) → IsNewIn k which set → new_set k l which id set ≡ Ok set
+new k l which id set is = ap (λ (b : Bool). unless (NotNew l) (not b) (Ok set)) (uncovered (asks_new listed.Blocking k.kind which) k.checker.database.held id (clause_for listed.Blocking k.part.greatest which set) is)
 
 -- ---- the line
 
 module _ (f : System) (s : Subject) (k : Listing) (l : ℕ) (which : Listed) (id : ℕ) (set : Table) (places : length s.nodes ≡ length f.names) (same : length k.part.faulty ≡ length k.part.system.sets) (count : length k.part.system.sets ≡ size s.nodes)
-    (taken : IsTaken k.part.system.sets (members k.part.faulty) k.part.greatest k.checker.database (listed_line which id set)) (is_new : IsNewLine k.kind k.part.greatest k.checker.database.held (listed_line which id set)) where
+    (above : k.checker.database.last < id) (is_right : IsRightIn k which set) (is_new : IsNewIn k which set) where
   -- what is awaited behind the line
   abbrev next : Table → State
   next w = Going (AtList s (with_listed k which id (spread s.nodes set) w))
 
   set_listed : list_set s k l which id (spread s.nodes set) ≡ Ok (next set)
   set_listed =
-      ap (λ (t : Table). and_then (λ w. Ok (next w)) (and_then (new_set k l which id) (right_set k l which t))) (kept_of_spread s.nodes set (taken_places which k id set taken ∙ count))
-      ∙ ap (λ (r : Result Table CertError). and_then (λ w. Ok (next w)) (and_then (new_set k l which id) r)) (right k l which id set same taken)
+      ap (λ (t : Table). and_then (λ w. Ok (next w)) (and_then (new_set k l which id) (right_set k l which t))) (kept_of_spread s.nodes set (is_right.0 ∙ count))
+      ∙ ap (λ (r : Result Table CertError). and_then (λ w. Ok (next w)) (and_then (new_set k l which id) r)) (right k l which set same is_right)
       ∙ ap (λ (r : Result Table CertError). and_then (λ w. Ok (next w)) r) (new k l which id set is_new)
 
   set_taken : AreNames f.names → take_set_line f s k l which (record { id = id; names = kept set (kept s.nodes f.names) }) ≡ Ok (next set)
   set_taken are =
       let u : Table = spread s.nodes set in
       let names : List Name = kept set (kept s.nodes f.names) in
-      ap (λ (b : Bool). unless (Step l (IdOrder k.checker.database.last id)) b (and_then (list_set s k l which id) (and_then (within s l) (nodes_of f.names l names)))) (lt-ltb k.checker.database.last id (taken_id which k id set taken))
+      ap (λ (b : Bool). unless (Step l (IdOrder k.checker.database.last id)) b (and_then (list_set s k l which id) (and_then (within s l) (nodes_of f.names l names)))) (lt-ltb k.checker.database.last id above)
       ∙ ap (λ (ns : List Name). and_then (list_set s k l which id) (and_then (within s l) (nodes_of f.names l ns))) (kept-spread s.nodes set f.names)
       ∙ ap (λ (r : Result Table CertError). and_then (list_set s k l which id) (and_then (within s l) r)) (nodes_of-kept f.names l u are (length-spread s.nodes set ∙ places))
       ∙ ap (λ (r : Result Table CertError). and_then (list_set s k l which id) r) (within_part s l set)

@@ -5,8 +5,9 @@ use Rattle.fbas_model.specs.Nodes.{Table, size}
 use Rattle.fbas_model.specs.Fbas.{Fbas}
 use Rattle.fbas_model.specs.Systems.{System}
 use Rattle.greatest_quorum.specs.Greatest.{greatest_of}
-use Rattle.list_journal.specs.Journals.{JournalLine, QuorumLine, BlockingLine, StepLine}
+use Rattle.list_journal.specs.Journals.{JournalLine, SetLine, StepLine}
 use Rattle.list_journal.specs.declared.kinds.ListKind.TheVariants as kind
+use Rattle.list_journal.specs.declared.kinds.Listed.TheVariants as listed
 use Rattle.blocking_lists.specs.Lines.{HasLineNumbers, HasFewWords}
 use Rattle.blocking_lists.specs.Outcomes.{OutcomeHolds, journal_in}
 use Rattle.blocking_lists.specs.declared.outcome.ListOutcome.{ListOutcome}
@@ -35,7 +36,7 @@ list_accepted_as s (Spent journal) = shown.PartialBlocking s.budget
 -- what a search of a system within a budget shows, once b is deleted
 pub record ListShows (f : Fbas) (b : Table) (budget : ℕ) (outcome : ListOutcome) : Type 0 where
   pub left : ℕ
-  pub holds : OutcomeHolds f b budget left outcome
+  pub holds : OutcomeHolds listed.Blocking f b budget left outcome
   pub numbers : All HasLineNumbers (journal_in outcome)
   pub few_words : All (HasFewWords (size (greatest_of f b))) (journal_in outcome)
 
@@ -47,8 +48,7 @@ pub record FindsList (s : Search) (outcome : ListOutcome) (cert : Text) : Type 0
 
 -- what a line can be written of: a set with a place for each of n nodes, or a step whose numbers have a line
 abbrev pub CanBeLine : ℕ → JournalLine → Type 0
-CanBeLine n (QuorumLine id u) = length u ≡ n
-CanBeLine n (BlockingLine id s) = length s ≡ n
+CanBeLine n (SetLine which id set) = length set ≡ n
 CanBeLine n (StepLine step) = HasNumbers step
 
 abbrev pub CanBeListed : ℕ → ListOutcome → Type 0

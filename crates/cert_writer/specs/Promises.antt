@@ -12,11 +12,14 @@ use Rattle.lrat_text.specs.Texts.{IsId, HasNumbers, HasLiterals}
 use Rattle.cdcl_core.specs.Log.{AreLemmas, EndsEmpty, HasNoEmptyLemma, IsBoundedLog, units}
 use Rattle.witness_pair.specs.Making.{shared}
 use Rattle.witness_pair.specs.declared.Pair.{Pair}
-use Rattle.list_journal.specs.Journals.{JournalLine, nothing_held, JournalRun, IsOpen, EndsRefuted, blocking_sets, journal_units}
+use Rattle.list_journal.specs.Journals.{JournalLine, Rules, nothing_held, JournalRun, IsOpen, EndsRefuted, sets_in, journal_units}
 use Rattle.list_journal.specs.Order.{ordered}
 use Rattle.list_journal.specs.declared.kinds.ListKind.{ListKind}
 use Rattle.list_journal.specs.declared.kinds.ListKind.TheVariants as kind
+use Rattle.list_journal.specs.declared.kinds.Listed.{Listed}
+use Rattle.list_journal.specs.declared.kinds.Listed.TheVariants as listed
 use Rattle.blocking_lists.specs.Lines.{HasLineNumbers, HasFewWords}
+use Rattle.blocking_lists.specs.Outcomes.{rules}
 use Rattle.certificate_file.specs.Formulas.{formula_of}
 use Rattle.certificate_file.specs.Meaning.{part_from}
 use Rattle.certificate_file.specs.declared.places.Header.{Header}
@@ -86,15 +89,19 @@ abbrev pub ListEndsAs : ListKind → List JournalLine → Type 0
 ListEndsAs kind.Whole journal = EndsRefuted journal
 ListEndsAs kind.Partial journal = IsOpen journal
 
--- what its certificate shows: the blocking sets in name order, or the units of its lines
-abbrev pub shown_by_list : System → Header → ListKind → List JournalLine → Answer
-shown_by_list f h kind.Whole journal = Blocking (ordered (raised_sets f h (blocking_sets journal)))
-shown_by_list f h kind.Partial journal = PartialBlocking (journal_units journal)
+-- the rules of a list of the sets of a kind of the part
+abbrev pub rules_in : Listed → System → Header → Rules
+rules_in sought f h = rules sought (part_of f h.from).sets (faulty_in f h)
+
+-- what its certificate shows: the sought sets in name order, or the units of its lines
+abbrev pub shown_by_list : System → Header → Rules → ListKind → List JournalLine → Answer
+shown_by_list f h r kind.Whole journal = Blocking (ordered (raised_sets f h (sets_in listed.Blocking journal)))
+shown_by_list f h r kind.Partial journal = PartialBlocking (journal_units r journal)
 
 -- a journal of a list of the part, by the variables of the part's greatest quorum
 pub record IsJournalOf (f : System) (h : Header) (kind : ListKind) (journal : List JournalLine) : Type 0 where
   pub new : Database
-  pub run : JournalRun kind (part_of f h.from).sets (members (faulty_in f h)) (greatest_of (part_of f h.from).sets (faulty_in f h)) nothing_held journal new
+  pub run : JournalRun (rules_in listed.Blocking f h) kind nothing_held journal new
   pub numbers : All HasLineNumbers journal
   pub few_words : All (HasFewWords (size (greatest_of (part_of f h.from).sets (faulty_in f h)))) journal
   pub few : length journal + 6 ≤ MAX_LINES

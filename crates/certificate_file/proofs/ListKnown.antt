@@ -1,5 +1,5 @@
 -- What is known of a list from line to line.
-use Rattle.std.proofs.Common.{◌≡◌, ℕ, ◌<◌, List, [], ◌∷◌, ◌++◌, map, length, false, not, ◌&&◌, nat_lt, nat_le, Option, Some, None, ok_or, Result, Ok, refl, sym, ap, ◌∙◌, subst, arith, inl, inr, codes}
+use Rattle.std.proofs.Common.{◌≡◌, ℕ, ◌<◌, Bool, List, [], ◌∷◌, ◌++◌, map, length, true, false, not, ◌&&◌, nat_lt, nat_le, Option, Some, None, ok_or, Result, Ok, refl, sym, ap, ◌∙◌, subst, arith, inl, inr, codes}
 use Rattle.std.specs.Prelude.{All}
 use Rattle.std.specs.Str.{bytes_eq}
 use Rattle.std.proofs.lemmas.Bool.{cases_Bool, cases_lt, both_ways, ltb-true, leb-false, not-true}
@@ -9,7 +9,6 @@ use Rattle.fbas_model.specs.Nodes.{Table, members, ◌⊆◌, size}
 use Rattle.fbas_model.specs.Names.{Name, marks}
 use Rattle.fbas_model.proofs.Marks.{length-marks}
 use Rattle.witness_pair.proofs.PairLaws.{none_of_both}
-use Rattle.fbas_model.specs.Fbas.{Quorum, BlocksMinimally}
 use Rattle.fbas_model.specs.Counting.{is_quorum}
 use Rattle.fbas_model.specs.Systems.{System}
 use Rattle.fbas_model.specs.Restriction.{kept}
@@ -26,25 +25,26 @@ use Rattle.lrat_model.specs.declared.step.StepFault.TheVariants.{IdOrder}
 use Rattle.lrat_model.specs.declared.step.Progress.{Progress}
 use Rattle.lrat_model.specs.declared.step.Progress.TheVariants.{Going as going, Refuted}
 use Rattle.lrat_text.specs.Lines.{step_in}
-use Rattle.list_journal.specs.Journals.{JournalLine, QuorumLine, BlockingLine, StepLine, JournalRun, IsTaken, IsNewLine, IsOpen, line_progress, nothing_held, after_line, blocking_sets}
-use Rattle.list_journal.specs.Listed.{list_line as listed_line, clause_for}
-use Rattle.list_journal.specs.Tests.{is_blocking, is_least}
+use Rattle.list_journal.specs.Kinds.{is_sought, asks_new}
+use Rattle.list_journal.specs.Numbering.{clause_for}
+use Rattle.list_journal.specs.Journals.{JournalLine, SetLine, StepLine, Rules, IsListedFor, IsNewIf, JournalRun, IsNewLine, IsOpen, line_progress, nothing_held, put_if, sets_in}
+use Rattle.list_journal.specs.Tests.{is_blocking, is_minimal}
 use Rattle.list_journal.specs.declared.kinds.ListKind.{ListKind}
 use Rattle.list_journal.specs.declared.kinds.ListKind.TheVariants.{Whole, Partial as Part}
 use Rattle.list_journal.specs.declared.kinds.Listed.{Listed}
 use Rattle.list_journal.specs.declared.kinds.Listed.TheVariants as listed
 use Rattle.list_journal.proofs.Greatest.{IsGreatest}
-use Rattle.list_journal.proofs.Whole.{quorum_within, block_within}
+use Rattle.list_journal.proofs.Duality.{quorum_within, right_within as listed_within}
 use Rattle.list_journal.proofs.Ids.{AreBelow, below_run}
 use Rattle.list_journal.proofs.Runs.{run_append, open_append, sets_append}
-use Rattle.list_journal.proofs.TestLaws.{blocks_to, least_to}
+use Rattle.list_journal.proofs.TestLaws.{blocks_to, minimal_to}
 use Rattle.cert_lines.specs.Limits.{unless}
 use Rattle.cert_lines.specs.Words.{words_of}
 use Rattle.cert_lines.specs.Saying.{or_bad_line}
 use Rattle.cert_lines.specs.declared.faults.CertError.{CertError}
 use Rattle.cert_lines.specs.declared.faults.CertError.TheVariants.{BadLine, UnknownNode, NotQuorum, NotBlocking, NotMinimal, NotNew, Step}
-use Rattle.certificate_file.specs.Acceptance.{and_then, all_among, nodes_of, others, within, adds_covered, is_covered, no_listing, listed_by, Numbered, numbered_in, right_set, asks_new, is_old, new_set, with_block, with_listed, list_set, set_line, literal_in, is_old_step, with_step, after_list_step, list_step_unless, list_step, list_end, list_text, list_line}
-use Rattle.certificate_file.specs.Known.{IsSubject, IsPartSet, IsList, IsKnownState}
+use Rattle.certificate_file.specs.Acceptance.{and_then, all_among, nodes_of, others, within, adds_covered, is_covered, no_listing, listed_by, Numbered, numbered_in, right_set, is_old, new_set, put_last, with_sought, with_listed, list_set, set_line, literal_in, is_old_step, with_step, after_list_step, list_step_unless, list_step, list_end, list_text, list_line}
+use Rattle.certificate_file.specs.Known.{IsSubject, IsPartSet, rules_of, IsList, IsKnownState}
 use Rattle.certificate_file.specs.declared.places.Subject.{Subject}
 use Rattle.certificate_file.specs.declared.places.Listing.{Listing}
 use Rattle.certificate_file.specs.declared.places.ListPart.{ListPart}
@@ -53,7 +53,7 @@ use Rattle.certificate_file.specs.declared.places.Place.TheVariants.{AtList}
 use Rattle.certificate_file.specs.declared.places.State.{State}
 use Rattle.certificate_file.specs.declared.places.State.TheVariants.{Going, Done}
 use Rattle.certificate_file.proofs.CoverLaws.{covered-from}
-use Rattle.certificate_file.proofs.ListShown.{part_faulty_size, cut_size, part_greatest, list_shown}
+use Rattle.certificate_file.proofs.ListShown.{part_faulty_size, cut_size, part_greatest, list_holds, list_shown}
 use Rattle.certificate_file.proofs.PartLaws.{inside}
 use Rattle.certificate_file.proofs.Results.{got, passed, within_part}
 
@@ -68,7 +68,7 @@ list_starts f kind s is = record {
   journal = [];
   opens = All-nil (λ line. line_progress line ≡ going);
   run = refl;
-  blocks = refl;
+  listed = refl;
 }
 
 -- ---- new clauses
@@ -79,65 +79,54 @@ new_where_uncovered d id clause below above off k other at subset = elim (cases_
   | inr high ↦ (let none = below k (omega arith) in absurd cc)
 ]
 
-new_line : (kind : ListKind) (which : Listed) (g : Table) (d : Database) (id : ℕ) (u : Table) → AreBelow d → d.last < id → (asks_new kind which && is_covered d.held id (clause_for which g u)) ≡ false → IsNewLine kind g d.held (listed_line which id u)
-new_line Whole listed.Quorum g d id u below above off = tt
-new_line Whole listed.Blocking g d id u below above off = new_where_uncovered d id (clause_for listed.Blocking g u) below above off
-new_line Part listed.Quorum g d id u below above off = new_where_uncovered d id (clause_for listed.Quorum g u) below above off
-new_line Part listed.Blocking g d id u below above off = new_where_uncovered d id (clause_for listed.Blocking g u) below above off
+new_clause : (asked : Bool) (d : Database) (id : ℕ) (clause : List Literal) → AreBelow d → d.last < id → (asked && is_covered d.held id clause) ≡ false → IsNewIf asked d.held clause
+new_clause true d id clause below above off = new_where_uncovered d id clause below above off
+new_clause false d id clause below above off = tt
 
-new_step : (kind : ListKind) (g : Table) (d : Database) (step : ProofStep) → AreBelow d → step_fault (size g) d step ≡ None → (asks_new kind listed.Quorum && adds_covered d.held step) ≡ false → IsNewLine kind g d.held (StepLine step)
-new_step Whole g d step below none off = tt
-new_step Part g d (Addition id lits hints) below none off = elim (cases_Bool (nat_le id d.last)) [
+new_step : (r : Rules) (kind : ListKind) (d : Database) (step : ProofStep) → AreBelow d → step_fault r.vars d step ≡ None → (asks_new listed.Blocking kind listed.Quorum && adds_covered d.held step) ≡ false → IsNewLine r kind d.held (StepLine step)
+new_step r Whole d step below none off = tt
+new_step r Part d (Addition id lits hints) below none off = elim (cases_Bool (nat_le id d.last)) [
   | inl low ↦ let refused = rw low at none in absurd cc
   | inr above ↦ new_where_uncovered d id lits below (leb-false id d.last above) off
 ]
-new_step Part g d (Deletion id ids) below none off = tt
+new_step r Part d (Deletion id ids) below none off = tt
 
 no_start : AreBelow nothing_held
 no_start k h = refl
 
 -- ---- a line more
 
--- what a set is listed for
-abbrev Right : ListPart → Listed → Table → Type 0
-Right p listed.Quorum u = Quorum p.system.sets (members p.faulty) (members u)
-Right p listed.Blocking u = BlocksMinimally p.system.sets (members p.faulty) (members u)
-
-right_for : (k : Listing) (l : ℕ) (which : Listed) (u v : Table) → length u ≡ length k.part.system.sets → length k.part.faulty ≡ length k.part.system.sets → right_set k l which u ≡ Ok v → (v ≡ u) × Right k.part which u
-right_for k l listed.Quorum u v size same e =
+right_for : (k : Listing) (l : ℕ) (which : Listed) (u v : Table) → IsGreatest k.part.system.sets (members k.part.faulty) k.part.greatest → length u ≡ length k.part.system.sets → length k.part.faulty ≡ length k.part.system.sets
+    → right_set k l which u ≡ Ok v → (v ≡ u) × IsListedFor listed.Blocking k.part.system.sets (members k.part.faulty) k.part.greatest which u
+right_for k l listed.Quorum u v greatest size same e =
     let p = passed (NotQuorum l) (is_quorum k.part.system.sets k.part.faulty u) (Ok u) v e in
-    (let q = p.1 in cc, quorum-to k.part.system.sets k.part.faulty u p.0)
-right_for k l listed.Blocking u v size same e =
-    let next : Result Table CertError = unless (NotMinimal l) (is_least k.part.system.sets k.part.faulty u) (Ok u) in
+    let is = quorum-to k.part.system.sets k.part.faulty u p.0 in
+    (let q = p.1 in cc, (size, (is, quorum_within k.part.system.sets (members k.part.faulty) k.part.greatest (members u) greatest is)))
+right_for k l listed.Blocking u v greatest size same e =
+    let next : Result Table CertError = unless (NotMinimal l) (is_minimal listed.Blocking k.part.system.sets k.part.faulty u) (Ok u) in
     let one = passed (NotBlocking l) (is_blocking k.part.system.sets k.part.faulty u) next v e in
-    let two = passed (NotMinimal l) (is_least k.part.system.sets k.part.faulty u) (Ok u) v one.1 in
-    (let q = two.1 in cc, record { blocks = blocks_to k.part.system.sets k.part.faulty u same size one.0; least = least_to k.part.system.sets k.part.faulty u two.0 })
+    let two = passed (NotMinimal l) (is_minimal listed.Blocking k.part.system.sets k.part.faulty u) (Ok u) v one.1 in
+    (let q = two.1 in cc, (size, record { blocks = blocks_to k.part.system.sets k.part.faulty u same size one.0; least = minimal_to listed.Blocking k.part.system.sets k.part.faulty u same two.0 }))
 
-taken_line : (p : ListPart) (d : Database) (which : Listed) (id : ℕ) (u : Table) → d.last < id → length u ≡ length p.system.sets → Right p which u → IsTaken p.system.sets (members p.faulty) p.greatest d (listed_line which id u)
-taken_line p d listed.Quorum id u above size right = (above, size, right)
-taken_line p d listed.Blocking id u above size right = (above, size, right)
+put_more : (b : Bool) (nodes : Table) (sets : List Table) (u : Table) → (map (kept nodes) sets ++ put_if b (kept nodes u) []) ≡ map (kept nodes) (put_last b sets u)
+put_more true nodes sets u = sym (map-append (kept nodes) sets (u ∷ []))
+put_more false nodes sets u = append-nil (map (kept nodes) sets)
 
-after_set : (g : Table) (d : Database) (which : Listed) (id : ℕ) (u : Table) → after_line g d (listed_line which id u) ≡ record { held = with_clause d.held id (clause_for which g u); last = id }
-after_set g d listed.Quorum id u = refl
-after_set g d listed.Blocking id u = refl
+listed_more : (sought : Listed) (nodes : Table) (journal : List JournalLine) (sets : List Table) (which : Listed) (id : ℕ) (u : Table) → sets_in sought journal ≡ map (kept nodes) sets
+    → sets_in sought (journal ++ SetLine which id (kept nodes u) ∷ []) ≡ map (kept nodes) (with_sought sought sets which u)
+listed_more sought nodes journal sets which id u listed =
+    let b : Bool = is_sought sought which in
+    sets_append sought journal (SetLine which id (kept nodes u) ∷ []) ∙ ap (λ (xs : List Table). xs ++ put_if b (kept nodes u) []) listed ∙ put_more b nodes sets u
 
-open_set : (which : Listed) (id : ℕ) (u : Table) → line_progress (listed_line which id u) ≡ going
-open_set listed.Quorum id u = refl
-open_set listed.Blocking id u = refl
-
-blocks_more : (nodes : Table) (journal : List JournalLine) (sets : List Table) (which : Listed) (id : ℕ) (u : Table) → blocking_sets journal ≡ map (kept nodes) sets → blocking_sets (journal ++ listed_line which id (kept nodes u) ∷ []) ≡ map (kept nodes) (with_block sets which u)
-blocks_more nodes journal sets listed.Quorum id u blocks = sets_append journal (QuorumLine id (kept nodes u) ∷ []) ∙ append-nil (blocking_sets journal) ∙ blocks
-blocks_more nodes journal sets listed.Blocking id u blocks = sets_append journal (BlockingLine id (kept nodes u) ∷ []) ∙ ap (λ (xs : List Table). xs ++ kept nodes u ∷ []) blocks ∙ sym (map-append (kept nodes) sets (u ∷ []))
-
-sets_more : (P : Table → Type 0) (sets : List Table) (which : Listed) (u : Table) → All P sets → P u → All P (with_block sets which u)
-sets_more P sets listed.Quorum u all one = all
-sets_more P sets listed.Blocking u all one = All-append P sets (u ∷ []) all (All-cons P u [] one (All-nil P))
+sets_more : (P : Table → Type 0) (b : Bool) (sets : List Table) (u : Table) → All P sets → P u → All P (put_last b sets u)
+sets_more P false sets u all one = all
+sets_more P true sets u all one = All-append P sets (u ∷ []) all (All-cons P u [] one (All-nil P))
 
 open_more : (journal : List JournalLine) (line : JournalLine) → IsOpen journal → line_progress line ≡ going → IsOpen (journal ++ line ∷ [])
 open_more journal line opens is = open_append journal (line ∷ []) opens (All-cons (λ l. line_progress l ≡ going) line [] is (All-nil (λ l. line_progress l ≡ going)))
 
 held_below : (f : System) (s : Subject) (k : Listing) → IsList f s k → AreBelow k.checker.database
-held_below f s k is = below_run k.kind k.part.system.sets (members k.part.faulty) k.part.greatest nothing_held is.journal k.checker.database is.run no_start
+held_below f s k is = below_run (rules_of listed.Blocking k.part) k.kind nothing_held is.journal k.checker.database is.run no_start
 
 pub faulty_fits : (f : System) (s : Subject) (k : Listing) → IsList f s k → length k.part.faulty ≡ length k.part.system.sets
 faulty_fits f s k is = subst (λ (p : ListPart). length p.faulty ≡ length p.system.sets) (sym is.part) (part_faulty_size f s is.subject)
@@ -149,14 +138,11 @@ pub greatest_fits : (f : System) (s : Subject) (k : Listing) → IsList f s k �
 greatest_fits f s k is = subst (λ (p : ListPart). IsGreatest p.system.sets (members p.faulty) p.greatest) (sym is.part) (part_greatest f s is.subject)
 
 -- what is listed lies in the greatest quorum
-right_inside : (p : ListPart) (which : Listed) (u : Table) → IsGreatest p.system.sets (members p.faulty) p.greatest → Right p which u → members u ⊆ members p.greatest
-right_inside p listed.Quorum u greatest right = quorum_within p.system.sets (members p.faulty) p.greatest (members u) greatest right
-right_inside p listed.Blocking u greatest right = block_within p.system.sets (members p.faulty) p.greatest (members u) greatest right
-
 pub right_within : (f : System) (s : Subject) (k : Listing) (l : ℕ) (which : Listed) (u v : Table) → IsList f s k → length u ≡ length k.part.system.sets → right_set k l which u ≡ Ok v → members v ⊆ members k.part.greatest
 right_within f s k l which u v is size e =
-    let right = right_for k l which u v size (faulty_fits f s k is) e in
-    subst (λ (t : Table). members t ⊆ members k.part.greatest) (sym right.0) (right_inside k.part which u (greatest_fits f s k is) right.1)
+    let greatest = greatest_fits f s k is in
+    let right = right_for k l which u v greatest size (faulty_fits f s k is) e in
+    subst (λ (t : Table). members t ⊆ members k.part.greatest) (sym right.0) (listed_within listed.Blocking which k.part.system.sets (members k.part.faulty) k.part.greatest u greatest right.1.1)
 
 -- a set of the part that is listed
 set_known : (f : System) (s : Subject) (k : Listing) (l : ℕ) (which : Listed) (id : ℕ) (u : Table) (state : State) → IsList f s k → k.checker.database.last < id → IsPartSet f s.nodes u → list_set s k l which id u ≡ Ok state → IsKnownState f state
@@ -167,23 +153,24 @@ set_known f s k l which id u state is above part e =
     let size_is = set_fits f s k u is part.places in
     let one = got (and_then (new_set k l which id) (right_set k l which cut)) (λ w. Ok (Going (AtList s (with_listed k which id u w)))) state e in
     let two = got (right_set k l which cut) (new_set k l which id) one.0 one.1 in
-    let right = right_for k l which cut two.0 size_is (faulty_fits f s k is) two.1 in
+    let right = right_for k l which cut two.0 (greatest_fits f s k is) size_is (faulty_fits f s k is) two.1 in
     let fresh = passed (NotNew l) (not (is_old k which id two.0)) (Ok two.0) one.0 two.2 in
     let same : one.0 ≡ cut = (let q = fresh.1 in let r : two.0 ≡ one.0 = cc in sym r ∙ right.0) in
     let off : is_old k which id cut ≡ false = subst (λ (t : Table). is_old k which id t ≡ false) right.0 (not-true (is_old k which id two.0) fresh.0) in
     let next : Listing = with_listed k which id u cut in
-    let line : JournalLine = listed_line which id cut in
+    let line : JournalLine = SetLine which id cut in
+    let r : Rules = rules_of listed.Blocking p in
     let known : IsList f s next = record {
       subject = is.subject;
       part = is.part;
       rule = is.rule;
       vars = is.vars;
-      sets = sets_more (IsPartSet f s.nodes) k.sets which u is.sets part;
+      sets = sets_more (IsPartSet f s.nodes) (is_sought listed.Blocking which) k.sets u is.sets part;
       journal = is.journal ++ line ∷ [];
-      opens = open_more is.journal line is.opens (open_set which id cut);
-      run = run_append k.kind p.system.sets (members p.faulty) p.greatest nothing_held is.journal (line ∷ []) d next.checker.database is.run
-          (taken_line p d which id cut above size_is right.1, new_line k.kind which p.greatest d id cut (held_below f s k is) above off, sym (after_set p.greatest d which id cut));
-      blocks = blocks_more s.nodes is.journal k.sets which id u is.blocks;
+      opens = open_more is.journal line is.opens refl;
+      run = run_append r k.kind nothing_held is.journal (line ∷ []) d next.checker.database is.run
+          ((above, right.1), new_clause (asks_new listed.Blocking k.kind which) d id (clause_for listed.Blocking p.greatest which cut) (held_below f s k is) above off, refl);
+      listed = listed_more listed.Blocking s.nodes is.journal k.sets which id u is.listed;
     } in
     let there : Going (AtList s (with_listed k which id u one.0)) ≡ state = (let q = one.2 in cc) in
     subst (IsKnownState f) (ap (λ (w : Table). Going (AtList s (with_listed k which id u w))) (sym same) ∙ there) known
@@ -212,18 +199,18 @@ numbered_known f s k l which n state is e =
 step_goes : (f : System) (s : Subject) (k : Listing) (step : ProofStep) (p : Progress) → IsList f s k → step_fault_by k.checker.rule k.checker.vars k.checker.database step ≡ None → is_old_step k step ≡ false → progress_of step ≡ p → IsKnownState f (after_list_step s (with_step k step) p)
 step_goes f s k step p is none off progress = by_progress p progress
   where
-    g : Table
-    g = k.part.greatest
+    r : Rules
+    r = rules_of listed.Blocking k.part
 
-    taken : step_fault (size g) k.checker.database step ≡ None
+    taken : step_fault r.vars k.checker.database step ≡ None
     taken =
-        sym (rup_is_the_first_rule (size g) k.checker.database step)
+        sym (rup_is_the_first_rule r.vars k.checker.database step)
         ∙ subst (λ (n : ℕ). step_fault_by Rup n k.checker.database step ≡ None) is.vars
-        (subst (λ (r : Rule). step_fault_by r k.checker.vars k.checker.database step ≡ None) is.rule none)
+        (subst (λ (rule : Rule). step_fault_by rule k.checker.vars k.checker.database step ≡ None) is.rule none)
 
-    run : JournalRun k.kind k.part.system.sets (members k.part.faulty) g nothing_held (is.journal ++ StepLine step ∷ []) (after_step k.checker.database step)
-    run = run_append k.kind k.part.system.sets (members k.part.faulty) g nothing_held is.journal (StepLine step ∷ []) k.checker.database (after_step k.checker.database step) is.run
-        (taken, new_step k.kind g k.checker.database step (held_below f s k is) taken off, refl)
+    run : JournalRun r k.kind nothing_held (is.journal ++ StepLine step ∷ []) (after_step k.checker.database step)
+    run = run_append r k.kind nothing_held is.journal (StepLine step ∷ []) k.checker.database (after_step k.checker.database step) is.run
+        (taken, new_step r k.kind k.checker.database step (held_below f s k is) taken off, refl)
 
     by_progress : (q : Progress) → progress_of step ≡ q → IsKnownState f (after_list_step s (with_step k step) q)
     by_progress going is_going = record {
@@ -235,12 +222,13 @@ step_goes f s k step p is none off progress = by_progress p progress
       journal = is.journal ++ StepLine step ∷ [];
       opens = open_more is.journal (StepLine step) is.opens is_going;
       run = run;
-      blocks = sets_append is.journal (StepLine step ∷ []) ∙ append-nil (blocking_sets is.journal) ∙ is.blocks;
+      listed = sets_append listed.Blocking is.journal (StepLine step ∷ []) ∙ append-nil (sets_in listed.Blocking is.journal) ∙ is.listed;
     }
     by_progress Refuted is_refuted =
-        list_shown f s k.kind is.journal step (after_step k.checker.database step) k.sets is.subject is.opens is_refuted
-        (subst (λ (p : ListPart). JournalRun k.kind p.system.sets (members p.faulty) p.greatest nothing_held (is.journal ++ StepLine step ∷ []) (after_step k.checker.database step)) is.part run)
-        is.blocks is.sets
+        list_shown f s k.sets is.subject is.sets
+        (list_holds listed.Blocking f s k.kind is.journal step (after_step k.checker.database step) k.sets is.subject is.opens is_refuted
+        (subst (λ (p : ListPart). JournalRun (rules_of listed.Blocking p) k.kind nothing_held (is.journal ++ StepLine step ∷ []) (after_step k.checker.database step)) is.part run)
+        is.listed is.sets)
 
 step_in_list : (f : System) (s : Subject) (k : Listing) (l : ℕ) (step : ProofStep) (o : Option StepFault) (state : State) → IsList f s k → step_fault_by k.checker.rule k.checker.vars k.checker.database step ≡ o → list_step_unless l s k step o ≡ Ok state → IsKnownState f state
 step_in_list f s k l step (Some fault) state is at e = absurd cc

@@ -10,19 +10,21 @@ use Rattle.fbas_model.proofs.Kept.{length-kept}
 use Rattle.fbas_model.proofs.Renumbered.{length-restricted_sets}
 use Rattle.lrat_model.specs.Steps.{ProofStep, Database, progress_of}
 use Rattle.lrat_model.specs.declared.step.Progress.TheVariants.{Refuted}
-use Rattle.list_journal.specs.Journals.{JournalLine, StepLine, JournalRun, IsOpen, IsWholeJournal, nothing_held, blocking_sets}
-use Rattle.list_journal.specs.Lists.{AreMinimalBlocks}
+use Rattle.list_journal.specs.Journals.{JournalLine, StepLine, JournalRun, IsOpen, IsWholeJournal, nothing_held, sets_in}
+use Rattle.list_journal.specs.Lists.{AreMinimalSets}
 use Rattle.list_journal.specs.Order.{by_order, with_set, ordered}
 use Rattle.list_journal.specs.declared.kinds.ListKind.{ListKind}
 use Rattle.list_journal.specs.declared.kinds.ListKind.TheVariants.{Whole, Partial as Part}
+use Rattle.list_journal.specs.declared.kinds.Listed.{Listed}
+use Rattle.list_journal.specs.declared.kinds.Listed.TheVariants as listed
 use Rattle.list_journal.proofs.Elements.{nothing_in, first_in, later_in, cons_cases}
 use Rattle.list_journal.proofs.Greatest.{IsGreatest, counted_greatest}
 use Rattle.list_journal.proofs.OrderLaws.{HavePlaces, ordered_rising, ordered_has}
-use Rattle.list_journal.proofs.Runs.{whole_from_partial, sets_append}
+use Rattle.list_journal.proofs.Runs.{lists_ask_more, whole_from_partial, sets_append}
 use Rattle.list_journal.proofs.Whole.{whole_has_each}
 use Rattle.certificate_file.specs.Acceptance.{list_part}
-use Rattle.certificate_file.specs.Meaning.{BlocksOfPart}
-use Rattle.certificate_file.specs.Known.{IsSubject, IsPartSet, IsShown}
+use Rattle.certificate_file.specs.Meaning.{MinimalOfPart, ListHolds}
+use Rattle.certificate_file.specs.Known.{IsSubject, IsPartSet, IsShown, rules_of}
 use Rattle.certificate_file.specs.declared.places.Subject.{Subject}
 use Rattle.certificate_file.specs.declared.places.Answer.TheVariants.{Blocking}
 use Rattle.certificate_file.specs.declared.places.ListPart.{ListPart}
@@ -67,46 +69,50 @@ module _ (f : System) (s : Subject) (is : IsSubject f s) where
 
 -- ---- the end
 
-as_whole : (kind : ListKind) (p : ListPart) (old : Database) (lines : List JournalLine) (new : Database) → JournalRun kind p.system.sets (members p.faulty) p.greatest old lines new → JournalRun Whole p.system.sets (members p.faulty) p.greatest old lines new
-as_whole Whole p old lines new run = run
-as_whole Part p old lines new run = whole_from_partial p.system.sets (members p.faulty) p.greatest old lines new run
+as_whole : (sought : Listed) (kind : ListKind) (p : ListPart) (old : Database) (lines : List JournalLine) (new : Database) → JournalRun (rules_of sought p) kind old lines new → JournalRun (rules_of sought p) Whole old lines new
+as_whole sought Whole p old lines new run = run
+as_whole sought Part p old lines new run = whole_from_partial (rules_of sought p) (lists_ask_more sought p.system.sets (members p.faulty) p.greatest) old lines new run
 
--- a journal that the empty lemma ends shows each minimal blocking set of the part
-pub list_shown : (f : System) (s : Subject) (kind : ListKind) (journal : List JournalLine) (step : ProofStep) (after : Database) (sets : List Table) → IsSubject f s → IsOpen journal → progress_of step ≡ Refuted
-    → JournalRun kind (list_part f s).system.sets (members (list_part f s).faulty) (list_part f s).greatest nothing_held (journal ++ StepLine step ∷ []) after
-    → blocking_sets journal ≡ map (kept s.nodes) sets → All (IsPartSet f s.nodes) sets → IsShown f (record { header = s.header; answer = Blocking (ordered sets) })
-list_shown f s kind journal step after sets is opens refuted run blocks places =
+-- a journal that the empty lemma ends has each minimal set of the sought kind of the part
+pub list_holds : (sought : Listed) (f : System) (s : Subject) (kind : ListKind) (journal : List JournalLine) (step : ProofStep) (after : Database) (sets : List Table) → IsSubject f s → IsOpen journal → progress_of step ≡ Refuted
+    → JournalRun (rules_of sought (list_part f s)) kind nothing_held (journal ++ StepLine step ∷ []) after → sets_in sought journal ≡ map (kept s.nodes) sets → All (IsPartSet f s.nodes) sets → ListHolds sought f s.header (ordered sets)
+list_holds sought f s kind journal step after sets is opens refuted run listed places =
     let p : ListPart = list_part f s in
-    let whole : IsWholeJournal p.system.sets (members p.faulty) p.greatest (journal ++ StepLine step ∷ []) = record {
+    let whole : IsWholeJournal (rules_of sought p) (journal ++ StepLine step ∷ []) = record {
       ends = record { before = journal; last = StepLine step; is = refl; ends = refuted; only = opens };
       after = after;
-      run = as_whole kind p nothing_held (journal ++ StepLine step ∷ []) after run;
+      run = as_whole sought kind p nothing_held (journal ++ StepLine step ∷ []) after run;
     } in
-    let same : blocking_sets (journal ++ StepLine step ∷ []) ≡ map (kept s.nodes) sets = sets_append journal (StepLine step ∷ []) ∙ append-nil (blocking_sets journal) ∙ blocks in
-    let each : AreMinimalBlocks p.system.sets (members p.faulty) (map (kept s.nodes) sets) =
-    subst (λ (xs : List Table). AreMinimalBlocks p.system.sets (members p.faulty) xs) same (whole_has_each p.system.sets (members p.faulty) p.greatest (journal ++ StepLine step ∷ []) (part_greatest f s is) whole) in
+    let same : sets_in sought (journal ++ StepLine step ∷ []) ≡ map (kept s.nodes) sets = sets_append sought journal (StepLine step ∷ []) ∙ append-nil (sets_in sought journal) ∙ listed in
+    let each : AreMinimalSets sought p.system.sets (members p.faulty) (map (kept s.nodes) sets) =
+    subst (λ (xs : List Table). AreMinimalSets sought p.system.sets (members p.faulty) xs) same
+    (whole_has_each sought p.system.sets (members p.faulty) p.greatest (part_greatest f s is) (journal ++ StepLine step ∷ []) whole) in
     let of_part : (u : Table) → Contains sets u → IsPartSet f s.nodes u = λ u there. All-contains (IsPartSet f s.nodes) sets u places there in
     let sizes : HavePlaces (length f.sets) sets = λ u there. (of_part u there).places in
-    let nodes_are = is.part.same in (
-      record {
-        from = is.part.node;
-        faulty = is.faulty;
-        answer = all_ordered (λ u. length u ≡ length f.sets) sets (λ k d low. (places k d low).places);
-      },
-      record {
-        rising = ordered_rising sets;
-        exact = λ u.
-            let order = ordered_has (length f.sets) sets sizes u in (
-              λ there.
-                  let listed = order.0 there in
-                  let holds : BlocksOfPart f s.nodes s.header.faulty u = record { within = (of_part u listed).within; minimal = ((each (kept s.nodes u)).0 (map_has (kept s.nodes) sets u listed)).1 } in
-                  ((of_part u listed).places, subst (λ (t : Table). BlocksOfPart f t s.header.faulty u) nodes_are holds),
-              λ shown.
-                  let holds = subst (λ (t : Table). BlocksOfPart f t s.header.faulty u) (sym nodes_are) shown.1 in
-                  let found = map_only (kept s.nodes) sets (kept s.nodes u) ((each (kept s.nodes u)).1 (cut_size f s is u shown.0, holds.minimal)) in
-                  let here = of_part found.0 found.1 in
-                  let one : found.0 ≡ u = same_set s.nodes found.0 u (here.places ∙ sym is.part.places) (shown.0 ∙ sym is.part.places) here.within holds.within found.2 in
-                  order.1 (subst (λ (t : Table). Contains sets t) one found.1),
-            );
-      },
-    )
+    let nodes_are = is.part.same in record {
+      rising = ordered_rising sets;
+      exact = λ u.
+          let order = ordered_has (length f.sets) sets sizes u in (
+            λ there.
+                let here = order.0 there in
+                let holds : MinimalOfPart sought f s.nodes s.header.faulty u = record { within = (of_part u here).within; minimal = ((each (kept s.nodes u)).0 (map_has (kept s.nodes) sets u here)).1 } in
+                ((of_part u here).places, subst (λ (t : Table). MinimalOfPart sought f t s.header.faulty u) nodes_are holds),
+            λ shown.
+                let holds = subst (λ (t : Table). MinimalOfPart sought f t s.header.faulty u) (sym nodes_are) shown.1 in
+                let found = map_only (kept s.nodes) sets (kept s.nodes u) ((each (kept s.nodes u)).1 (cut_size f s is u shown.0, holds.minimal)) in
+                let here = of_part found.0 found.1 in
+                let one : found.0 ≡ u = same_set s.nodes found.0 u (here.places ∙ sym is.part.places) (shown.0 ∙ sym is.part.places) here.within holds.within found.2 in
+                order.1 (subst (λ (t : Table). Contains sets t) one found.1),
+          );
+    }
+
+-- and so the answer holds
+pub list_shown : (f : System) (s : Subject) (sets : List Table) → IsSubject f s → All (IsPartSet f s.nodes) sets → ListHolds listed.Blocking f s.header (ordered sets) → IsShown f (record { header = s.header; answer = Blocking (ordered sets) })
+list_shown f s sets is places holds = (
+  record {
+    from = is.part.node;
+    faulty = is.faulty;
+    answer = all_ordered (λ u. length u ≡ length f.sets) sets (λ k d low. (places k d low).places);
+  },
+  holds,
+)

@@ -11,7 +11,7 @@ use cert_lines::CertError;
 use clause_store::Store;
 use fbas_core::System;
 use greatest_quorum::greatest;
-use list_journal::{ListKind, SetList};
+use list_journal::{ListKind, NodeSets};
 use lrat_checker::IdleChecker;
 use lrat_model::Rule;
 use name_set::NodeSet;
@@ -51,7 +51,7 @@ fn no_listing(
             kind,
             part,
             checker,
-            sets: SetList::new(alloc),
+            sets: NodeSets::new(alloc),
             units: 0,
         }),
         Err(fault) => {

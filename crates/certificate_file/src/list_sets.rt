@@ -2,9 +2,10 @@
 ghost use Rattle.std.specs.Prelude.{◌≡◌, ◌⊎◌, ◌<◌, ◌&&◌, length, IfOk, IfErr, IsErrOf, OnOk, Ok, Err};
 ghost use Rattle.fbas_model.specs.Nodes.{members, ◌⊆◌, size};
 ghost use Rattle.lrat_model.specs.Ranges.{IsInRange};
-ghost use Rattle.list_journal.specs.Listed.{clause_for};
+ghost use Rattle.list_journal.specs.Kinds.{asks_new};
+ghost use Rattle.list_journal.specs.Numbering.{clause_for};
 ghost use Rattle.list_journal.specs.declared.kinds.Listed.TheVariants.{Quorum, Blocking};
-ghost use Rattle.certificate_file.specs.Acceptance.{asks_new, is_covered, right_set, new_set, list_set, with_block};
+ghost use Rattle.certificate_file.specs.Acceptance.{is_covered, right_set, new_set, list_set, with_sought};
 ghost use Rattle.certificate_file.specs.Known.{IsList, IsPartSet};
 ghost use Rattle.certificate_file.specs.declared.places.Place.TheVariants.{AtList};
 ghost use Rattle.certificate_file.specs.declared.places.State.TheVariants.{Going};
@@ -12,7 +13,7 @@ ghost use Rattle.certificate_file.specs.declared.places.State.TheVariants.{Going
 use crate::places::{Listing, Subject};
 use cert_lines::CertError;
 use fbas_core::System;
-use list_journal::{ListKind, Listed, SetList, clause_of, is_blocking, is_least};
+use list_journal::{ListKind, Listed, NodeSets, clause_of, is_blocking, is_minimal};
 use lrat_checker::IdleChecker;
 use lrat_model::Lit;
 use name_set::NodeSet;
@@ -48,7 +49,14 @@ fn right_block(listing: &Listing, line: u64, set: &NodeSet) -> Result<(), CertEr
     if !is_blocking(&part.system, &part.faulty, set, &mut scratch) {
         return Err(CertError::NotBlocking(line));
     }
-    if !is_least(&part.system, &part.faulty, set, &mut copy, &mut scratch) {
+    if !is_minimal(
+        &part.system,
+        &part.faulty,
+        Listed::Blocking,
+        set,
+        &mut copy,
+        &mut scratch,
+    ) {
         return Err(CertError::NotMinimal(line));
     }
     Ok(())
@@ -69,11 +77,12 @@ fn right_set(listing: &Listing, line: u64, which: Listed, set: &NodeSet) -> Resu
 }
 
 /// Whether the clause of a set has to be new.
-fn asks_new(kind: ListKind, which: Listed) -> bool
-    ensures { result ≡ asks_new kind which }
+fn asks_new(sought: Listed, kind: ListKind, which: Listed) -> bool
+    ensures { result ≡ asks_new sought kind which }
 {
-    match (kind, which) {
-        (ListKind::Whole, Listed::Quorum) => false,
+    match (kind, sought, which) {
+        (ListKind::Whole, Listed::Quorum, Listed::Blocking)
+        | (ListKind::Whole, Listed::Blocking, Listed::Quorum) => false,
         _ => true,
     }
 }
@@ -98,26 +107,40 @@ fn new_clause(
     requires same_n { length set.now ≡ length listing.now.part.system.sets }
     requires within { members set.now ⊆ members listing.now.part.greatest }
     ensures unread { IsErrOf result CertError.Read → ⊥ }
-    ensures clause { IfOk result (λ clause. clause.items ≡ clause_for which listing.now.part.greatest set.now) }
+    ensures clause { IfOk result (λ clause. clause.items ≡ clause_for Blocking listing.now.part.greatest which set.now) }
     ensures range { IfOk result (λ clause. IsInRange (size listing.now.part.greatest) clause.items) }
     ensures ok { IfOk result (λ _. new_set listing.now line which id set.now ≡ Ok set.now) }
     ensures err { IfErr result (λ e. (e ≡ CertError.Memory) ⊎ (new_set listing.now line which id set.now ≡ Err e)) }
 {
     let n = listing.part.system.len();
-    let clause = clause_of(alloc, which, n, &listing.part.greatest, set)?;
-    if asks_new(listing.kind, which) && is_covered(&listing.checker, id, &clause) {
+    let clause = clause_of(
+        alloc,
+        Listed::Blocking,
+        which,
+        n,
+        &listing.part.greatest,
+        set,
+    )?;
+    if asks_new(Listed::Blocking, listing.kind, which)
+        && is_covered(&listing.checker, id, &clause)
+    {
         return Err(CertError::NotNew(line));
     }
     Ok(clause)
 }
 
-/// The blocking sets with this one, if it is one.
-fn with_block(sets: &mut SetList, which: Listed, set: NodeSet) -> Result<(), AllocError>
-    ensures { IfOk result (λ _. sets.new ≡ with_block sets.old which set) }
+/// The sets with this one, if it is of the sought kind.
+fn with_sought(
+    sets: &mut NodeSets,
+    sought: Listed,
+    which: Listed,
+    set: NodeSet,
+) -> Result<(), AllocError>
+    ensures { IfOk result (λ _. sets.new ≡ with_sought sought sets.old which set) }
 {
-    match which {
-        Listed::Quorum => Ok(()),
-        Listed::Blocking => sets.push(set),
+    match (sought, which) {
+        (Listed::Quorum, Listed::Quorum) | (Listed::Blocking, Listed::Blocking) => sets.push(set),
+        _ => Ok(()),
     }
 }
 
@@ -143,7 +166,7 @@ pub fn list_set(
     right_set(listing, line, which, &cut)?;
     let clause = new_clause(alloc, listing, line, which, id, &cut)?;
     listing.checker.give(id, &clause)?;
-    with_block(&mut listing.sets, which, set)?;
+    with_sought(&mut listing.sets, Listed::Blocking, which, set)?;
     let Some(units) = listing.units.checked_add(1) else {
         return Err(CertError::Memory);
     };

@@ -1,15 +1,17 @@
 -- What the code decides is what the tests compute.
-use Rattle.std.proofs.Common.{◌≡◌, Bool, true, false, not, ◌&&◌, length, sym, ap, ◌∙◌, subst, arith, inl, inr}
-use Rattle.std.proofs.lemmas.Bool.{cases_Bool, both_ways, and_from, false_from_ne_true, not_from_false, lt-ltb}
+use Rattle.std.proofs.Common.{◌≡◌, Bool, true, false, not, ◌&&◌, length, sym, ap, subst, arith}
+use Rattle.std.proofs.lemmas.Bool.{and_from, false_from_ne_true, not_from_false, lt-ltb}
 use Rattle.std.specs.Cmp.{both_ways as same_answer}
 use Rattle.fbas_model.specs.Nodes.{Nodes, Table, members, ◌⊆◌, Meets}
-use Rattle.fbas_model.specs.Fbas.{Fbas, MeetsQuorums, Blocks, BlocksMinimally, all_nodes}
+use Rattle.fbas_model.specs.Fbas.{Fbas, MeetsQuorums, all_nodes}
 use Rattle.fbas_model.specs.Counting.{is_quorum}
 use Rattle.fbas_model.proofs.Sizes.{member_lt}
-use Rattle.fbas_model.proofs.Tables.{table_ext}
 use Rattle.greatest_quorum.specs.Greatest.{some_set}
-use Rattle.list_journal.specs.Tests.{is_meeting, is_blocking, is_least}
-use Rattle.list_journal.proofs.TestLaws.{meeting_from, blocks_to, blocks_from, least_to, least_from}
+use Rattle.list_journal.specs.Tests.{is_meeting, is_blocking, is_minimal}
+use Rattle.list_journal.specs.Kinds.{Is, IsMinimal}
+use Rattle.list_journal.specs.declared.kinds.Listed.{Listed}
+use Rattle.list_journal.proofs.Duality.{is_of, minimal_of, same_nodes}
+use Rattle.list_journal.proofs.TestLaws.{meeting_from, blocks_to, blocks_from, minimal_to, minimal_from}
 
 pub faulty_blocks_not : (f : Fbas) (b s : Table) → Meets (members s) (members b) → false ≡ is_blocking f b s
 faulty_blocks_not f b s m = sym (ap (λ (x : Bool). not x && not (some_set (length f) (λ u. is_quorum f b u && not (is_meeting s u)))) (meeting_from s b m.0 m.1 m.2))
@@ -23,13 +25,7 @@ blocking_is f b s r size same apart there back = same_answer r (is_blocking f b 
     }))
     (λ h. back (blocks_to f b s same size h).meets)
 
-same_nodes : (s t : Table) → length s ≡ length t → members s ⊆ members t → members t ⊆ members s → s ≡ t
-same_nodes s t e there back = table_ext s t e (λ v. elim (cases_Bool (members s v)) [
-  | inl here ↦ here ∙ sym (there v here)
-  | inr gone ↦ gone ∙ sym (false_from_ne_true (members t v) (λ other. both_ways (members s v) gone (back v other)))
-])
-
-pub least_is : (f : Fbas) (b s t : Table) (r : Bool) → length b ≡ length f → length t ≡ length s → members t ⊆ members s → BlocksMinimally f (members b) (members t) → (r ≡ true → t ≡ s) → (t ≡ s → r ≡ true) → r ≡ is_least f b s
-least_is f b s t r same size inside minimal there back = same_answer r (is_least f b s)
-    (λ h. least_from f b s same (subst (λ (u : Table). (w : Nodes) → w ⊆ members u → Blocks f (members b) w → members u ⊆ w) (there h) minimal.least))
-    (λ h. back (same_nodes t s size inside (least_to f b s h (members t) inside minimal.blocks)))
+pub minimal_is : (k : Listed) (f : Fbas) (b s t : Table) (r : Bool) → length b ≡ length f → length t ≡ length s → members t ⊆ members s → IsMinimal k f (members b) (members t) → (r ≡ true → t ≡ s) → (t ≡ s → r ≡ true) → r ≡ is_minimal k f b s
+minimal_is k f b s t r same size inside minimal there back = same_answer r (is_minimal k f b s)
+    (λ h. minimal_from k f b s same (subst (λ (u : Table). (w : Nodes) → w ⊆ members u → Is k f (members b) w → members u ⊆ w) (there h) (λ w in_t one. minimal_of k f (members b) (members t) w minimal in_t one)))
+    (λ h. back (same_nodes t s size inside (minimal_to k f b s same h (members t) inside (is_of k f (members b) (members t) minimal))))

@@ -4,17 +4,14 @@ use Rattle.std.specs.Prelude.{nat_le}
 use Rattle.std.specs.Option.{option_or}
 use Rattle.std.proofs.lemmas.Bool.{cases_Bool, false_from_ne_true, eqb-true, eq-eqb}
 use Rattle.std.proofs.lemmas.Bool.Decides.{nat_tests}
-use Rattle.fbas_model.specs.Nodes.{Nodes, Table, size}
-use Rattle.fbas_model.specs.Fbas.{Fbas}
 use Rattle.lrat_model.specs.Literal.{Literal, negated}
 use Rattle.lrat_model.specs.Clauses.{Held, clause_at, with_clause, without}
 use Rattle.lrat_model.specs.Propagation.{propagate}
 use Rattle.lrat_model.specs.Steps.{Addition, Deletion, Database, step_fault, after_step, literal_fault, outcome_fault}
 use Rattle.lrat_model.specs.declared.step.StepFault.TheVariants.{IdOrder}
 use Rattle.lrat_model.proofs.Runs.{clause_at-without}
-use Rattle.list_journal.specs.Journals.{JournalLine, QuorumLine, BlockingLine, StepLine, after_line, JournalRun}
+use Rattle.list_journal.specs.Journals.{JournalLine, SetLine, StepLine, Rules, after_line, JournalRun}
 use Rattle.list_journal.specs.declared.kinds.ListKind.{ListKind}
-use Rattle.list_journal.specs.Numbering.{quorum_clause, blocking_clause}
 
 -- no clause is held under an id above the last
 abbrev pub AreBelow : Database → Type 0
@@ -63,9 +60,8 @@ none_without held ids k was =
       | Some clause ↦ λ e. absurd (let there = clause_at-without held ids k clause e in cc)
     ] refl
 
-pub below_run : (kind : ListKind) (f : Fbas) (b : Nodes) (g : Table) (old : Database) (lines : List JournalLine) (new : Database) → JournalRun kind f b g old lines new → AreBelow old → AreBelow new
-below_run kind f b g old [] new run before = subst (λ (d : Database). AreBelow d) (sym run) before
-below_run kind f b g old (QuorumLine id u ∷ lines) new run before = below_run kind f b g (after_line g old (QuorumLine id u)) lines new run.2 (below_with old id (quorum_clause g u) before run.0.0)
-below_run kind f b g old (BlockingLine id s ∷ lines) new run before = below_run kind f b g (after_line g old (BlockingLine id s)) lines new run.2 (below_with old id (blocking_clause g s) before run.0.0)
-below_run kind f b g old (StepLine (Addition id lits hints) ∷ lines) new run before = below_run kind f b g (after_step old (Addition id lits hints)) lines new run.2 (below_with old id lits before (id_above (size g) old id lits hints run.0))
-below_run kind f b g old (StepLine (Deletion id ids) ∷ lines) new run before = below_run kind f b g (after_step old (Deletion id ids)) lines new run.2 (λ k h. none_without old.held ids k (before k h))
+pub below_run : (r : Rules) (kind : ListKind) (old : Database) (lines : List JournalLine) (new : Database) → JournalRun r kind old lines new → AreBelow old → AreBelow new
+below_run r kind old [] new run before = subst (λ (d : Database). AreBelow d) (sym run) before
+below_run r kind old (SetLine which id u ∷ lines) new run before = below_run r kind (after_line r old (SetLine which id u)) lines new run.2 (below_with old id (r.clause which u) before run.0.0)
+below_run r kind old (StepLine (Addition id lits hints) ∷ lines) new run before = below_run r kind (after_step old (Addition id lits hints)) lines new run.2 (below_with old id lits before (id_above (r.vars) old id lits hints run.0))
+below_run r kind old (StepLine (Deletion id ids) ∷ lines) new run before = below_run r kind (after_step old (Deletion id ids)) lines new run.2 (λ k h. none_without old.held ids k (before k h))

@@ -2,14 +2,17 @@
 use Rattle.std.proofs.Common.{◌≡◌, ℕ, zero, suc, Bool, true, false, not, ◌&&◌, ◌||◌, [], ◌∷◌, length, refl, sym, ap, ◌∙◌, subst, arith, inl, inr}
 use Rattle.std.proofs.lemmas.Bool.{cases_Bool, or_cases, or_left, or_right, and_parts, and_from, both_ways, false≢true, false_from_ne_true, lt-ltb, not_from_false}
 use Rattle.fbas_model.specs.Nodes.{Nodes, Table, members, ◌∈◌, ◌⊆◌, ◌∖◌, Meets, size}
-use Rattle.fbas_model.specs.Fbas.{Fbas, Quorum, Blocks, all_nodes}
+use Rattle.fbas_model.specs.Fbas.{Fbas, Quorum as IsQuorum, Blocks, all_nodes}
 use Rattle.fbas_model.specs.Counting.{is_quorum}
 use Rattle.fbas_model.specs.Restriction.{table_from}
 use Rattle.fbas_model.proofs.Tables.{length-table_from}
 use Rattle.fbas_model.proofs.Sizes.{member_lt}
 use Rattle.fbas_model.proofs.QuorumLaw.{quorum-to, quorum-from}
 use Rattle.greatest_quorum.specs.Greatest.{some_set}
-use Rattle.list_journal.specs.Tests.{is_within, is_meeting, is_blocking, is_least}
+use Rattle.list_journal.specs.Tests.{is_within, is_meeting, is_blocking, is_kind, is_minimal}
+use Rattle.list_journal.specs.Kinds.{Is}
+use Rattle.list_journal.specs.declared.kinds.Listed.{Listed}
+use Rattle.list_journal.specs.declared.kinds.Listed.TheVariants.{Quorum, Blocking}
 use Rattle.greatest_quorum.proofs.GreatestLaws.{some_set-from, table_of}
 
 -- ---- sets of so many nodes
@@ -84,7 +87,7 @@ blocks_to f b s same size h =
           elim (cases_Bool (is_meeting s t)) [
             | inl meets ↦ subst (λ (w : Nodes). Meets (members s) w) is (meeting_to s t meets)
             | inr apart ↦
-                let counted = quorum-from f b t (same ∙ sym (table_size f u)) (sym (table_size f u)) (subst (λ (w : Nodes). Quorum f (members b) w) (sym is) q) in
+                let counted = quorum-from f b t (same ∙ sym (table_size f u)) (sym (table_size f u)) (subst (λ (w : Nodes). IsQuorum f (members b) w) (sym is) q) in
                 absurd (both_ways (is_quorum f b t && not (is_meeting s t)) (none_of (length f) (λ w. is_quorum f b w && not (is_meeting s w)) parts.1 t (table_size f u)) (and_from (is_quorum f b t) (not (is_meeting s t)) counted (not_from_false (is_meeting s t) apart)))
           ];
     }
@@ -98,21 +101,35 @@ blocks_from f b s is = and_from (not (is_meeting s b)) (not (some_set (length f)
     let m = is.meets (members u) (quorum-to f b u parts.0) in
     refutes (is_meeting s u) parts.1 (meeting_from s u m.0 m.1 m.2)))
 
-pub least_to : (f : Fbas) (b s : Table) → is_least f b s ≡ true → (t : Nodes) → t ⊆ members s → Blocks f (members b) t → members s ⊆ t
-least_to f b s h t inside blocks =
+-- ---- sets of a kind, and minimal ones
+
+pub is_kind_to : (k : Listed) (f : Fbas) (b s : Table) → length b ≡ length f → length s ≡ length f → is_kind k f b s ≡ true → Is k f (members b) (members s)
+is_kind_to Quorum f b s same size h = quorum-to f b s h
+is_kind_to Blocking f b s same size h = blocks_to f b s same size h
+
+pub is_kind_from : (k : Listed) (f : Fbas) (b s : Table) → length b ≡ length f → length s ≡ length f → Is k f (members b) (members s) → is_kind k f b s ≡ true
+is_kind_from Quorum f b s same size is = quorum-from f b s (same ∙ sym size) (sym size) is
+is_kind_from Blocking f b s same size is = blocks_from f b s is
+
+kind_left : (k : Listed) (f : Fbas) (b u : Nodes) → Is k f b u → u ⊆ all_nodes f
+kind_left Quorum f b u is = low_nodes f b u is.left
+kind_left Blocking f b u is = low_nodes f b u is.left
+
+pub minimal_to : (k : Listed) (f : Fbas) (b s : Table) → length b ≡ length f → is_minimal k f b s ≡ true → (t : Nodes) → t ⊆ members s → Is k f (members b) t → members s ⊆ t
+minimal_to k f b s same h t inside is_one =
     let u : Table = table_from 0 (length f) t in
-    let is : members u ≡ t = table_of f t (low_nodes f (members b) t blocks.left) in
+    let is : members u ≡ t = table_of f t (kind_left k f (members b) t is_one) in
     elim (cases_Bool (is_within s u)) [
       | inl e ↦ subst (λ (w : Nodes). members s ⊆ w) is (within_to s u e)
       | inr e ↦
-          let test : Table → Bool = λ w. is_within w s && (not (is_within s w) && is_blocking f b w) in
+          let test : Table → Bool = λ w. is_within w s && (not (is_within s w) && is_kind k f b w) in
           let yes_inside = within_from u s (subst (λ (w : Nodes). w ⊆ members s) (sym is) inside) in
-          let yes_blocks = blocks_from f b u (subst (λ (w : Nodes). Blocks f (members b) w) (sym is) blocks) in
-          absurd (both_ways (test u) (none_of (length f) test h u (table_size f t)) (and_from (is_within u s) (not (is_within s u) && is_blocking f b u) yes_inside (and_from (not (is_within s u)) (is_blocking f b u) (not_from_false (is_within s u) e) yes_blocks)))
+          let yes_kind = is_kind_from k f b u same (table_size f t) (subst (λ (w : Nodes). Is k f (members b) w) (sym is) is_one) in
+          absurd (both_ways (test u) (none_of (length f) test h u (table_size f t)) (and_from (is_within u s) (not (is_within s u) && is_kind k f b u) yes_inside (and_from (not (is_within s u)) (is_kind k f b u) (not_from_false (is_within s u) e) yes_kind)))
     ]
 
-pub least_from : (f : Fbas) (b s : Table) → length b ≡ length f → ((t : Nodes) → t ⊆ members s → Blocks f (members b) t → members s ⊆ t) → is_least f b s ≡ true
-least_from f b s same least = none_from (length f) (λ w. is_within w s && (not (is_within s w) && is_blocking f b w)) (λ u size h.
-    let parts = and_parts (is_within u s) (not (is_within s u) && is_blocking f b u) h in
-    let more = and_parts (not (is_within s u)) (is_blocking f b u) parts.1 in
-    refutes (is_within s u) more.0 (within_from s u (least (members u) (within_to u s parts.0) (blocks_to f b u same size more.1))))
+pub minimal_from : (k : Listed) (f : Fbas) (b s : Table) → length b ≡ length f → ((t : Nodes) → t ⊆ members s → Is k f (members b) t → members s ⊆ t) → is_minimal k f b s ≡ true
+minimal_from k f b s same least = none_from (length f) (λ w. is_within w s && (not (is_within s w) && is_kind k f b w)) (λ u size h.
+    let parts = and_parts (is_within u s) (not (is_within s u) && is_kind k f b u) h in
+    let more = and_parts (not (is_within s u)) (is_kind k f b u) parts.1 in
+    refutes (is_within s u) more.0 (within_from s u (least (members u) (within_to u s parts.0) (is_kind_to k f b u same size more.1))))

@@ -14,6 +14,7 @@ use Rattle.quorum_questions.specs.declared.answers.Answer.{Answer as Shown}
 use Rattle.quorum_questions.specs.declared.answers.Answer.TheVariants.{Yes as together, No as apart, Spent as spent}
 use Rattle.cli_words.specs.declared.orders.Goal.{Goal}
 use Rattle.cli_words.specs.declared.orders.Goal.TheVariants.{Intersect, Dset, Splits, Blocking, Trial}
+use Rattle.list_journal.specs.declared.kinds.Listed.{Listed as Kind}
 use Rattle.blocking_lists.specs.Outcomes.{OutcomeHolds}
 use Rattle.blocking_lists.specs.declared.outcome.ListOutcome.{ListOutcome}
 use Rattle.blocking_lists.specs.declared.outcome.ListOutcome.TheVariants.{Whole as whole_list, Spent as part_of_list}
@@ -70,10 +71,10 @@ pub written_there : (n m : ℕ) (found : Shown) → n ≡ m → CanBeWritten n f
 written_there n m found same can = subst (λ (k : ℕ). CanBeWritten k found) same can
 
 -- the sets of a list have a place for each node
-pub list_sized : (f : Fbas) (b : Table) (units left : ℕ) (found : ListOutcome) → OutcomeHolds f b units left found → HasSets (length f) found
-list_sized f b units left (whole_list sets journal) holds =
+pub list_sized : (sought : Kind) (f : Fbas) (b : Table) (units left : ℕ) (found : ListOutcome) → OutcomeHolds sought f b units left found → HasSets (length f) found
+list_sized sought f b units left (whole_list sets journal) holds =
     All-weaker (Contains sets.items) (λ s. length s ≡ length f) (λ s there. ((holds.list.exact s).0 there).0) sets.items (All-contains_itself sets.items)
-list_sized f b units left (part_of_list journal) holds = tt
+list_sized sought f b units left (part_of_list journal) holds = tt
 
 -- where every two quorums share a node, none are found apart
 pub found_together : (f : Fbas) (b : Table) (budget : ℕ) (found : Shown) → Intersects f (members b) → Shows f b budget found → (p : Pair) → found ≡ apart p → ⊥

@@ -8,7 +8,8 @@ use Rattle.witness_pair.specs.Pairs.{IsPair}
 use Rattle.witness_pair.specs.declared.Pair.{Pair}
 use Rattle.lrat_model.specs.Steps.{ProofStep}
 use Rattle.list_journal.specs.Journals.{JournalLine}
-use Rattle.list_journal.specs.Lists.{IsListOfBlocks}
+use Rattle.list_journal.specs.Lists.{IsListOf}
+use Rattle.list_journal.specs.declared.kinds.Listed.TheVariants as listed
 use Rattle.blocking_lists.specs.Outcomes.{WholeHolds, PartHolds}
 use Rattle.blocking_lists.specs.declared.outcome.ListOutcome.TheVariants.{Whole as whole_list, Spent as part_of_list}
 use Rattle.certificate_file.specs.Acceptance.{checked}
@@ -99,10 +100,10 @@ IsNoDset s old new = ((before : Text) × PrintsPair s before (codes "dset no\n")
 pub record PrintsList (s : Search) (old new : DeskState) : Type 0 where
   pub sets : Vec Table
   pub out : new.out ≡ old.out ++ with_sets (codes "blocking") (part s).names sets.items
-  pub list : IsListOfBlocks (part s).sets (members (deleted s)) sets.items
+  pub list : IsListOf listed.Blocking (part s).sets (members (deleted s)) sets.items
   pub journal : List JournalLine
   pub left : ℕ
-  pub lists : WholeHolds (part s).sets (deleted s) s.budget left sets.items journal
+  pub lists : WholeHolds listed.Blocking (part s).sets (deleted s) s.budget left sets.items journal
   pub held : new.files s.path ≡ Some (list_cert_of (request s) (whole_list sets journal))
   pub accepted : IsAccepted s (list_cert_of (request s) (whole_list sets journal)) (shown.Blocking (raised_sets s.whole s.header sets.items))
 
@@ -110,6 +111,6 @@ pub record PrintsList (s : Search) (old new : DeskState) : Type 0 where
 pub record PrintsPartOfList (s : Search) (old new : DeskState) : Type 0 where
   pub out : new.out ≡ old.out ++ counted (codes "blocking unknown") s.budget
   pub journal : List JournalLine
-  pub lists : PartHolds (part s).sets (deleted s) s.budget journal
+  pub lists : PartHolds listed.Blocking (part s).sets (deleted s) s.budget journal
   pub held : new.files s.path ≡ Some (list_cert_of (request s) (part_of_list journal))
   pub accepted : IsAccepted s (list_cert_of (request s) (part_of_list journal)) (shown.PartialBlocking s.budget)

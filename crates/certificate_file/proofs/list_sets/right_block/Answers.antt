@@ -1,4 +1,4 @@
 use Rattle.certificate_file.proofs.list_sets.right_block.Goals as goal
 
-pub returns-then-not-is_least-clause-ok : goal.returns-then-not-is_least-clause-ok
-returns-then-not-is_least-clause-ok c = tt
+pub returns-then-not-is_minimal-clause-ok : goal.returns-then-not-is_minimal-clause-ok
+returns-then-not-is_minimal-clause-ok c = tt

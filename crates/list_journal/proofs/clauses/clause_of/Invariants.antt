@@ -5,8 +5,8 @@ use Rattle.list_journal.proofs.ClauseLoops.{literal_for}
 use Rattle.list_journal.proofs.clauses.clause_of.Given as goal
 
 abbrev pub invariant-loop-v : goal.invariant-loop-v
-invariant-loop-v l = record {
-  whole : l.yielded ++ l.v-iterator ≡ listed_from 0 l.greatest;
+invariant-loop-v w l = record {
+  whole : l.yielded ++ l.v-iterator ≡ listed_from 0 l.units;
   next : l.variable ≡ length l.yielded;
-  clause : l.clause.items ≡ map (literal_for l.which l.greatest) (filter (members l.set) l.yielded);
+  clause : l.clause.items ≡ map (literal_for l.sought l.which l.units) (filter (members l.set) l.yielded);
 }
