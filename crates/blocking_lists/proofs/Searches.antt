@@ -2,12 +2,11 @@
 use Rattle.std.proofs.Common.{◌≡◌, ℕ, zero, suc, ◌+◌, ◌*◌, ◌^◌, ◌<◌, ◌≤◌, Bool, true, false, List, [], ◌∷◌, ◌++◌, map, length, refl, sym, ap, ◌∙◌, subst, arith, inl, inr, ◌⊎◌, ⊎_elim, Some}
 use Rattle.std.specs.Prelude.{All}
 use Rattle.std.proofs.lemmas.Bool.{both_ways, false≢true}
-use Rattle.std.proofs.lemmas.List.{append-nil, length-append}
-use Rattle.std.proofs.lemmas.List.Elements.{All-nil, All-cons, All-head, All-tail, All-append}
+use Rattle.std.proofs.lemmas.List.{length-append}
+use Rattle.std.proofs.lemmas.List.Elements.{All-nil, All-cons, All-tail, All-append}
 use Rattle.fbas_model.specs.Nodes.{Nodes, Table, members, IsInhabited, size, listed_from}
 use Rattle.fbas_model.specs.Fbas.{Fbas}
 use Rattle.fbas_model.proofs.Sizes.{empty_or_not}
-use Rattle.greatest_quorum.specs.Greatest.{greatest_of}
 use Rattle.lrat_model.specs.Literal.{Literal, has, clause_true}
 use Rattle.lrat_model.specs.Clauses.{Held, clause_at, has_id, with_clause, Satisfies}
 use Rattle.lrat_model.specs.Steps.{ProofStep, Database, progress_of}
@@ -23,7 +22,7 @@ use Rattle.list_journal.specs.Numbering.{variable_in, clause_for}
 use Rattle.list_journal.specs.Journals.{JournalLine, SetLine, Rules, list_of, RightFor, IsNewIf, nothing_held, JournalRun, line_progress, IsOpen, EndsRefuted, IsWholeJournal, journal_units, AreUseful}
 use Rattle.list_journal.specs.declared.kinds.ListKind.TheVariants.{Whole, Partial}
 use Rattle.lrat_text.specs.Texts.{IsId}
-use Rattle.blocking_lists.specs.Lines.{step_lines, merged, AreBetween}
+use Rattle.blocking_lists.specs.Lines.{step_lines, merged, AreBetween, AreForgetting}
 use Rattle.list_journal.specs.Lists.{IsMinimalSet}
 use Rattle.blocking_lists.specs.Outcomes.{rules, HasFewSteps, PartHolds}
 use Rattle.blocking_lists.specs.Search.{HoldsEmpty, IsSearch, AreMinimalLines, IsListing, IsShortLog, IsWholeListing}
@@ -34,7 +33,7 @@ use Rattle.list_journal.proofs.Duality.{is_of, minimal_within}
 use Rattle.lrat_model.specs.Lemmas.{IsNew}
 use Rattle.blocking_lists.proofs.Models.{new_where_false, useful_where_false, empty_closes}
 use Rattle.list_journal.proofs.Runs.{AsksMore, lists_ask_more, run_append, whole_from_partial, useful_append, units_append, open_append}
-use Rattle.blocking_lists.proofs.Runs.{steps_partial, steps_whole, steps_useful, units_steps, open_steps, ends_in_steps, ends_refuted}
+use Rattle.blocking_lists.proofs.Runs.{steps_partial, steps_whole, steps_useful, forgetting_append, steps_forgetting, units_steps, open_steps, ends_in_steps, ends_refuted}
 use Rattle.list_journal.proofs.Ids.{AreBelow, below_run, found_new}
 use Rattle.blocking_lists.proofs.Merged.{between_more, between_push, merged_steps, merged_line}
 use Rattle.blocking_lists.proofs.Short.{short_log}
@@ -61,6 +60,10 @@ module _ (r : Rules) (more : AsksMore r) (total left left_then top : ℕ) (journ
   lemmas_are : AreLemmas r.vars old.database steps
   lemmas_are = subst (λ (n : ℕ). AreLemmas n old.database steps) is.vars lemmas
 
+  still_forgets : AreForgetting r r.start journal_then
+  still_forgets = subst (λ (ls : List JournalLine). AreForgetting r r.start ls) (sym journal_is)
+      (forgetting_append r Partial r.start journal (step_lines steps) old.database is.run is.forgets (steps_forgetting old.vars r old.database steps lemmas))
+
   -- by steps without the empty lemma
   pub search_steps : new.vars ≡ old.vars → HasNoEmptyLemma new.log → new.database.last + left_then ≡ old.database.last + left
       → (HoldsEmpty old.database.held → HoldsEmpty new.database.held) → IsSearch r total left_then top journal_then new
@@ -75,6 +78,7 @@ module _ (r : Rules) (more : AsksMore r) (total left left_then top : ℕ) (journ
             (λ useful. inr (subst (λ (ls : List JournalLine). AreUseful r r.start ls) back
             (useful_append r Partial r.start journal (step_lines steps) old.database is.run useful (steps_useful old.vars r old.database steps lemmas steps_open))))
             is.useful;
+        forgets = still_forgets;
         opens = subst (λ (ls : List JournalLine). IsOpen ls) back (open_append journal (step_lines steps) is.opens (open_steps steps steps_open));
         log_opens = opens;
         taken = counted;
@@ -82,7 +86,7 @@ module _ (r : Rules) (more : AsksMore r) (total left left_then top : ℕ) (journ
       }
 
   -- by steps that end with the empty lemma
-  pub search_refuted : EndsEmpty new.log → IsWholeJournal r journal_then × (journal_units r journal_then + left_then ≡ total)
+  pub search_refuted : EndsEmpty new.log → IsWholeJournal r journal_then × AreForgetting r r.start journal_then × (journal_units r journal_then + left_then ≡ total)
   search_refuted (before, last, log_then, ends, only) = (
     record {
       ends = subst (λ (ls : List JournalLine). EndsRefuted ls) (sym journal_is) (ends_refuted journal steps is.opens (ends_in_steps old.log steps before last (sym log_is ∙ log_then) is.log_opens only ends));
@@ -90,6 +94,7 @@ module _ (r : Rules) (more : AsksMore r) (total left left_then top : ℕ) (journ
       run = subst (λ (ls : List JournalLine). JournalRun r Whole r.start ls new.database) (sym journal_is)
           (run_append r Whole r.start journal (step_lines steps) old.database new.database (whole_from_partial r more r.start journal old.database is.run) (steps_whole r old.database steps new.database run_is));
     },
+    still_forgets,
     counted,
   )
 
@@ -101,6 +106,7 @@ search_spent k f b total left top journal solver is few none unclosed = record {
   useful = ⊎_elim (λ empty. absurd (unclosed (empty_closes solver.database.held empty))) (λ useful. useful) is.useful;
   unclosed = unclosed;
   few_steps = few;
+  forgets = is.forgets;
   taken = omega (arith, is.taken);
 }
 
@@ -176,6 +182,7 @@ search_set r total left left_then top top_then journal journal_then old new whic
           (λ one_is. inr (subst (λ (ls : List JournalLine). AreUseful r r.start ls) back (useful_append r Partial r.start journal (line ∷ []) old.database is.run useful one_is)))
           useful_one)
           is.useful;
+      forgets = subst (λ (ls : List JournalLine). AreForgetting r r.start ls) back (forgetting_append r Partial r.start journal (line ∷ []) old.database is.run is.forgets (tt, tt));
       opens = subst (λ (ls : List JournalLine). IsOpen ls) back (open_append journal (line ∷ []) is.opens (line_open which id set));
       log_opens = subst (λ (ls : List ProofStep). HasNoEmptyLemma ls) (sym log_is) is.log_opens;
       taken = omega (arith, ap (journal_units r) journal_is, units_append r journal (line ∷ []), is.taken, cost);
@@ -243,7 +250,8 @@ module _ (k : Listed) (f : Fbas) (b : Nodes) (g : Table) (total left left_then :
         minimal = is.minimal;
         short = still_short;
         journal_is = whole.0;
-        taken = whole.1;
+        forgets = whole.1;
+        taken = whole.2;
       }
 
 -- a set more

@@ -1,4 +1,4 @@
-//! The search for the minimal blocking sets, line by line.
+//! The search for all minimal sets of a kind, line by line.
 ghost use Rattle.std.specs.Prelude.{◌≡◌, ℕ, true, false, Ok, ◌+◌, ◌<◌, ◌≤◌, ◌^◌, ◌++◌, [], ◌∷◌, length, All, IfOk, OnOk};
 ghost use Rattle.fbas_model.specs.Nodes.{members, ◌⊆◌, size};
 ghost use Rattle.lrat_model.specs.Clauses.{Satisfies, with_clause};
