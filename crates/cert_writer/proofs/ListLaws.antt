@@ -26,13 +26,15 @@ use Rattle.list_journal.specs.Order.{ordered}
 use Rattle.list_journal.proofs.Runs.{sets_append}
 use Rattle.blocking_lists.specs.Lines.{HasLineNumbers, HasFewWords}
 use Rattle.blocking_lists.specs.Outcomes.{rules}
-use Rattle.certificate_file.specs.Acceptance.{take_line, checked, list_part, listing_on, list_checking, no_listing}
+use Rattle.certificate_file.specs.Acceptance.{take_line, checked}
+use Rattle.reach_kinds.specs.Bodies.{list_part, listing_on, list_checking, no_listing}
 use Rattle.certificate_file.specs.Meaning.{part_from}
 use Rattle.certificate_file.specs.Known.{IsPart}
 use Rattle.certificate_file.specs.declared.places.Header.{Header}
 use Rattle.certificate_file.specs.declared.places.Answer.{Answer}
 use Rattle.certificate_file.specs.declared.places.Answer.TheVariants.{Blocking, PartialBlocking}
-use Rattle.certificate_file.specs.declared.places.Place.TheVariants.{AtTitle, AtKind, AtList}
+use Rattle.certificate_file.specs.declared.places.Place.TheVariants.{AtTitle, AtKind, AtReach}
+use Rattle.reach_kinds.specs.declared.places.ReachPlace.TheVariants.{AtList}
 use Rattle.certificate_file.specs.declared.places.State.TheVariants.{Going, Done}
 use Rattle.certificate_file.proofs.WholeLaws.{part_is}
 use Rattle.cert_lines.specs.declared.lines.TheConstants.{MAX_LINES}
@@ -130,14 +132,14 @@ module _ (f : System) (d : List ℕ) (h : Header) (is : IsSystem f.names f.sets)
   IsFine line = HasLineNumbers line × HasFewWords (size greatest) line
 
   takes_body : (kind : ListKind) (new : Database) (journal : List JournalLine) → JournalRun r kind nothing_held journal new → AllByRecursion IsFine journal → ListEndsAs kind journal
-      → Takes f d 6 (Going (AtList (subject f h) (no_listing f kind (subject f h)))) (map (journal_line (kept nodes f.names)) journal ++ codes "end" ∷ []) (Done (record { header = h; answer = shown_by_list f h r kind journal }))
+      → Takes f d 6 (Going (AtReach (subject f h) (AtList (no_listing f kind nodes h.faulty)))) (map (journal_line (kept nodes f.names)) journal ++ codes "end" ∷ []) (Done (record { header = h; answer = shown_by_list f h r kind journal }))
   takes_body Part new journal run fine ends =
       let s = subject f h in
       let on = recursion_from_All (λ line. line_progress line ≡ going) journal ends in
       let sets = map (spread nodes) (sets_in listed.Blocking journal) in
       let taken = takes_journal f d s Part are part_names (part.places ∙ is.places) same count (omega (arith, small)) 6 nothing_held new [] sets 0 (journal_units r journal) journal fine on run refl (omega arith) in
       let lines = map (journal_line (kept nodes f.names)) journal in
-      takes-append f d 6 (6 + length lines) (Going (AtList s (no_listing f Part s))) (Going (AtList s (listing_on Part (list_part f s) (list_checking (size greatest) new) sets (journal_units r journal)))) (Done (record { header = h; answer = PartialBlocking (journal_units r journal) })) lines (codes "end" ∷ []) refl taken
+      takes-append f d 6 (6 + length lines) (Going (AtReach s (AtList (no_listing f Part nodes h.faulty)))) (Going (AtReach s (AtList (listing_on Part (list_part f nodes h.faulty) (list_checking (size greatest) new) sets (journal_units r journal))))) (Done (record { header = h; answer = PartialBlocking (journal_units r journal) })) lines (codes "end" ∷ []) refl taken
       (takes_part_end f d s (6 + length lines) (size greatest) new sets (journal_units r journal))
   takes_body Whole new journal run fine ends =
       let s = subject f h in
@@ -150,15 +152,15 @@ module _ (f : System) (d : List ℕ) (h : Header) (is : IsSystem f.names f.sets)
       let taken = takes_journal f d s Whole are part_names (part.places ∙ is.places) same count (omega (arith, small)) 6 nothing_held split.0 [] sets 0 (journal_units r before) before each.0 on split.1 refl (omega arith) in
       let lines = map (journal_line (kept nodes f.names)) before in
       let end = takes_refuted f d s are part_names (part.places ∙ is.places) same count (omega (arith, small)) (6 + length lines) split.0 new sets (journal_units r before) last each.1 ends.ends split.2 in
-      let whole = takes-append f d 6 (6 + length lines) (Going (AtList s (no_listing f Whole s))) (Going (AtList s (listing_on Whole (list_part f s) (list_checking (size greatest) split.0) sets (journal_units r before)))) (Done (record { header = h; answer = Blocking (ordered sets) })) lines (journal_line (kept nodes f.names) last ∷ codes "end" ∷ []) refl taken end in
+      let whole = takes-append f d 6 (6 + length lines) (Going (AtReach s (AtList (no_listing f Whole nodes h.faulty)))) (Going (AtReach s (AtList (listing_on Whole (list_part f nodes h.faulty) (list_checking (size greatest) split.0) sets (journal_units r before))))) (Done (record { header = h; answer = Blocking (ordered sets) })) lines (journal_line (kept nodes f.names) last ∷ codes "end" ∷ []) refl taken end in
       let texts : lines ++ journal_line (kept nodes f.names) last ∷ codes "end" ∷ [] ≡ map (journal_line (kept nodes f.names)) journal ++ codes "end" ∷ [] =
       sym (split_lines (kept nodes f.names) before last (codes "end" ∷ [])) ∙ ap (λ (ls : List JournalLine). map (journal_line (kept nodes f.names)) ls ++ codes "end" ∷ []) (sym ends.is) in
       let blocks : sets_in listed.Blocking before ≡ sets_in listed.Blocking journal = sym (append-nil (sets_in listed.Blocking before)) ∙ ap (λ (xs : List Table). sets_in listed.Blocking before ++ xs) (sym (no_set last ends.ends)) ∙ sym (sets_append listed.Blocking before (last ∷ [])) ∙ ap (sets_in listed.Blocking) (sym ends.is) in
       let raised : sets ≡ raised_sets f h (sets_in listed.Blocking journal) = all_raised nodes (sets_in listed.Blocking before) ∙ ap (λ (xs : List Table). map (raised_table nodes) xs) blocks in
-      subst (λ (xs : List Table). Takes f d 6 (Going (AtList s (no_listing f Whole s))) (map (journal_line (kept nodes f.names)) journal ++ codes "end" ∷ []) (Done (record { header = h; answer = Blocking (ordered xs) }))) raised
-      (subst (λ (ls : List Text). Takes f d 6 (Going (AtList s (no_listing f Whole s))) ls (Done (record { header = h; answer = Blocking (ordered sets) }))) texts whole)
+      subst (λ (xs : List Table). Takes f d 6 (Going (AtReach s (AtList (no_listing f Whole nodes h.faulty)))) (map (journal_line (kept nodes f.names)) journal ++ codes "end" ∷ []) (Done (record { header = h; answer = Blocking (ordered xs) }))) raised
+      (subst (λ (ls : List Text). Takes f d 6 (Going (AtReach s (AtList (no_listing f Whole nodes h.faulty)))) ls (Done (record { header = h; answer = Blocking (ordered sets) }))) texts whole)
 
-  kind_taken : (kind : ListKind) → take_line f d (AtKind (subject f h)) 5 (list_kind_of kind) ≡ Ok (Going (AtList (subject f h) (no_listing f kind (subject f h))))
+  kind_taken : (kind : ListKind) → take_line f d (AtKind (subject f h)) 5 (list_kind_of kind) ≡ Ok (Going (AtReach (subject f h) (AtList (no_listing f kind nodes h.faulty))))
   unfolding take_line
   kind_taken Whole = refl
   kind_taken Part = refl
@@ -172,7 +174,7 @@ module _ (f : System) (d : List ℕ) (h : Header) (is : IsSystem f.names f.sets)
       let texts = map (journal_line (kept nodes f.names)) journal in
       let body = list_lines (kept nodes f.names) kind journal in
       let answer : Answer = shown_by_list f h r kind journal in
-      let taken : Takes f d 5 (Going (AtKind s)) body (Done (record { header = h; answer = answer })) = (Going (AtList s (no_listing f kind s)), kind_taken kind, takes_body kind new journal run fine ends) in
+      let taken : Takes f d 5 (Going (AtKind s)) body (Done (record { header = h; answer = answer })) = (Going (AtReach s (AtList (no_listing f kind nodes h.faulty))), kind_taken kind, takes_body kind new journal run fine ends) in
       let whole = takes-append f d 1 5 (Going AtTitle) (Going (AtKind s)) (Done (record { header = h; answer = answer })) head_lines body refl (takes_header f d h are size_is bytes head) taken in
       let last_line : IsLine (codes "end") = record { plain = is_plain (codes "end") refl; short = omega arith } in
       let of_journal = lines_journal kind fbas gone greatest (kept nodes f.names) nothing_held new journal part_names (omega (arith, kept_le nodes f.names, is.few)) small run fine in

@@ -35,11 +35,15 @@ use Rattle.cert_lines.specs.Saying.{or_bad_line}
 use Rattle.cert_lines.specs.Words.{Word, words_of}
 use Rattle.cert_lines.specs.declared.faults.CertError.{CertError}
 use Rattle.cert_lines.specs.declared.faults.CertError.TheVariants.{NotNew}
-use Rattle.certificate_file.specs.Acceptance.{and_then, listed_by, literal_in, is_old_step, with_step, after_list_step, list_step, list_step_unless, list_end, list_text, list_part, listing_on, list_checking, take_line, is_covered, put_last, with_sought}
-use Rattle.certificate_file.specs.Known.{rules_of}
+use Rattle.certificate_file.specs.Acceptance.{take_line}
+use Rattle.reach_kinds.specs.Bodies.{and_then, listed_by, literal_in, is_old_step, with_step, after_list_step, list_step, list_step_unless, list_end, list_text, list_part, listing_on, list_checking, is_covered, put_last, with_sought}
+use Rattle.reach_kinds.specs.Known.{rules_of}
 use Rattle.certificate_file.specs.declared.places.Subject.{Subject}
-use Rattle.certificate_file.specs.declared.places.Listing.{Listing}
-use Rattle.certificate_file.specs.declared.places.Place.TheVariants.{AtList, AtEnd}
+use Rattle.reach_kinds.specs.declared.places.Listing.{Listing}
+use Rattle.certificate_file.specs.declared.places.Place.TheVariants.{AtReach}
+use Rattle.certificate_file.specs.Acceptance.{in_reach}
+use Rattle.reach_kinds.specs.declared.places.ReachPlace.TheVariants.{AtList, AtEnd as Ended}
+use Rattle.reach_kinds.specs.declared.places.Reached.TheVariants.{Blocking as Listed_sets}
 use Rattle.certificate_file.specs.declared.places.Answer.TheVariants.{Blocking, PartialBlocking}
 use Rattle.certificate_file.specs.declared.places.State.TheVariants.{Going, Done}
 use Rattle.list_journal.specs.Order.{ordered}
@@ -95,16 +99,16 @@ never_old Part = refl
 
 -- a step, however it goes on
 step_taken : (f : System) (d : List ℕ) (s : Subject) (k : Listing) (l : ℕ) (step : ProofStep) → IsRead step → listed_by (words_of (line_of step)) ≡ None → literal_in k.kind l step ≡ Ok step → step_fault_by k.checker.rule k.checker.vars k.checker.database step ≡ None → is_old_step k step ≡ false
-    → take_line f d (AtList s k) l (line_of step) ≡ Ok (after_list_step s (with_step k step) (progress_of step))
+    → take_line f d (AtReach s (AtList k)) l (line_of step) ≡ Ok (in_reach s (after_list_step (with_step k step) (progress_of step)))
 unfolding take_line
 step_taken f d s k l step read none literal fault fresh =
     let text : Text = line_of step in
-    ap (λ (b : Bool). if b then list_end k.kind s k l else list_text f s k l text (listed_by (words_of text))) (not_end step read)
-    ∙ ap (λ (o : Option Listed). list_text f s k l text o) none
-    ∙ ap (λ (r : Result ProofStep LineFault). and_then (list_step s k l) (and_then (literal_in k.kind l) (or_bad_line l r))) read
-    ∙ ap (λ (r : Result ProofStep CertError). and_then (list_step s k l) r) literal
-    ∙ ap (λ (o : Option StepFault). list_step_unless l s k step o) fault
-    ∙ ap (λ (b : Bool). unless (NotNew l) (not b) (Ok (after_list_step s (with_step k step) (progress_of step)))) fresh
+    ap (λ (b : Bool). and_then (λ x. Ok (in_reach s x)) (if b then list_end k.kind k l else list_text f s.nodes k l text (listed_by (words_of text)))) (not_end step read)
+    ∙ ap (λ (o : Option Listed). and_then (λ x. Ok (in_reach s x)) (list_text f s.nodes k l text o)) none
+    ∙ ap (λ (r : Result ProofStep LineFault). and_then (λ x. Ok (in_reach s x)) (and_then (list_step k l) (and_then (literal_in k.kind l) (or_bad_line l r)))) read
+    ∙ ap (λ (r : Result ProofStep CertError). and_then (λ x. Ok (in_reach s x)) (and_then (list_step k l) r)) literal
+    ∙ ap (λ (o : Option StepFault). and_then (λ x. Ok (in_reach s x)) (list_step_unless l k step o)) fault
+    ∙ ap (λ (b : Bool). and_then (λ x. Ok (in_reach s x)) (unless (NotNew l) (not b) (Ok (after_list_step (with_step k step) (progress_of step))))) fresh
 
 -- ---- a journal
 
@@ -114,55 +118,55 @@ set_behind true nodes sets u more = sym (append_assoc sets (spread nodes u ∷ [
 set_behind false nodes sets u more = refl
 
 module _ (f : System) (d : List ℕ) (s : Subject) (kind : ListKind) (are : AreNames f.names) (part : AreNames (kept s.nodes f.names)) (places : length s.nodes ≡ length f.names)
-    (same : length (list_part f s).faulty ≡ length (list_part f s).system.sets) (count : length (list_part f s).system.sets ≡ size s.nodes) (small : size (list_part f s).greatest < 2147483648) where
+    (same : length (list_part f s.nodes s.header.faulty).faulty ≡ length (list_part f s.nodes s.header.faulty).system.sets) (count : length (list_part f s.nodes s.header.faulty).system.sets ≡ size s.nodes) (small : size (list_part f s.nodes s.header.faulty).greatest < 2147483648) where
   -- the journal's rules over the part
   abbrev pub list_rules : Rules
-  list_rules = rules_of listed.Blocking (list_part f s)
+  list_rules = rules_of listed.Blocking (list_part f s.nodes s.header.faulty)
 
   abbrev pub Runs : Database → List JournalLine → Database → Type 0
   Runs old lines new = JournalRun list_rules kind old lines new
 
   -- the list where so much is held, with these sets and units
   abbrev pub at : Database → List Table → ℕ → Listing
-  at database sets units = listing_on kind (list_part f s) (list_checking (size (list_part f s).greatest) database) sets units
+  at database sets units = listing_on kind (list_part f s.nodes s.header.faulty) (list_checking (size (list_part f s.nodes s.header.faulty).greatest) database) sets units
 
   -- a line that is written and reads back
   abbrev pub IsFine : JournalLine → Type 0
-  IsFine line = HasLineNumbers line × HasFewWords (size (list_part f s).greatest) line
+  IsFine line = HasLineNumbers line × HasFewWords (size (list_part f s.nodes s.header.faulty).greatest) line
 
   reads_back : (id : ℕ) (lits : List Literal) (hints : List ℤ) → IsFine (StepLine (Addition id lits hints)) → IsRead (Addition id lits hints)
-  reads_back id lits hints fine = step_back (Addition id lits hints) fine.0 (short_literals (size (list_part f s).greatest) lits small fine.1.0)
+  reads_back id lits hints fine = step_back (Addition id lits hints) fine.0 (short_literals (size (list_part f s.nodes s.header.faulty).greatest) lits small fine.1.0)
 
   lemma_taken : (l id : ℕ) (lits : List Literal) (hints : List ℤ) (old : Database) (sets : List Table) (units : ℕ) → IsFine (StepLine (Addition id lits hints)) → literal_in kind l (Addition id lits hints) ≡ Ok (Addition id lits hints)
-      → step_fault (size (list_part f s).greatest) old (Addition id lits hints) ≡ None → IsNewStep kind old.held (Addition id lits hints)
-      → take_line f d (AtList s (at old sets units)) l (line_of (Addition id lits hints)) ≡ Ok (after_list_step s (at (after_step old (Addition id lits hints)) sets (units + 1)) (progress_at lits))
+      → step_fault (size (list_part f s.nodes s.header.faulty).greatest) old (Addition id lits hints) ≡ None → IsNewStep kind old.held (Addition id lits hints)
+      → take_line f d (AtReach s (AtList (at old sets units))) l (line_of (Addition id lits hints)) ≡ Ok (in_reach s (after_list_step (at (after_step old (Addition id lits hints)) sets (units + 1)) (progress_at lits)))
   lemma_taken l id lits hints old sets units fine literal fault new =
       step_taken f d s (at old sets units) l (Addition id lits hints) (reads_back id lits hints fine)
-      (lemma_lists_nothing id lits hints fine.0 (short_literals (size (list_part f s).greatest) lits small fine.1.0)) literal fault (step_is_new kind (at old sets units) id lits hints refl new)
+      (lemma_lists_nothing id lits hints fine.0 (short_literals (size (list_part f s.nodes s.header.faulty).greatest) lits small fine.1.0)) literal fault (step_is_new kind (at old sets units) id lits hints refl new)
 
-  deletion_taken : (l id : ℕ) (ids : List ℕ) (old : Database) (sets : List Table) (units : ℕ) → IsFine (StepLine (Deletion id ids)) → step_fault (size (list_part f s).greatest) old (Deletion id ids) ≡ None
-      → take_line f d (AtList s (at old sets units)) l (line_of (Deletion id ids)) ≡ Ok (Going (AtList s (at (after_step old (Deletion id ids)) sets units)))
+  deletion_taken : (l id : ℕ) (ids : List ℕ) (old : Database) (sets : List Table) (units : ℕ) → IsFine (StepLine (Deletion id ids)) → step_fault (size (list_part f s.nodes s.header.faulty).greatest) old (Deletion id ids) ≡ None
+      → take_line f d (AtReach s (AtList (at old sets units))) l (line_of (Deletion id ids)) ≡ Ok (Going (AtReach s (AtList (at (after_step old (Deletion id ids)) sets units))))
   deletion_taken l id ids old sets units fine fault =
       step_taken f d s (at old sets units) l (Deletion id ids) (step_back (Deletion id ids) fine.0 tt) (deletion_lists_nothing id ids fine.0) (literal_there kind l (Deletion id ids) refl) fault (never_old kind)
 
   -- the lines before the empty lemma
   pub takes_journal : (l : ℕ) (old new : Database) (sets all : List Table) (units total : ℕ) (lines : List JournalLine) → AllByRecursion IsFine lines → AllByRecursion (λ line. line_progress line ≡ going) lines → Runs old lines new
       → all ≡ sets ++ map (spread s.nodes) (sets_in listed.Blocking lines) → total ≡ units + journal_units list_rules lines
-      → Takes f d l (Going (AtList s (at old sets units))) (map (journal_line (kept s.nodes f.names)) lines) (Going (AtList s (at new all total)))
+      → Takes f d l (Going (AtReach s (AtList (at old sets units)))) (map (journal_line (kept s.nodes f.names)) lines) (Going (AtReach s (AtList (at new all total))))
   takes_journal l old new sets all units total [] fine on run all_is total_is =
       let one : units ≡ total = omega (arith, total_is) in
       let two : sets ≡ all = sym (all_is ∙ append-nil sets) in
-      ap (λ (n : ℕ). Going (AtList s (at old sets n))) one ∙ ap (λ (xs : List Table). Going (AtList s (at old xs total))) two ∙ ap (λ (x : Database). Going (AtList s (at x all total))) (sym run)
+      ap (λ (n : ℕ). Going (AtReach s (AtList (at old sets n)))) one ∙ ap (λ (xs : List Table). Going (AtReach s (AtList (at old xs total)))) two ∙ ap (λ (x : Database). Going (AtReach s (AtList (at x all total)))) (sym run)
   takes_journal l old new sets all units total (SetLine which id u ∷ lines) fine on run all_is total_is =
       let next : Database = after_line list_rules old (SetLine which id u) in
       let now : List Table = with_sought listed.Blocking sets which (spread s.nodes u) in (
-        Going (AtList s (at next now (units + 1))),
+        Going (AtReach s (AtList (at next now (units + 1)))),
         set_line_taken f s (at old sets units) l which id u places same count run.0.0 run.0.1 run.1 d are part fine.0.0,
         takes_journal (l + 1) next new now all (units + 1) total lines fine.1 on.1 run.2 (all_is ∙ set_behind (is_sought listed.Blocking which) s.nodes sets u (sets_in listed.Blocking lines)) (omega (arith, total_is)),
       )
   takes_journal l old new sets all units total (StepLine (Deletion id ids) ∷ lines) fine on run all_is total_is =
       let next : Database = after_step old (Deletion id ids) in (
-        Going (AtList s (at next sets units)),
+        Going (AtReach s (AtList (at next sets units))),
         deletion_taken l id ids old sets units fine.0 run.0,
         takes_journal (l + 1) next new sets all units total lines fine.1 on.1 run.2 all_is (omega (arith, total_is)),
       )
@@ -170,8 +174,8 @@ module _ (f : System) (d : List ℕ) (s : Subject) (kind : ListKind) (are : AreN
       let next : Database = after_step old (Addition id lits hints) in
       let long : (length lits == 0) ≡ false = (going_long lits on.0).1 in
       let one : total ≡ units + (1 + journal_units list_rules lines) = total_is ∙ ap (λ (b : Bool). units + (cond b 0 1 + journal_units list_rules lines)) long in (
-        Going (AtList s (at next sets (units + 1))),
-        lemma_taken l id lits hints old sets units fine.0 (literal_there kind l (Addition id lits hints) on.0) run.0 run.1 ∙ ap (λ (p : Progress). Ok (after_list_step s (at next sets (units + 1)) p)) on.0,
+        Going (AtReach s (AtList (at next sets (units + 1)))),
+        lemma_taken l id lits hints old sets units fine.0 (literal_there kind l (Addition id lits hints) on.0) run.0 run.1 ∙ ap (λ (p : Progress). Ok (in_reach s (after_list_step (at next sets (units + 1)) p))) on.0,
         takes_journal (l + 1) next new sets all (units + 1) total lines fine.1 on.1 run.2 all_is (omega (arith, one)),
       )
 
@@ -179,21 +183,21 @@ module _ (f : System) (d : List ℕ) (s : Subject) (kind : ListKind) (are : AreN
 
 -- the last lines of a whole list: the empty lemma, and `end`
 pub takes_refuted : (f : System) (d : List ℕ) (s : Subject) (are : AreNames f.names) (part : AreNames (kept s.nodes f.names)) (places : length s.nodes ≡ length f.names)
-    (same : length (list_part f s).faulty ≡ length (list_part f s).system.sets) (count : length (list_part f s).system.sets ≡ size s.nodes) (small : size (list_part f s).greatest < 2147483648)
-    (l : ℕ) (old new : Database) (sets : List Table) (units : ℕ) (last : JournalLine) → HasLineNumbers last × HasFewWords (size (list_part f s).greatest) last → line_progress last ≡ Refuted
-    → JournalRun (rules_of listed.Blocking (list_part f s)) Whole old (last ∷ []) new
-    → Takes f d l (Going (AtList s (listing_on Whole (list_part f s) (list_checking (size (list_part f s).greatest) old) sets units))) (journal_line (kept s.nodes f.names) last ∷ codes "end" ∷ []) (Done (record { header = s.header; answer = Blocking (ordered sets) }))
+    (same : length (list_part f s.nodes s.header.faulty).faulty ≡ length (list_part f s.nodes s.header.faulty).system.sets) (count : length (list_part f s.nodes s.header.faulty).system.sets ≡ size s.nodes) (small : size (list_part f s.nodes s.header.faulty).greatest < 2147483648)
+    (l : ℕ) (old new : Database) (sets : List Table) (units : ℕ) (last : JournalLine) → HasLineNumbers last × HasFewWords (size (list_part f s.nodes s.header.faulty).greatest) last → line_progress last ≡ Refuted
+    → JournalRun (rules_of listed.Blocking (list_part f s.nodes s.header.faulty)) Whole old (last ∷ []) new
+    → Takes f d l (Going (AtReach s (AtList (listing_on Whole (list_part f s.nodes s.header.faulty) (list_checking (size (list_part f s.nodes s.header.faulty).greatest) old) sets units)))) (journal_line (kept s.nodes f.names) last ∷ codes "end" ∷ []) (Done (record { header = s.header; answer = Blocking (ordered sets) }))
 unfolding take_line
 takes_refuted f d s are part places same count small l old new sets units (SetLine which id u) fine ends run = absurd cc
 takes_refuted f d s are part places same count small l old new sets units (StepLine (Deletion id ids)) fine ends run = absurd cc
 takes_refuted f d s are part places same count small l old new sets units (StepLine (Addition id lits hints)) fine ends run = (
-  Going (AtEnd (record { header = s.header; answer = Blocking (ordered sets) })),
+  Going (AtReach s (Ended (Listed_sets (ordered sets)))),
   lemma_taken f d s Whole are part places same count small l id lits hints old sets units fine refl run.0 run.1
-      ∙ ap (λ (p : Progress). Ok (after_list_step s (listing_on Whole (list_part f s) (list_checking (size (list_part f s).greatest) (after_step old (Addition id lits hints))) sets (units + 1)) p)) ends,
+      ∙ ap (λ (p : Progress). Ok (in_reach s (after_list_step (listing_on Whole (list_part f s.nodes s.header.faulty) (list_checking (size (list_part f s.nodes s.header.faulty).greatest) (after_step old (Addition id lits hints))) sets (units + 1)) p))) ends,
   (Done (record { header = s.header; answer = Blocking (ordered sets) }), refl, refl),
 )
 
 -- the last line of a part of a list
-pub takes_part_end : (f : System) (d : List ℕ) (s : Subject) (l vars : ℕ) (database : Database) (sets : List Table) (units : ℕ) → Takes f d l (Going (AtList s (listing_on Part (list_part f s) (list_checking vars database) sets units))) (codes "end" ∷ []) (Done (record { header = s.header; answer = PartialBlocking units }))
+pub takes_part_end : (f : System) (d : List ℕ) (s : Subject) (l vars : ℕ) (database : Database) (sets : List Table) (units : ℕ) → Takes f d l (Going (AtReach s (AtList (listing_on Part (list_part f s.nodes s.header.faulty) (list_checking vars database) sets units)))) (codes "end" ∷ []) (Done (record { header = s.header; answer = PartialBlocking units }))
 unfolding take_line
 takes_part_end f d s l vars database sets units = (Done (record { header = s.header; answer = PartialBlocking units }), refl, refl)

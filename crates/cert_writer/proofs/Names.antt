@@ -13,7 +13,8 @@ use Rattle.fbas_model.proofs.SortedNames.{kept_sorted}
 use Rattle.fbas_model.specs.Names.{Name, name_cmp, is_key, is_key_byte, is_among, marks}
 use Rattle.fbas_model.specs.Restriction.{kept}
 use Rattle.cert_lines.specs.Words.{Word, is_name, is_name_byte, is_rising, names_in, names_after}
-use Rattle.certificate_file.specs.Acceptance.{all_among, nodes_of, named}
+use Rattle.certificate_file.specs.Acceptance.{named}
+use Rattle.reach_kinds.specs.Bodies.{all_among, nodes_of}
 use Rattle.cert_writer.specs.Texts.{listed}
 use Rattle.cert_writer.proofs.Words.{IsWordByte, IsWord, AreWords, same_text, names_after-worded}
 

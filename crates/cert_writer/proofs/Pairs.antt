@@ -21,14 +21,15 @@ use Rattle.cert_writer.proofs.Raised.{spread, length-spread, kept-spread, nodes-
 use Rattle.fbas_model.proofs.Kept.{ranked}
 use Rattle.fbas_model.proofs.Renumbered.{length-restricted_sets}
 use Rattle.std.specs.List.Sorted.{IsStrictlySortedBy}
-use Rattle.certificate_file.specs.Acceptance.{within, take_line, checked}
+use Rattle.certificate_file.specs.Acceptance.{take_line, checked}
+use Rattle.reach_kinds.specs.Bodies.{within}
 use Rattle.certificate_file.specs.Meaning.{part_from}
 use Rattle.certificate_file.specs.declared.places.Header.{Header}
 use Rattle.certificate_file.specs.declared.places.Subject.{Subject}
 use Rattle.certificate_file.specs.declared.places.Answer.TheVariants.{Pair as pair}
 use Rattle.certificate_file.specs.declared.places.Place.TheVariants.{AtTitle, AtKind, AtFirst, AtSecond, AtEnd}
 use Rattle.certificate_file.specs.declared.places.State.TheVariants.{Going, Done}
-use Rattle.certificate_file.proofs.PartLaws.{apart_from_others}
+use Rattle.reach_kinds.proofs.Inside.{apart_from_others}
 use Rattle.cert_writer.specs.Texts.{Text, listed, header_lines, pair_lines, pair_text, joined, raised_table}
 use Rattle.cert_writer.proofs.Joined.{Takes, takes-append, AreLines, are_lines-append, accepted_text}
 use Rattle.cert_writer.proofs.Words.{is_word, is_plain}
@@ -41,7 +42,7 @@ use Rattle.cert_writer.proofs.Headers.{takes_header, line_listed, lines_header}
 -- a set that a line of a pair may list: a quorum of the part
 pub record IsListed (f : System) (s : Subject) (u : Table) : Type 0 where
   pub size : length u ≡ length f.names
-  pub inside : (l : ℕ) → within s l u ≡ Ok u
+  pub inside : (l : ℕ) → within s.nodes l u ≡ Ok u
   pub is : is_quorum f.sets s.header.faulty u ≡ true
 
 pub takes_pair : (f : System) (d : List ℕ) (h : Header) (u w : Table) → AreNames f.names → IsListed f (subject f h) u → IsListed f (subject f h) w → least (shared u w) ≡ None → pair_of u w ≡ record { first = u; second = w }
@@ -72,7 +73,7 @@ listed_quorum f h set is head part q =
     let size : length u ≡ length f.sets = length-spread t set ∙ part.places in
     record {
       size = size ∙ is.places;
-      inside = λ l. apart_from_others (subject f h) l u (λ m. not_others t m.0 m.2 ((and_parts (members t m.0) (members set (rank t m.0)) (sym (ap (λ (s : Nodes). s m.0) (nodes-spread t set)) ∙ m.1)).0));
+      inside = λ l. apart_from_others (subject f h).nodes l u (λ m. not_others t m.0 m.2 ((and_parts (members t m.0) (members set (rank t m.0)) (sym (ap (λ (s : Nodes). s m.0) (nodes-spread t set)) ∙ m.1)).0));
       is = quorum-from f.sets h.faulty u (head.faulty ∙ sym is.places ∙ sym size) (sym size) whole;
     }
 

@@ -20,12 +20,13 @@ use Rattle.lrat_text.specs.Lines.{step_in}
 use Rattle.lrat_text.specs.Texts.{line_of}
 use Rattle.cdcl_core.specs.Log.{AreLemmas, units}
 use Rattle.fbas_model.specs.Systems.{System}
-use Rattle.certificate_file.specs.Acceptance.{take_line, after_progress, is_covered}
+use Rattle.certificate_file.specs.Acceptance.{take_line, after_progress}
+use Rattle.reach_kinds.specs.Bodies.{is_covered}
 use Rattle.certificate_file.specs.declared.places.Header.{Header}
 use Rattle.certificate_file.specs.declared.places.Answer.TheVariants.{Refutation, Partial}
 use Rattle.certificate_file.specs.declared.places.Place.TheVariants.{AtSteps, AtLemmas, AtEnd}
 use Rattle.certificate_file.specs.declared.places.State.TheVariants.{Going, Done}
-use Rattle.certificate_file.proofs.CoverLaws.{covered-to}
+use Rattle.reach_kinds.proofs.CoverLaws.{covered-to}
 use Rattle.cert_writer.specs.Texts.{Text}
 use Rattle.cert_writer.proofs.Joined.{Takes}
 

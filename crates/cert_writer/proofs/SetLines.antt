@@ -28,13 +28,17 @@ use Rattle.cert_lines.specs.Limits.{unless}
 use Rattle.cert_lines.specs.Words.{Word, words_of, names_in}
 use Rattle.cert_lines.specs.declared.faults.CertError.{CertError}
 use Rattle.cert_lines.specs.declared.faults.CertError.TheVariants.{BadLine, Step, NotQuorum, NotBlocking, NotMinimal, NotNew}
-use Rattle.certificate_file.specs.Acceptance.{and_then, nodes_of, within, is_covered, listed_by, Numbered, numbered_if_any, numbered_in, right_set, new_set, with_listed, list_set, set_line as take_set_line, list_end, list_text, take_line}
+use Rattle.certificate_file.specs.Acceptance.{take_line}
+use Rattle.reach_kinds.specs.Bodies.{and_then, nodes_of, within, is_covered, listed_by, Numbered, numbered_if_any, numbered_in, right_set, new_set, with_listed, list_set, set_line as take_set_line, list_end, list_text}
 use Rattle.certificate_file.specs.declared.places.Subject.{Subject}
-use Rattle.certificate_file.specs.declared.places.Listing.{Listing}
-use Rattle.certificate_file.specs.declared.places.Place.TheVariants.{AtList}
-use Rattle.certificate_file.specs.declared.places.State.{State}
-use Rattle.certificate_file.specs.declared.places.State.TheVariants.{Going}
-use Rattle.certificate_file.proofs.PartLaws.{apart_from_others}
+use Rattle.reach_kinds.specs.declared.places.Listing.{Listing}
+use Rattle.certificate_file.specs.Acceptance.{in_reach}
+use Rattle.certificate_file.specs.declared.places.Place.TheVariants.{AtReach}
+use Rattle.reach_kinds.specs.declared.places.ReachPlace.TheVariants.{AtList}
+use Rattle.reach_kinds.specs.declared.places.ReachState.{ReachState}
+use Rattle.reach_kinds.specs.declared.places.ReachState.TheVariants.{Going}
+use Rattle.certificate_file.specs.declared.places.State.TheVariants.{Going as Here}
+use Rattle.reach_kinds.proofs.Inside.{apart_from_others}
 use Rattle.cert_writer.specs.Texts.{Text, letter, set_line}
 use Rattle.cert_writer.proofs.Joined.{IsLine}
 use Rattle.cert_writer.proofs.Words.{IsWord, is_word, words_of-worded, plain-worded, length-spaced_keys}
@@ -84,8 +88,8 @@ line_set which id names set are few is = record {
 
 -- ---- the set
 
-within_part : (s : Subject) (l : ℕ) (set : Table) → within s l (spread s.nodes set) ≡ Ok (spread s.nodes set)
-within_part s l set = apart_from_others s l (spread s.nodes set) (λ m. not_others s.nodes m.0 m.2 (out_spread s.nodes set m.0 m.1).0)
+within_part : (nodes : Table) (l : ℕ) (set : Table) → within nodes l (spread nodes set) ≡ Ok (spread nodes set)
+within_part nodes l set = apart_from_others nodes l (spread nodes set) (λ m. not_others nodes m.0 m.2 (out_spread nodes set m.0 m.1).0)
 
 -- the set is what it is listed for in the part
 abbrev pub IsRightIn : Listing → Listed → Table → Type 0
@@ -115,34 +119,34 @@ new k l which id set is = ap (λ (b : Bool). unless (NotNew l) (not b) (Ok set))
 module _ (f : System) (s : Subject) (k : Listing) (l : ℕ) (which : Listed) (id : ℕ) (set : Table) (places : length s.nodes ≡ length f.names) (same : length k.part.faulty ≡ length k.part.system.sets) (count : length k.part.system.sets ≡ size s.nodes)
     (above : k.checker.database.last < id) (is_right : IsRightIn k which set) (is_new : IsNewIn k which set) where
   -- what is awaited behind the line
-  abbrev next : Table → State
-  next w = Going (AtList s (with_listed k which id (spread s.nodes set) w))
+  abbrev next : Table → ReachState
+  next w = Going (AtList (with_listed k which id (spread s.nodes set) w))
 
-  set_listed : list_set s k l which id (spread s.nodes set) ≡ Ok (next set)
+  set_listed : list_set s.nodes k l which id (spread s.nodes set) ≡ Ok (next set)
   set_listed =
       ap (λ (t : Table). and_then (λ w. Ok (next w)) (and_then (new_set k l which id) (right_set k l which t))) (kept_of_spread s.nodes set (is_right.0 ∙ count))
       ∙ ap (λ (r : Result Table CertError). and_then (λ w. Ok (next w)) (and_then (new_set k l which id) r)) (right k l which set same is_right)
       ∙ ap (λ (r : Result Table CertError). and_then (λ w. Ok (next w)) r) (new k l which id set is_new)
 
-  set_taken : AreNames f.names → take_set_line f s k l which (record { id = id; names = kept set (kept s.nodes f.names) }) ≡ Ok (next set)
+  set_taken : AreNames f.names → take_set_line f s.nodes k l which (record { id = id; names = kept set (kept s.nodes f.names) }) ≡ Ok (next set)
   set_taken are =
       let u : Table = spread s.nodes set in
       let names : List Name = kept set (kept s.nodes f.names) in
-      ap (λ (b : Bool). unless (Step l (IdOrder k.checker.database.last id)) b (and_then (list_set s k l which id) (and_then (within s l) (nodes_of f.names l names)))) (lt-ltb k.checker.database.last id above)
-      ∙ ap (λ (ns : List Name). and_then (list_set s k l which id) (and_then (within s l) (nodes_of f.names l ns))) (kept-spread s.nodes set f.names)
-      ∙ ap (λ (r : Result Table CertError). and_then (list_set s k l which id) (and_then (within s l) r)) (nodes_of-kept f.names l u are (length-spread s.nodes set ∙ places))
-      ∙ ap (λ (r : Result Table CertError). and_then (list_set s k l which id) r) (within_part s l set)
+      ap (λ (b : Bool). unless (Step l (IdOrder k.checker.database.last id)) b (and_then (list_set s.nodes k l which id) (and_then (within s.nodes l) (nodes_of f.names l names)))) (lt-ltb k.checker.database.last id above)
+      ∙ ap (λ (ns : List Name). and_then (list_set s.nodes k l which id) (and_then (within s.nodes l) (nodes_of f.names l ns))) (kept-spread s.nodes set f.names)
+      ∙ ap (λ (r : Result Table CertError). and_then (list_set s.nodes k l which id) (and_then (within s.nodes l) r)) (nodes_of-kept f.names l u are (length-spread s.nodes set ∙ places))
+      ∙ ap (λ (r : Result Table CertError). and_then (list_set s.nodes k l which id) r) (within_part s.nodes l set)
       ∙ set_listed
 
-  pub set_line_taken : (d : List ℕ) → AreNames f.names → AreNames (kept s.nodes f.names) → IsId id → take_line f d (AtList s k) l (set_line (letter which) id (kept s.nodes f.names) set) ≡ Ok (Going (AtList s (with_listed k which id (spread s.nodes set) set)))
+  pub set_line_taken : (d : List ℕ) → AreNames f.names → AreNames (kept s.nodes f.names) → IsId id → take_line f d (AtReach s (AtList k)) l (set_line (letter which) id (kept s.nodes f.names) set) ≡ Ok (Here (AtReach s (AtList (with_listed k which id (spread s.nodes set) set))))
   unfolding take_line
   set_line_taken d are part is =
       let names : List Name = kept s.nodes f.names in
       let text : Text = set_line (letter which) id names set in
       let words : words_of text ≡ letter which ∷ decimal id ∷ kept set names = set_words which id names set part is in
-      ap (λ (b : Bool). if b then list_end k.kind s k l else list_text f s k l text (listed_by (words_of text))) (not_end which id names set)
-      ∙ ap (λ (ws : List Word). list_text f s k l text (listed_by ws)) words
-      ∙ ap (λ (o : Option Listed). list_text f s k l text o) (listed_letter which (decimal id ∷ kept set names))
-      ∙ ap (λ (ws : List Word). and_then (take_set_line f s k l which) (ok_or (numbered_in ws) (BadLine l))) words
-      ∙ ap (λ (o : Option Numbered). and_then (take_set_line f s k l which) (ok_or o (BadLine l))) (numbered which id names set part is)
-      ∙ set_taken are
+      ap (λ (b : Bool). and_then (λ x. Ok (in_reach s x)) (if b then list_end k.kind k l else list_text f s.nodes k l text (listed_by (words_of text)))) (not_end which id names set)
+      ∙ ap (λ (ws : List Word). and_then (λ x. Ok (in_reach s x)) (list_text f s.nodes k l text (listed_by ws))) words
+      ∙ ap (λ (o : Option Listed). and_then (λ x. Ok (in_reach s x)) (list_text f s.nodes k l text o)) (listed_letter which (decimal id ∷ kept set names))
+      ∙ ap (λ (ws : List Word). and_then (λ x. Ok (in_reach s x)) (and_then (take_set_line f s.nodes k l which) (ok_or (numbered_in ws) (BadLine l)))) words
+      ∙ ap (λ (o : Option Numbered). and_then (λ x. Ok (in_reach s x)) (and_then (take_set_line f s.nodes k l which) (ok_or o (BadLine l)))) (numbered which id names set part is)
+      ∙ ap (λ (r : Result ReachState CertError). and_then (λ x. Ok (in_reach s x)) r) (set_taken are)

@@ -12,10 +12,11 @@ use Rattle.cert_lines.specs.Limits.{unless}
 use Rattle.cert_lines.specs.Words.{digest_in}
 use Rattle.cert_lines.specs.declared.faults.CertError.{CertError}
 use Rattle.cert_lines.specs.declared.faults.CertError.TheVariants.{Memory, BadLine, Digest}
-use Rattle.certificate_file.specs.Acceptance.{and_then, version_in, title_line, digest_line, list_part, list_checking, listing_on, no_listing}
+use Rattle.certificate_file.specs.Acceptance.{version_in, title_line, digest_line}
+use Rattle.reach_kinds.specs.Bodies.{and_then, list_part, list_checking, listing_on, no_listing}
 use Rattle.certificate_file.specs.Known.{IsKnownState}
 use Rattle.certificate_file.specs.declared.places.Place.TheVariants.{AtDigest, AtFrom}
-use Rattle.certificate_file.specs.declared.places.ListPart.{ListPart}
+use Rattle.reach_kinds.specs.declared.places.ListPart.{ListPart}
 use Rattle.certificate_file.specs.declared.places.Subject.{Subject}
 use Rattle.certificate_file.specs.declared.places.State.{State}
 use Rattle.certificate_file.specs.declared.places.State.TheVariants.{Going}
@@ -41,13 +42,3 @@ known_digest f d version l text r e = subst (λ (x : Result State CertError). If
       ]
       | None ↦ tt
     ])
-
--- the part that a list is of
-pub list_part_of : (f : System) (s : Subject) (part : System) (faulty greatest : Table) → part ≡ restricted s.nodes f → faulty ≡ kept s.nodes s.header.faulty → greatest ≡ greatest_of part.sets faulty
-    → record { system = part; faulty = faulty; greatest = greatest } ≡ list_part f s
-list_part_of f s part faulty greatest is_part is_faulty is_greatest = rw (is_greatest, is_part, is_faulty) refl
-
--- a list of the part, of which nothing is known yet
-pub no_listing_of : (f : System) (kind : ListKind) (s : Subject) (part : ListPart) (checker : Checking) (sets : List Table) → part ≡ list_part f s → checker ≡ list_checking (size part.greatest) nothing_held → sets ≡ []
-    → listing_on kind part checker sets 0 ≡ no_listing f kind s
-no_listing_of f kind s part checker sets is_part is_checker none = rw (is_checker, is_part, none) refl

@@ -1,5 +1,5 @@
 -- Steps that are read as a stream come to what their lines do.
-use Rattle.std.proofs.Common.{◌≡◌, ℕ, ◌+◌, List, [], ◌∷◌, length, Bool, not, true, false, ◌||◌, ◌==◌, refl, ap, ◌∙◌, sym, cond, None, Some, Result, Ok, Err, codes}
+use Rattle.std.proofs.Common.{◌≡◌, ℕ, ◌+◌, List, [], ◌∷◌, length, Bool, not, true, false, ◌||◌, ◌==◌, refl, ap, ◌∙◌, sym, cond, Option, None, Some, Result, Ok, Err, codes}
 use Rattle.std.specs.Str.{bytes_eq}
 use Rattle.std.proofs.lemmas.Bool.{or_parts}
 use Rattle.fbas_model.specs.Nodes.{Table}
@@ -24,18 +24,21 @@ use Rattle.cert_lines.specs.Saying.{or_bad_line}
 use Rattle.cert_lines.specs.declared.faults.CertError.{CertError}
 use Rattle.cert_lines.specs.Limits.{unless}
 use Rattle.cert_lines.specs.declared.faults.CertError.TheVariants.{NotNew}
-use Rattle.certificate_file.specs.Acceptance.{and_then, holding, step_unless, take_step, step_line, is_covered, adds_covered, counted, lemma_unless, take_lemma, with_literal, lemma_line, listed_by, literal_in, list_step_unless, list_step, list_line, list_text, after_progress, after_list_step, take_line}
+use Rattle.certificate_file.specs.Acceptance.{in_reach, step_unless, take_step, step_line, lemma_unless, take_lemma, lemma_line, after_progress, take_line}
+use Rattle.reach_kinds.specs.Bodies.{and_then, holding, is_covered, adds_covered, counted, with_literal, listed_by, literal_in, list_step_unless, list_step, list_line, list_text, after_list_step}
 use Rattle.certificate_file.specs.Known.{IsKnown, IsKnownState}
-use Rattle.certificate_file.proofs.Meaning.{known_step, known_lemma}
-use Rattle.certificate_file.proofs.ListKnown.{known_list}
+use Rattle.certificate_file.proofs.Meaning.{known_step, known_lemma, known_reach}
 use Rattle.certificate_file.specs.Streamed.{Finished, after_deletion, read, is_part_kind, is_part, place_of, after_step_of, checking_of, HasSizedSets}
 use Rattle.certificate_file.specs.declared.places.Proof.{Proof}
 use Rattle.certificate_file.specs.declared.places.Proof.TheVariants as proof
 use Rattle.certificate_file.specs.declared.places.Header.{Header}
 use Rattle.certificate_file.specs.declared.places.Subject.{Subject}
-use Rattle.certificate_file.specs.declared.places.ListPart.{ListPart}
-use Rattle.certificate_file.specs.declared.places.Listing.{Listing}
-use Rattle.certificate_file.specs.declared.places.Place.TheVariants.{AtSteps, AtLemmas, AtList}
+use Rattle.reach_kinds.specs.declared.places.ListPart.{ListPart}
+use Rattle.reach_kinds.specs.declared.places.Listing.{Listing}
+use Rattle.certificate_file.specs.declared.places.Place.TheVariants.{AtSteps, AtLemmas, AtReach}
+use Rattle.reach_kinds.specs.declared.places.ReachPlace.TheVariants.{AtList}
+use Rattle.reach_kinds.specs.declared.places.ReachState.{ReachState}
+use Rattle.list_journal.specs.declared.kinds.Listed.{Listed}
 use Rattle.certificate_file.specs.declared.places.State.{State}
 use Rattle.certificate_file.specs.declared.places.State.TheVariants.{Going}
 
@@ -78,7 +81,7 @@ pub at_lemmas : (f : System) (d : List ℕ) (h : Header) (c : Checking) (n l : �
 unfolding take_line
 at_lemmas f d h c n l text = refl
 
-pub at_list : (f : System) (d : List ℕ) (s : Subject) (k : Listing) (l : ℕ) (text : List ℕ) → take_line f d (AtList s k) l text ≡ list_line f s k l text
+pub at_list : (f : System) (d : List ℕ) (s : Subject) (k : Listing) (l : ℕ) (text : List ℕ) → take_line f d (AtReach s (AtList k)) l text ≡ and_then (λ r. Ok (in_reach s r)) (list_line f s.nodes k l text)
 unfolding take_line
 at_list f d s k l text = refl
 
@@ -92,11 +95,15 @@ unless_then : {A B : Type 0} (g : A → Result B CertError) (e : CertError) (t :
 unless_then g e true r = refl
 unless_then g e false r = refl
 
+unless_both : {A B C : Type 0} (w : A → Result C CertError) (g : B → Result C CertError) (e : CertError) (t : Bool) (a : A) (b : B) → w a ≡ g b → and_then w (unless e t (Ok a)) ≡ and_then g (unless e t (Ok b))
+unless_both w g e true a b same = same
+unless_both w g e false a b same = refl
+
 progress_so : (h : Header) (c : Checking) (n : ℕ) (p : Progress) → after_progress h c p ≡ after_step_of (proof.Refutation h) c n p
 progress_so h c n going = refl
 progress_so h c n Refuted = refl
 
-list_progress_so : (s : Subject) (kind : ListKind) (part : ListPart) (sets : List Table) (c : Checking) (n : ℕ) (p : Progress) → after_list_step s (record { kind = kind; part = part; checker = c; sets = sets; units = n }) p ≡ after_step_of (proof.List s kind part sets) c n p
+list_progress_so : (s : Subject) (kind : ListKind) (part : ListPart) (sets : List Table) (c : Checking) (n : ℕ) (p : Progress) → in_reach s (after_list_step (record { kind = kind; part = part; checker = c; sets = sets; units = n }) p) ≡ after_step_of (proof.List s kind part sets) c n p
 list_progress_so s kind part sets c n going = refl
 list_progress_so s kind part sets c n Refuted = refl
 
@@ -125,23 +132,23 @@ module _ (l : ℕ) (h : Header) (c : Checking) (n : ℕ) where
   ]
 
 module _ (l : ℕ) (s : Subject) (part : ListPart) (c : Checking) (sets : List Table) (n : ℕ) where
-  list_taken : (kind : ListKind) (r : Result ProofStep LineFault) → and_then (list_step s (record { kind = kind; part = part; checker = c; sets = sets; units = n }) l) (and_then (literal_in kind l) (or_bad_line l r)) ≡ and_then (next_of (proof.List s kind part sets)) (read l (is_part_kind kind) c.rule c.vars c.database n (outline_in c.rule c.vars c.database r))
+  list_taken : (kind : ListKind) (r : Result ProofStep LineFault) → and_then (λ x. Ok (in_reach s x)) (and_then (list_step (record { kind = kind; part = part; checker = c; sets = sets; units = n }) l) (and_then (literal_in kind l) (or_bad_line l r))) ≡ and_then (next_of (proof.List s kind part sets)) (read l (is_part_kind kind) c.rule c.vars c.database n (outline_in c.rule c.vars c.database r))
   list_taken Whole (Err e) = refl
   list_taken Part (Err e) = refl
-  list_taken Whole (Ok (Addition id lits hints)) = elim (addition_fault_by c.rule c.vars c.database id lits hints) as (λ o. list_step_unless l s (record { kind = Whole; part = part; checker = c; sets = sets; units = n }) (Addition id lits hints) o ≡ and_then (next_of (proof.List s Whole part sets)) (read l false c.rule c.vars c.database n (Some (Adds id lits o)))) [
+  list_taken Whole (Ok (Addition id lits hints)) = elim (addition_fault_by c.rule c.vars c.database id lits hints) as (λ o. and_then (λ x. Ok (in_reach s x)) (list_step_unless l (record { kind = Whole; part = part; checker = c; sets = sets; units = n }) (Addition id lits hints) o) ≡ and_then (next_of (proof.List s Whole part sets)) (read l false c.rule c.vars c.database n (Some (Adds id lits o)))) [
     | Some fault ↦ refl
     | None ↦ ap (λ (s : State). Ok s) (list_progress_so s Whole part sets (record { rule = c.rule; vars = c.vars; database = record { held = with_clause c.database.held id lits; last = id } }) (n + 1) (progress_at lits))
   ]
   list_taken Part (Ok (Addition id [] hints)) = refl
-  list_taken Part (Ok (Addition id (x ∷ xs) hints)) = elim (addition_fault_by c.rule c.vars c.database id (x ∷ xs) hints) as (λ o. list_step_unless l s (record { kind = Part; part = part; checker = c; sets = sets; units = n }) (Addition id (x ∷ xs) hints) o ≡ and_then (next_of (proof.List s Part part sets)) (read l true c.rule c.vars c.database n (Some (Adds id (x ∷ xs) o)))) [
+  list_taken Part (Ok (Addition id (x ∷ xs) hints)) = elim (addition_fault_by c.rule c.vars c.database id (x ∷ xs) hints) as (λ o. and_then (λ x. Ok (in_reach s x)) (list_step_unless l (record { kind = Part; part = part; checker = c; sets = sets; units = n }) (Addition id (x ∷ xs) hints) o) ≡ and_then (next_of (proof.List s Part part sets)) (read l true c.rule c.vars c.database n (Some (Adds id (x ∷ xs) o)))) [
     | Some fault ↦ refl
-    | None ↦ unless_then (next_of (proof.List s Part part sets)) (NotNew l) (not (is_covered c.database.held id (x ∷ xs))) (Ok ((record { rule = c.rule; vars = c.vars; database = record { held = with_clause c.database.held id (x ∷ xs); last = id } }, going), n + 1))
+    | None ↦ unless_both (λ (x : ReachState). Ok (in_reach s x)) (next_of (proof.List s Part part sets)) (NotNew l) (not (is_covered c.database.held id (x ∷ xs))) _ ((record { rule = c.rule; vars = c.vars; database = record { held = with_clause c.database.held id (x ∷ xs); last = id } }, going), n + 1) refl
   ]
-  list_taken Whole (Ok (Deletion id ids)) = elim (deletion_fault c.database.held [] ids) as (λ o. list_step_unless l s (record { kind = Whole; part = part; checker = c; sets = sets; units = n }) (Deletion id ids) o ≡ and_then (next_of (proof.List s Whole part sets)) (and_then (λ t. Ok (t, n)) (after_deletion l c.rule c.vars c.database ids o))) [
+  list_taken Whole (Ok (Deletion id ids)) = elim (deletion_fault c.database.held [] ids) as (λ o. and_then (λ x. Ok (in_reach s x)) (list_step_unless l (record { kind = Whole; part = part; checker = c; sets = sets; units = n }) (Deletion id ids) o) ≡ and_then (next_of (proof.List s Whole part sets)) (and_then (λ t. Ok (t, n)) (after_deletion l c.rule c.vars c.database ids o))) [
     | Some fault ↦ refl
     | None ↦ refl
   ]
-  list_taken Part (Ok (Deletion id ids)) = elim (deletion_fault c.database.held [] ids) as (λ o. list_step_unless l s (record { kind = Part; part = part; checker = c; sets = sets; units = n }) (Deletion id ids) o ≡ and_then (next_of (proof.List s Part part sets)) (and_then (λ t. Ok (t, n)) (after_deletion l c.rule c.vars c.database ids o))) [
+  list_taken Part (Ok (Deletion id ids)) = elim (deletion_fault c.database.held [] ids) as (λ o. and_then (λ x. Ok (in_reach s x)) (list_step_unless l (record { kind = Part; part = part; checker = c; sets = sets; units = n }) (Deletion id ids) o) ≡ and_then (next_of (proof.List s Part part sets)) (and_then (λ t. Ok (t, n)) (after_deletion l c.rule c.vars c.database ids o))) [
     | Some fault ↦ refl
     | None ↦ refl
   ]
@@ -153,7 +160,7 @@ read_so f d (proof.Partial h) c n l text is = at_lemmas f d h c n l text ∙ rw 
 read_so f d (proof.List s kind part sets) c n l text is =
     at_list f d s (record { kind = kind; part = part; checker = c; sets = sets; units = n }) l text
     ∙ rw (not_end text is)
-    (ap (list_text f s (record { kind = kind; part = part; checker = c; sets = sets; units = n }) l text) (not_listed text is) ∙ list_taken l s part c sets n kind (step_in text))
+    (ap (λ (o : Option Listed). and_then (λ x. Ok (in_reach s x)) (list_text f s.nodes (record { kind = kind; part = part; checker = c; sets = sets; units = n }) l text o)) (not_listed text is) ∙ list_taken l s part c sets n kind (step_in text))
 
 -- a step line that was read as a stream, before and after which the checkers were these, is taken so
 pub read_line : (f : System) (d : List ℕ) (p : Proof) (part : Bool) (now later : Stepping) (n l line : ℕ) (words : StepWords) (text : List ℕ) (r : Result (Finished × ℕ) CertError)
@@ -177,7 +184,7 @@ read_line f d p part now later n l line words text r rule vars database number i
 pub sized_sets : (f : System) (p : Proof) (c : Checking) (n : ℕ) → IsKnown f (place_of p c n) → HasSizedSets p
 sized_sets f (proof.Refutation h) c n is = tt
 sized_sets f (proof.Partial h) c n is = tt
-sized_sets f (proof.List s kind part sets) c n is = (length f.sets, λ k t low. (is.sets k t low).places)
+sized_sets f (proof.List s kind part sets) c n is = (length f.sets, λ k t low. (is.1.sets k t low).places)
 
 -- what is known behind a line of a proof by steps
 pub known_after : (f : System) (d : List ℕ) (p : Proof) (c : Checking) (n l : ℕ) (text : List ℕ) (state : State) → IsKnown f (place_of p c n) → take_line f d (place_of p c n) l text ≡ Ok state → IsKnownState f state
@@ -185,4 +192,4 @@ known_after f d (proof.Refutation h) c n l text state is e = known_step f h c l 
 known_after f d (proof.Partial h) c n l text state is e = known_lemma f h c n l text is state (sym (at_lemmas f d h c n l text) ∙ e)
 known_after f d (proof.List s kind part sets) c n l text state is e =
     let k : Listing = record { kind = kind; part = part; checker = c; sets = sets; units = n } in
-    known_list f s k l text is state (sym (at_list f d s k l text) ∙ e)
+    known_reach f s (AtList k) l text is state (sym (at_list f d s k l text) ∙ e)

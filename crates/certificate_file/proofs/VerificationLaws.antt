@@ -24,7 +24,7 @@ use Rattle.cert_lines.specs.Saying.{or_bad_line}
 use Rattle.cert_lines.specs.declared.faults.CertError.{CertError}
 use Rattle.cert_lines.specs.declared.faults.CertError.TheVariants.{TooLarge, TooManyLines, LineTooLong, NotRefuted}
 use Rattle.cert_lines.specs.declared.lines.TheConstants.{MAX_LINES, MAX_LINE_BYTES}
-use Rattle.certificate_file.specs.Acceptance.{and_then, holding}
+use Rattle.reach_kinds.specs.Bodies.{and_then, holding}
 use Rattle.certificate_file.specs.Streamed.{Finished, after_deletion, finished, checking_of}
 use Rattle.certificate_file.specs.Known.{IsSubject, AreSteps, IsKnownLeft}
 use Rattle.certificate_file.specs.Verification.{after_lemma, taken_unless, taken, proof_line, proof_lines, proof_of, subject_from, verified}
@@ -32,7 +32,7 @@ use Rattle.certificate_file.specs.declared.places.Header.{Header}
 use Rattle.certificate_file.specs.declared.places.Subject.{Subject}
 use Rattle.certificate_file.specs.Meaning.{part_from}
 use Rattle.certificate_file.specs.Formulas.{formula_of}
-use Rattle.certificate_file.proofs.StreamLaws.{same_checking}
+use Rattle.reach_kinds.proofs.Starts.{same_checking}
 use Rattle.certificate_file.proofs.RefutationLaws.{formula_known, after_known}
 
 -- the parts of a subject

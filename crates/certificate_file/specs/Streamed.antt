@@ -12,10 +12,12 @@ use Rattle.list_journal.specs.declared.kinds.ListKind.{ListKind}
 use Rattle.list_journal.specs.declared.kinds.ListKind.TheVariants.{Whole, Partial as Part}
 use Rattle.cert_lines.specs.Limits.{unless}
 use Rattle.list_journal.specs.Order.{ordered}
-use Rattle.certificate_file.specs.Acceptance.{and_then, is_covered}
-use Rattle.certificate_file.specs.declared.places.Answer.TheVariants.{Refutation, Blocking}
+use Rattle.reach_kinds.specs.Bodies.{and_then, is_covered}
+use Rattle.certificate_file.specs.declared.places.Answer.TheVariants.{Refutation}
+use Rattle.reach_kinds.specs.declared.places.ReachPlace.TheVariants.{AtList, AtEnd as Ended}
+use Rattle.reach_kinds.specs.declared.places.Reached.TheVariants.{Blocking as reached_blocking}
 use Rattle.certificate_file.specs.declared.places.Place.{Place}
-use Rattle.certificate_file.specs.declared.places.Place.TheVariants.{AtSteps, AtLemmas, AtList, AtEnd}
+use Rattle.certificate_file.specs.declared.places.Place.TheVariants.{AtSteps, AtLemmas, AtReach, AtEnd}
 use Rattle.certificate_file.specs.declared.places.State.{State}
 use Rattle.certificate_file.specs.declared.places.State.TheVariants.{Going}
 use Rattle.certificate_file.specs.declared.places.Proof.{Proof}
@@ -85,13 +87,13 @@ is_part (proof.List s kind part sets) = is_part_kind kind
 abbrev pub place_of : Proof → Checking → ℕ → Place
 place_of (proof.Refutation h) c n = AtSteps h c
 place_of (proof.Partial h) c n = AtLemmas h c n
-place_of (proof.List s kind part sets) c n = AtList s (record { kind = kind; part = part; checker = c; sets = sets; units = n })
+place_of (proof.List s kind part sets) c n = AtReach s (AtList (record { kind = kind; part = part; checker = c; sets = sets; units = n }))
 
 -- the place behind the empty lemma
 abbrev pub end_of : Proof → Place
 end_of (proof.Refutation h) = AtEnd (record { header = h; answer = Refutation })
 end_of (proof.Partial h) = AtEnd (record { header = h; answer = Refutation })
-end_of (proof.List s kind part sets) = AtEnd (record { header = s.header; answer = Blocking (ordered sets) })
+end_of (proof.List s kind part sets) = AtReach s (Ended (reached_blocking (ordered sets)))
 
 -- what is so after a step, by where it led
 abbrev pub after_step_of : Proof → Checking → ℕ → Progress → State

@@ -17,7 +17,7 @@ use Rattle.cert_lines.specs.Saying.{or_bad_line}
 use Rattle.cert_lines.specs.declared.faults.CertError.{CertError}
 use Rattle.cert_lines.specs.declared.faults.CertError.TheVariants.{TooLarge, Step, NotRefuted}
 use Rattle.certificate_file.specs.Formulas.{formula_of}
-use Rattle.certificate_file.specs.Acceptance.{and_then, holding}
+use Rattle.reach_kinds.specs.Bodies.{and_then, holding}
 use Rattle.certificate_file.specs.Meaning.{part_from}
 use Rattle.certificate_file.specs.declared.places.Header.{Header}
 use Rattle.certificate_file.specs.declared.places.Subject.{Subject}

@@ -5,11 +5,12 @@ ghost use Rattle.desk_io.specs.Faults.{ReadFails};
 ghost use Rattle.fbas_model.specs.Systems.{System};
 ghost use Rattle.cert_lines.specs.Lines.{lines_of};
 ghost use Rattle.cert_lines.specs.declared.lines.TheConstants.{MAX_LINES};
-ghost use Rattle.certificate_file.specs.Acceptance.{and_then, take_line, check_lines};
+ghost use Rattle.certificate_file.specs.Acceptance.{take_line, check_lines};
+ghost use Rattle.reach_kinds.specs.Bodies.{and_then};
 ghost use Rattle.certificate_file.specs.Known.{IsKnown, IsKnownState};
 ghost use Rattle.certificate_file.specs.Streamed.{is_part, is_part_kind, place_of, end_of, checking_of, HasSizedSets};
 
-use crate::places::{Accepted, Answer, Listing, Place, Proof, State};
+use crate::places::{Accepted, Answer, Place, Proof, State};
 use crate::streaming::take_read;
 use crate::taking::take_line;
 use cert_lines::{CertError, Lines, line_or_step};
@@ -18,6 +19,7 @@ use fbas_core::System;
 use list_journal::ListKind;
 use lrat_checker::{Checker, IdleChecker};
 use lrat_model::Progress;
+use reach_kinds::{Listing, ReachPlace, Reached};
 use std::alloc::Global;
 use step_stream::StepReader;
 
@@ -46,21 +48,26 @@ impl Steps {
                 checker,
                 units,
             }),
-            Place::AtList(subject, listing) => {
-                let Listing {
-                    kind,
-                    part,
-                    checker,
-                    sets,
-                    units,
-                } = listing;
-                let proof = Proof::List(subject, kind, part, sets);
-                Ok(Steps {
-                    proof,
-                    checker,
-                    units,
-                })
-            }
+            Place::AtReach(subject, place) => match place {
+                ReachPlace::AtList(listing) => {
+                    let Listing {
+                        kind,
+                        part,
+                        checker,
+                        sets,
+                        units,
+                    } = listing;
+                    let proof = Proof::List(subject, kind, part, sets);
+                    Ok(Steps {
+                        proof,
+                        checker,
+                        units,
+                    })
+                }
+                ReachPlace::AtEnd(reached) => {
+                    Err(Place::AtReach(subject, ReachPlace::AtEnd(reached)))
+                }
+            },
             other => Err(other),
         }
     }
@@ -93,7 +100,7 @@ impl Proof {
                     sets,
                     units,
                 };
-                Place::AtList(subject, listing)
+                Place::AtReach(subject, ReachPlace::AtList(listing))
             }
         }
     }
@@ -115,10 +122,10 @@ impl Proof {
             }),
             Proof::List(subject, _, part, sets) => {
                 drop(part);
-                Place::AtEnd(Accepted {
-                    header: subject.header,
-                    answer: Answer::Blocking(sets.ordered()),
-                })
+                Place::AtReach(
+                    subject,
+                    ReachPlace::AtEnd(Reached::Blocking(sets.ordered())),
+                )
             }
         }
     }

@@ -1,6 +1,6 @@
 use Rattle.std.proofs.Common.{◌≡◌, false, sym, ◌∙◌}
 use Rattle.lrat_model.specs.Steps.{step_of}
-use Rattle.certificate_file.specs.Acceptance.{adds_covered}
+use Rattle.reach_kinds.specs.Bodies.{adds_covered}
 use Rattle.certificate_file.proofs.StreamLaws.{taken_lemma}
 use Rattle.certificate_file.proofs.partial.take_lemma.Goals as goal
 

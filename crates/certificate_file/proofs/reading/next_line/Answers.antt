@@ -4,7 +4,8 @@ use Rattle.desk_io.specs.State.{left_of}
 use Rattle.desk_io.specs.declared.Which.TheVariants.{Cert}
 use Rattle.cert_lines.specs.Lines.{lines_of}
 use Rattle.cert_lines.specs.declared.lines.TheConstants.{MAX_LINES}
-use Rattle.certificate_file.specs.Acceptance.{and_then, take_line, check_lines}
+use Rattle.certificate_file.specs.Acceptance.{take_line, check_lines}
+use Rattle.reach_kinds.specs.Bodies.{and_then}
 use Rattle.certificate_file.proofs.Desks.{fails_as, not_read, anyhow}
 use Rattle.certificate_file.proofs.Steps.{check_lines-line, check_lines-fault}
 use Rattle.certificate_file.proofs.reading.next_line.Goals as goal

@@ -4,13 +4,15 @@ use Rattle.desk_io.specs.State.{left_of}
 use Rattle.desk_io.specs.declared.Which.TheVariants.{Cert}
 use Rattle.lrat_checker.specs.Checking.{Checking}
 use Rattle.cert_lines.specs.Lines.{lines_of}
-use Rattle.certificate_file.specs.Acceptance.{and_then, take_line, check_lines}
+use Rattle.certificate_file.specs.Acceptance.{take_line, check_lines}
+use Rattle.reach_kinds.specs.Bodies.{and_then}
 use Rattle.certificate_file.specs.Known.{IsKnown}
 use Rattle.certificate_file.specs.Streamed.{place_of, checking_of}
 use Rattle.certificate_file.specs.declared.places.Place.{Place}
 use Rattle.certificate_file.specs.declared.places.State.TheVariants.{Going}
 use Rattle.certificate_file.proofs.Desks.{fails_as, not_read, anyhow}
-use Rattle.certificate_file.proofs.StreamLaws.{same_checking, sized_sets}
+use Rattle.certificate_file.proofs.StreamLaws.{sized_sets}
+use Rattle.reach_kinds.proofs.Starts.{same_checking}
 use Rattle.certificate_file.proofs.stepping.next_steps.Goals as goal
 
 pub take_line-requires : goal.take_line-requires

@@ -4,7 +4,8 @@ use Rattle.desk_io.specs.declared.Which.TheVariants.{Cert}
 use Rattle.fbas_model.specs.Systems.{System}
 use Rattle.lrat_checker.specs.Checking.{Stepping}
 use Rattle.cert_lines.specs.Lines.{lines_of}
-use Rattle.certificate_file.specs.Acceptance.{and_then, take_line, check_lines}
+use Rattle.certificate_file.specs.Acceptance.{take_line, check_lines}
+use Rattle.reach_kinds.specs.Bodies.{and_then}
 use Rattle.certificate_file.specs.Known.{IsKnown}
 use Rattle.certificate_file.specs.Streamed.{place_of, end_of, checking_of}
 use Rattle.certificate_file.specs.declared.places.State.TheVariants.{Going}

@@ -2,9 +2,9 @@ use Rattle.std.proofs.Common.{List, [], sym, ◌∙◌, ap}
 use Rattle.lrat_model.specs.Literal.{Literal}
 use Rattle.step_stream.specs.Ahead.{ahead_at}
 use Rattle.step_stream.specs.declared.words.Stage.{Stage}
-use Rattle.certificate_file.specs.Acceptance.{is_covered}
+use Rattle.reach_kinds.specs.Bodies.{is_covered}
 use Rattle.certificate_file.specs.Streamed.{covers_read}
-use Rattle.certificate_file.proofs.CoverLaws.{is-covered}
+use Rattle.reach_kinds.proofs.CoverLaws.{is-covered}
 use Rattle.certificate_file.proofs.streaming.covers_read.Goals as goal
 
 pub returns-in-Added : goal.returns-in-Added

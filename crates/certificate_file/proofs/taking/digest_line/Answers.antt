@@ -2,7 +2,7 @@ use Rattle.std.proofs.Common.{rules, ◌≡◌, List, ℕ, Bool, true, Option, S
 use Rattle.cert_lines.specs.Limits.{unless}
 use Rattle.cert_lines.specs.Words.{digest_in}
 use Rattle.cert_lines.specs.declared.faults.CertError.TheVariants.{BadLine, Digest}
-use Rattle.certificate_file.specs.Acceptance.{and_then}
+use Rattle.reach_kinds.specs.Bodies.{and_then}
 use Rattle.certificate_file.specs.declared.places.Place.TheVariants.{AtFrom}
 use Rattle.certificate_file.specs.declared.places.State.TheVariants.{Going}
 use Rattle.certificate_file.proofs.taking.digest_line.Goals as goal

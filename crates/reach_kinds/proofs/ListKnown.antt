@@ -1,0 +1,276 @@
+-- What is known of a list from line to line.
+use Rattle.std.proofs.Common.{◌≡◌, ℕ, ◌<◌, Bool, List, [], ◌∷◌, ◌++◌, map, length, true, false, not, ◌&&◌, nat_lt, nat_le, Option, Some, None, ok_or, Result, Ok, IfOk, refl, sym, ap, ◌∙◌, subst, arith, inl, inr, codes}
+use Rattle.std.specs.Prelude.{All}
+use Rattle.std.specs.Str.{bytes_eq}
+use Rattle.std.proofs.lemmas.Bool.{cases_Bool, cases_lt, both_ways, ltb-true, leb-false, not-true}
+use Rattle.std.proofs.lemmas.List.{append-nil, map-append}
+use Rattle.std.proofs.lemmas.List.Elements.{All-nil, All-cons, All-append}
+use Rattle.fbas_model.specs.Nodes.{Table, members, ◌⊆◌, size}
+use Rattle.fbas_model.specs.Names.{Name, marks}
+use Rattle.fbas_model.proofs.Marks.{length-marks}
+use Rattle.witness_pair.proofs.PairLaws.{none_of_both}
+use Rattle.fbas_model.specs.Counting.{is_quorum}
+use Rattle.fbas_model.specs.Systems.{System}
+use Rattle.fbas_model.specs.Restriction.{kept}
+use Rattle.fbas_model.proofs.QuorumLaw.{quorum-to}
+use Rattle.lrat_model.specs.Literal.{Literal, IsSubset}
+use Rattle.lrat_model.specs.Clauses.{clause_at, with_clause}
+use Rattle.lrat_model.specs.Steps.{ProofStep, Addition, Deletion, Database, step_fault, after_step, progress_of}
+use Rattle.lrat_model.specs.Rules.{step_fault_by}
+use Rattle.lrat_model.proofs.RatRuns.{rup_is_the_first_rule}
+use Rattle.lrat_model.specs.declared.step.Rule.{Rule}
+use Rattle.lrat_model.specs.declared.step.Rule.TheVariants.{Rup}
+use Rattle.lrat_model.specs.declared.step.StepFault.{StepFault}
+use Rattle.lrat_model.specs.declared.step.StepFault.TheVariants.{IdOrder}
+use Rattle.lrat_model.specs.declared.step.Progress.{Progress}
+use Rattle.lrat_model.specs.declared.step.Progress.TheVariants.{Going as going, Refuted}
+use Rattle.lrat_text.specs.Lines.{step_in}
+use Rattle.list_journal.specs.Kinds.{is_sought, asks_new}
+use Rattle.list_journal.specs.Numbering.{clause_for}
+use Rattle.list_journal.specs.Journals.{JournalLine, SetLine, StepLine, Rules, IsListedFor, IsNewIf, JournalRun, IsNewLine, IsOpen, line_progress, nothing_held, put_if, sets_in}
+use Rattle.list_journal.specs.Tests.{is_blocking, is_minimal}
+use Rattle.list_journal.specs.declared.kinds.ListKind.{ListKind}
+use Rattle.list_journal.specs.declared.kinds.ListKind.TheVariants.{Whole, Partial as Part}
+use Rattle.list_journal.specs.declared.kinds.Listed.{Listed}
+use Rattle.list_journal.specs.declared.kinds.Listed.TheVariants as listed
+use Rattle.list_journal.proofs.Greatest.{IsGreatest}
+use Rattle.list_journal.proofs.Duality.{quorum_within, right_within as listed_within}
+use Rattle.list_journal.proofs.Ids.{AreBelow, below_run}
+use Rattle.list_journal.proofs.Runs.{run_append, open_append, sets_append}
+use Rattle.list_journal.proofs.TestLaws.{blocks_to, minimal_to}
+use Rattle.cert_lines.specs.Limits.{unless}
+use Rattle.cert_lines.specs.Words.{words_of}
+use Rattle.cert_lines.specs.Saying.{or_bad_line}
+use Rattle.cert_lines.specs.declared.faults.CertError.{CertError}
+use Rattle.cert_lines.specs.declared.faults.CertError.TheVariants.{BadLine, UnknownNode, NotQuorum, NotBlocking, NotMinimal, NotNew, Step}
+use Rattle.reach_kinds.specs.Bodies.{and_then, all_among, nodes_of, others, within, adds_covered, is_covered, no_listing, listed_by, Numbered, numbered_in, right_set, is_old, new_set, put_last, with_sought, with_listed, list_set, set_line, literal_in, is_old_step, with_step, after_list_step, list_step_unless, list_step, list_end, list_text, list_line, reach_line}
+use Rattle.reach_kinds.specs.Shown.{IsReached}
+use Rattle.reach_kinds.specs.declared.places.Reached.{Reached}
+use Rattle.reach_kinds.specs.Known.{IsPartNodes, IsPartSet, rules_of, IsList, IsReachPlace, IsReachState}
+use Rattle.reach_kinds.specs.declared.places.Listing.{Listing}
+use Rattle.reach_kinds.specs.declared.places.ListPart.{ListPart}
+use Rattle.reach_kinds.specs.declared.places.Reached.TheVariants.{PartialBlocking}
+use Rattle.reach_kinds.specs.declared.places.ReachPlace.{ReachPlace}
+use Rattle.reach_kinds.specs.declared.places.ReachPlace.TheVariants.{AtList, AtEnd}
+use Rattle.reach_kinds.specs.declared.places.ReachState.{ReachState}
+use Rattle.reach_kinds.specs.declared.places.ReachState.TheVariants.{Going, Done}
+use Rattle.reach_kinds.proofs.CoverLaws.{covered-from}
+use Rattle.reach_kinds.proofs.ListShown.{part_faulty_size, cut_size, part_greatest, list_holds, list_shown}
+use Rattle.reach_kinds.proofs.Inside.{inside}
+use Rattle.reach_kinds.proofs.Results.{got, passed, within_part}
+
+-- before the first line
+pub list_starts : (f : System) (kind : ListKind) (nodes gone : Table) → IsPartNodes f nodes gone → IsList f nodes gone (no_listing f kind nodes gone)
+list_starts f kind nodes gone is = record {
+  subject = is;
+  part = refl;
+  rule = refl;
+  vars = refl;
+  sets = All-nil (IsPartSet f nodes);
+  journal = [];
+  opens = All-nil (λ line. line_progress line ≡ going);
+  run = refl;
+  listed = refl;
+}
+
+-- ---- new clauses
+
+new_where_uncovered : (d : Database) (id : ℕ) (clause : List Literal) → AreBelow d → d.last < id → is_covered d.held id clause ≡ false → (k : ℕ) (other : List Literal) → clause_at d.held k ≡ Some other → IsSubset other clause → ⊥
+new_where_uncovered d id clause below above off k other at subset = elim (cases_lt k id) [
+  | inl low ↦ both_ways (is_covered d.held id clause) off (covered-from d.held id clause (k, other, low, at, subset))
+  | inr high ↦ (let none = below k (omega arith) in absurd cc)
+]
+
+new_clause : (asked : Bool) (d : Database) (id : ℕ) (clause : List Literal) → AreBelow d → d.last < id → (asked && is_covered d.held id clause) ≡ false → IsNewIf asked d.held clause
+new_clause true d id clause below above off = new_where_uncovered d id clause below above off
+new_clause false d id clause below above off = tt
+
+new_step : (r : Rules) (kind : ListKind) (d : Database) (step : ProofStep) → AreBelow d → step_fault r.vars d step ≡ None → (asks_new listed.Blocking kind listed.Quorum && adds_covered d.held step) ≡ false → IsNewLine r kind d.held (StepLine step)
+new_step r Whole d step below none off = tt
+new_step r Part d (Addition id lits hints) below none off = elim (cases_Bool (nat_le id d.last)) [
+  | inl low ↦ let refused = rw low at none in absurd cc
+  | inr above ↦ new_where_uncovered d id lits below (leb-false id d.last above) off
+]
+new_step r Part d (Deletion id ids) below none off = tt
+
+no_start : AreBelow nothing_held
+no_start k h = refl
+
+-- ---- a line more
+
+right_for : (k : Listing) (l : ℕ) (which : Listed) (u v : Table) → IsGreatest k.part.system.sets (members k.part.faulty) k.part.greatest → length u ≡ length k.part.system.sets → length k.part.faulty ≡ length k.part.system.sets
+    → right_set k l which u ≡ Ok v → (v ≡ u) × IsListedFor listed.Blocking k.part.system.sets (members k.part.faulty) k.part.greatest which u
+right_for k l listed.Quorum u v greatest size same e =
+    let p = passed (NotQuorum l) (is_quorum k.part.system.sets k.part.faulty u) (Ok u) v e in
+    let is = quorum-to k.part.system.sets k.part.faulty u p.0 in
+    (let q = p.1 in cc, (size, (is, quorum_within k.part.system.sets (members k.part.faulty) k.part.greatest (members u) greatest is)))
+right_for k l listed.Blocking u v greatest size same e =
+    let next : Result Table CertError = unless (NotMinimal l) (is_minimal listed.Blocking k.part.system.sets k.part.faulty u) (Ok u) in
+    let one = passed (NotBlocking l) (is_blocking k.part.system.sets k.part.faulty u) next v e in
+    let two = passed (NotMinimal l) (is_minimal listed.Blocking k.part.system.sets k.part.faulty u) (Ok u) v one.1 in
+    (let q = two.1 in cc, (size, record { blocks = blocks_to k.part.system.sets k.part.faulty u same size one.0; least = minimal_to listed.Blocking k.part.system.sets k.part.faulty u same two.0 }))
+
+put_more : (b : Bool) (nodes : Table) (sets : List Table) (u : Table) → (map (kept nodes) sets ++ put_if b (kept nodes u) []) ≡ map (kept nodes) (put_last b sets u)
+put_more true nodes sets u = sym (map-append (kept nodes) sets (u ∷ []))
+put_more false nodes sets u = append-nil (map (kept nodes) sets)
+
+listed_more : (sought : Listed) (nodes : Table) (journal : List JournalLine) (sets : List Table) (which : Listed) (id : ℕ) (u : Table) → sets_in sought journal ≡ map (kept nodes) sets
+    → sets_in sought (journal ++ SetLine which id (kept nodes u) ∷ []) ≡ map (kept nodes) (with_sought sought sets which u)
+listed_more sought nodes journal sets which id u listed =
+    let b : Bool = is_sought sought which in
+    sets_append sought journal (SetLine which id (kept nodes u) ∷ []) ∙ ap (λ (xs : List Table). xs ++ put_if b (kept nodes u) []) listed ∙ put_more b nodes sets u
+
+sets_more : (P : Table → Type 0) (b : Bool) (sets : List Table) (u : Table) → All P sets → P u → All P (put_last b sets u)
+sets_more P false sets u all one = all
+sets_more P true sets u all one = All-append P sets (u ∷ []) all (All-cons P u [] one (All-nil P))
+
+open_more : (journal : List JournalLine) (line : JournalLine) → IsOpen journal → line_progress line ≡ going → IsOpen (journal ++ line ∷ [])
+open_more journal line opens is = open_append journal (line ∷ []) opens (All-cons (λ l. line_progress l ≡ going) line [] is (All-nil (λ l. line_progress l ≡ going)))
+
+held_below : (f : System) (nodes gone : Table) (k : Listing) → IsList f nodes gone k → AreBelow k.checker.database
+held_below f nodes gone k is = below_run (rules_of listed.Blocking k.part) k.kind nothing_held is.journal k.checker.database is.run no_start
+
+pub faulty_fits : (f : System) (nodes gone : Table) (k : Listing) → IsList f nodes gone k → length k.part.faulty ≡ length k.part.system.sets
+faulty_fits f nodes gone k is = subst (λ (p : ListPart). length p.faulty ≡ length p.system.sets) (sym is.part) (part_faulty_size f nodes gone is.subject)
+
+pub set_fits : (f : System) (nodes gone : Table) (k : Listing) (u : Table) → IsList f nodes gone k → length u ≡ length f.sets → length (kept nodes u) ≡ length k.part.system.sets
+set_fits f nodes gone k u is e = subst (λ (p : ListPart). length (kept nodes u) ≡ length p.system.sets) (sym is.part) (cut_size f nodes gone is.subject u e)
+
+pub greatest_fits : (f : System) (nodes gone : Table) (k : Listing) → IsList f nodes gone k → IsGreatest k.part.system.sets (members k.part.faulty) k.part.greatest
+greatest_fits f nodes gone k is = subst (λ (p : ListPart). IsGreatest p.system.sets (members p.faulty) p.greatest) (sym is.part) (part_greatest f nodes gone is.subject)
+
+-- what is listed lies in the greatest quorum
+pub right_within : (f : System) (nodes gone : Table) (k : Listing) (l : ℕ) (which : Listed) (u v : Table) → IsList f nodes gone k → length u ≡ length k.part.system.sets → right_set k l which u ≡ Ok v → members v ⊆ members k.part.greatest
+right_within f nodes gone k l which u v is size e =
+    let greatest = greatest_fits f nodes gone k is in
+    let right = right_for k l which u v greatest size (faulty_fits f nodes gone k is) e in
+    subst (λ (t : Table). members t ⊆ members k.part.greatest) (sym right.0) (listed_within listed.Blocking which k.part.system.sets (members k.part.faulty) k.part.greatest u greatest right.1.1)
+
+-- a set of the part that is listed
+set_known : (f : System) (nodes gone : Table) (k : Listing) (l : ℕ) (which : Listed) (id : ℕ) (u : Table) (state : ReachState) → IsList f nodes gone k → k.checker.database.last < id → IsPartSet f nodes u → list_set nodes k l which id u ≡ Ok state → IsReachState f nodes gone state
+set_known f nodes gone k l which id u state is above part e =
+    let p : ListPart = k.part in
+    let d : Database = k.checker.database in
+    let cut : Table = kept nodes u in
+    let size_is = set_fits f nodes gone k u is part.places in
+    let one = got (and_then (new_set k l which id) (right_set k l which cut)) (λ w. Ok (Going (AtList (with_listed k which id u w)))) state e in
+    let two = got (right_set k l which cut) (new_set k l which id) one.0 one.1 in
+    let right = right_for k l which cut two.0 (greatest_fits f nodes gone k is) size_is (faulty_fits f nodes gone k is) two.1 in
+    let fresh = passed (NotNew l) (not (is_old k which id two.0)) (Ok two.0) one.0 two.2 in
+    let same : one.0 ≡ cut = (let q = fresh.1 in let r : two.0 ≡ one.0 = cc in sym r ∙ right.0) in
+    let off : is_old k which id cut ≡ false = subst (λ (t : Table). is_old k which id t ≡ false) right.0 (not-true (is_old k which id two.0) fresh.0) in
+    let next : Listing = with_listed k which id u cut in
+    let line : JournalLine = SetLine which id cut in
+    let r : Rules = rules_of listed.Blocking p in
+    let known : IsList f nodes gone next = record {
+      subject = is.subject;
+      part = is.part;
+      rule = is.rule;
+      vars = is.vars;
+      sets = sets_more (IsPartSet f nodes) (is_sought listed.Blocking which) k.sets u is.sets part;
+      journal = is.journal ++ line ∷ [];
+      opens = open_more is.journal line is.opens refl;
+      run = run_append r k.kind nothing_held is.journal (line ∷ []) d next.checker.database is.run
+          ((above, right.1), new_clause (asks_new listed.Blocking k.kind which) d id (clause_for listed.Blocking p.greatest which cut) (held_below f nodes gone k is) above off, refl);
+      listed = listed_more listed.Blocking nodes is.journal k.sets which id u is.listed;
+    } in
+    let there : Going (AtList (with_listed k which id u one.0)) ≡ state = (let q = one.2 in cc) in
+    subst (IsReachState f nodes gone) (ap (λ (w : Table). Going (AtList (with_listed k which id u w))) (sym same) ∙ there) known
+
+-- the names of a line give a set of the part
+pub part_set : (f : System) (nodes gone : Table) (l : ℕ) (names : List Name) (u : Table) → IsPartNodes f nodes gone → and_then (within nodes l) (nodes_of f.names l names) ≡ Ok u → IsPartSet f nodes u
+part_set f nodes gone l names u is e =
+    let w = within_part nodes l (nodes_of f.names l names) u e in
+    let p = passed (UnknownNode l) (all_among names f.names) (Ok (marks f.names names)) u w.0 in
+    let same : marks f.names names ≡ u = (let q = p.1 in cc) in
+    let places : length u ≡ length f.sets = ap (λ (t : Table). length t) (sym same) ∙ length-marks f.names names ∙ sym is.system.places in record {
+      places = places;
+      within = inside u nodes (places ∙ sym is.places) (none_of_both u (others nodes) w.1);
+    }
+
+numbered_known : (f : System) (nodes gone : Table) (k : Listing) (l : ℕ) (which : Listed) (n : Numbered) (state : ReachState) → IsList f nodes gone k → set_line f nodes k l which n ≡ Ok state → IsReachState f nodes gone state
+numbered_known f nodes gone k l which n state is e =
+    let last : ℕ = k.checker.database.last in
+    let sets : Result Table CertError = and_then (within nodes l) (nodes_of f.names l n.names) in
+    let p = passed (Step l (IdOrder last n.id)) (nat_lt last n.id) (and_then (list_set nodes k l which n.id) sets) state e in
+    let g = got sets (list_set nodes k l which n.id) state p.1 in
+    set_known f nodes gone k l which n.id g.0 state is (ltb-true last n.id p.0) (part_set f nodes gone l n.names g.0 is.subject g.1) g.2
+
+-- ---- a step more
+
+step_goes : (f : System) (nodes gone : Table) (k : Listing) (step : ProofStep) (p : Progress) → IsList f nodes gone k → step_fault_by k.checker.rule k.checker.vars k.checker.database step ≡ None → is_old_step k step ≡ false → progress_of step ≡ p → IsReachState f nodes gone (after_list_step (with_step k step) p)
+step_goes f nodes gone k step p is none off progress = by_progress p progress
+  where
+    r : Rules
+    r = rules_of listed.Blocking k.part
+
+    taken : step_fault r.vars k.checker.database step ≡ None
+    taken =
+        sym (rup_is_the_first_rule r.vars k.checker.database step)
+        ∙ subst (λ (n : ℕ). step_fault_by Rup n k.checker.database step ≡ None) is.vars
+        (subst (λ (rule : Rule). step_fault_by rule k.checker.vars k.checker.database step ≡ None) is.rule none)
+
+    run : JournalRun r k.kind nothing_held (is.journal ++ StepLine step ∷ []) (after_step k.checker.database step)
+    run = run_append r k.kind nothing_held is.journal (StepLine step ∷ []) k.checker.database (after_step k.checker.database step) is.run
+        (taken, new_step r k.kind k.checker.database step (held_below f nodes gone k is) taken off, refl)
+
+    by_progress : (q : Progress) → progress_of step ≡ q → IsReachState f nodes gone (after_list_step (with_step k step) q)
+    by_progress going is_going = record {
+      subject = is.subject;
+      part = is.part;
+      rule = is.rule;
+      vars = is.vars;
+      sets = is.sets;
+      journal = is.journal ++ StepLine step ∷ [];
+      opens = open_more is.journal (StepLine step) is.opens is_going;
+      run = run;
+      listed = sets_append listed.Blocking is.journal (StepLine step ∷ []) ∙ append-nil (sets_in listed.Blocking is.journal) ∙ is.listed;
+    }
+    by_progress Refuted is_refuted =
+        list_shown f nodes gone k.sets is.sets
+        (list_holds listed.Blocking f nodes gone k.kind is.journal step (after_step k.checker.database step) k.sets is.subject is.opens is_refuted
+        (subst (λ (p : ListPart). JournalRun (rules_of listed.Blocking p) k.kind nothing_held (is.journal ++ StepLine step ∷ []) (after_step k.checker.database step)) is.part run)
+        is.listed is.sets)
+
+step_in_list : (f : System) (nodes gone : Table) (k : Listing) (l : ℕ) (step : ProofStep) (o : Option StepFault) (state : ReachState) → IsList f nodes gone k → step_fault_by k.checker.rule k.checker.vars k.checker.database step ≡ o → list_step_unless l k step o ≡ Ok state → IsReachState f nodes gone state
+step_in_list f nodes gone k l step (Some fault) state is at e = absurd cc
+step_in_list f nodes gone k l step None state is at e =
+    let next : ReachState = after_list_step (with_step k step) (progress_of step) in
+    let p = passed (NotNew l) (not (is_old_step k step)) (Ok next) state e in
+    let same : next ≡ state = (let q = p.1 in cc) in
+    subst (IsReachState f nodes gone) same (step_goes f nodes gone k step (progress_of step) is at (not-true (is_old_step k step) p.0) refl)
+
+-- ---- lines
+
+end_known : (f : System) (nodes gone : Table) (k : Listing) (l : ℕ) (kind : ListKind) (state : ReachState) → IsPartNodes f nodes gone → list_end kind k l ≡ Ok state → IsReachState f nodes gone state
+end_known f nodes gone k l Whole state is e = absurd cc
+end_known f nodes gone k l Part state is e =
+    let same : Done (PartialBlocking k.units) ≡ state = cc in
+    subst (IsReachState f nodes gone) same (tt, tt)
+
+text_known : (f : System) (nodes gone : Table) (k : Listing) (l : ℕ) (text : List ℕ) (o : Option Listed) (state : ReachState) → IsList f nodes gone k → list_text f nodes k l text o ≡ Ok state → IsReachState f nodes gone state
+text_known f nodes gone k l text (Some which) state is e =
+    let g = got (ok_or (numbered_in (words_of text)) (BadLine l)) (set_line f nodes k l which) state e in
+    numbered_known f nodes gone k l which g.0 state is g.2
+text_known f nodes gone k l text None state is e =
+    let g = got (and_then (literal_in k.kind l) (or_bad_line l (step_in text))) (list_step k l) state e in
+    step_in_list f nodes gone k l g.0 (step_fault_by k.checker.rule k.checker.vars k.checker.database g.0) state is refl g.2
+
+pub known_list : (f : System) (nodes gone : Table) (k : Listing) (l : ℕ) (text : List ℕ) → IsList f nodes gone k → (state : ReachState) → list_line f nodes k l text ≡ Ok state → IsReachState f nodes gone state
+known_list f nodes gone k l text is state e = elim (cases_Bool (bytes_eq text (codes "end"))) [
+  | inl ends ↦ end_known f nodes gone k l k.kind state is.subject (rw ends at e)
+  | inr not ↦ text_known f nodes gone k l text (listed_by (words_of text)) state is (rw not at e)
+]
+
+-- the line `end`, behind what is shown
+pub known_end : (f : System) (nodes gone : Table) (l : ℕ) (t : Bool) (r : Reached) (result : Result ReachState CertError) → IsReached f nodes gone r → result ≡ unless (BadLine l) t (Ok (Done r)) → IfOk result (IsReachState f nodes gone)
+known_end f nodes gone l true r result is e = subst (λ (x : Result ReachState CertError). IfOk x (IsReachState f nodes gone)) (sym e) is
+known_end f nodes gone l false r result is e = subst (λ (x : Result ReachState CertError). IfOk x (IsReachState f nodes gone)) (sym e) tt
+
+-- a line at its place
+pub known_line : (f : System) (nodes gone : Table) (p : ReachPlace) (l : ℕ) (text : List ℕ) → IsReachPlace f nodes gone p → (state : ReachState) → reach_line f nodes p l text ≡ Ok state → IsReachState f nodes gone state
+known_line f nodes gone (AtList k) l text is state e = known_list f nodes gone k l text is state e
+known_line f nodes gone (AtEnd r) l text is state e =
+    let p = passed (BadLine l) (bytes_eq text (codes "end")) (Ok (Done r)) state e in
+    let same : Done r ≡ state = (let q = p.1 in cc) in
+    subst (IsReachState f nodes gone) same is

@@ -1,0 +1,232 @@
+-- The bodies that are read line by line: of lists.
+use Rattle.std.specs.Prelude.{ℕ, ◌+◌, List, [], ◌∷◌, ◌++◌, map, Bool, true, false, not, ◌&&◌, ◌==◌, nat_le, nat_lt, Option, Some, None, is_none, ok_or, Result, Ok, Err, codes, if◌then◌else◌}
+use Rattle.std.specs.List.{list_all, list_any}
+use Rattle.std.specs.Str.{bytes_eq}
+use Rattle.fbas_model.specs.Nodes.{Table, size}
+use Rattle.fbas_model.specs.Names.{Name, is_among, marks, place_of}
+use Rattle.fbas_model.specs.Counting.{is_quorum}
+use Rattle.fbas_model.specs.Systems.{System}
+use Rattle.fbas_model.specs.Restriction.{everyone, closure_of, kept, restricted, restricted_sets}
+use Rattle.greatest_quorum.specs.Greatest.{greatest_of}
+use Rattle.lrat_model.specs.Literal.{Literal, has}
+use Rattle.lrat_model.specs.Clauses.{Held, clause_at, with_clause}
+use Rattle.lrat_model.specs.Steps.{ProofStep, Addition, Deletion, Database, after_step, progress_of}
+use Rattle.lrat_model.specs.Rules.{step_fault_by}
+use Rattle.lrat_model.specs.declared.step.Rule.TheVariants.{Rup}
+use Rattle.lrat_model.specs.declared.step.StepFault.{StepFault}
+use Rattle.lrat_model.specs.declared.step.StepFault.TheVariants.{IdOrder}
+use Rattle.lrat_model.specs.declared.step.Progress.{Progress}
+use Rattle.lrat_model.specs.declared.step.Progress.TheVariants.{Going as going, Refuted}
+use Rattle.lrat_checker.specs.Checking.{Checking}
+use Rattle.lrat_text.specs.Lines.{step_in}
+use Rattle.lrat_text.specs.Numbers.{id_in}
+use Rattle.list_journal.specs.Journals.{nothing_held}
+use Rattle.list_journal.specs.Kinds.{is_sought, asks_new}
+use Rattle.list_journal.specs.Numbering.{clause_for}
+use Rattle.list_journal.specs.Order.{ordered}
+use Rattle.list_journal.specs.Tests.{is_blocking, is_minimal}
+use Rattle.list_journal.specs.declared.kinds.ListKind.{ListKind}
+use Rattle.list_journal.specs.declared.kinds.ListKind.TheVariants.{Whole, Partial as Part}
+use Rattle.list_journal.specs.declared.kinds.Listed.{Listed}
+use Rattle.list_journal.specs.declared.kinds.Listed.TheVariants as listed
+use Rattle.cert_lines.specs.Lines.{Lines, tail, line, lines_of}
+use Rattle.cert_lines.specs.Limits.{unless, within_limits}
+use Rattle.cert_lines.specs.Words.{Word, words_of, names_in, names_after, digest_in}
+use Rattle.cert_lines.specs.Saying.{counts_in, or_bad_line}
+use Rattle.cert_lines.specs.declared.saying.Counts.{Counts}
+use Rattle.cert_lines.specs.declared.faults.CertError.{CertError}
+use Rattle.cert_lines.specs.declared.faults.CertError.TheVariants.{BadLine, Digest, UnknownNode, NotQuorum, NotBlocking, NotMinimal, Overlap, TooLarge, Formula, Step, NotNew, NotRefuted, Truncated, Trailing}
+use Rattle.witness_pair.specs.Making.{shared, least}
+use Rattle.reach_kinds.specs.declared.places.Reached.TheVariants.{Blocking, PartialBlocking}
+use Rattle.reach_kinds.specs.declared.places.ListPart.{ListPart}
+use Rattle.reach_kinds.specs.declared.places.Listing.{Listing}
+use Rattle.reach_kinds.specs.declared.places.ReachPlace.{ReachPlace}
+use Rattle.reach_kinds.specs.declared.places.ReachPlace.TheVariants.{AtList, AtEnd}
+use Rattle.reach_kinds.specs.declared.places.ReachState.{ReachState}
+use Rattle.reach_kinds.specs.declared.places.ReachState.TheVariants.{Going, Done}
+
+-- ---- results in a row
+
+-- the first fault, or what follows from the value
+abbrev pub and_then : {A B : Type 0} → (A → Result B CertError) → Result A CertError → Result B CertError
+and_then f (Ok a) = f a
+and_then f (Err e) = Err e
+
+-- ---- sets of nodes by their names
+
+abbrev pub all_among : List Name → List Name → Bool
+all_among chosen names = list_all (λ n. is_among n names) chosen
+
+-- the nodes of the chosen names, on line l
+abbrev pub nodes_of : List Name → ℕ → List Name → Result Table CertError
+nodes_of names l chosen = unless (UnknownNode l) (all_among chosen names) (Ok (marks names chosen))
+
+-- the nodes that are not in the set
+abbrev pub others : Table → Table
+others s = map not s
+
+-- a set of nodes of the part
+abbrev pub within : Table → ℕ → Table → Result Table CertError
+within nodes l u = unless (UnknownNode l) (is_none (least (shared u (others nodes)))) (Ok u)
+
+-- ---- lines
+
+-- a line that has to be this text
+abbrev pub expected : {A : Type 0} → ℕ → List ℕ → List ℕ → Result A CertError → Result A CertError
+expected l text wanted r = unless (BadLine l) (bytes_eq text wanted) r
+
+-- ---- steps
+
+-- what a checker holds after a change of its clauses
+abbrev pub holding : Checking → Database → Checking
+holding c database = record { rule = c.rule; vars = c.vars; database = database }
+
+-- the clause, if there is one, has only these literals
+abbrev pub is_within : List Literal → Option (List Literal) → Bool
+is_within lits None = false
+is_within lits (Some clause) = list_all (has lits) clause
+
+-- a clause held under an id below this one has only these literals
+abbrev pub is_covered : Held → ℕ → List Literal → Bool
+is_covered held id lits = list_any (λ e. nat_lt e.0 id && is_within lits (clause_at held e.0)) held
+
+-- the step adds a clause that is not new
+abbrev pub adds_covered : Held → ProofStep → Bool
+adds_covered held (Addition id lits hints) = is_covered held id lits
+adds_covered held (Deletion id ids) = false
+
+-- how many units there are after the step: an addition is one
+abbrev pub counted : ℕ → ProofStep → ℕ
+counted n (Addition id lits hints) = n + 1
+counted n (Deletion id ids) = n
+
+-- the step, unless it is the empty lemma
+abbrev pub unless_refuted : ℕ → ProofStep → Progress → Result ProofStep CertError
+unless_refuted l step going = Ok step
+unless_refuted l step Refuted = Err (BadLine l)
+
+abbrev pub with_literal : ℕ → ProofStep → Result ProofStep CertError
+with_literal l step = unless_refuted l step (progress_of step)
+
+-- ---- the lines of a list
+
+-- the system of the nodes, the faulty ones of them and its greatest quorum once they are deleted
+abbrev pub list_part : System → Table → Table → ListPart
+list_part f nodes faulty = record {
+  system = restricted nodes f;
+  faulty = kept nodes faulty;
+  greatest = greatest_of (restricted_sets nodes f.sets) (kept nodes faulty);
+}
+
+-- a list with what its checker holds, the sets and the units
+abbrev pub listing_on : ListKind → ListPart → Checking → List Table → ℕ → Listing
+listing_on kind part checker sets units = record { kind = kind; part = part; checker = checker; sets = sets; units = units }
+
+-- what the checker of a list holds: no RAT hint is taken
+abbrev pub list_checking : ℕ → Database → Checking
+list_checking vars database = record { rule = Rup; vars = vars; database = database }
+
+-- before the first line: nothing is held, and each node of the greatest quorum has a variable
+abbrev pub no_listing : System → ListKind → Table → Table → Listing
+no_listing f kind nodes faulty = listing_on kind (list_part f nodes faulty) (list_checking (size (list_part f nodes faulty).greatest) nothing_held) [] 0
+
+-- what the first word of a line lists, if it is no step
+abbrev pub listed_by : List Word → Option Listed
+listed_by [] = None
+listed_by (w ∷ ws) = if bytes_eq w (codes "q") then Some listed.Quorum else (if bytes_eq w (codes "b") then Some listed.Blocking else None)
+
+-- an id and names
+pub record Numbered : Type 0 where
+  pub id : ℕ
+  pub names : List Name
+
+abbrev pub numbered_if_any : Option ℕ → Option (List Name) → Option Numbered
+numbered_if_any (Some id) (Some names) = Some (record { id = id; names = names })
+numbered_if_any (Some id) None = None
+numbered_if_any None names = None
+
+-- the id and the names behind the first word
+abbrev pub numbered_in : List Word → Option Numbered
+numbered_in [] = None
+numbered_in (w ∷ []) = None
+numbered_in (w ∷ id ∷ names) = numbered_if_any (id_in id) (names_in names)
+
+-- a set of the part that is what it is listed for
+abbrev pub right_set : Listing → ℕ → Listed → Table → Result Table CertError
+right_set k l listed.Quorum u = unless (NotQuorum l) (is_quorum k.part.system.sets k.part.faulty u) (Ok u)
+right_set k l listed.Blocking u = unless (NotBlocking l) (is_blocking k.part.system.sets k.part.faulty u) (unless (NotMinimal l) (is_minimal listed.Blocking k.part.system.sets k.part.faulty u) (Ok u))
+
+-- the set's clause had to be new and is not
+abbrev pub is_old : Listing → Listed → ℕ → Table → Bool
+is_old k which id u = asks_new listed.Blocking k.kind which && is_covered k.checker.database.held id (clause_for listed.Blocking k.part.greatest which u)
+
+abbrev pub new_set : Listing → ℕ → Listed → ℕ → Table → Result Table CertError
+new_set k l which id u = unless (NotNew l) (not (is_old k which id u)) (Ok u)
+
+-- the sets with this one, if it is of the sought kind
+abbrev pub put_last : Bool → List Table → Table → List Table
+put_last true sets u = sets ++ u ∷ []
+put_last false sets u = sets
+
+abbrev pub with_sought : Listed → List Table → Listed → Table → List Table
+with_sought sought sets which u = put_last (is_sought sought which) sets u
+
+-- the list with a set u of the whole system, which is w in the part
+abbrev pub with_listed : Listing → Listed → ℕ → Table → Table → Listing
+with_listed k which id u w =
+    listing_on k.kind k.part (holding k.checker (record { held = with_clause k.checker.database.held id (clause_for listed.Blocking k.part.greatest which w); last = id })) (with_sought listed.Blocking k.sets which u) (k.units + 1)
+
+-- the set u of the whole system listed under an id
+abbrev pub list_set : Table → Listing → ℕ → Listed → ℕ → Table → Result ReachState CertError
+list_set nodes k l which id u = and_then (λ w. Ok (Going (AtList (with_listed k which id u w)))) (and_then (new_set k l which id) (right_set k l which (kept nodes u)))
+
+-- an id above the last one, and names of nodes of the part
+abbrev pub set_line : System → Table → Listing → ℕ → Listed → Numbered → Result ReachState CertError
+set_line f nodes k l which n =
+    unless (Step l (IdOrder k.checker.database.last n.id)) (nat_lt k.checker.database.last n.id)
+    (and_then (list_set nodes k l which n.id) (and_then (within nodes l) (nodes_of f.names l n.names)))
+
+-- in a part of a list, the empty lemma may not stand
+abbrev pub literal_in : ListKind → ℕ → ProofStep → Result ProofStep CertError
+literal_in Whole l step = Ok step
+literal_in Part l step = with_literal l step
+
+-- a part's step has to be new and is not
+abbrev pub is_old_step : Listing → ProofStep → Bool
+is_old_step k step = asks_new listed.Blocking k.kind listed.Quorum && adds_covered k.checker.database.held step
+
+-- the list after a step
+abbrev pub with_step : Listing → ProofStep → Listing
+with_step k step = listing_on k.kind k.part (holding k.checker (after_step k.checker.database step)) k.sets (counted k.units step)
+
+-- the next line after a step: `end` where it was the empty lemma
+abbrev pub after_list_step : Listing → Progress → ReachState
+after_list_step k going = Going (AtList k)
+after_list_step k Refuted = Going (AtEnd (Blocking (ordered k.sets)))
+
+-- what is so after a step, if it has no fault and is as new as the kind asks
+abbrev pub list_step_unless : ℕ → Listing → ProofStep → Option StepFault → Result ReachState CertError
+list_step_unless l k step (Some fault) = Err (Step l fault)
+list_step_unless l k step None = unless (NotNew l) (not (is_old_step k step)) (Ok (after_list_step (with_step k step) (progress_of step)))
+
+abbrev pub list_step : Listing → ℕ → ProofStep → Result ReachState CertError
+list_step k l step = list_step_unless l k step (step_fault_by k.checker.rule k.checker.vars k.checker.database step)
+
+-- the end of a list: a whole one does not end before the empty lemma
+abbrev pub list_end : ListKind → Listing → ℕ → Result ReachState CertError
+list_end Whole k l = Err (NotRefuted l)
+list_end Part k l = Ok (Done (PartialBlocking k.units))
+
+-- a quorum or a minimal blocking set, or else a step
+abbrev pub list_text : System → Table → Listing → ℕ → List ℕ → Option Listed → Result ReachState CertError
+list_text f nodes k l text (Some which) = and_then (set_line f nodes k l which) (ok_or (numbered_in (words_of text)) (BadLine l))
+list_text f nodes k l text None = and_then (list_step k l) (and_then (literal_in k.kind l) (or_bad_line l (step_in text)))
+
+-- a line of a list, or its end
+abbrev pub list_line : System → Table → Listing → ℕ → List ℕ → Result ReachState CertError
+list_line f nodes k l text = if bytes_eq text (codes "end") then list_end k.kind k l else list_text f nodes k l text (listed_by (words_of text))
+
+-- line l taken at its place, where the body speaks of these nodes of the system
+abbrev pub reach_line : System → Table → ReachPlace → ℕ → List ℕ → Result ReachState CertError
+reach_line f nodes (AtList k) l text = list_line f nodes k l text
+reach_line f nodes (AtEnd r) l text = expected l text (codes "end") (Ok (Done r))

@@ -1,0 +1,182 @@
+//! The lines of lists.
+ghost use Rattle.std.specs.Prelude.{◌≡◌, ◌⊎◌, Some, None, is_some, IfSome, IfOk, IfErr, IsErrOf, OnOk, Ok, Err, codes};
+ghost use Rattle.cert_lines.specs.Words.{words_of, names_in};
+ghost use Rattle.reach_kinds.specs.Bodies.{listed_by, numbered_in, set_line, after_list_step, list_text, list_line, expected, reach_line};
+ghost use Rattle.reach_kinds.specs.Known.{IsList, IsReachPlace, IsReachState};
+
+use crate::list_sets::list_set;
+use crate::list_steps::{after_list_step, list_end, list_step};
+use crate::lists::nodes_of;
+use crate::parts::within;
+use crate::places::{Listing, ReachPlace, ReachState, Reached};
+use cert_lines::{CertError, Words, follows, is_name, step_in};
+use fbas_core::System;
+use list_journal::Listed;
+use lrat_model::{Progress, StepFault};
+use lrat_text::read_id;
+use name_set::NodeSet;
+use std::alloc::Global;
+
+/// What the first word of a line lists, if it is no step.
+fn listed_by(text: &[u8]) -> Option<Listed>
+    ensures { result ≡ listed_by (words_of text.now) }
+{
+    let mut words = Words::of(text);
+    let word = words.next()?;
+    if word == b"q".as_slice() {
+        return Some(Listed::Quorum);
+    }
+    if word == b"b".as_slice() {
+        return Some(Listed::Blocking);
+    }
+    None
+}
+
+/// Whether the words that are left are names, each once and in order.
+fn are_names(names: &mut Words<'_>) -> bool
+    ensures { result ≡ is_some (names_in names.old) }
+{
+    let mut before = None;
+    while let Some(name) = names.next() {
+        if !is_name(name) || !follows(before, name) {
+            return false;
+        }
+        before = Some(name);
+    }
+    true
+}
+
+/// The id behind the first word, and the names behind it, where they are names, each once and in order.
+fn numbered_in(text: &[u8]) -> Option<(u64, Words<'_>)>
+    ensures some { IfSome result (λ r. (names_in r.1 ≡ Some r.1) × (numbered_in (words_of text.now) ≡ Some (record { id = r.0; names = r.1 }))) }
+    ensures none { result ≡ None → numbered_in (words_of text.now) ≡ None }
+{
+    let mut ahead = Words::of(text);
+    ahead.next()?;
+    let id = read_id(ahead.next()?)?;
+    if !are_names(&mut ahead) {
+        return None;
+    }
+    let mut names = Words::of(text);
+    names.next();
+    names.next();
+    Some((id, names))
+}
+
+/// A set under an id: the id is above the last one, and the names are those of nodes of the part.
+fn set_line(
+    alloc: Global,
+    system: &System,
+    nodes: &NodeSet,
+    faulty: &NodeSet,
+    listing: &mut Listing,
+    line: u64,
+    which: Listed,
+    id: u64,
+    names: &mut Words<'_>,
+) -> Result<(), CertError>
+    requires known { IsList system.now nodes.now faulty.now listing.old }
+    requires names { names_in names.old ≡ Some names.old }
+    ensures unread { IsErrOf result CertError.Read → ⊥ }
+    ensures ok { OnOk result (set_line system.now nodes.now listing.old line which (record { id = id; names = names.old }) ≡ Ok (ReachState.Going (ReachPlace.AtList listing.new))) }
+    ensures err { IfErr result (λ e. (e ≡ CertError.Memory) ⊎ (set_line system.now nodes.now listing.old line which (record { id = id; names = names.old }) ≡ Err e)) }
+{
+    let last = listing.checker.last();
+    if id <= last {
+        return Err(CertError::Step(line, StepFault::IdOrder(last, id)));
+    }
+    let named = nodes_of(system, line, names)?;
+    let set = within(nodes, line, named)?;
+    list_set(alloc, system, nodes, faulty, listing, line, which, id, set)
+}
+
+/// A line of a list before its end: a quorum, a minimal blocking set, or a step, which may refute.
+fn list_text(
+    alloc: Global,
+    system: &System,
+    nodes: &NodeSet,
+    faulty: &NodeSet,
+    listing: &mut Listing,
+    line: u64,
+    text: &[u8],
+) -> Result<Progress, CertError>
+    requires { IsList system.now nodes.now faulty.now listing.old }
+    ensures unread { IsErrOf result CertError.Read → ⊥ }
+    ensures sets { result ≡ Ok Progress.Refuted → listing.new.sets ≡ listing.old.sets }
+    ensures ok { IfOk result (λ p. list_text system.now nodes.now listing.old line text.now (listed_by (words_of text.now)) ≡ Ok (after_list_step listing.new p)) }
+    ensures err { IfErr result (λ e. (e ≡ CertError.Memory) ⊎ (list_text system.now nodes.now listing.old line text.now (listed_by (words_of text.now)) ≡ Err e)) }
+{
+    let Some(which) = listed_by(text) else {
+        return list_step(listing, line, step_in(alloc, line, text)?);
+    };
+    let Some((id, mut names)) = numbered_in(text) else {
+        return Err(CertError::BadLine(line));
+    };
+    set_line(
+        alloc, system, nodes, faulty, listing, line, which, id, &mut names,
+    )?;
+    Ok(Progress::Going)
+}
+
+/// A line of a list: a quorum, a minimal blocking set, a step, or the end. A set costs what its test does, a step its literals
+/// and those of the clauses that its hints name; and a clause that has to be new is linear in the literals that are held.
+fn list_line(
+    alloc: Global,
+    system: &System,
+    nodes: &NodeSet,
+    faulty: &NodeSet,
+    mut listing: Listing,
+    line: u64,
+    text: &[u8],
+) -> Result<ReachState, CertError>
+    requires { IsList system.now nodes.now faulty.now listing }
+    ensures unread { IsErrOf result CertError.Read → ⊥ }
+    ensures ok { IfOk result (λ s. list_line system.now nodes.now listing line text.now ≡ Ok s) }
+    ensures err { IfErr result (λ e. (e ≡ CertError.Memory) ⊎ (list_line system.now nodes.now listing line text.now ≡ Err e)) }
+{
+    if text == b"end".as_slice() {
+        return list_end(listing, line);
+    }
+    match list_text(alloc, system, nodes, faulty, &mut listing, line, text) {
+        Ok(progress) => Ok(ReachState::Going(after_list_step(listing, progress))),
+        Err(fault) => {
+            drop(listing);
+            Err(fault)
+        }
+    }
+}
+
+/// The line `end`, behind what is shown.
+fn end_line(line: u64, text: &[u8], reached: Reached) -> Result<ReachState, CertError>
+    ensures unread { IsErrOf result CertError.Read → ⊥ }
+    ensures value { result ≡ expected line text.now (codes "end") (Ok (ReachState.Done reached)) }
+{
+    if text == b"end".as_slice() {
+        return Ok(ReachState::Done(reached));
+    }
+    Err(CertError::BadLine(line))
+}
+
+/// What a line says at its place, where the body speaks of these nodes of the system, of which these are faulty.
+pub fn reach_line(
+    alloc: Global,
+    system: &System,
+    nodes: &NodeSet,
+    faulty: &NodeSet,
+    place: ReachPlace,
+    line: u64,
+    text: &[u8],
+) -> Result<ReachState, CertError>
+    requires { IsReachPlace system.now nodes.now faulty.now place }
+    ensures unread { IsErrOf result CertError.Read → ⊥ }
+    ensures ok { IfOk result (λ s. reach_line system.now nodes.now place line text.now ≡ Ok s) }
+    ensures err { IfErr result (λ e. (e ≡ CertError.Memory) ⊎ (reach_line system.now nodes.now place line text.now ≡ Err e)) }
+    ensures known { IfOk result (IsReachState system.now nodes.now faulty.now) }
+{
+    match place {
+        ReachPlace::AtList(listing) => {
+            list_line(alloc, system, nodes, faulty, listing, line, text)
+        }
+        ReachPlace::AtEnd(reached) => end_line(line, text, reached),
+    }
+}

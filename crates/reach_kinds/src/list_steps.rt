@@ -1,0 +1,103 @@
+//! The steps of lists, and their end.
+ghost use Rattle.std.specs.Prelude.{◌≡◌, ◌⊎◌, ◌&&◌, ℕ, length, All, IfOk, IfErr, IsErrOf, Ok, Err};
+ghost use Rattle.lrat_model.specs.Steps.{step_of};
+ghost use Rattle.reach_kinds.specs.Bodies.{and_then, literal_in, is_old_step, after_list_step, list_step, list_end};
+
+use crate::places::{Listing, ReachPlace, ReachState, Reached};
+use crate::steps::{adds_covered, counted, with_literal};
+use cert_lines::CertError;
+use list_journal::ListKind;
+use lrat_model::{Progress, Step, StepFault};
+
+/// The step, which is not the empty lemma in a part of a list.
+fn literal_in(kind: ListKind, line: u64, step: Step) -> Result<Step, CertError>
+    ensures unread { IsErrOf result CertError.Read → ⊥ }
+    ensures ok { IfOk result (λ s. literal_in kind line (step_of step) ≡ Ok (step_of s)) }
+    ensures err { IfErr result (λ e. literal_in kind line (step_of step) ≡ Err e) }
+{
+    match kind {
+        ListKind::Whole => Ok(step),
+        ListKind::Partial => with_literal(line, step),
+    }
+}
+
+/// Whether the step had to be new and is not.
+fn is_old_step(listing: &Listing, step: &Step) -> bool
+    ensures { result ≡ is_old_step listing.now (step_of step.now) }
+{
+    match listing.kind {
+        ListKind::Whole => false,
+        ListKind::Partial => adds_covered(&listing.checker, step),
+    }
+}
+
+/// The step taken: where it led.
+fn take_list_step(listing: &mut Listing, line: u64, step: &Step) -> Result<Progress, CertError>
+    ensures unread { IsErrOf result CertError.Read → ⊥ }
+    ensures sets { listing.new.sets ≡ listing.old.sets }
+    ensures ok { IfOk result (λ p. list_step listing.old line (step_of step.now) ≡ Ok (after_list_step listing.new p)) }
+    ensures err { IfErr result (λ e. (e ≡ CertError.Memory) ⊎ (list_step listing.old line (step_of step.now) ≡ Err e)) }
+{
+    let is_old = is_old_step(listing, step);
+    match listing.checker.step(step) {
+        Ok(progress) => {
+            if is_old {
+                return Err(CertError::NotNew(line));
+            }
+            let Some(units) = counted(listing.units, step) else {
+                return Err(CertError::Memory);
+            };
+            listing.units = units;
+            Ok(progress)
+        }
+        Err(StepFault::Memory) => Err(CertError::Memory),
+        Err(fault) => Err(CertError::Step(line, fault)),
+    }
+}
+
+/// A step of a list: where it led.
+pub fn list_step(listing: &mut Listing, line: u64, step: Step) -> Result<Progress, CertError>
+    ensures unread { IsErrOf result CertError.Read → ⊥ }
+    ensures sets { listing.new.sets ≡ listing.old.sets }
+    ensures ok { IfOk result (λ p. and_then (list_step listing.old line) (literal_in listing.old.kind line (step_of step)) ≡ Ok (after_list_step listing.new p)) }
+    ensures err { IfErr result (λ e. (e ≡ CertError.Memory) ⊎ (and_then (list_step listing.old line) (literal_in listing.old.kind line (step_of step)) ≡ Err e)) }
+{
+    let literal = literal_in(listing.kind, line, step)?;
+    take_list_step(listing, line, &literal)
+}
+
+/// The place of the line after a step: the empty lemma ends a whole list, whose sets are then put in order.
+pub fn after_list_step(listing: Listing, progress: Progress) -> ReachPlace
+    requires { progress ≡ Progress.Refuted → (n : ℕ) × All (λ s. length s ≡ n) listing.sets }
+    ensures { ReachState.Going result ≡ after_list_step listing progress }
+{
+    match progress {
+        Progress::Going => ReachPlace::AtList(listing),
+        Progress::Refuted => {
+            let Listing {
+                kind: _,
+                part,
+                checker,
+                sets,
+                units: _,
+            } = listing;
+            drop(part);
+            drop(checker);
+            ReachPlace::AtEnd(Reached::Blocking(sets.ordered()))
+        }
+    }
+}
+
+/// The end of a list: a whole one has come to the empty lemma before.
+pub fn list_end(listing: Listing, line: u64) -> Result<ReachState, CertError>
+    ensures unread { IsErrOf result CertError.Read → ⊥ }
+    ensures value { result ≡ list_end listing.kind listing line }
+{
+    let kind = listing.kind;
+    let units = listing.units;
+    drop(listing);
+    match kind {
+        ListKind::Whole => Err(CertError::NotRefuted(line)),
+        ListKind::Partial => Ok(ReachState::Done(Reached::PartialBlocking(units))),
+    }
+}

@@ -1,0 +1,47 @@
+//! The places of the lines of a body, and what it comes to.
+use fbas_core::System;
+use list_journal::{ListKind, NodeSets};
+use lrat_checker::IdleChecker;
+use name_set::NodeSet;
+
+/// The part of the system that a list is of, with its faulty nodes and its greatest quorum once they are deleted. Its nodes
+/// have their numbers there.
+#[derive(Drop)]
+pub struct ListPart {
+    pub system: System,
+    pub faulty: NodeSet,
+    pub greatest: NodeSet,
+}
+
+/// A list so far: the blocking sets of its lines in their order, and how many lines count.
+#[derive(Drop)]
+pub struct Listing {
+    pub kind: ListKind,
+    pub part: ListPart,
+    pub checker: IdleChecker,
+    pub sets: NodeSets,
+    pub units: u64,
+}
+
+/// What a body shows.
+#[derive(Drop)]
+pub enum Reached {
+    /// All minimal blocking sets, each once, in name order. Their nodes have their numbers in the whole system.
+    Blocking(NodeSets),
+    /// Nothing but work done: so many quorums, minimal blocking sets and lemmas with a literal, each with a clause that was new.
+    PartialBlocking(u64),
+}
+
+/// Which line is awaited, with what the lines before it said.
+#[derive(Drop)]
+pub enum ReachPlace {
+    AtList(Listing),
+    AtEnd(Reached),
+}
+
+/// What is so after a line.
+#[derive(Drop)]
+pub enum ReachState {
+    Going(ReachPlace),
+    Done(Reached),
+}
