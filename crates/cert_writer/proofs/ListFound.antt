@@ -16,7 +16,6 @@ use Rattle.lrat_model.specs.Steps.{Database}
 use Rattle.list_journal.specs.Journals.{JournalLine, SetLine, StepLine, list_of, JournalRun, IsWholeJournal, after_line, nothing_held, sets_in}
 use Rattle.list_journal.specs.Lists.{IsListOf}
 use Rattle.list_journal.specs.declared.kinds.Listed.{Listed}
-use Rattle.list_journal.specs.declared.kinds.Listed.TheVariants as listed
 use Rattle.list_journal.specs.Order.{ordered}
 use Rattle.list_journal.specs.declared.kinds.ListKind.{ListKind}
 use Rattle.list_journal.specs.declared.kinds.ListKind.TheVariants as kind
@@ -29,7 +28,8 @@ use Rattle.blocking_lists.specs.declared.outcome.ListOutcome.{ListOutcome}
 use Rattle.blocking_lists.specs.declared.outcome.ListOutcome.TheVariants.{Whole, Spent}
 use Rattle.certificate_file.specs.Known.{IsPart}
 use Rattle.certificate_file.specs.Meaning.{part_from}
-use Rattle.certificate_file.specs.declared.places.Answer.TheVariants as shown
+use Rattle.certificate_file.specs.Acceptance.{answer_of}
+use Rattle.reach_kinds.specs.Bodies.{whole_of, part_of as part_of_list}
 use Rattle.certificate_file.proofs.WholeLaws.{part_is}
 use Rattle.quorum_questions.specs.declared.asking.TheConstants.{MOST_UNITS}
 use Rattle.cert_lines.specs.declared.lines.TheConstants.{MAX_LINES}
@@ -62,7 +62,7 @@ raised_list sought f b nodes sets journal same count list whole =
 
 -- ---- what is found
 
-module _ (s : Search) (is : IsSystem s.whole.names s.whole.sets) (sorted : IsStrictlySortedBy name_cmp s.whole.names) (long : length s.digest ≡ 32) (bytes : IsBytes s.digest) (head : IsHeader s.whole s.header) (small : s.budget ≤ MOST_UNITS) where
+module _ (s : Search) (is : IsSystem s.whole.names s.whole.sets) (sorted : IsStrictlySortedBy name_cmp s.whole.names) (long : length s.digest ≡ 32) (bytes : IsBytes s.digest) (head : IsHeader s.whole s.header) (small : s.budget ≤ MOST_UNITS) (sought : Listed) where
   abbrev nodes : Table
   nodes = part_from s.whole s.header.from
 
@@ -78,7 +78,7 @@ module _ (s : Search) (is : IsSystem s.whole.names s.whole.sets) (sorted : IsStr
   same : length (faulty s) ≡ length (part s).sets
   same = length-kept nodes s.header.faulty (of_part.places ∙ is.places ∙ sym head.faulty) ∙ sym count
 
-  pub list_found : (outcome : ListOutcome) → ListShows (part s).sets (faulty s) s.budget outcome → FindsList s outcome (list_cert_of s outcome)
+  pub list_found : (outcome : ListOutcome) → ListShows sought (part s).sets (faulty s) s.budget outcome → FindsList sought s outcome (list_cert_of sought s outcome)
   list_found (Whole sets journal) r =
       let holds = r.holds in
       let whole = holds.journal_is in
@@ -86,8 +86,8 @@ module _ (s : Search) (is : IsSystem s.whole.names s.whole.sets) (sorted : IsStr
         shows = r;
         cert_is = refl;
         accepted =
-            list_of_accepted s.whole s.digest s.header is sorted long bytes head (part s) kind.Whole journal refl (record { new = whole.after; run = whole.run; numbers = r.numbers; few_words = r.few_words; few = few; ends = whole.ends })
-            ∙ ap (λ (xs : List Table). Ok (record { header = s.header; answer = shown.Blocking xs })) (raised_list listed.Blocking (part s).sets (faulty s) nodes sets.items journal same count holds.list whole);
+            list_of_accepted s.whole s.digest s.header is sorted long bytes head sought (part s) kind.Whole journal refl (record { new = whole.after; run = whole.run; numbers = r.numbers; few_words = r.few_words; few = few; ends = whole.ends })
+            ∙ ap (λ (xs : List Table). Ok (record { header = s.header; answer = answer_of (whole_of sought xs) })) (raised_list sought (part s).sets (faulty s) nodes sets.items journal same count holds.list whole);
       }
   list_found (Spent journal) r =
       let holds = r.holds.1 in
@@ -96,8 +96,8 @@ module _ (s : Search) (is : IsSystem s.whole.names s.whole.sets) (sorted : IsStr
         shows = r;
         cert_is = refl;
         accepted =
-            list_of_accepted s.whole s.digest s.header is sorted long bytes head (part s) kind.Partial journal refl (record { new = holds.after; run = one.run; numbers = r.numbers; few_words = r.few_words; few = few; ends = one.opens })
-            ∙ ap (λ (n : ℕ). Ok (record { header = s.header; answer = shown.PartialBlocking n })) holds.taken;
+            list_of_accepted s.whole s.digest s.header is sorted long bytes head sought (part s) kind.Partial journal refl (record { new = holds.after; run = one.run; numbers = r.numbers; few_words = r.few_words; few = few; ends = one.opens })
+            ∙ ap (λ (n : ℕ). Ok (record { header = s.header; answer = answer_of (part_of_list sought n) })) holds.taken;
       }
 
 -- ---- what can be written
@@ -110,6 +110,6 @@ lines_can sought kind f b g n old new (SetLine which id u ∷ lines) size run nu
 lines_can sought kind f b g n old new (StepLine step ∷ lines) size run numbers =
     All-cons (CanBeLine n) (StepLine step) lines (All-head HasLineNumbers (StepLine step) lines numbers) (lines_can sought kind f b g n (after_line (list_of sought f (members b) g) old (StepLine step)) new lines size run.2 (All-tail HasLineNumbers (StepLine step) lines numbers))
 
-pub can_be_listed : (f : System) (b : Table) (budget : ℕ) (outcome : ListOutcome) → length f.names ≡ length f.sets → ListShows f.sets b budget outcome → CanBeListed (length f.names) outcome
-can_be_listed f b budget (Whole sets journal) same r = lines_can listed.Blocking kind.Whole f.sets b (greatest_of f.sets b) (length f.names) nothing_held r.holds.journal_is.after journal same r.holds.journal_is.run r.numbers
-can_be_listed f b budget (Spent journal) same r = lines_can listed.Blocking kind.Partial f.sets b (greatest_of f.sets b) (length f.names) nothing_held r.holds.1.after journal same r.holds.1.journal_is.run r.numbers
+pub can_be_listed : (sought : Listed) (f : System) (b : Table) (budget : ℕ) (outcome : ListOutcome) → length f.names ≡ length f.sets → ListShows sought f.sets b budget outcome → CanBeListed (length f.names) outcome
+can_be_listed sought f b budget (Whole sets journal) same r = lines_can sought kind.Whole f.sets b (greatest_of f.sets b) (length f.names) nothing_held r.holds.journal_is.after journal same r.holds.journal_is.run r.numbers
+can_be_listed sought f b budget (Spent journal) same r = lines_can sought kind.Partial f.sets b (greatest_of f.sets b) (length f.names) nothing_held r.holds.1.after journal same r.holds.1.journal_is.run r.numbers

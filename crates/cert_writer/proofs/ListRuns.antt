@@ -23,12 +23,11 @@ use Rattle.lrat_text.specs.Left.{spaced}
 use Rattle.lrat_text.proofs.BackLaws.{step_back}
 use Rattle.cdcl_core.specs.Trail.{IsVariable}
 use Rattle.lrat_model.specs.Rules.{step_fault_by}
-use Rattle.list_journal.specs.Kinds.{is_sought, asks_new}
+use Rattle.list_journal.specs.Kinds.{is_sought}
 use Rattle.list_journal.specs.Journals.{JournalLine, SetLine, StepLine, Rules, JournalRun, IsNewStep, after_line, line_progress, put_if, sets_in, journal_units}
 use Rattle.list_journal.specs.declared.kinds.ListKind.{ListKind}
 use Rattle.list_journal.specs.declared.kinds.ListKind.TheVariants.{Whole, Partial as Part}
 use Rattle.list_journal.specs.declared.kinds.Listed.{Listed}
-use Rattle.list_journal.specs.declared.kinds.Listed.TheVariants as listed
 use Rattle.blocking_lists.specs.Lines.{HasLineNumbers, HasFewWords}
 use Rattle.cert_lines.specs.Limits.{unless}
 use Rattle.cert_lines.specs.Saying.{or_bad_line}
@@ -36,15 +35,13 @@ use Rattle.cert_lines.specs.Words.{Word, words_of}
 use Rattle.cert_lines.specs.declared.faults.CertError.{CertError}
 use Rattle.cert_lines.specs.declared.faults.CertError.TheVariants.{NotNew}
 use Rattle.certificate_file.specs.Acceptance.{take_line}
-use Rattle.reach_kinds.specs.Bodies.{and_then, listed_by, literal_in, is_old_step, with_step, after_list_step, list_step, list_step_unless, list_end, list_text, list_part, listing_on, list_checking, is_covered, put_last, with_sought}
+use Rattle.reach_kinds.specs.Bodies.{and_then, listed_by, literal_in, asks_steps, is_old_step, whole_of, part_of, with_step, after_list_step, list_step, list_step_unless, list_end, list_text, list_part, listing_on, list_checking, is_covered, put_last, with_sought}
 use Rattle.reach_kinds.specs.Known.{rules_of}
 use Rattle.certificate_file.specs.declared.places.Subject.{Subject}
 use Rattle.reach_kinds.specs.declared.places.Listing.{Listing}
 use Rattle.certificate_file.specs.declared.places.Place.TheVariants.{AtReach}
-use Rattle.certificate_file.specs.Acceptance.{in_reach}
+use Rattle.certificate_file.specs.Acceptance.{in_reach, answer_of}
 use Rattle.reach_kinds.specs.declared.places.ReachPlace.TheVariants.{AtList, AtEnd as Ended}
-use Rattle.reach_kinds.specs.declared.places.Reached.TheVariants.{Blocking as Listed_sets}
-use Rattle.certificate_file.specs.declared.places.Answer.TheVariants.{Blocking, PartialBlocking}
 use Rattle.certificate_file.specs.declared.places.State.TheVariants.{Going, Done}
 use Rattle.list_journal.specs.Order.{ordered}
 use Rattle.cert_writer.specs.Texts.{Text, journal_line}
@@ -89,11 +86,11 @@ literal_there Whole l step on = refl
 literal_there Part l step on = rw on refl
 
 step_is_new : (kind : ListKind) (k : Listing) (id : ℕ) (lits : List Literal) (hints : List ℤ) → k.kind ≡ kind → IsNewStep kind k.checker.database.held (Addition id lits hints) → is_old_step k (Addition id lits hints) ≡ false
-step_is_new Whole k id lits hints same new = ap (λ (x : ListKind). asks_new listed.Blocking x listed.Quorum && is_covered k.checker.database.held id lits) same
-step_is_new Part k id lits hints same new = ap (λ (x : ListKind). asks_new listed.Blocking x listed.Quorum && is_covered k.checker.database.held id lits) same ∙ new_uncovered k.checker.database.held id lits new
+step_is_new Whole k id lits hints same new = ap (λ (x : ListKind). asks_steps x && is_covered k.checker.database.held id lits) same
+step_is_new Part k id lits hints same new = ap (λ (x : ListKind). asks_steps x && is_covered k.checker.database.held id lits) same ∙ new_uncovered k.checker.database.held id lits new
 
 -- a deletion adds nothing that could be old
-never_old : (kind : ListKind) → (asks_new listed.Blocking kind listed.Quorum && false) ≡ false
+never_old : (kind : ListKind) → (asks_steps kind && false) ≡ false
 never_old Whole = refl
 never_old Part = refl
 
@@ -117,18 +114,18 @@ set_behind : (b : Bool) (nodes : Table) (sets : List Table) (u : Table) (more : 
 set_behind true nodes sets u more = sym (append_assoc sets (spread nodes u ∷ []) (map (spread nodes) more))
 set_behind false nodes sets u more = refl
 
-module _ (f : System) (d : List ℕ) (s : Subject) (kind : ListKind) (are : AreNames f.names) (part : AreNames (kept s.nodes f.names)) (places : length s.nodes ≡ length f.names)
+module _ (f : System) (d : List ℕ) (s : Subject) (sought : Listed) (kind : ListKind) (are : AreNames f.names) (part : AreNames (kept s.nodes f.names)) (places : length s.nodes ≡ length f.names)
     (same : length (list_part f s.nodes s.header.faulty).faulty ≡ length (list_part f s.nodes s.header.faulty).system.sets) (count : length (list_part f s.nodes s.header.faulty).system.sets ≡ size s.nodes) (small : size (list_part f s.nodes s.header.faulty).greatest < 2147483648) where
   -- the journal's rules over the part
   abbrev pub list_rules : Rules
-  list_rules = rules_of listed.Blocking (list_part f s.nodes s.header.faulty)
+  list_rules = rules_of sought (list_part f s.nodes s.header.faulty)
 
   abbrev pub Runs : Database → List JournalLine → Database → Type 0
   Runs old lines new = JournalRun list_rules kind old lines new
 
   -- the list where so much is held, with these sets and units
   abbrev pub at : Database → List Table → ℕ → Listing
-  at database sets units = listing_on kind (list_part f s.nodes s.header.faulty) (list_checking (size (list_part f s.nodes s.header.faulty).greatest) database) sets units
+  at database sets units = listing_on sought kind (list_part f s.nodes s.header.faulty) (list_checking (size (list_part f s.nodes s.header.faulty).greatest) database) sets units
 
   -- a line that is written and reads back
   abbrev pub IsFine : JournalLine → Type 0
@@ -151,7 +148,7 @@ module _ (f : System) (d : List ℕ) (s : Subject) (kind : ListKind) (are : AreN
 
   -- the lines before the empty lemma
   pub takes_journal : (l : ℕ) (old new : Database) (sets all : List Table) (units total : ℕ) (lines : List JournalLine) → AllByRecursion IsFine lines → AllByRecursion (λ line. line_progress line ≡ going) lines → Runs old lines new
-      → all ≡ sets ++ map (spread s.nodes) (sets_in listed.Blocking lines) → total ≡ units + journal_units list_rules lines
+      → all ≡ sets ++ map (spread s.nodes) (sets_in sought lines) → total ≡ units + journal_units list_rules lines
       → Takes f d l (Going (AtReach s (AtList (at old sets units)))) (map (journal_line (kept s.nodes f.names)) lines) (Going (AtReach s (AtList (at new all total))))
   takes_journal l old new sets all units total [] fine on run all_is total_is =
       let one : units ≡ total = omega (arith, total_is) in
@@ -159,10 +156,10 @@ module _ (f : System) (d : List ℕ) (s : Subject) (kind : ListKind) (are : AreN
       ap (λ (n : ℕ). Going (AtReach s (AtList (at old sets n)))) one ∙ ap (λ (xs : List Table). Going (AtReach s (AtList (at old xs total)))) two ∙ ap (λ (x : Database). Going (AtReach s (AtList (at x all total)))) (sym run)
   takes_journal l old new sets all units total (SetLine which id u ∷ lines) fine on run all_is total_is =
       let next : Database = after_line list_rules old (SetLine which id u) in
-      let now : List Table = with_sought listed.Blocking sets which (spread s.nodes u) in (
+      let now : List Table = with_sought sought sets which (spread s.nodes u) in (
         Going (AtReach s (AtList (at next now (units + 1)))),
         set_line_taken f s (at old sets units) l which id u places same count run.0.0 run.0.1 run.1 d are part fine.0.0,
-        takes_journal (l + 1) next new now all (units + 1) total lines fine.1 on.1 run.2 (all_is ∙ set_behind (is_sought listed.Blocking which) s.nodes sets u (sets_in listed.Blocking lines)) (omega (arith, total_is)),
+        takes_journal (l + 1) next new now all (units + 1) total lines fine.1 on.1 run.2 (all_is ∙ set_behind (is_sought sought which) s.nodes sets u (sets_in sought lines)) (omega (arith, total_is)),
       )
   takes_journal l old new sets all units total (StepLine (Deletion id ids) ∷ lines) fine on run all_is total_is =
       let next : Database = after_step old (Deletion id ids) in (
@@ -184,20 +181,20 @@ module _ (f : System) (d : List ℕ) (s : Subject) (kind : ListKind) (are : AreN
 -- the last lines of a whole list: the empty lemma, and `end`
 pub takes_refuted : (f : System) (d : List ℕ) (s : Subject) (are : AreNames f.names) (part : AreNames (kept s.nodes f.names)) (places : length s.nodes ≡ length f.names)
     (same : length (list_part f s.nodes s.header.faulty).faulty ≡ length (list_part f s.nodes s.header.faulty).system.sets) (count : length (list_part f s.nodes s.header.faulty).system.sets ≡ size s.nodes) (small : size (list_part f s.nodes s.header.faulty).greatest < 2147483648)
-    (l : ℕ) (old new : Database) (sets : List Table) (units : ℕ) (last : JournalLine) → HasLineNumbers last × HasFewWords (size (list_part f s.nodes s.header.faulty).greatest) last → line_progress last ≡ Refuted
-    → JournalRun (rules_of listed.Blocking (list_part f s.nodes s.header.faulty)) Whole old (last ∷ []) new
-    → Takes f d l (Going (AtReach s (AtList (listing_on Whole (list_part f s.nodes s.header.faulty) (list_checking (size (list_part f s.nodes s.header.faulty).greatest) old) sets units)))) (journal_line (kept s.nodes f.names) last ∷ codes "end" ∷ []) (Done (record { header = s.header; answer = Blocking (ordered sets) }))
+    (sought : Listed) (l : ℕ) (old new : Database) (sets : List Table) (units : ℕ) (last : JournalLine) → HasLineNumbers last × HasFewWords (size (list_part f s.nodes s.header.faulty).greatest) last → line_progress last ≡ Refuted
+    → JournalRun (rules_of sought (list_part f s.nodes s.header.faulty)) Whole old (last ∷ []) new
+    → Takes f d l (Going (AtReach s (AtList (listing_on sought Whole (list_part f s.nodes s.header.faulty) (list_checking (size (list_part f s.nodes s.header.faulty).greatest) old) sets units)))) (journal_line (kept s.nodes f.names) last ∷ codes "end" ∷ []) (Done (record { header = s.header; answer = answer_of (whole_of sought (ordered sets)) }))
 unfolding take_line
-takes_refuted f d s are part places same count small l old new sets units (SetLine which id u) fine ends run = absurd cc
-takes_refuted f d s are part places same count small l old new sets units (StepLine (Deletion id ids)) fine ends run = absurd cc
-takes_refuted f d s are part places same count small l old new sets units (StepLine (Addition id lits hints)) fine ends run = (
-  Going (AtReach s (Ended (Listed_sets (ordered sets)))),
-  lemma_taken f d s Whole are part places same count small l id lits hints old sets units fine refl run.0 run.1
-      ∙ ap (λ (p : Progress). Ok (in_reach s (after_list_step (listing_on Whole (list_part f s.nodes s.header.faulty) (list_checking (size (list_part f s.nodes s.header.faulty).greatest) (after_step old (Addition id lits hints))) sets (units + 1)) p))) ends,
-  (Done (record { header = s.header; answer = Blocking (ordered sets) }), refl, refl),
+takes_refuted f d s are part places same count small sought l old new sets units (SetLine which id u) fine ends run = absurd cc
+takes_refuted f d s are part places same count small sought l old new sets units (StepLine (Deletion id ids)) fine ends run = absurd cc
+takes_refuted f d s are part places same count small sought l old new sets units (StepLine (Addition id lits hints)) fine ends run = (
+  Going (AtReach s (Ended (whole_of sought (ordered sets)))),
+  lemma_taken f d s sought Whole are part places same count small l id lits hints old sets units fine refl run.0 run.1
+      ∙ ap (λ (p : Progress). Ok (in_reach s (after_list_step (listing_on sought Whole (list_part f s.nodes s.header.faulty) (list_checking (size (list_part f s.nodes s.header.faulty).greatest) (after_step old (Addition id lits hints))) sets (units + 1)) p))) ends,
+  (Done (record { header = s.header; answer = answer_of (whole_of sought (ordered sets)) }), refl, refl),
 )
 
 -- the last line of a part of a list
-pub takes_part_end : (f : System) (d : List ℕ) (s : Subject) (l vars : ℕ) (database : Database) (sets : List Table) (units : ℕ) → Takes f d l (Going (AtReach s (AtList (listing_on Part (list_part f s.nodes s.header.faulty) (list_checking vars database) sets units)))) (codes "end" ∷ []) (Done (record { header = s.header; answer = PartialBlocking units }))
+pub takes_part_end : (f : System) (d : List ℕ) (s : Subject) (sought : Listed) (l vars : ℕ) (database : Database) (sets : List Table) (units : ℕ) → Takes f d l (Going (AtReach s (AtList (listing_on sought Part (list_part f s.nodes s.header.faulty) (list_checking vars database) sets units)))) (codes "end" ∷ []) (Done (record { header = s.header; answer = answer_of (part_of sought units) }))
 unfolding take_line
-takes_part_end f d s l vars database sets units = (Done (record { header = s.header; answer = PartialBlocking units }), refl, refl)
+takes_part_end f d s sought l vars database sets units = (Done (record { header = s.header; answer = answer_of (part_of sought units) }), refl, refl)

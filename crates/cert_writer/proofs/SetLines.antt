@@ -1,15 +1,15 @@
 -- The line of a listed set, taken.
-use Rattle.std.proofs.Common.{◌≡◌, ℕ, ◌≤◌, ◌<◌, List, ◌∷◌, length, Bool, true, false, not, ◌&&◌, if◌then◌else◌, Option, Some, ok_or, Result, Ok, refl, sym, ◌∙◌, ap, arith, codes, length-append}
+use Rattle.std.proofs.Common.{◌≡◌, ℕ, ◌≤◌, ◌<◌, List, ◌∷◌, length, Bool, true, false, not, ◌&&◌, ◌||◌, if◌then◌else◌, Option, Some, ok_or, Result, Ok, refl, sym, ◌∙◌, ap, arith, codes, length-append}
 use Rattle.std.specs.Fmt.{decimal}
 use Rattle.std.specs.Str.{bytes_eq}
 use Rattle.std.proofs.lemmas.Bool.{lt-ltb}
 use Rattle.std.proofs.lemmas.Fmt.{length-decimal-le}
-use Rattle.fbas_model.specs.Nodes.{Table, members, size}
+use Rattle.fbas_model.specs.Nodes.{Nodes, Table, members, size}
+use Rattle.fbas_model.specs.Fbas.{Fbas}
 use Rattle.fbas_model.specs.Names.{Name}
 use Rattle.fbas_model.specs.Systems.{System}
 use Rattle.fbas_model.specs.Restriction.{kept}
 use Rattle.fbas_model.proofs.Kept.{kept_le}
-use Rattle.fbas_model.proofs.QuorumLaw.{quorum-from}
 use Rattle.fbas_model.specs.declared.TheConstants.{MOST_NODES}
 use Rattle.lrat_model.specs.Literal.{Literal}
 use Rattle.lrat_model.specs.Clauses.{Held}
@@ -17,19 +17,20 @@ use Rattle.lrat_model.specs.declared.step.StepFault.TheVariants.{IdOrder}
 use Rattle.lrat_text.specs.Left.{spaced}
 use Rattle.lrat_text.specs.Texts.{IsId}
 use Rattle.lrat_text.proofs.TextLaws.{id_back}
-use Rattle.list_journal.specs.Kinds.{asks_new}
+use Rattle.list_journal.specs.Kinds.{Is, is_sought, asks_new}
 use Rattle.list_journal.specs.Numbering.{clause_for}
-use Rattle.list_journal.specs.Journals.{IsListedFor, IsNewIf}
-use Rattle.list_journal.specs.Tests.{is_minimal}
+use Rattle.list_journal.specs.Journals.{IsListedFor, RightFor, IsNewIf}
+use Rattle.list_journal.specs.Tests.{is_within, is_kind, is_minimal}
 use Rattle.list_journal.specs.declared.kinds.Listed.{Listed}
 use Rattle.list_journal.specs.declared.kinds.Listed.TheVariants as listed
-use Rattle.list_journal.proofs.TestLaws.{blocks_from, minimal_from}
+use Rattle.list_journal.proofs.Duality.{is_of, minimal_of}
+use Rattle.list_journal.proofs.TestLaws.{within_from, is_kind_from, minimal_from}
 use Rattle.cert_lines.specs.Limits.{unless}
 use Rattle.cert_lines.specs.Words.{Word, words_of, names_in}
 use Rattle.cert_lines.specs.declared.faults.CertError.{CertError}
-use Rattle.cert_lines.specs.declared.faults.CertError.TheVariants.{BadLine, Step, NotQuorum, NotBlocking, NotMinimal, NotNew}
+use Rattle.cert_lines.specs.declared.faults.CertError.TheVariants.{BadLine, UnknownNode, Step, NotMinimal, NotNew}
 use Rattle.certificate_file.specs.Acceptance.{take_line}
-use Rattle.reach_kinds.specs.Bodies.{and_then, nodes_of, within, is_covered, listed_by, Numbered, numbered_if_any, numbered_in, right_set, new_set, with_listed, list_set, set_line as take_set_line, list_end, list_text}
+use Rattle.reach_kinds.specs.Bodies.{and_then, nodes_of, within, is_covered, listed_by, asks_inside, not_of, Numbered, numbered_if_any, numbered_in, right_set, new_set, with_listed, list_set, set_line as take_set_line, list_end, list_text}
 use Rattle.certificate_file.specs.declared.places.Subject.{Subject}
 use Rattle.reach_kinds.specs.declared.places.Listing.{Listing}
 use Rattle.certificate_file.specs.Acceptance.{in_reach}
@@ -93,14 +94,32 @@ within_part nodes l set = apart_from_others nodes l (spread nodes set) (λ m. no
 
 -- the set is what it is listed for in the part
 abbrev pub IsRightIn : Listing → Listed → Table → Type 0
-IsRightIn k which set = IsListedFor listed.Blocking k.part.system.sets (members k.part.faulty) k.part.greatest which set
+IsRightIn k which set = IsListedFor k.sought k.part.system.sets (members k.part.faulty) k.part.greatest which set
+
+-- it passes each test that is asked
+passes_inside : (sought which : Listed) (f : Fbas) (b : Nodes) (g s : Table) → RightFor (is_sought sought which) which f b g s → (not (asks_inside sought which) || is_within s g) ≡ true
+passes_inside listed.Quorum listed.Quorum f b g s is = refl
+passes_inside listed.Quorum listed.Blocking f b g s is = within_from s g is.1
+passes_inside listed.Blocking which f b g s is = refl
+
+kind_of_right : (asked : Bool) (which : Listed) (f : Fbas) (b : Nodes) (g s : Table) → RightFor asked which f b g s → Is which f b (members s)
+kind_of_right true which f b g s is = is_of which f b (members s) is
+kind_of_right false which f b g s is = is.0
+
+passes_minimal : (asked : Bool) (which : Listed) (f : Fbas) (b g s : Table) → length b ≡ length f → RightFor asked which f (members b) g s → (not asked || is_minimal which f b s) ≡ true
+passes_minimal true which f b g s same is = minimal_from which f b s same (λ t inside one. minimal_of which f (members b) (members s) t is inside one)
+passes_minimal false which f b g s same is = refl
 
 right : (k : Listing) (l : ℕ) (which : Listed) (set : Table) → length k.part.faulty ≡ length k.part.system.sets → IsRightIn k which set → right_set k l which set ≡ Ok set
-right k l listed.Quorum set same is =
-    ap (λ (b : Bool). unless (NotQuorum l) b (Ok set)) (quorum-from k.part.system.sets k.part.faulty set (same ∙ sym is.0) (sym is.0) is.1.0)
-right k l listed.Blocking set same is =
-    ap (λ (b : Bool). unless (NotBlocking l) b (unless (NotMinimal l) (is_minimal listed.Blocking k.part.system.sets k.part.faulty set) (Ok set))) (blocks_from k.part.system.sets k.part.faulty set is.1.blocks)
-    ∙ ap (λ (b : Bool). unless (NotMinimal l) b (Ok set)) (minimal_from listed.Blocking k.part.system.sets k.part.faulty set same is.1.least)
+right k l which set same is =
+    let f : Fbas = k.part.system.sets in
+    let b : Table = k.part.faulty in
+    let g : Table = k.part.greatest in
+    let asked : Bool = is_sought k.sought which in
+    let minimal : Result Table CertError = unless (NotMinimal l) (not asked || is_minimal which f b set) (Ok set) in
+    ap (λ (x : Bool). unless (UnknownNode l) x (unless (not_of l which) (is_kind which f b set) minimal)) (passes_inside k.sought which f (members b) g set is.1)
+    ∙ ap (λ (x : Bool). unless (not_of l which) x minimal) (is_kind_from which f b set same is.0 (kind_of_right asked which f (members b) g set is.1))
+    ∙ ap (λ (x : Bool). unless (NotMinimal l) x (Ok set)) (passes_minimal asked which f b g set same is.1)
 
 -- its clause is as new as the kind asks
 uncovered : (asked : Bool) (held : Held) (id : ℕ) (clause : List Literal) → IsNewIf asked held clause → (asked && is_covered held id clause) ≡ false
@@ -109,10 +128,10 @@ uncovered false held id clause new = refl
 
 -- as the list asks
 abbrev pub IsNewIn : Listing → Listed → Table → Type 0
-IsNewIn k which set = IsNewIf (asks_new listed.Blocking k.kind which) k.checker.database.held (clause_for listed.Blocking k.part.greatest which set)
+IsNewIn k which set = IsNewIf (asks_new k.sought k.kind which) k.checker.database.held (clause_for k.sought k.part.greatest which set)
 
 new : (k : Listing) (l : ℕ) (which : Listed) (id : ℕ) (set : Table) → IsNewIn k which set → new_set k l which id set ≡ Ok set
-new k l which id set is = ap (λ (b : Bool). unless (NotNew l) (not b) (Ok set)) (uncovered (asks_new listed.Blocking k.kind which) k.checker.database.held id (clause_for listed.Blocking k.part.greatest which set) is)
+new k l which id set is = ap (λ (b : Bool). unless (NotNew l) (not b) (Ok set)) (uncovered (asks_new k.sought k.kind which) k.checker.database.held id (clause_for k.sought k.part.greatest which set) is)
 
 -- ---- the line
 

@@ -16,6 +16,7 @@ use Rattle.lrat_text.specs.Texts.{line_of}
 use Rattle.certificate_file.specs.declared.places.Aim.{Aim}
 use Rattle.list_journal.specs.Journals.{JournalLine}
 use Rattle.list_journal.specs.declared.kinds.ListKind.{ListKind}
+use Rattle.list_journal.specs.declared.kinds.Listed.{Listed}
 use Rattle.cert_writer.specs.Texts.{Text, joined, name_if_any, header_lines, pair_front, kind_of, log_front, set_line, journal_line, list_kind_of, list_front}
 
 pub spaced-append : (xs ys : List Text) → spaced (xs ++ ys) ≡ spaced xs ++ spaced ys
@@ -84,5 +85,5 @@ lines_push line xs x = sym (ap joined (map-append line xs (x ∷ [])) ∙ joined
 pub lines_left : {A : Type 0} (line : A → Text) (xs ys zs : List A) → xs ++ ys ≡ zs → joined (map line xs) ++ joined (map line ys) ≡ joined (map line zs)
 lines_left {A = A} line xs ys zs is = sym (joined-append (map line xs) (map line ys)) ∙ ap joined (sym (map-append line xs ys)) ∙ ap (λ (all : List A). joined (map line all)) is
 
-pub list_text : (kind : ListKind) (names : List Name) (journal : List JournalLine) → (list_kind_of kind ++ codes "\n") ++ joined (map (journal_line names) journal) ≡ joined (list_front names kind journal)
-list_text kind names journal = simp (append_assoc, append-nil)
+pub list_text : (sought : Listed) (kind : ListKind) (names : List Name) (journal : List JournalLine) → (list_kind_of sought kind ++ codes "\n") ++ joined (map (journal_line names) journal) ≡ joined (list_front names sought kind journal)
+list_text sought kind names journal = simp (append_assoc, append-nil)

@@ -1,4 +1,4 @@
--- What a search for the minimal blocking sets comes to, and the certificate that shows it.
+-- What a search for all minimal sets of a kind comes to, and the certificate that shows it.
 use Rattle.std.specs.Prelude.{◌≡◌, ℕ, List, length, All, Ok}
 use Rattle.lrat_text.specs.Texts.{HasNumbers}
 use Rattle.fbas_model.specs.Nodes.{Table, size}
@@ -7,44 +7,44 @@ use Rattle.fbas_model.specs.Systems.{System}
 use Rattle.greatest_quorum.specs.Greatest.{greatest_of}
 use Rattle.list_journal.specs.Journals.{JournalLine, SetLine, StepLine}
 use Rattle.list_journal.specs.declared.kinds.ListKind.TheVariants as kind
-use Rattle.list_journal.specs.declared.kinds.Listed.TheVariants as listed
+use Rattle.list_journal.specs.declared.kinds.Listed.{Listed}
 use Rattle.blocking_lists.specs.Lines.{HasLineNumbers, HasFewWords}
 use Rattle.blocking_lists.specs.Outcomes.{OutcomeHolds, journal_in}
 use Rattle.blocking_lists.specs.declared.outcome.ListOutcome.{ListOutcome}
 use Rattle.blocking_lists.specs.declared.outcome.ListOutcome.TheVariants.{Whole, Spent}
-use Rattle.certificate_file.specs.Acceptance.{checked}
+use Rattle.certificate_file.specs.Acceptance.{checked, answer_of}
+use Rattle.reach_kinds.specs.Bodies.{whole_of, part_of as part_of_list}
 use Rattle.certificate_file.specs.declared.places.Header.{Header}
 use Rattle.certificate_file.specs.declared.places.Answer.{Answer}
-use Rattle.certificate_file.specs.declared.places.Answer.TheVariants as shown
 use Rattle.cert_writer.specs.Texts.{Text, list_text}
 use Rattle.cert_writer.specs.Promises.{part_of, raised_sets}
 use Rattle.cert_writer.specs.Finding.{Search, part, faulty}
 
 -- the certificate of a list, whole or in part
-abbrev pub list_cert_over : System → List ℕ → Header → ListOutcome → Text
-list_cert_over f digest h (Whole sets journal) = list_text f.names (part_of f h.from).names digest h kind.Whole journal
-list_cert_over f digest h (Spent journal) = list_text f.names (part_of f h.from).names digest h kind.Partial journal
+abbrev pub list_cert_over : Listed → System → List ℕ → Header → ListOutcome → Text
+list_cert_over sought f digest h (Whole sets journal) = list_text f.names (part_of f h.from).names digest h sought kind.Whole journal
+list_cert_over sought f digest h (Spent journal) = list_text f.names (part_of f h.from).names digest h sought kind.Partial journal
 
-abbrev pub list_cert_of : Search → ListOutcome → Text
-list_cert_of s outcome = list_cert_over s.whole s.digest s.header outcome
+abbrev pub list_cert_of : Listed → Search → ListOutcome → Text
+list_cert_of sought s outcome = list_cert_over sought s.whole s.digest s.header outcome
 
--- what the check says of it: the minimal blocking sets in name order, or how many units were spent
-abbrev pub list_accepted_as : Search → ListOutcome → Answer
-list_accepted_as s (Whole sets journal) = shown.Blocking (raised_sets s.whole s.header sets.items)
-list_accepted_as s (Spent journal) = shown.PartialBlocking s.budget
+-- what the check says of it: the sought sets in name order, or how many units were spent
+abbrev pub list_accepted_as : Listed → Search → ListOutcome → Answer
+list_accepted_as sought s (Whole sets journal) = answer_of (whole_of sought (raised_sets s.whole s.header sets.items))
+list_accepted_as sought s (Spent journal) = answer_of (part_of_list sought s.budget)
 
 -- what a search of a system within a budget shows, once b is deleted
-pub record ListShows (f : Fbas) (b : Table) (budget : ℕ) (outcome : ListOutcome) : Type 0 where
+pub record ListShows (sought : Listed) (f : Fbas) (b : Table) (budget : ℕ) (outcome : ListOutcome) : Type 0 where
   pub left : ℕ
-  pub holds : OutcomeHolds listed.Blocking f b budget left outcome
+  pub holds : OutcomeHolds sought f b budget left outcome
   pub numbers : All HasLineNumbers (journal_in outcome)
   pub few_words : All (HasFewWords (size (greatest_of f b))) (journal_in outcome)
 
 -- what a search finds: it shows the list, or a part of one, and its certificate is accepted with the header that was asked for
-pub record FindsList (s : Search) (outcome : ListOutcome) (cert : Text) : Type 0 where
-  pub shows : ListShows (part s).sets (faulty s) s.budget outcome
-  pub cert_is : cert ≡ list_cert_of s outcome
-  pub accepted : checked s.whole s.digest cert ≡ Ok (record { header = s.header; answer = list_accepted_as s outcome })
+pub record FindsList (sought : Listed) (s : Search) (outcome : ListOutcome) (cert : Text) : Type 0 where
+  pub shows : ListShows sought (part s).sets (faulty s) s.budget outcome
+  pub cert_is : cert ≡ list_cert_of sought s outcome
+  pub accepted : checked s.whole s.digest cert ≡ Ok (record { header = s.header; answer = list_accepted_as sought s outcome })
 
 -- what a line can be written of: a set with a place for each of n nodes, or a step whose numbers have a line
 abbrev pub CanBeLine : ℕ → JournalLine → Type 0

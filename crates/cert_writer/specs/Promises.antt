@@ -17,9 +17,10 @@ use Rattle.list_journal.specs.Order.{ordered}
 use Rattle.list_journal.specs.declared.kinds.ListKind.{ListKind}
 use Rattle.list_journal.specs.declared.kinds.ListKind.TheVariants as kind
 use Rattle.list_journal.specs.declared.kinds.Listed.{Listed}
-use Rattle.list_journal.specs.declared.kinds.Listed.TheVariants as listed
 use Rattle.blocking_lists.specs.Lines.{HasLineNumbers, HasFewWords}
 use Rattle.blocking_lists.specs.Outcomes.{rules}
+use Rattle.certificate_file.specs.Acceptance.{answer_of}
+use Rattle.reach_kinds.specs.Bodies.{whole_of, part_of as part_of_list}
 use Rattle.certificate_file.specs.Formulas.{formula_of}
 use Rattle.certificate_file.specs.Meaning.{part_from}
 use Rattle.certificate_file.specs.declared.places.Header.{Header}
@@ -27,7 +28,7 @@ use Rattle.certificate_file.specs.declared.places.Subject.{Subject}
 use Rattle.certificate_file.specs.declared.places.Aim.{Aim}
 use Rattle.certificate_file.specs.declared.places.Aim.TheVariants as aim
 use Rattle.certificate_file.specs.declared.places.Answer.{Answer}
-use Rattle.certificate_file.specs.declared.places.Answer.TheVariants.{Refutation, Partial, Blocking, PartialBlocking}
+use Rattle.certificate_file.specs.declared.places.Answer.TheVariants.{Refutation, Partial}
 use Rattle.cert_writer.specs.Texts.{raised_table}
 use Rattle.cert_lines.specs.declared.lines.TheConstants.{MAX_LINES}
 use Rattle.clause_encoder.specs.declared.limits.TheConstants.{MOST_VARS}
@@ -94,14 +95,14 @@ abbrev pub rules_in : Listed → System → Header → Rules
 rules_in sought f h = rules sought (part_of f h.from).sets (faulty_in f h)
 
 -- what its certificate shows: the sought sets in name order, or the units of its lines
-abbrev pub shown_by_list : System → Header → Rules → ListKind → List JournalLine → Answer
-shown_by_list f h r kind.Whole journal = Blocking (ordered (raised_sets f h (sets_in listed.Blocking journal)))
-shown_by_list f h r kind.Partial journal = PartialBlocking (journal_units r journal)
+abbrev pub shown_by_list : Listed → System → Header → Rules → ListKind → List JournalLine → Answer
+shown_by_list sought f h r kind.Whole journal = answer_of (whole_of sought (ordered (raised_sets f h (sets_in sought journal))))
+shown_by_list sought f h r kind.Partial journal = answer_of (part_of_list sought (journal_units r journal))
 
 -- a journal of a list of the part, by the variables of the part's greatest quorum
-pub record IsJournalOf (f : System) (h : Header) (kind : ListKind) (journal : List JournalLine) : Type 0 where
+pub record IsJournalOf (sought : Listed) (f : System) (h : Header) (kind : ListKind) (journal : List JournalLine) : Type 0 where
   pub new : Database
-  pub run : JournalRun (rules_in listed.Blocking f h) kind nothing_held journal new
+  pub run : JournalRun (rules_in sought f h) kind nothing_held journal new
   pub numbers : All HasLineNumbers journal
   pub few_words : All (HasFewWords (size (greatest_of (part_of f h.from).sets (faulty_in f h)))) journal
   pub few : length journal + 6 ≤ MAX_LINES

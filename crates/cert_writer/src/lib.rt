@@ -1,4 +1,4 @@
-//! Certificates, written through a buffer: pairs, refutations, lists of minimal blocking sets, and partial ones. The check of `certificate_file` accepts each.
+//! Certificates, written through a buffer: pairs, refutations, lists of minimal sets, and partial ones. The check of `certificate_file` accepts each.
 #![tactic(auto)]
 
 mod finding;

@@ -1,4 +1,4 @@
-//! The certificates of lists of minimal blocking sets.
+//! The certificates of lists.
 ghost use Rattle.std.specs.Prelude.{◌≡◌, ◌≤◌, ℕ, [], false, length, IsTrue, IsErr, OnOk, OnErr};
 ghost use Rattle.std.specs.List.Sorted.{IsStrictlySortedBy};
 ghost use Rattle.hex.specs.Hex.{IsBytes};
@@ -7,6 +7,7 @@ ghost use Rattle.desk_io.specs.State.{written};
 ghost use Rattle.fbas_model.specs.Names.{name_cmp};
 ghost use Rattle.fbas_model.specs.Nodes.{Table};
 ghost use Rattle.fbas_model.specs.Systems.{System, IsSystem};
+ghost use Rattle.list_journal.specs.declared.kinds.Listed.{Listed};
 ghost use Rattle.blocking_lists.specs.declared.outcome.ListOutcome.{ListOutcome};
 ghost use Rattle.quorum_questions.specs.declared.asking.TheConstants.{MOST_UNITS};
 ghost use Rattle.cert_writer.specs.Promises.{IsHeader, part_of, PutsPart};
@@ -19,7 +20,7 @@ use blocking_lists::ListOutcome;
 use certificate_file::Header;
 use desk_io::{Desk, To, WriteFailed};
 use fbas_core::System;
-use list_journal::ListKind;
+use list_journal::{ListKind, Listed};
 
 /// Writes the certificate of a list, whole or in part, to the created file. `check` accepts it.
 ///
@@ -31,14 +32,15 @@ pub fn write_list<D: Desk>(
     header: &Header,
     whole: &System,
     kept: &System,
+    sought: Listed,
     outcome: &ListOutcome,
 ) -> Result<(), WriteFailed>
     requires fresh { writer.old ≡ record { held = []; failed = false } }
     requires header { IsHeader whole.now header.now }
     requires part { kept.now ≡ part_of whole.now header.now.from }
     requires found { CanBeListed (length kept.now.names) outcome.now }
-    ensures all { OnOk result (IsTrue D.tells → D.state desk.new ≡ written To.Cert (list_cert_over whole.now digest.now header.now outcome.now) (D.state desk.old)) }
-    ensures part { OnErr result (IsTrue D.tells → PutsPart (list_cert_over whole.now digest.now header.now outcome.now) (D.state desk.old) (D.state desk.new)) }
+    ensures all { OnOk result (IsTrue D.tells → D.state desk.new ≡ written To.Cert (list_cert_over sought whole.now digest.now header.now outcome.now) (D.state desk.old)) }
+    ensures part { OnErr result (IsTrue D.tells → PutsPart (list_cert_over sought whole.now digest.now header.now outcome.now) (D.state desk.old) (D.state desk.new)) }
     ensures faults { WriteFails (D.faults desk.old) (D.faults desk.new) (IsErr result) }
 {
     match outcome {
@@ -49,6 +51,7 @@ pub fn write_list<D: Desk>(
             header,
             whole,
             kept,
+            sought,
             ListKind::Whole,
             journal,
         ),
@@ -59,15 +62,16 @@ pub fn write_list<D: Desk>(
             header,
             whole,
             kept,
+            sought,
             ListKind::Partial,
             journal,
         ),
     }
 }
 
-/// What a search for the minimal blocking sets shows can be written, and its certificate is accepted.
+/// What a search for all minimal sets of a kind shows can be written, and its certificate is accepted.
 pub fn what_is_listed_is_found()
-    ensures written { (f : System) (b : Table) (budget : ℕ) (outcome : ListOutcome) → length f.names ≡ length f.sets → ListShows f.sets b budget outcome → CanBeListed (length f.names) outcome }
-    ensures found { (s : Search) (outcome : ListOutcome) → IsSystem s.whole.names s.whole.sets → IsStrictlySortedBy name_cmp s.whole.names → length s.digest ≡ 32 → IsBytes s.digest → IsHeader s.whole s.header → s.budget ≤ MOST_UNITS
-        → ListShows (part s).sets (faulty s) s.budget outcome → FindsList s outcome (list_cert_of s outcome) }
+    ensures written { (sought : Listed) (f : System) (b : Table) (budget : ℕ) (outcome : ListOutcome) → length f.names ≡ length f.sets → ListShows sought f.sets b budget outcome → CanBeListed (length f.names) outcome }
+    ensures found { (sought : Listed) (s : Search) (outcome : ListOutcome) → IsSystem s.whole.names s.whole.sets → IsStrictlySortedBy name_cmp s.whole.names → length s.digest ≡ 32 → IsBytes s.digest → IsHeader s.whole s.header → s.budget ≤ MOST_UNITS
+        → ListShows sought (part s).sets (faulty s) s.budget outcome → FindsList sought s outcome (list_cert_of sought s outcome) }
 {}

@@ -20,7 +20,7 @@ use desk_io::{Desk, To, WriteFailed, put_all};
 use digest_text::digits;
 use fbas_core::System;
 use itoa::{Buffer, Integer};
-use list_journal::ListKind;
+use list_journal::{ListKind, Listed};
 use lrat_text::{HintsRef, Lit, Log, StepRef};
 use name_set::{Names, NodeSet};
 use std::alloc::{AllocError, Global};
@@ -361,14 +361,15 @@ impl CertWriter {
     fn list_lines<D: Desk>(
         &mut self,
         desk: &mut D,
+        sought: Listed,
         kind: ListKind,
         names: &Names,
         journal: &Journal,
     )
         requires { All (CanBeLine (length names.now)) journal.now }
-        ensures { Writes D.tells (joined (list_front names.now kind journal.now)) self.old (D.state desk.old) (D.faults desk.old) self.new (D.state desk.new) (D.faults desk.new) }
+        ensures { Writes D.tells (joined (list_front names.now sought kind journal.now)) self.old (D.state desk.old) (D.faults desk.old) self.new (D.state desk.new) (D.faults desk.new) }
     {
-        self.text(desk, list_kind_of(kind).as_bytes());
+        self.text(desk, list_kind_of(sought, kind).as_bytes());
         self.text(desk, b"\n");
         self.journal_lines(desk, names, journal);
     }
@@ -420,7 +421,7 @@ impl CertWriter {
         self.outcome()
     }
 
-    /// Writes the certificate of a list up to its last line: all minimal blocking sets, or a part of them.
+    /// Writes the certificate of a list up to its last line: all minimal sets of a kind, or a part of them.
     ///
     /// The header has the numbers of the whole system, whose names come first, and the journal those of the part.
     pub fn list<D: Desk>(
@@ -430,17 +431,18 @@ impl CertWriter {
         header: &Header,
         whole: &System,
         kept: &System,
+        sought: Listed,
         kind: ListKind,
         journal: &Journal,
     ) -> Result<(), WriteFailed>
         requires from { IfSome header.now.from (λ v. v < length whole.now.names) }
         requires faulty { length header.now.faulty ≡ length whole.now.names }
         requires lines { All (CanBeLine (length kept.now.names)) journal.now }
-        ensures writes { Writes D.tells (joined (header_lines whole.now.names digest.now header.now ++ list_front kept.now.names kind journal.now)) self.old (D.state desk.old) (D.faults desk.old) self.new (D.state desk.new) (D.faults desk.new) }
+        ensures writes { Writes D.tells (joined (header_lines whole.now.names digest.now header.now ++ list_front kept.now.names sought kind journal.now)) self.old (D.state desk.old) (D.faults desk.old) self.new (D.state desk.new) (D.faults desk.new) }
         ensures failed { IsTrue self.new.failed ↔ IsErr result }
     {
         self.header(desk, digest, header, whole.names());
-        self.list_lines(desk, kind, kept.names(), journal);
+        self.list_lines(desk, sought, kind, kept.names(), journal);
         self.outcome()
     }
 
@@ -478,11 +480,13 @@ fn kind_of(to: Aim) -> &'static str
 }
 
 /// The line of a kind of list.
-fn list_kind_of(kind: ListKind) -> &'static str
-    ensures { result.now ≡ list_kind_of kind }
+fn list_kind_of(sought: Listed, kind: ListKind) -> &'static str
+    ensures { result.now ≡ list_kind_of sought kind }
 {
-    match kind {
-        ListKind::Whole => "kind blocking",
-        ListKind::Partial => "kind partial-blocking",
+    match (sought, kind) {
+        (Listed::Blocking, ListKind::Whole) => "kind blocking",
+        (Listed::Blocking, ListKind::Partial) => "kind partial-blocking",
+        (Listed::Quorum, ListKind::Whole) => "kind quorums",
+        (Listed::Quorum, ListKind::Partial) => "kind partial-quorums",
     }
 }

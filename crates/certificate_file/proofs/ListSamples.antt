@@ -9,7 +9,7 @@ use Rattle.greatest_quorum.specs.Greatest.{greatest_of}
 use Rattle.certificate_file.specs.Acceptance.{checked, take_line}
 use Rattle.certificate_file.specs.declared.places.Accepted.{Accepted}
 use Rattle.certificate_file.specs.declared.places.Answer.{Answer}
-use Rattle.certificate_file.specs.declared.places.Answer.TheVariants.{Blocking, PartialBlocking}
+use Rattle.certificate_file.specs.declared.places.Answer.TheVariants.{Blocking, PartialBlocking, Quorums}
 use Rattle.cert_lines.specs.declared.faults.CertError.TheVariants.{BadLine, UnknownNode, NotQuorum, NotBlocking, NotMinimal, Step, NotNew, NotRefuted}
 
 two_of_three : Option QuorumSet
@@ -97,3 +97,30 @@ faulty_named = refl
 empty_lemma_in_a_part : checked three zeros (part ++ codes "q 1 a b\n2 0 1 0\nend\n") ≡ Err (BadLine 7)
 unfolding checked take_line encode_with decode_pairs greatest_of three two_of_three zeros part
 empty_lemma_in_a_part = refl
+
+-- ---- minimal quorums: the letters change places
+
+quorums : List ℕ
+quorums = codes "fbas-cert 2\nconfig 0000000000000000000000000000000000000000000000000000000000000000\nfrom\nfaulty\nkind quorums\n"
+
+worked_quorums : checked three zeros (quorums ++ codes "b 1 a b\nb 2 a c\nb 3 b c\nq 4 a b\nq 5 a c\nq 6 b c\n7 -1 0 4 5 3 0\n8 0 7 1 2 6 0\nend\n") ≡ Ok (shows (Quorums all_three))
+unfolding checked take_line encode_with decode_pairs greatest_of three two_of_three zeros quorums
+worked_quorums = refl
+
+-- in version one there is no such kind
+quorums_in_version_one : checked three zeros (codes "fbas-cert 1\nconfig 0000000000000000000000000000000000000000000000000000000000000000\nfrom\nfaulty\nkind quorums\nend\n") ≡ Err (BadLine 5)
+unfolding checked take_line encode_with decode_pairs three two_of_three zeros
+quorums_in_version_one = refl
+
+quorum_not_minimal : checked three zeros (quorums ++ codes "q 1 a b c\nend\n") ≡ Err (NotMinimal 6)
+unfolding checked take_line encode_with decode_pairs greatest_of three two_of_three zeros quorums
+quorum_not_minimal = refl
+
+-- of a blocking set it is not asked that it is minimal, nor in a whole list that it is new
+blocking_set_twice : checked three zeros (quorums ++ codes "b 1 a b c\nb 2 a b c\nend\n") ≡ Err (NotRefuted 8)
+unfolding checked take_line encode_with decode_pairs greatest_of three two_of_three zeros quorums
+blocking_set_twice = refl
+
+quorum_listed_twice : checked three zeros (quorums ++ codes "q 1 a b\nq 2 a b\nend\n") ≡ Err (NotNew 7)
+unfolding checked take_line encode_with decode_pairs greatest_of three two_of_three zeros quorums
+quorum_listed_twice = refl

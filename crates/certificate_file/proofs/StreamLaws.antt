@@ -39,6 +39,7 @@ use Rattle.certificate_file.specs.declared.places.Place.TheVariants.{AtSteps, At
 use Rattle.reach_kinds.specs.declared.places.ReachPlace.TheVariants.{AtList}
 use Rattle.reach_kinds.specs.declared.places.ReachState.{ReachState}
 use Rattle.list_journal.specs.declared.kinds.Listed.{Listed}
+use Rattle.list_journal.specs.declared.kinds.Listed.TheVariants as listed
 use Rattle.certificate_file.specs.declared.places.State.{State}
 use Rattle.certificate_file.specs.declared.places.State.TheVariants.{Going}
 
@@ -103,9 +104,10 @@ progress_so : (h : Header) (c : Checking) (n : ℕ) (p : Progress) → after_pro
 progress_so h c n going = refl
 progress_so h c n Refuted = refl
 
-list_progress_so : (s : Subject) (kind : ListKind) (part : ListPart) (sets : List Table) (c : Checking) (n : ℕ) (p : Progress) → in_reach s (after_list_step (record { kind = kind; part = part; checker = c; sets = sets; units = n }) p) ≡ after_step_of (proof.List s kind part sets) c n p
-list_progress_so s kind part sets c n going = refl
-list_progress_so s kind part sets c n Refuted = refl
+list_progress_so : (s : Subject) (sought : Listed) (kind : ListKind) (part : ListPart) (sets : List Table) (c : Checking) (n : ℕ) (p : Progress) → in_reach s (after_list_step (record { sought = sought; kind = kind; part = part; checker = c; sets = sets; units = n }) p) ≡ after_step_of (proof.List s sought kind part sets) c n p
+list_progress_so s sought kind part sets c n going = refl
+list_progress_so s listed.Quorum kind part sets c n Refuted = refl
+list_progress_so s listed.Blocking kind part sets c n Refuted = refl
 
 module _ (l : ℕ) (h : Header) (c : Checking) (n : ℕ) where
   step_taken : (r : Result ProofStep LineFault) → and_then (take_step l h c) (or_bad_line l r) ≡ and_then (next_of (proof.Refutation h)) (read l false c.rule c.vars c.database n (outline_in c.rule c.vars c.database r))
@@ -131,24 +133,24 @@ module _ (l : ℕ) (h : Header) (c : Checking) (n : ℕ) where
     | None ↦ refl
   ]
 
-module _ (l : ℕ) (s : Subject) (part : ListPart) (c : Checking) (sets : List Table) (n : ℕ) where
-  list_taken : (kind : ListKind) (r : Result ProofStep LineFault) → and_then (λ x. Ok (in_reach s x)) (and_then (list_step (record { kind = kind; part = part; checker = c; sets = sets; units = n }) l) (and_then (literal_in kind l) (or_bad_line l r))) ≡ and_then (next_of (proof.List s kind part sets)) (read l (is_part_kind kind) c.rule c.vars c.database n (outline_in c.rule c.vars c.database r))
+module _ (l : ℕ) (s : Subject) (sought : Listed) (part : ListPart) (c : Checking) (sets : List Table) (n : ℕ) where
+  list_taken : (kind : ListKind) (r : Result ProofStep LineFault) → and_then (λ x. Ok (in_reach s x)) (and_then (list_step (record { sought = sought; kind = kind; part = part; checker = c; sets = sets; units = n }) l) (and_then (literal_in kind l) (or_bad_line l r))) ≡ and_then (next_of (proof.List s sought kind part sets)) (read l (is_part_kind kind) c.rule c.vars c.database n (outline_in c.rule c.vars c.database r))
   list_taken Whole (Err e) = refl
   list_taken Part (Err e) = refl
-  list_taken Whole (Ok (Addition id lits hints)) = elim (addition_fault_by c.rule c.vars c.database id lits hints) as (λ o. and_then (λ x. Ok (in_reach s x)) (list_step_unless l (record { kind = Whole; part = part; checker = c; sets = sets; units = n }) (Addition id lits hints) o) ≡ and_then (next_of (proof.List s Whole part sets)) (read l false c.rule c.vars c.database n (Some (Adds id lits o)))) [
+  list_taken Whole (Ok (Addition id lits hints)) = elim (addition_fault_by c.rule c.vars c.database id lits hints) as (λ o. and_then (λ x. Ok (in_reach s x)) (list_step_unless l (record { sought = sought; kind = Whole; part = part; checker = c; sets = sets; units = n }) (Addition id lits hints) o) ≡ and_then (next_of (proof.List s sought Whole part sets)) (read l false c.rule c.vars c.database n (Some (Adds id lits o)))) [
     | Some fault ↦ refl
-    | None ↦ ap (λ (s : State). Ok s) (list_progress_so s Whole part sets (record { rule = c.rule; vars = c.vars; database = record { held = with_clause c.database.held id lits; last = id } }) (n + 1) (progress_at lits))
+    | None ↦ ap (λ (s : State). Ok s) (list_progress_so s sought Whole part sets (record { rule = c.rule; vars = c.vars; database = record { held = with_clause c.database.held id lits; last = id } }) (n + 1) (progress_at lits))
   ]
   list_taken Part (Ok (Addition id [] hints)) = refl
-  list_taken Part (Ok (Addition id (x ∷ xs) hints)) = elim (addition_fault_by c.rule c.vars c.database id (x ∷ xs) hints) as (λ o. and_then (λ x. Ok (in_reach s x)) (list_step_unless l (record { kind = Part; part = part; checker = c; sets = sets; units = n }) (Addition id (x ∷ xs) hints) o) ≡ and_then (next_of (proof.List s Part part sets)) (read l true c.rule c.vars c.database n (Some (Adds id (x ∷ xs) o)))) [
+  list_taken Part (Ok (Addition id (x ∷ xs) hints)) = elim (addition_fault_by c.rule c.vars c.database id (x ∷ xs) hints) as (λ o. and_then (λ x. Ok (in_reach s x)) (list_step_unless l (record { sought = sought; kind = Part; part = part; checker = c; sets = sets; units = n }) (Addition id (x ∷ xs) hints) o) ≡ and_then (next_of (proof.List s sought Part part sets)) (read l true c.rule c.vars c.database n (Some (Adds id (x ∷ xs) o)))) [
     | Some fault ↦ refl
-    | None ↦ unless_both (λ (x : ReachState). Ok (in_reach s x)) (next_of (proof.List s Part part sets)) (NotNew l) (not (is_covered c.database.held id (x ∷ xs))) _ ((record { rule = c.rule; vars = c.vars; database = record { held = with_clause c.database.held id (x ∷ xs); last = id } }, going), n + 1) refl
+    | None ↦ unless_both (λ (x : ReachState). Ok (in_reach s x)) (next_of (proof.List s sought Part part sets)) (NotNew l) (not (is_covered c.database.held id (x ∷ xs))) _ ((record { rule = c.rule; vars = c.vars; database = record { held = with_clause c.database.held id (x ∷ xs); last = id } }, going), n + 1) refl
   ]
-  list_taken Whole (Ok (Deletion id ids)) = elim (deletion_fault c.database.held [] ids) as (λ o. and_then (λ x. Ok (in_reach s x)) (list_step_unless l (record { kind = Whole; part = part; checker = c; sets = sets; units = n }) (Deletion id ids) o) ≡ and_then (next_of (proof.List s Whole part sets)) (and_then (λ t. Ok (t, n)) (after_deletion l c.rule c.vars c.database ids o))) [
+  list_taken Whole (Ok (Deletion id ids)) = elim (deletion_fault c.database.held [] ids) as (λ o. and_then (λ x. Ok (in_reach s x)) (list_step_unless l (record { sought = sought; kind = Whole; part = part; checker = c; sets = sets; units = n }) (Deletion id ids) o) ≡ and_then (next_of (proof.List s sought Whole part sets)) (and_then (λ t. Ok (t, n)) (after_deletion l c.rule c.vars c.database ids o))) [
     | Some fault ↦ refl
     | None ↦ refl
   ]
-  list_taken Part (Ok (Deletion id ids)) = elim (deletion_fault c.database.held [] ids) as (λ o. and_then (λ x. Ok (in_reach s x)) (list_step_unless l (record { kind = Part; part = part; checker = c; sets = sets; units = n }) (Deletion id ids) o) ≡ and_then (next_of (proof.List s Part part sets)) (and_then (λ t. Ok (t, n)) (after_deletion l c.rule c.vars c.database ids o))) [
+  list_taken Part (Ok (Deletion id ids)) = elim (deletion_fault c.database.held [] ids) as (λ o. and_then (λ x. Ok (in_reach s x)) (list_step_unless l (record { sought = sought; kind = Part; part = part; checker = c; sets = sets; units = n }) (Deletion id ids) o) ≡ and_then (next_of (proof.List s sought Part part sets)) (and_then (λ t. Ok (t, n)) (after_deletion l c.rule c.vars c.database ids o))) [
     | Some fault ↦ refl
     | None ↦ refl
   ]
@@ -157,10 +159,10 @@ module _ (l : ℕ) (s : Subject) (part : ListPart) (c : Checking) (sets : List T
 read_so : (f : System) (d : List ℕ) (p : Proof) (c : Checking) (n l : ℕ) (text : List ℕ) → is_other text ≡ false → take_line f d (place_of p c n) l text ≡ and_then (next_of p) (read l (is_part p) c.rule c.vars c.database n (outline_in c.rule c.vars c.database (step_in text)))
 read_so f d (proof.Refutation h) c n l text is = at_steps f d h c l text ∙ rw (not_end text is) (step_taken l h c n (step_in text))
 read_so f d (proof.Partial h) c n l text is = at_lemmas f d h c n l text ∙ rw (not_end text is) (lemma_taken l h c n (step_in text))
-read_so f d (proof.List s kind part sets) c n l text is =
-    at_list f d s (record { kind = kind; part = part; checker = c; sets = sets; units = n }) l text
+read_so f d (proof.List s sought kind part sets) c n l text is =
+    at_list f d s (record { sought = sought; kind = kind; part = part; checker = c; sets = sets; units = n }) l text
     ∙ rw (not_end text is)
-    (ap (λ (o : Option Listed). and_then (λ x. Ok (in_reach s x)) (list_text f s.nodes (record { kind = kind; part = part; checker = c; sets = sets; units = n }) l text o)) (not_listed text is) ∙ list_taken l s part c sets n kind (step_in text))
+    (ap (λ (o : Option Listed). and_then (λ x. Ok (in_reach s x)) (list_text f s.nodes (record { sought = sought; kind = kind; part = part; checker = c; sets = sets; units = n }) l text o)) (not_listed text is) ∙ list_taken l s sought part c sets n kind (step_in text))
 
 -- a step line that was read as a stream, before and after which the checkers were these, is taken so
 pub read_line : (f : System) (d : List ℕ) (p : Proof) (part : Bool) (now later : Stepping) (n l line : ℕ) (words : StepWords) (text : List ℕ) (r : Result (Finished × ℕ) CertError)
@@ -184,12 +186,12 @@ read_line f d p part now later n l line words text r rule vars database number i
 pub sized_sets : (f : System) (p : Proof) (c : Checking) (n : ℕ) → IsKnown f (place_of p c n) → HasSizedSets p
 sized_sets f (proof.Refutation h) c n is = tt
 sized_sets f (proof.Partial h) c n is = tt
-sized_sets f (proof.List s kind part sets) c n is = (length f.sets, λ k t low. (is.1.sets k t low).places)
+sized_sets f (proof.List s sought kind part sets) c n is = (length f.sets, λ k t low. (is.1.sets k t low).places)
 
 -- what is known behind a line of a proof by steps
 pub known_after : (f : System) (d : List ℕ) (p : Proof) (c : Checking) (n l : ℕ) (text : List ℕ) (state : State) → IsKnown f (place_of p c n) → take_line f d (place_of p c n) l text ≡ Ok state → IsKnownState f state
 known_after f d (proof.Refutation h) c n l text state is e = known_step f h c l text is state (sym (at_steps f d h c l text) ∙ e)
 known_after f d (proof.Partial h) c n l text state is e = known_lemma f h c n l text is state (sym (at_lemmas f d h c n l text) ∙ e)
-known_after f d (proof.List s kind part sets) c n l text state is e =
-    let k : Listing = record { kind = kind; part = part; checker = c; sets = sets; units = n } in
+known_after f d (proof.List s sought kind part sets) c n l text state is e =
+    let k : Listing = record { sought = sought; kind = kind; part = part; checker = c; sets = sets; units = n } in
     known_reach f s (AtList k) l text is state (sym (at_list f d s k l text) ∙ e)

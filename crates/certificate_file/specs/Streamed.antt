@@ -15,7 +15,7 @@ use Rattle.list_journal.specs.Order.{ordered}
 use Rattle.reach_kinds.specs.Bodies.{and_then, is_covered}
 use Rattle.certificate_file.specs.declared.places.Answer.TheVariants.{Refutation}
 use Rattle.reach_kinds.specs.declared.places.ReachPlace.TheVariants.{AtList, AtEnd as Ended}
-use Rattle.reach_kinds.specs.declared.places.Reached.TheVariants.{Blocking as reached_blocking}
+use Rattle.reach_kinds.specs.Bodies.{whole_of}
 use Rattle.certificate_file.specs.declared.places.Place.{Place}
 use Rattle.certificate_file.specs.declared.places.Place.TheVariants.{AtSteps, AtLemmas, AtReach, AtEnd}
 use Rattle.certificate_file.specs.declared.places.State.{State}
@@ -81,19 +81,19 @@ is_part_kind Part = true
 abbrev pub is_part : Proof → Bool
 is_part (proof.Refutation h) = false
 is_part (proof.Partial h) = true
-is_part (proof.List s kind part sets) = is_part_kind kind
+is_part (proof.List s sought kind part sets) = is_part_kind kind
 
 -- the place of its next line, where this is held and there are so many units
 abbrev pub place_of : Proof → Checking → ℕ → Place
 place_of (proof.Refutation h) c n = AtSteps h c
 place_of (proof.Partial h) c n = AtLemmas h c n
-place_of (proof.List s kind part sets) c n = AtReach s (AtList (record { kind = kind; part = part; checker = c; sets = sets; units = n }))
+place_of (proof.List s sought kind part sets) c n = AtReach s (AtList (record { sought = sought; kind = kind; part = part; checker = c; sets = sets; units = n }))
 
 -- the place behind the empty lemma
 abbrev pub end_of : Proof → Place
 end_of (proof.Refutation h) = AtEnd (record { header = h; answer = Refutation })
 end_of (proof.Partial h) = AtEnd (record { header = h; answer = Refutation })
-end_of (proof.List s kind part sets) = AtReach s (Ended (reached_blocking (ordered sets)))
+end_of (proof.List s sought kind part sets) = AtReach s (Ended (whole_of sought (ordered sets)))
 
 -- what is so after a step, by where it led
 abbrev pub after_step_of : Proof → Checking → ℕ → Progress → State
@@ -104,4 +104,4 @@ after_step_of p c n Refuted = Going (end_of p)
 abbrev pub HasSizedSets : Proof → Type 0
 HasSizedSets (proof.Refutation h) = Unit {0}
 HasSizedSets (proof.Partial h) = Unit {0}
-HasSizedSets (proof.List s kind part sets) = (n : ℕ) × All (λ t. length t ≡ n) sets
+HasSizedSets (proof.List s sought kind part sets) = (n : ℕ) × All (λ t. length t ≡ n) sets

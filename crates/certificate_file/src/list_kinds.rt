@@ -1,30 +1,77 @@
 //! The kinds of lists: the place of the first line of one.
 ghost use Rattle.std.specs.Prelude.{◌≡◌, ◌⊎◌, IfOk, IfErr, IsErrOf, Ok, Err};
-ghost use Rattle.certificate_file.specs.Acceptance.{any_kind_line};
+ghost use Rattle.certificate_file.specs.Acceptance.{list_named, list_kind, any_kind_line};
 ghost use Rattle.certificate_file.specs.Known.{IsSubject};
 ghost use Rattle.reach_kinds.specs.Bodies.{no_listing};
 ghost use Rattle.reach_kinds.specs.declared.places.ReachPlace.TheVariants.{AtList};
 
-use crate::places::{Place, State, Subject};
+use crate::places::{ListTitle, Place, State, Subject};
 use crate::taking::kind_line;
 use cert_lines::CertError;
+use clause_encoder::Version;
 use fbas_core::System;
-use list_journal::ListKind;
+use list_journal::{ListKind, Listed};
 use reach_kinds::{ReachPlace, no_listing};
 use std::alloc::Global;
+
+/// The list of the sought sets that a kind names, whole or in part.
+fn list_named(sought: Listed, whole: &str, part: &str, text: &[u8]) -> Option<ListTitle>
+    ensures { result ≡ list_named sought whole.now part.now text.now }
+{
+    if text == whole.as_bytes() {
+        return Some(ListTitle {
+            sought,
+            kind: ListKind::Whole,
+        });
+    }
+    if text == part.as_bytes() {
+        return Some(ListTitle {
+            sought,
+            kind: ListKind::Partial,
+        });
+    }
+    None
+}
+
+/// The list that a kind names, if it is one. Minimal quorums are listed from version two on.
+fn list_kind(version: Version, text: &[u8]) -> Option<ListTitle>
+    ensures { result ≡ list_kind version text.now }
+{
+    let blocking = list_named(
+        Listed::Blocking,
+        "kind blocking",
+        "kind partial-blocking",
+        text,
+    );
+    match version {
+        Version::One => blocking,
+        Version::Two => match blocking {
+            Some(title) => Some(title),
+            None => list_named(Listed::Quorum, "kind quorums", "kind partial-quorums", text),
+        },
+    }
+}
 
 /// The first line of a list is awaited.
 fn list_from(
     alloc: Global,
     system: &System,
+    sought: Listed,
     kind: ListKind,
     subject: Subject,
 ) -> Result<State, CertError>
     requires { IsSubject system.now subject }
-    ensures ok { IfOk result (λ s. s ≡ State.Going (Place.AtReach subject (AtList (no_listing system.now kind subject.nodes subject.header.faulty)))) }
+    ensures ok { IfOk result (λ s. s ≡ State.Going (Place.AtReach subject (AtList (no_listing system.now sought kind subject.nodes subject.header.faulty)))) }
     ensures err { IfErr result (λ e. e ≡ CertError.Memory) }
 {
-    let listing = no_listing(alloc, system, kind, &subject.nodes, &subject.header.faulty)?;
+    let listing = no_listing(
+        alloc,
+        system,
+        sought,
+        kind,
+        &subject.nodes,
+        &subject.header.faulty,
+    )?;
     Ok(State::Going(Place::AtReach(subject, ReachPlace::AtList(listing))))
 }
 
@@ -41,11 +88,8 @@ pub fn any_kind_line(
     ensures ok { IfOk result (λ s. any_kind_line system.now subject line text.now ≡ Ok s) }
     ensures err { IfErr result (λ e. (e ≡ CertError.Memory) ⊎ (any_kind_line system.now subject line text.now ≡ Err e)) }
 {
-    if text == b"kind blocking".as_slice() {
-        return list_from(alloc, system, ListKind::Whole, subject);
+    match list_kind(subject.version, text) {
+        Some(title) => list_from(alloc, system, title.sought, title.kind, subject),
+        None => kind_line(line, text, subject),
     }
-    if text == b"kind partial-blocking".as_slice() {
-        return list_from(alloc, system, ListKind::Partial, subject);
-    }
-    kind_line(line, text, subject)
 }

@@ -19,7 +19,7 @@ use fbas_core::System;
 use list_journal::ListKind;
 use lrat_checker::{Checker, IdleChecker};
 use lrat_model::Progress;
-use reach_kinds::{Listing, ReachPlace, Reached};
+use reach_kinds::{Listing, ReachPlace, whole_of};
 use std::alloc::Global;
 use step_stream::StepReader;
 
@@ -51,13 +51,14 @@ impl Steps {
             Place::AtReach(subject, place) => match place {
                 ReachPlace::AtList(listing) => {
                     let Listing {
+                        sought,
                         kind,
                         part,
                         checker,
                         sets,
                         units,
                     } = listing;
-                    let proof = Proof::List(subject, kind, part, sets);
+                    let proof = Proof::List(subject, sought, kind, part, sets);
                     Ok(Steps {
                         proof,
                         checker,
@@ -81,7 +82,7 @@ impl Proof {
         match self {
             Proof::Refutation(_) => false,
             Proof::Partial(_) => true,
-            Proof::List(_, kind, _, _) => is_part_kind(*kind),
+            Proof::List(_, _, kind, _, _) => is_part_kind(*kind),
         }
     }
 
@@ -92,8 +93,9 @@ impl Proof {
         match self {
             Proof::Refutation(header) => Place::AtSteps(header, checker),
             Proof::Partial(header) => Place::AtLemmas(header, checker, units),
-            Proof::List(subject, kind, part, sets) => {
+            Proof::List(subject, sought, kind, part, sets) => {
                 let listing = Listing {
+                    sought,
                     kind,
                     part,
                     checker,
@@ -120,12 +122,9 @@ impl Proof {
                 header,
                 answer: Answer::Refutation,
             }),
-            Proof::List(subject, _, part, sets) => {
+            Proof::List(subject, sought, _, part, sets) => {
                 drop(part);
-                Place::AtReach(
-                    subject,
-                    ReachPlace::AtEnd(Reached::Blocking(sets.ordered())),
-                )
+                Place::AtReach(subject, ReachPlace::AtEnd(whole_of(sought, sets.ordered())))
             }
         }
     }

@@ -23,7 +23,7 @@ use Rattle.certificate_file.specs.Verification.{verified}
 use Rattle.certificate_file.specs.declared.places.Header.{Header}
 use Rattle.certificate_file.specs.declared.places.Accepted.{Accepted}
 use Rattle.certificate_file.specs.declared.places.Answer.{Answer as Shown}
-use Rattle.certificate_file.specs.declared.places.Answer.TheVariants.{Partial, PartialBlocking}
+use Rattle.certificate_file.specs.declared.places.Answer.TheVariants.{Partial, PartialBlocking, PartialQuorums}
 use Rattle.cert_lines.specs.declared.faults.CertError.{CertError}
 use Rattle.cert_lines.specs.declared.faults.CertError.TheVariants.{TooLarge as TooManyVariables}
 use Rattle.report.specs.Lines.{Text, usage, same_path, config_too_long, config_refused, orgs_too_long, orgs_refused, cert_refused, accepted, verified as verified_lines}
@@ -81,6 +81,7 @@ cert_status fault = CertRefused
 abbrev pub accepted_status : Shown → Status
 accepted_status (Partial units) = Unknown
 accepted_status (PartialBlocking units) = Unknown
+accepted_status (PartialQuorums units) = Unknown
 accepted_status shown = Yes
 
 -- the first fault of a certificate, or of a proof, is named

@@ -45,8 +45,11 @@ fn accepted_status(answer: &Answer) -> Status
     ensures answer { IsTrue (is_answer result) }
 {
     match answer {
-        Answer::Pair(_) | Answer::Refutation | Answer::Blocking(_) => Status::Yes,
-        Answer::Partial(_) | Answer::PartialBlocking(_) => Status::Unknown,
+        Answer::Pair(_) | Answer::Refutation | Answer::Blocking(_) | Answer::Quorums(_) =>
+            Status::Yes,
+        Answer::Partial(_) | Answer::PartialBlocking(_) | Answer::PartialQuorums(_) => {
+            Status::Unknown
+        }
     }
 }
 

@@ -104,13 +104,13 @@ pub record PrintsList (s : Search) (old new : DeskState) : Type 0 where
   pub journal : List JournalLine
   pub left : ℕ
   pub lists : WholeHolds listed.Blocking (part s).sets (deleted s) s.budget left sets.items journal
-  pub held : new.files s.path ≡ Some (list_cert_of (request s) (whole_list sets journal))
-  pub accepted : IsAccepted s (list_cert_of (request s) (whole_list sets journal)) (shown.Blocking (raised_sets s.whole s.header sets.items))
+  pub held : new.files s.path ≡ Some (list_cert_of listed.Blocking (request s) (whole_list sets journal))
+  pub accepted : IsAccepted s (list_cert_of listed.Blocking (request s) (whole_list sets journal)) (shown.Blocking (raised_sets s.whole s.header sets.items))
 
 -- the budget is spent: so is it said, and the certificate has as many units, each useful when it was added, over clauses that do not close
 pub record PrintsPartOfList (s : Search) (old new : DeskState) : Type 0 where
   pub out : new.out ≡ old.out ++ counted (codes "blocking unknown") s.budget
   pub journal : List JournalLine
   pub lists : PartHolds listed.Blocking (part s).sets (deleted s) s.budget journal
-  pub held : new.files s.path ≡ Some (list_cert_of (request s) (part_of_list journal))
-  pub accepted : IsAccepted s (list_cert_of (request s) (part_of_list journal)) (shown.PartialBlocking s.budget)
+  pub held : new.files s.path ≡ Some (list_cert_of listed.Blocking (request s) (part_of_list journal))
+  pub accepted : IsAccepted s (list_cert_of listed.Blocking (request s) (part_of_list journal)) (shown.PartialBlocking s.budget)

@@ -19,6 +19,7 @@ use cert_writer::{
 use certificate_file::Header;
 use desk_io::{Desk, To, WriteFailed};
 use fbas_core::System;
+use list_journal::Listed;
 use quorum_questions::Answer;
 
 /// What a search found.
@@ -50,7 +51,16 @@ pub fn write_certificate<D: Desk>(
 {
     match found {
         Found::Shared(answer) => write_found(writer, desk, digest, header, whole, kept, answer),
-        Found::Listed(outcome) => write_list(writer, desk, digest, header, whole, kept, outcome),
+        Found::Listed(outcome) => write_list(
+            writer,
+            desk,
+            digest,
+            header,
+            whole,
+            kept,
+            Listed::Blocking,
+            outcome,
+        ),
     }
 }
 

@@ -1,5 +1,5 @@
 -- What is known of a list from line to line.
-use Rattle.std.proofs.Common.{◌≡◌, ℕ, ◌<◌, Bool, List, [], ◌∷◌, ◌++◌, map, length, true, false, not, ◌&&◌, nat_lt, nat_le, Option, Some, None, ok_or, Result, Ok, IfOk, refl, sym, ap, ◌∙◌, subst, arith, inl, inr, codes}
+use Rattle.std.proofs.Common.{◌≡◌, ℕ, ◌<◌, Bool, List, [], ◌∷◌, ◌++◌, map, length, true, false, not, ◌&&◌, ◌||◌, nat_lt, nat_le, Option, Some, None, ok_or, Result, Ok, IfOk, refl, sym, ap, ◌∙◌, subst, arith, inl, inr, codes}
 use Rattle.std.specs.Prelude.{All}
 use Rattle.std.specs.Str.{bytes_eq}
 use Rattle.std.proofs.lemmas.Bool.{cases_Bool, cases_lt, both_ways, ltb-true, leb-false, not-true}
@@ -9,12 +9,11 @@ use Rattle.fbas_model.specs.Nodes.{Table, members, ◌⊆◌, size}
 use Rattle.fbas_model.specs.Names.{Name, marks}
 use Rattle.fbas_model.proofs.Marks.{length-marks}
 use Rattle.witness_pair.proofs.PairLaws.{none_of_both}
-use Rattle.fbas_model.specs.Counting.{is_quorum}
+use Rattle.fbas_model.specs.Fbas.{Fbas}
 use Rattle.fbas_model.specs.Systems.{System}
 use Rattle.fbas_model.specs.Restriction.{kept}
-use Rattle.fbas_model.proofs.QuorumLaw.{quorum-to}
 use Rattle.lrat_model.specs.Literal.{Literal, IsSubset}
-use Rattle.lrat_model.specs.Clauses.{clause_at, with_clause}
+use Rattle.lrat_model.specs.Clauses.{clause_at}
 use Rattle.lrat_model.specs.Steps.{ProofStep, Addition, Deletion, Database, step_fault, after_step, progress_of}
 use Rattle.lrat_model.specs.Rules.{step_fault_by}
 use Rattle.lrat_model.proofs.RatRuns.{rup_is_the_first_rule}
@@ -25,10 +24,10 @@ use Rattle.lrat_model.specs.declared.step.StepFault.TheVariants.{IdOrder}
 use Rattle.lrat_model.specs.declared.step.Progress.{Progress}
 use Rattle.lrat_model.specs.declared.step.Progress.TheVariants.{Going as going, Refuted}
 use Rattle.lrat_text.specs.Lines.{step_in}
-use Rattle.list_journal.specs.Kinds.{is_sought, asks_new}
+use Rattle.list_journal.specs.Kinds.{Is, is_sought, asks_new}
 use Rattle.list_journal.specs.Numbering.{clause_for}
-use Rattle.list_journal.specs.Journals.{JournalLine, SetLine, StepLine, Rules, IsListedFor, IsNewIf, JournalRun, IsNewLine, IsOpen, line_progress, nothing_held, put_if, sets_in}
-use Rattle.list_journal.specs.Tests.{is_blocking, is_minimal}
+use Rattle.list_journal.specs.Journals.{JournalLine, SetLine, StepLine, Rules, IsListedFor, RightFor, IsNewIf, JournalRun, IsNewLine, IsOpen, line_progress, nothing_held, put_if, sets_in}
+use Rattle.list_journal.specs.Tests.{is_within, is_kind, is_minimal}
 use Rattle.list_journal.specs.declared.kinds.ListKind.{ListKind}
 use Rattle.list_journal.specs.declared.kinds.ListKind.TheVariants.{Whole, Partial as Part}
 use Rattle.list_journal.specs.declared.kinds.Listed.{Listed}
@@ -37,31 +36,30 @@ use Rattle.list_journal.proofs.Greatest.{IsGreatest}
 use Rattle.list_journal.proofs.Duality.{quorum_within, right_within as listed_within}
 use Rattle.list_journal.proofs.Ids.{AreBelow, below_run}
 use Rattle.list_journal.proofs.Runs.{run_append, open_append, sets_append}
-use Rattle.list_journal.proofs.TestLaws.{blocks_to, minimal_to}
+use Rattle.list_journal.proofs.TestLaws.{is_kind_to, minimal_to, within_to}
 use Rattle.cert_lines.specs.Limits.{unless}
 use Rattle.cert_lines.specs.Words.{words_of}
 use Rattle.cert_lines.specs.Saying.{or_bad_line}
 use Rattle.cert_lines.specs.declared.faults.CertError.{CertError}
-use Rattle.cert_lines.specs.declared.faults.CertError.TheVariants.{BadLine, UnknownNode, NotQuorum, NotBlocking, NotMinimal, NotNew, Step}
-use Rattle.reach_kinds.specs.Bodies.{and_then, all_among, nodes_of, others, within, adds_covered, is_covered, no_listing, listed_by, Numbered, numbered_in, right_set, is_old, new_set, put_last, with_sought, with_listed, list_set, set_line, literal_in, is_old_step, with_step, after_list_step, list_step_unless, list_step, list_end, list_text, list_line, reach_line}
+use Rattle.cert_lines.specs.declared.faults.CertError.TheVariants.{BadLine, UnknownNode, NotMinimal, NotNew, Step}
+use Rattle.reach_kinds.specs.Bodies.{and_then, all_among, nodes_of, others, within, adds_covered, is_covered, asks_inside, not_of, asks_steps, part_of, no_listing, listed_by, Numbered, numbered_in, right_set, is_old, new_set, put_last, with_sought, with_listed, list_set, set_line, literal_in, is_old_step, with_step, after_list_step, list_step_unless, list_step, list_end, list_text, list_line, reach_line}
 use Rattle.reach_kinds.specs.Shown.{IsReached}
 use Rattle.reach_kinds.specs.declared.places.Reached.{Reached}
 use Rattle.reach_kinds.specs.Known.{IsPartNodes, IsPartSet, rules_of, IsList, IsReachPlace, IsReachState}
 use Rattle.reach_kinds.specs.declared.places.Listing.{Listing}
 use Rattle.reach_kinds.specs.declared.places.ListPart.{ListPart}
-use Rattle.reach_kinds.specs.declared.places.Reached.TheVariants.{PartialBlocking}
 use Rattle.reach_kinds.specs.declared.places.ReachPlace.{ReachPlace}
 use Rattle.reach_kinds.specs.declared.places.ReachPlace.TheVariants.{AtList, AtEnd}
 use Rattle.reach_kinds.specs.declared.places.ReachState.{ReachState}
 use Rattle.reach_kinds.specs.declared.places.ReachState.TheVariants.{Going, Done}
 use Rattle.reach_kinds.proofs.CoverLaws.{covered-from}
-use Rattle.reach_kinds.proofs.ListShown.{part_faulty_size, cut_size, part_greatest, list_holds, list_shown}
+use Rattle.reach_kinds.proofs.ListShown.{part_faulty_size, cut_size, part_greatest, list_holds, list_shown, part_shown}
 use Rattle.reach_kinds.proofs.Inside.{inside}
 use Rattle.reach_kinds.proofs.Results.{got, passed, within_part}
 
 -- before the first line
-pub list_starts : (f : System) (kind : ListKind) (nodes gone : Table) → IsPartNodes f nodes gone → IsList f nodes gone (no_listing f kind nodes gone)
-list_starts f kind nodes gone is = record {
+pub list_starts : (f : System) (sought : Listed) (kind : ListKind) (nodes gone : Table) → IsPartNodes f nodes gone → IsList f nodes gone (no_listing f sought kind nodes gone)
+list_starts f sought kind nodes gone is = record {
   subject = is;
   part = refl;
   rule = refl;
@@ -85,7 +83,7 @@ new_clause : (asked : Bool) (d : Database) (id : ℕ) (clause : List Literal) �
 new_clause true d id clause below above off = new_where_uncovered d id clause below above off
 new_clause false d id clause below above off = tt
 
-new_step : (r : Rules) (kind : ListKind) (d : Database) (step : ProofStep) → AreBelow d → step_fault r.vars d step ≡ None → (asks_new listed.Blocking kind listed.Quorum && adds_covered d.held step) ≡ false → IsNewLine r kind d.held (StepLine step)
+new_step : (r : Rules) (kind : ListKind) (d : Database) (step : ProofStep) → AreBelow d → step_fault r.vars d step ≡ None → (asks_steps kind && adds_covered d.held step) ≡ false → IsNewLine r kind d.held (StepLine step)
 new_step r Whole d step below none off = tt
 new_step r Part d (Addition id lits hints) below none off = elim (cases_Bool (nat_le id d.last)) [
   | inl low ↦ let refused = rw low at none in absurd cc
@@ -98,17 +96,24 @@ no_start k h = refl
 
 -- ---- a line more
 
+-- what passes the tests may be listed
+made : (sought which : Listed) (f : Fbas) (b g u : Table) → IsGreatest f (members b) g → length b ≡ length f → (not (asks_inside sought which) || is_within u g) ≡ true → Is which f (members b) (members u) → (not (is_sought sought which) || is_minimal which f b u) ≡ true → RightFor (is_sought sought which) which f (members b) g u
+made listed.Quorum listed.Quorum f b g u greatest same inside is least = record { quorum = is; least = minimal_to listed.Quorum f b u same least }
+made listed.Quorum listed.Blocking f b g u greatest same inside is least = (is, within_to u g inside)
+made listed.Blocking listed.Quorum f b g u greatest same inside is least = (is, quorum_within f (members b) g (members u) greatest is)
+made listed.Blocking listed.Blocking f b g u greatest same inside is least = record { blocks = is; least = minimal_to listed.Blocking f b u same least }
+
 right_for : (k : Listing) (l : ℕ) (which : Listed) (u v : Table) → IsGreatest k.part.system.sets (members k.part.faulty) k.part.greatest → length u ≡ length k.part.system.sets → length k.part.faulty ≡ length k.part.system.sets
-    → right_set k l which u ≡ Ok v → (v ≡ u) × IsListedFor listed.Blocking k.part.system.sets (members k.part.faulty) k.part.greatest which u
-right_for k l listed.Quorum u v greatest size same e =
-    let p = passed (NotQuorum l) (is_quorum k.part.system.sets k.part.faulty u) (Ok u) v e in
-    let is = quorum-to k.part.system.sets k.part.faulty u p.0 in
-    (let q = p.1 in cc, (size, (is, quorum_within k.part.system.sets (members k.part.faulty) k.part.greatest (members u) greatest is)))
-right_for k l listed.Blocking u v greatest size same e =
-    let next : Result Table CertError = unless (NotMinimal l) (is_minimal listed.Blocking k.part.system.sets k.part.faulty u) (Ok u) in
-    let one = passed (NotBlocking l) (is_blocking k.part.system.sets k.part.faulty u) next v e in
-    let two = passed (NotMinimal l) (is_minimal listed.Blocking k.part.system.sets k.part.faulty u) (Ok u) v one.1 in
-    (let q = two.1 in cc, (size, record { blocks = blocks_to k.part.system.sets k.part.faulty u same size one.0; least = minimal_to listed.Blocking k.part.system.sets k.part.faulty u same two.0 }))
+    → right_set k l which u ≡ Ok v → (v ≡ u) × IsListedFor k.sought k.part.system.sets (members k.part.faulty) k.part.greatest which u
+right_for k l which u v greatest size same e =
+    let f : Fbas = k.part.system.sets in
+    let b : Table = k.part.faulty in
+    let g : Table = k.part.greatest in
+    let last : Result Table CertError = unless (NotMinimal l) (not (is_sought k.sought which) || is_minimal which f b u) (Ok u) in
+    let one = passed (UnknownNode l) (not (asks_inside k.sought which) || is_within u g) (unless (not_of l which) (is_kind which f b u) last) v e in
+    let two = passed (not_of l which) (is_kind which f b u) last v one.1 in
+    let three = passed (NotMinimal l) (not (is_sought k.sought which) || is_minimal which f b u) (Ok u) v two.1 in
+    (let q = three.1 in cc, (size, made k.sought which f b g u greatest same one.0 (is_kind_to which f b u same size two.0) three.0))
 
 put_more : (b : Bool) (nodes : Table) (sets : List Table) (u : Table) → (map (kept nodes) sets ++ put_if b (kept nodes u) []) ≡ map (kept nodes) (put_last b sets u)
 put_more true nodes sets u = sym (map-append (kept nodes) sets (u ∷ []))
@@ -128,7 +133,7 @@ open_more : (journal : List JournalLine) (line : JournalLine) → IsOpen journal
 open_more journal line opens is = open_append journal (line ∷ []) opens (All-cons (λ l. line_progress l ≡ going) line [] is (All-nil (λ l. line_progress l ≡ going)))
 
 held_below : (f : System) (nodes gone : Table) (k : Listing) → IsList f nodes gone k → AreBelow k.checker.database
-held_below f nodes gone k is = below_run (rules_of listed.Blocking k.part) k.kind nothing_held is.journal k.checker.database is.run no_start
+held_below f nodes gone k is = below_run (rules_of k.sought k.part) k.kind nothing_held is.journal k.checker.database is.run no_start
 
 pub faulty_fits : (f : System) (nodes gone : Table) (k : Listing) → IsList f nodes gone k → length k.part.faulty ≡ length k.part.system.sets
 faulty_fits f nodes gone k is = subst (λ (p : ListPart). length p.faulty ≡ length p.system.sets) (sym is.part) (part_faulty_size f nodes gone is.subject)
@@ -144,7 +149,7 @@ pub right_within : (f : System) (nodes gone : Table) (k : Listing) (l : ℕ) (wh
 right_within f nodes gone k l which u v is size e =
     let greatest = greatest_fits f nodes gone k is in
     let right = right_for k l which u v greatest size (faulty_fits f nodes gone k is) e in
-    subst (λ (t : Table). members t ⊆ members k.part.greatest) (sym right.0) (listed_within listed.Blocking which k.part.system.sets (members k.part.faulty) k.part.greatest u greatest right.1.1)
+    subst (λ (t : Table). members t ⊆ members k.part.greatest) (sym right.0) (listed_within k.sought which k.part.system.sets (members k.part.faulty) k.part.greatest u greatest right.1.1)
 
 -- a set of the part that is listed
 set_known : (f : System) (nodes gone : Table) (k : Listing) (l : ℕ) (which : Listed) (id : ℕ) (u : Table) (state : ReachState) → IsList f nodes gone k → k.checker.database.last < id → IsPartSet f nodes u → list_set nodes k l which id u ≡ Ok state → IsReachState f nodes gone state
@@ -161,18 +166,18 @@ set_known f nodes gone k l which id u state is above part e =
     let off : is_old k which id cut ≡ false = subst (λ (t : Table). is_old k which id t ≡ false) right.0 (not-true (is_old k which id two.0) fresh.0) in
     let next : Listing = with_listed k which id u cut in
     let line : JournalLine = SetLine which id cut in
-    let r : Rules = rules_of listed.Blocking p in
+    let r : Rules = rules_of k.sought p in
     let known : IsList f nodes gone next = record {
       subject = is.subject;
       part = is.part;
       rule = is.rule;
       vars = is.vars;
-      sets = sets_more (IsPartSet f nodes) (is_sought listed.Blocking which) k.sets u is.sets part;
+      sets = sets_more (IsPartSet f nodes) (is_sought k.sought which) k.sets u is.sets part;
       journal = is.journal ++ line ∷ [];
       opens = open_more is.journal line is.opens refl;
       run = run_append r k.kind nothing_held is.journal (line ∷ []) d next.checker.database is.run
-          ((above, right.1), new_clause (asks_new listed.Blocking k.kind which) d id (clause_for listed.Blocking p.greatest which cut) (held_below f nodes gone k is) above off, refl);
-      listed = listed_more listed.Blocking nodes is.journal k.sets which id u is.listed;
+          ((above, right.1), new_clause (asks_new k.sought k.kind which) d id (clause_for k.sought p.greatest which cut) (held_below f nodes gone k is) above off, refl);
+      listed = listed_more k.sought nodes is.journal k.sets which id u is.listed;
     } in
     let there : Going (AtList (with_listed k which id u one.0)) ≡ state = (let q = one.2 in cc) in
     subst (IsReachState f nodes gone) (ap (λ (w : Table). Going (AtList (with_listed k which id u w))) (sym same) ∙ there) known
@@ -202,7 +207,7 @@ step_goes : (f : System) (nodes gone : Table) (k : Listing) (step : ProofStep) (
 step_goes f nodes gone k step p is none off progress = by_progress p progress
   where
     r : Rules
-    r = rules_of listed.Blocking k.part
+    r = rules_of k.sought k.part
 
     taken : step_fault r.vars k.checker.database step ≡ None
     taken =
@@ -224,12 +229,12 @@ step_goes f nodes gone k step p is none off progress = by_progress p progress
       journal = is.journal ++ StepLine step ∷ [];
       opens = open_more is.journal (StepLine step) is.opens is_going;
       run = run;
-      listed = sets_append listed.Blocking is.journal (StepLine step ∷ []) ∙ append-nil (sets_in listed.Blocking is.journal) ∙ is.listed;
+      listed = sets_append k.sought is.journal (StepLine step ∷ []) ∙ append-nil (sets_in k.sought is.journal) ∙ is.listed;
     }
     by_progress Refuted is_refuted =
-        list_shown f nodes gone k.sets is.sets
-        (list_holds listed.Blocking f nodes gone k.kind is.journal step (after_step k.checker.database step) k.sets is.subject is.opens is_refuted
-        (subst (λ (p : ListPart). JournalRun (rules_of listed.Blocking p) k.kind nothing_held (is.journal ++ StepLine step ∷ []) (after_step k.checker.database step)) is.part run)
+        list_shown k.sought f nodes gone k.sets is.sets
+        (list_holds k.sought f nodes gone k.kind is.journal step (after_step k.checker.database step) k.sets is.subject is.opens is_refuted
+        (subst (λ (p : ListPart). JournalRun (rules_of k.sought p) k.kind nothing_held (is.journal ++ StepLine step ∷ []) (after_step k.checker.database step)) is.part run)
         is.listed is.sets)
 
 step_in_list : (f : System) (nodes gone : Table) (k : Listing) (l : ℕ) (step : ProofStep) (o : Option StepFault) (state : ReachState) → IsList f nodes gone k → step_fault_by k.checker.rule k.checker.vars k.checker.database step ≡ o → list_step_unless l k step o ≡ Ok state → IsReachState f nodes gone state
@@ -245,8 +250,8 @@ step_in_list f nodes gone k l step None state is at e =
 end_known : (f : System) (nodes gone : Table) (k : Listing) (l : ℕ) (kind : ListKind) (state : ReachState) → IsPartNodes f nodes gone → list_end kind k l ≡ Ok state → IsReachState f nodes gone state
 end_known f nodes gone k l Whole state is e = absurd cc
 end_known f nodes gone k l Part state is e =
-    let same : Done (PartialBlocking k.units) ≡ state = cc in
-    subst (IsReachState f nodes gone) same (tt, tt)
+    let same : Done (part_of k.sought k.units) ≡ state = cc in
+    subst (IsReachState f nodes gone) same (part_shown k.sought f nodes gone k.units)
 
 text_known : (f : System) (nodes gone : Table) (k : Listing) (l : ℕ) (text : List ℕ) (o : Option Listed) (state : ReachState) → IsList f nodes gone k → list_text f nodes k l text o ≡ Ok state → IsReachState f nodes gone state
 text_known f nodes gone k l text (Some which) state is e =

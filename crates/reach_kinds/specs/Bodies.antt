@@ -1,12 +1,11 @@
 -- The bodies that are read line by line: of lists.
-use Rattle.std.specs.Prelude.{ℕ, ◌+◌, List, [], ◌∷◌, ◌++◌, map, Bool, true, false, not, ◌&&◌, ◌==◌, nat_le, nat_lt, Option, Some, None, is_none, ok_or, Result, Ok, Err, codes, if◌then◌else◌}
+use Rattle.std.specs.Prelude.{ℕ, ◌+◌, List, [], ◌∷◌, ◌++◌, map, Bool, true, false, not, ◌&&◌, ◌||◌, nat_lt, Option, Some, None, is_none, ok_or, Result, Ok, Err, codes, if◌then◌else◌}
 use Rattle.std.specs.List.{list_all, list_any}
 use Rattle.std.specs.Str.{bytes_eq}
 use Rattle.fbas_model.specs.Nodes.{Table, size}
-use Rattle.fbas_model.specs.Names.{Name, is_among, marks, place_of}
-use Rattle.fbas_model.specs.Counting.{is_quorum}
+use Rattle.fbas_model.specs.Names.{Name, is_among, marks}
 use Rattle.fbas_model.specs.Systems.{System}
-use Rattle.fbas_model.specs.Restriction.{everyone, closure_of, kept, restricted, restricted_sets}
+use Rattle.fbas_model.specs.Restriction.{kept, restricted, restricted_sets}
 use Rattle.greatest_quorum.specs.Greatest.{greatest_of}
 use Rattle.lrat_model.specs.Literal.{Literal, has}
 use Rattle.lrat_model.specs.Clauses.{Held, clause_at, with_clause}
@@ -24,20 +23,19 @@ use Rattle.list_journal.specs.Journals.{nothing_held}
 use Rattle.list_journal.specs.Kinds.{is_sought, asks_new}
 use Rattle.list_journal.specs.Numbering.{clause_for}
 use Rattle.list_journal.specs.Order.{ordered}
-use Rattle.list_journal.specs.Tests.{is_blocking, is_minimal}
+use Rattle.list_journal.specs.Tests.{is_within, is_kind, is_minimal}
 use Rattle.list_journal.specs.declared.kinds.ListKind.{ListKind}
 use Rattle.list_journal.specs.declared.kinds.ListKind.TheVariants.{Whole, Partial as Part}
 use Rattle.list_journal.specs.declared.kinds.Listed.{Listed}
 use Rattle.list_journal.specs.declared.kinds.Listed.TheVariants as listed
-use Rattle.cert_lines.specs.Lines.{Lines, tail, line, lines_of}
-use Rattle.cert_lines.specs.Limits.{unless, within_limits}
-use Rattle.cert_lines.specs.Words.{Word, words_of, names_in, names_after, digest_in}
-use Rattle.cert_lines.specs.Saying.{counts_in, or_bad_line}
-use Rattle.cert_lines.specs.declared.saying.Counts.{Counts}
+use Rattle.cert_lines.specs.Limits.{unless}
+use Rattle.cert_lines.specs.Words.{Word, words_of, names_in}
+use Rattle.cert_lines.specs.Saying.{or_bad_line}
 use Rattle.cert_lines.specs.declared.faults.CertError.{CertError}
-use Rattle.cert_lines.specs.declared.faults.CertError.TheVariants.{BadLine, Digest, UnknownNode, NotQuorum, NotBlocking, NotMinimal, Overlap, TooLarge, Formula, Step, NotNew, NotRefuted, Truncated, Trailing}
+use Rattle.cert_lines.specs.declared.faults.CertError.TheVariants.{BadLine, UnknownNode, NotQuorum, NotBlocking, NotMinimal, Step, NotNew, NotRefuted}
 use Rattle.witness_pair.specs.Making.{shared, least}
-use Rattle.reach_kinds.specs.declared.places.Reached.TheVariants.{Blocking, PartialBlocking}
+use Rattle.reach_kinds.specs.declared.places.Reached.{Reached}
+use Rattle.reach_kinds.specs.declared.places.Reached.TheVariants.{Blocking, PartialBlocking, Quorums, PartialQuorums}
 use Rattle.reach_kinds.specs.declared.places.ListPart.{ListPart}
 use Rattle.reach_kinds.specs.declared.places.Listing.{Listing}
 use Rattle.reach_kinds.specs.declared.places.ReachPlace.{ReachPlace}
@@ -82,13 +80,13 @@ abbrev pub holding : Checking → Database → Checking
 holding c database = record { rule = c.rule; vars = c.vars; database = database }
 
 -- the clause, if there is one, has only these literals
-abbrev pub is_within : List Literal → Option (List Literal) → Bool
-is_within lits None = false
-is_within lits (Some clause) = list_all (has lits) clause
+abbrev pub has_only : List Literal → Option (List Literal) → Bool
+has_only lits None = false
+has_only lits (Some clause) = list_all (has lits) clause
 
 -- a clause held under an id below this one has only these literals
 abbrev pub is_covered : Held → ℕ → List Literal → Bool
-is_covered held id lits = list_any (λ e. nat_lt e.0 id && is_within lits (clause_at held e.0)) held
+is_covered held id lits = list_any (λ e. nat_lt e.0 id && has_only lits (clause_at held e.0)) held
 
 -- the step adds a clause that is not new
 abbrev pub adds_covered : Held → ProofStep → Bool
@@ -119,16 +117,16 @@ list_part f nodes faulty = record {
 }
 
 -- a list with what its checker holds, the sets and the units
-abbrev pub listing_on : ListKind → ListPart → Checking → List Table → ℕ → Listing
-listing_on kind part checker sets units = record { kind = kind; part = part; checker = checker; sets = sets; units = units }
+abbrev pub listing_on : Listed → ListKind → ListPart → Checking → List Table → ℕ → Listing
+listing_on sought kind part checker sets units = record { sought = sought; kind = kind; part = part; checker = checker; sets = sets; units = units }
 
 -- what the checker of a list holds: no RAT hint is taken
 abbrev pub list_checking : ℕ → Database → Checking
 list_checking vars database = record { rule = Rup; vars = vars; database = database }
 
 -- before the first line: nothing is held, and each node of the greatest quorum has a variable
-abbrev pub no_listing : System → ListKind → Table → Table → Listing
-no_listing f kind nodes faulty = listing_on kind (list_part f nodes faulty) (list_checking (size (list_part f nodes faulty).greatest) nothing_held) [] 0
+abbrev pub no_listing : System → Listed → ListKind → Table → Table → Listing
+no_listing f sought kind nodes faulty = listing_on sought kind (list_part f nodes faulty) (list_checking (size (list_part f nodes faulty).greatest) nothing_held) [] 0
 
 -- what the first word of a line lists, if it is no step
 abbrev pub listed_by : List Word → Option Listed
@@ -151,14 +149,26 @@ numbered_in [] = None
 numbered_in (w ∷ []) = None
 numbered_in (w ∷ id ∷ names) = numbered_if_any (id_in id) (names_in names)
 
+-- where quorums are sought, a blocking set lies in the greatest one
+abbrev pub asks_inside : Listed → Listed → Bool
+asks_inside listed.Quorum listed.Quorum = false
+asks_inside listed.Quorum listed.Blocking = true
+asks_inside listed.Blocking which = false
+
+abbrev pub not_of : ℕ → Listed → CertError
+not_of l listed.Quorum = NotQuorum l
+not_of l listed.Blocking = NotBlocking l
+
 -- a set of the part that is what it is listed for
 abbrev pub right_set : Listing → ℕ → Listed → Table → Result Table CertError
-right_set k l listed.Quorum u = unless (NotQuorum l) (is_quorum k.part.system.sets k.part.faulty u) (Ok u)
-right_set k l listed.Blocking u = unless (NotBlocking l) (is_blocking k.part.system.sets k.part.faulty u) (unless (NotMinimal l) (is_minimal listed.Blocking k.part.system.sets k.part.faulty u) (Ok u))
+right_set k l which u =
+    unless (UnknownNode l) (not (asks_inside k.sought which) || is_within u k.part.greatest)
+    (unless (not_of l which) (is_kind which k.part.system.sets k.part.faulty u)
+    (unless (NotMinimal l) (not (is_sought k.sought which) || is_minimal which k.part.system.sets k.part.faulty u) (Ok u)))
 
 -- the set's clause had to be new and is not
 abbrev pub is_old : Listing → Listed → ℕ → Table → Bool
-is_old k which id u = asks_new listed.Blocking k.kind which && is_covered k.checker.database.held id (clause_for listed.Blocking k.part.greatest which u)
+is_old k which id u = asks_new k.sought k.kind which && is_covered k.checker.database.held id (clause_for k.sought k.part.greatest which u)
 
 abbrev pub new_set : Listing → ℕ → Listed → ℕ → Table → Result Table CertError
 new_set k l which id u = unless (NotNew l) (not (is_old k which id u)) (Ok u)
@@ -174,7 +184,7 @@ with_sought sought sets which u = put_last (is_sought sought which) sets u
 -- the list with a set u of the whole system, which is w in the part
 abbrev pub with_listed : Listing → Listed → ℕ → Table → Table → Listing
 with_listed k which id u w =
-    listing_on k.kind k.part (holding k.checker (record { held = with_clause k.checker.database.held id (clause_for listed.Blocking k.part.greatest which w); last = id })) (with_sought listed.Blocking k.sets which u) (k.units + 1)
+    listing_on k.sought k.kind k.part (holding k.checker (record { held = with_clause k.checker.database.held id (clause_for k.sought k.part.greatest which w); last = id })) (with_sought k.sought k.sets which u) (k.units + 1)
 
 -- the set u of the whole system listed under an id
 abbrev pub list_set : Table → Listing → ℕ → Listed → ℕ → Table → Result ReachState CertError
@@ -191,18 +201,31 @@ abbrev pub literal_in : ListKind → ℕ → ProofStep → Result ProofStep Cert
 literal_in Whole l step = Ok step
 literal_in Part l step = with_literal l step
 
+abbrev pub asks_steps : ListKind → Bool
+asks_steps Whole = false
+asks_steps Part = true
+
 -- a part's step has to be new and is not
 abbrev pub is_old_step : Listing → ProofStep → Bool
-is_old_step k step = asks_new listed.Blocking k.kind listed.Quorum && adds_covered k.checker.database.held step
+is_old_step k step = asks_steps k.kind && adds_covered k.checker.database.held step
 
 -- the list after a step
 abbrev pub with_step : Listing → ProofStep → Listing
-with_step k step = listing_on k.kind k.part (holding k.checker (after_step k.checker.database step)) k.sets (counted k.units step)
+with_step k step = listing_on k.sought k.kind k.part (holding k.checker (after_step k.checker.database step)) k.sets (counted k.units step)
+
+-- what a list of a kind shows, and a part of one
+abbrev pub whole_of : Listed → List Table → Reached
+whole_of listed.Quorum sets = Quorums sets
+whole_of listed.Blocking sets = Blocking sets
+
+abbrev pub part_of : Listed → ℕ → Reached
+part_of listed.Quorum units = PartialQuorums units
+part_of listed.Blocking units = PartialBlocking units
 
 -- the next line after a step: `end` where it was the empty lemma
 abbrev pub after_list_step : Listing → Progress → ReachState
 after_list_step k going = Going (AtList k)
-after_list_step k Refuted = Going (AtEnd (Blocking (ordered k.sets)))
+after_list_step k Refuted = Going (AtEnd (whole_of k.sought (ordered k.sets)))
 
 -- what is so after a step, if it has no fault and is as new as the kind asks
 abbrev pub list_step_unless : ℕ → Listing → ProofStep → Option StepFault → Result ReachState CertError
@@ -215,7 +238,7 @@ list_step k l step = list_step_unless l k step (step_fault_by k.checker.rule k.c
 -- the end of a list: a whole one does not end before the empty lemma
 abbrev pub list_end : ListKind → Listing → ℕ → Result ReachState CertError
 list_end Whole k l = Err (NotRefuted l)
-list_end Part k l = Ok (Done (PartialBlocking k.units))
+list_end Part k l = Ok (Done (part_of k.sought k.units))
 
 -- a quorum or a minimal blocking set, or else a step
 abbrev pub list_text : System → Table → Listing → ℕ → List ℕ → Option Listed → Result ReachState CertError

@@ -9,7 +9,7 @@ use crate::places::{ListPart, Listing};
 use clause_store::Store;
 use fbas_core::System;
 use greatest_quorum::greatest;
-use list_journal::{ListKind, NodeSets};
+use list_journal::{ListKind, Listed, NodeSets};
 use lrat_checker::IdleChecker;
 use lrat_model::Rule;
 use name_set::NodeSet;
@@ -30,12 +30,13 @@ fn list_checker(alloc: Global, greatest: &NodeSet) -> Result<IdleChecker, AllocE
 pub fn no_listing(
     alloc: Global,
     system: &System,
+    sought: Listed,
     kind: ListKind,
     nodes: &NodeSet,
     faulty: &NodeSet,
 ) -> Result<Listing, AllocError>
     requires { IsPartNodes system.now nodes.now faulty.now }
-    ensures { IfOk result (λ k. k ≡ no_listing system.now kind nodes.now faulty.now) }
+    ensures { IfOk result (λ k. k ≡ no_listing system.now sought kind nodes.now faulty.now) }
 {
     let restricted = system.restrict(alloc, nodes)?;
     let faulty = system.cut(faulty, nodes);
@@ -47,6 +48,7 @@ pub fn no_listing(
     };
     match list_checker(alloc, &part.greatest) {
         Ok(checker) => Ok(Listing {
+            sought,
             kind,
             part,
             checker,

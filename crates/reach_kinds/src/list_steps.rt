@@ -1,12 +1,12 @@
 //! The steps of lists, and their end.
 ghost use Rattle.std.specs.Prelude.{◌≡◌, ◌⊎◌, ◌&&◌, ℕ, length, All, IfOk, IfErr, IsErrOf, Ok, Err};
 ghost use Rattle.lrat_model.specs.Steps.{step_of};
-ghost use Rattle.reach_kinds.specs.Bodies.{and_then, literal_in, is_old_step, after_list_step, list_step, list_end};
+ghost use Rattle.reach_kinds.specs.Bodies.{and_then, literal_in, is_old_step, whole_of, part_of, after_list_step, list_step, list_end};
 
 use crate::places::{Listing, ReachPlace, ReachState, Reached};
 use crate::steps::{adds_covered, counted, with_literal};
 use cert_lines::CertError;
-use list_journal::ListKind;
+use list_journal::{ListKind, Listed, NodeSets};
 use lrat_model::{Progress, Step, StepFault};
 
 /// The step, which is not the empty lemma in a part of a list.
@@ -66,6 +66,26 @@ pub fn list_step(listing: &mut Listing, line: u64, step: Step) -> Result<Progres
     take_list_step(listing, line, &literal)
 }
 
+/// What a list of a kind shows.
+pub fn whole_of(sought: Listed, sets: NodeSets) -> Reached
+    ensures { result ≡ whole_of sought sets }
+{
+    match sought {
+        Listed::Quorum => Reached::Quorums(sets),
+        Listed::Blocking => Reached::Blocking(sets),
+    }
+}
+
+/// What a part of a list of a kind shows.
+fn part_of(sought: Listed, units: u64) -> Reached
+    ensures { result ≡ part_of sought units }
+{
+    match sought {
+        Listed::Quorum => Reached::PartialQuorums(units),
+        Listed::Blocking => Reached::PartialBlocking(units),
+    }
+}
+
 /// The place of the line after a step: the empty lemma ends a whole list, whose sets are then put in order.
 pub fn after_list_step(listing: Listing, progress: Progress) -> ReachPlace
     requires { progress ≡ Progress.Refuted → (n : ℕ) × All (λ s. length s ≡ n) listing.sets }
@@ -75,6 +95,7 @@ pub fn after_list_step(listing: Listing, progress: Progress) -> ReachPlace
         Progress::Going => ReachPlace::AtList(listing),
         Progress::Refuted => {
             let Listing {
+                sought,
                 kind: _,
                 part,
                 checker,
@@ -83,7 +104,7 @@ pub fn after_list_step(listing: Listing, progress: Progress) -> ReachPlace
             } = listing;
             drop(part);
             drop(checker);
-            ReachPlace::AtEnd(Reached::Blocking(sets.ordered()))
+            ReachPlace::AtEnd(whole_of(sought, sets.ordered()))
         }
     }
 }
@@ -93,11 +114,12 @@ pub fn list_end(listing: Listing, line: u64) -> Result<ReachState, CertError>
     ensures unread { IsErrOf result CertError.Read → ⊥ }
     ensures value { result ≡ list_end listing.kind listing line }
 {
+    let sought = listing.sought;
     let kind = listing.kind;
     let units = listing.units;
     drop(listing);
     match kind {
         ListKind::Whole => Err(CertError::NotRefuted(line)),
-        ListKind::Partial => Ok(ReachState::Done(Reached::PartialBlocking(units))),
+        ListKind::Partial => Ok(ReachState::Done(part_of(sought, units))),
     }
 }

@@ -1,6 +1,6 @@
 //! The places of the lines of a body, and what it comes to.
 use fbas_core::System;
-use list_journal::{ListKind, NodeSets};
+use list_journal::{ListKind, Listed, NodeSets};
 use lrat_checker::IdleChecker;
 use name_set::NodeSet;
 
@@ -13,9 +13,10 @@ pub struct ListPart {
     pub greatest: NodeSet,
 }
 
-/// A list so far: the blocking sets of its lines in their order, and how many lines count.
+/// A list so far: the sought sets of its lines in their order, and how many lines count.
 #[derive(Drop)]
 pub struct Listing {
+    pub sought: Listed,
     pub kind: ListKind,
     pub part: ListPart,
     pub checker: IdleChecker,
@@ -30,6 +31,10 @@ pub enum Reached {
     Blocking(NodeSets),
     /// Nothing but work done: so many quorums, minimal blocking sets and lemmas with a literal, each with a clause that was new.
     PartialBlocking(u64),
+    /// All minimal quorums, each once, in name order.
+    Quorums(NodeSets),
+    /// Nothing but work done, where minimal quorums are sought.
+    PartialQuorums(u64),
 }
 
 /// Which line is awaited, with what the lines before it said.

@@ -23,7 +23,7 @@ use Rattle.certificate_file.specs.declared.places.Accepted.{Accepted}
 use Rattle.certificate_file.specs.declared.places.Header.{Header}
 use Rattle.witness_pair.specs.declared.Pair.{Pair}
 use Rattle.certificate_file.specs.declared.places.Answer.{Answer}
-use Rattle.certificate_file.specs.declared.places.Answer.TheVariants.{Pair as pair, Refutation, Partial, Blocking, PartialBlocking}
+use Rattle.certificate_file.specs.declared.places.Answer.TheVariants.{Pair as pair, Refutation, Partial, Blocking, PartialBlocking, Quorums, PartialQuorums}
 
 abbrev pub Text : Type 0
 Text = List ℕ
@@ -165,6 +165,8 @@ accepted_kind Refutation = codes "accepted refutation\n"
 accepted_kind (Partial units) = counted (codes "accepted partial") units
 accepted_kind (Blocking sets) = counted (codes "accepted blocking") (length sets)
 accepted_kind (PartialBlocking units) = counted (codes "accepted partial-blocking") units
+accepted_kind (Quorums sets) = counted (codes "accepted quorums") (length sets)
+accepted_kind (PartialQuorums units) = counted (codes "accepted partial-quorums") units
 
 -- a line for each set
 abbrev pub set_lines : List Name → List Table → Text
@@ -182,6 +184,8 @@ answer_sets Refutation = []
 answer_sets (Partial units) = []
 answer_sets (Blocking sets) = sets
 answer_sets (PartialBlocking units) = []
+answer_sets (Quorums sets) = sets
+answer_sets (PartialQuorums units) = []
 
 -- a word, and behind it the name of a node where there is one
 abbrev pub word_if_any : Text → List Name → Option ℕ → Text

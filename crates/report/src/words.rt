@@ -108,6 +108,8 @@ fn push_kind(text: &mut Vec<u8>, answer: &Answer) -> Result<(), AllocError>
             push_count(text, "accepted blocking", sets.as_slice().len() as u64)
         }
         Answer::PartialBlocking(units) => push_count(text, "accepted partial-blocking", *units),
+        Answer::Quorums(sets) => push_count(text, "accepted quorums", sets.as_slice().len() as u64),
+        Answer::PartialQuorums(units) => push_count(text, "accepted partial-quorums", *units),
     }
 }
 
@@ -128,7 +130,9 @@ fn push_answer_sets(text: &mut Vec<u8>, system: &System, answer: &Answer) -> Res
     ensures { OnOk result (text.new.items ≡ text.old.items ++ set_lines system.now.names (answer_sets answer.now)) }
 {
     match answer {
-        Answer::Blocking(sets) => push_sets(text, system, sets.as_slice()),
+        Answer::Blocking(sets) | Answer::Quorums(sets) => {
+            push_sets(text, system, sets.as_slice())
+        }
         _ => Ok(()),
     }
 }

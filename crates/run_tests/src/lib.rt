@@ -18,6 +18,8 @@ mod malicious;
 #[cfg(test)]
 mod questions;
 #[cfg(test)]
+mod quorums;
+#[cfg(test)]
 mod rat;
 #[cfg(test)]
 mod searches;

@@ -5,4 +5,4 @@ pub returns-clause-written : goal.returns-clause-written
 returns-clause-written c = can_be_listed
 
 pub returns-clause-found : goal.returns-clause-found
-returns-clause-found c = λ s outcome is sorted long bytes head small r. list_found s is sorted long bytes head small outcome r
+returns-clause-found c = λ sought s outcome is sorted long bytes head small r. list_found s is sorted long bytes head small sought outcome r

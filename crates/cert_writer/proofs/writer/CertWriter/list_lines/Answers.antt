@@ -7,4 +7,4 @@ pub returns : goal.returns
 returns g c =
     let kind = writes_same _ _ _ _ _ _ _ _ _ (c.as_bytes.ensures.value ∙ c.list_kind_of.ensures) c.text.ensures in
     let a = writes_more _ _ _ _ _ _ _ _ _ _ _ _ kind c.text-2.ensures in
-    writes_same _ _ _ _ _ _ _ _ _ (list_text c.args.kind c.args.names.now c.args.journal.now) (writes_more _ _ _ _ _ _ _ _ _ _ _ _ a c.journal_lines.ensures)
+    writes_same _ _ _ _ _ _ _ _ _ (list_text c.args.sought c.args.kind c.args.names.now c.args.journal.now) (writes_more _ _ _ _ _ _ _ _ _ _ _ _ a c.journal_lines.ensures)
