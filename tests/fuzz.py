@@ -329,11 +329,11 @@ def random_body(rng, subject, kind):
             nodes = random_quorum(rng, subject) if letter == "q" else random_block(rng, subject)
             if letter == "b" or nodes:
                 last += 1
-                held[last] = frozenset((1 if letter == "q" else -1) * (order.index(it) + 1) for it in nodes if it in order)
+                held[last] = frozenset((-1 if letter == plain.SOUGHT[kind].decode() else 1) * (order.index(it) + 1) for it in nodes if it in order)
                 lines.append("%s %d%s" % (letter, last, plain.spelled(nodes)))
         more, last = random_steps(rng, held, len(order), last, rng.random() < 0.05)
         lines += more
-    return lines + (empty_lemma(held, last) if kind in ("refutation", "blocking") else [])
+    return lines + (empty_lemma(held, last) if kind in ("refutation", "blocking", "quorums") else [])
 
 
 def random_proof(rng, subject):

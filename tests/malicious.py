@@ -9,6 +9,7 @@ tests/malicious.py [PROGRAM]; its last line is 'malicious: N passed, M failed'.
 
 import hashlib
 import os
+import re
 import resource
 import signal
 import subprocess
@@ -38,9 +39,9 @@ def nested(depth):
     return b'{"threshold":1,"innerQuorumSets":[' * (depth - 1) + b'{"threshold":1,"validators":["a"]}' + b"]}" * (depth - 1)
 
 
-def head(config, kind, start="", faulty=""):
+def head(config, kind, start="", faulty="", version=1):
     digest = hashlib.sha256(config).hexdigest()
-    return ("fbas-cert 1\nconfig %s\nfrom%s\nfaulty%s\nkind %s\n" % (digest, start, faulty, kind)).encode()
+    return ("fbas-cert %d\nconfig %s\nfrom%s\nfaulty%s\nkind %s\n" % (version, digest, start, faulty, kind)).encode()
 
 
 TWO = system("pq", 2)
@@ -242,6 +243,7 @@ BLOCKS = b"q 1 a b\nq 2 a c\nq 3 b c\nb 4 a b\nb 5 a c\nb 6 b c\n7 -1 0 4 5 3 0\
 BLOCKING = head(THREE, "blocking") + BLOCKS
 LISTED = "accepted blocking 3\nfrom\nfaulty\nset a b\nset a c\nset b c\n"
 SOME = head(THREE, "partial-blocking")
+QUORUMS = head(THREE, "quorums", version=2) + re.sub(rb"(?m)^[qb]", lambda it: b"b" if it[0] == b"q" else b"q", BLOCKS)
 
 LISTS = [
     ("as it should be", THREE, BLOCKING, 0, LISTED),
@@ -273,6 +275,14 @@ LISTS = [
     ("nobody blocks no nodes", EMPTY, head(EMPTY, "blocking") + b"b 1\n2 0 1 0\nend\n", 0, "accepted blocking 1\nfrom\nfaulty\nset\n"),
     ("nobody blocks no nodes, of some", EMPTY, head(EMPTY, "partial-blocking") + b"b 1\nend\n", 2, "accepted partial-blocking 1\nfrom\nfaulty\n"),
     ("nobody twice", EMPTY, head(EMPTY, "blocking") + b"b 1\nb 2\n", 5, "refused not-new 7\n"),
+    ("all quorums", THREE, QUORUMS, 0, LISTED.replace("blocking", "quorums")),
+    ("all quorums in version 1", THREE, QUORUMS.replace(b"cert 2", b"cert 1"), 5, "refused bad-line 5\n"),
+    ("a quorum left out", THREE, QUORUMS.replace(b"q 6 b c\n", b""), 5, "refused step 12 no-such-clause 6\n"),
+    ("a quorum again", THREE, QUORUMS.replace(b"q 6 b c", b"q 6 a b"), 5, "refused not-new 11\n"),
+    ("a quorum that is not minimal", THREE, QUORUMS.replace(b"q 4 a b", b"q 4 a b c"), 5, "refused not-minimal 9\n"),
+    ("a blocking set that is not minimal", THREE, QUORUMS.replace(b"b 3 b c", b"b 3 a b c"), 5, "refused step 12 no-conflict\n"),
+    ("no quorums", EMPTY, head(EMPTY, "quorums", version=2) + b"b 1\n2 0 1 0\nend\n", 0, "accepted quorums 0\nfrom\nfaulty\n"),
+    ("some quorums", THREE, head(THREE, "partial-quorums", version=2) + b"q 1 a b\nend\n", 2, "accepted partial-quorums 1\nfrom\nfaulty\n"),
 ]
 
 # What 'check-lrat' says of a proof of the formula of two nodes, which has 6 variables and 12 clauses.

@@ -20,7 +20,9 @@ MOST_LINE = 134217728
 MOST_ID = 2**63 - 1
 MOST_LIT = 2**31 - 1
 
-KINDS = ("pair", "refutation", "partial", "blocking", "partial-blocking")
+KINDS = ("pair", "refutation", "partial", "blocking", "partial-blocking", "quorums", "partial-quorums")
+# The letter of the sets that a list is of.
+SOUGHT = {"blocking": b"b", "partial-blocking": b"b", "quorums": b"q", "partial-quorums": b"q"}
 
 sys.setrecursionlimit(10000)
 
@@ -514,7 +516,7 @@ class Check:
         self.faulty = self.known(self.names(rest), self.whole) & part
         self.system = {name: self.whole[name] for name in part}
         (kind,) = self.matching(rb"kind (.*)")
-        if kind.decode("latin-1") not in KINDS:
+        if kind.decode("latin-1") not in KINDS or kind.endswith(b"quorums") and self.version == 1:
             self.refuse("bad-line")
         answer, status, lines = self.body(kind.decode())
         if self.at < len(self.data):
@@ -534,8 +536,8 @@ class Check:
         units, sets = self.steps(kind)
         if kind == "refutation":
             return kind, 0, ""
-        if kind == "blocking":
-            return "blocking %d" % len(sets), 0, "".join("set%s\n" % spelled(each) for each in sorted(sets))
+        if kind in ("blocking", "quorums"):
+            return "%s %d" % (kind, len(sets)), 0, "".join("set%s\n" % spelled(each) for each in sorted(sets))
         return "%s %d" % (kind, units), 2, ""
 
     def pair(self):
@@ -565,8 +567,8 @@ class Check:
         self.held = Held(formula.variables, formula.clauses, takes_rat=True)
 
     def steps(self, kind):
-        """The number of units, and the sets of the lines b."""
-        whole = kind in ("refutation", "blocking")
+        """The number of units, and the sets that a list is of."""
+        whole = kind in ("refutation", "blocking", "quorums")
         units, sets, closed = 0, set(), False
         while True:
             line = self.line()
@@ -576,9 +578,9 @@ class Check:
                 return units, sets
             if closed:
                 self.refuse("bad-line")
-            if kind.endswith("blocking") and line[:1] in (b"q", b"b"):
+            if kind in SOUGHT and line[:1] in (b"q", b"b"):
                 nodes = self.list_line(line, kind)
-                if line[:1] == b"b":
+                if line[:1] == SOUGHT[kind]:
                     sets.add(tuple(sorted(nodes)))
                 units += 1
                 continue
@@ -620,17 +622,22 @@ class Check:
         number, names = int(digits), self.names(rest)
         self.judged(self.held.in_order, number)
         nodes = self.known(names, self.system)
+        sought = letter == SOUGHT[kind]
+        if letter == b"b" and not sought:
+            self.known(names, self.order)
         if letter == b"q":
             if not is_quorum(self.system, self.faulty, nodes):
                 self.refuse("not-quorum")
+            smaller = sought and any(greatest_in(self.system, self.faulty, nodes - {node}) for node in nodes)
         else:
             if nodes & self.faulty or not blocks(self.system, self.faulty, nodes):
                 self.refuse("not-blocking")
-            if any(blocks(self.system, self.faulty, nodes - {node}) for node in nodes):
-                self.refuse("not-minimal")
-        sign = 1 if letter == b"q" else -1
+            smaller = sought and any(blocks(self.system, self.faulty, nodes - {node}) for node in nodes)
+        if smaller:
+            self.refuse("not-minimal")
+        sign = -1 if sought else 1
         literals = [sign * (self.order.index(name) + 1) for name in sorted(nodes)]
-        self.hold(number, literals, new=kind == "partial-blocking" or letter == b"b")
+        self.hold(number, literals, new=kind.startswith("partial") or sought)
         return nodes
 
 
