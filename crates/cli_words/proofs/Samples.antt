@@ -4,6 +4,8 @@ use Rattle.clap.specs.Words.{Text}
 use Rattle.cli_words.proofs.OnLiterals.{words_on_literals}
 use Rattle.cli_words.specs.Order.{Ordered}
 use Rattle.cli_words.specs.Words.{order_of}
+use Rattle.cli_words.specs.Table.{row_of}
+use Rattle.cli_words.specs.Usage.{usage}
 use Rattle.cli_words.specs.declared.orders.Command.{Command}
 use Rattle.cli_words.specs.declared.orders.Command.TheVariants.{Query, Search, Check, CheckLrat}
 use Rattle.cli_words.specs.declared.orders.Goal.{Goal}
@@ -49,6 +51,12 @@ no_words = refl
 
 program_alone : order_of (codes "quorum_cli" ∷ []) ≡ Err Words
 program_alone = refl
+
+-- ---- the usage text
+
+usage_text : usage ≡ codes "usage: quorum_cli COMMAND\nshow CONFIG\nclosure CONFIG --node NAME\ngreatest CONFIG [COMMON]\nintersect CONFIG CERT [COMMON] [--budget UNITS]\navailable CONFIG --set NAMES [--from NAME]\ndset CONFIG CERT --set NAMES [--from NAME] [--budget UNITS]\nblocks CONFIG --set NAMES [COMMON]\nvblocks CONFIG --node NAME --set NAMES\nsplits CONFIG CERT --set NAMES [COMMON] [--budget UNITS]\nblocking CONFIG CERT [COMMON] [--budget UNITS]\ncheck CONFIG CERT\nexport CONFIG [COMMON]\ntrial N CERT [--budget UNITS]\ncheck-lrat CONFIG LRAT [COMMON]\nCOMMON: --from NAME --faulty NAMES --orgs ORGS --faulty-orgs IDS\n"
+unfolding usage row_of
+usage_text = refl
 
 -- ---- the commands
 

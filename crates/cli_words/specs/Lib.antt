@@ -1,6 +1,7 @@
-pub mod Arguments
 pub mod Budget
 pub mod Numbers
 pub mod Order
 pub mod Organisations
+pub mod Table
+pub mod Usage
 pub mod Words

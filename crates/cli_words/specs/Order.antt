@@ -1,10 +1,9 @@
 -- The order that a command line gives.
-use Rattle.std.specs.Prelude.{ℕ, List, Bool, true, false, ◌&&◌, ◌||◌, Option, Some, None, option_map, string_bytes}
+use Rattle.std.specs.Prelude.{ℕ, List, Bool, false, ◌&&◌, ◌||◌, Option, Some, None, option_map, string_bytes}
 use Rattle.std.specs.Str.{bytes_eq}
 use Rattle.cli_words.specs.declared.orders.Command.{Command}
-use Rattle.cli_words.specs.declared.orders.Command.TheVariants.{Search, Check, CheckLrat}
-use Rattle.cli_words.specs.declared.orders.Goal.TheVariants.{Trial}
 use Rattle.cli_words.specs.declared.orders.Order.{Order}
+use Rattle.cli_words.specs.Table.{has_certificate, has_configuration}
 
 -- a command with its texts: a path that the command does not have is empty, an option that it does not have or that was not given is `None`, a command that does not search has a budget of 0, and one that is no trial has no organisations
 pub record Ordered : Type 0 where
@@ -35,18 +34,6 @@ order_view o = record {
   budget = o.budget;
   trial = o.trial;
 }
-
--- the commands with a certificate, or with another solver's proof in its place
-abbrev pub has_certificate : Command → Bool
-has_certificate (Search goal) = true
-has_certificate Check = true
-has_certificate CheckLrat = true
-has_certificate command = false
-
--- the commands with a configuration: a trial makes its own
-abbrev pub has_configuration : Command → Bool
-has_configuration (Search Trial) = false
-has_configuration command = true
 
 -- whether the path, where there is one, is this one
 abbrev pub is_path : Option (List ℕ) → List ℕ → Bool

@@ -1,16 +1,21 @@
 -- Which words are taken, and the order that they give. Options, positionals and their refusals are those that clap states.
-use Rattle.std.specs.Prelude.{ℕ, List, [], ◌∷◌, ◌++◌, Bool, true, Option, Some, None, unwrap_or, Result, Ok, Err, codes, if◌then◌else◌}
+use Rattle.std.specs.Prelude.{ℕ, List, [], ◌∷◌, ◌++◌, Bool, true, Option, Some, None, unwrap_or, Result, Ok, Err, if◌then◌else◌}
 use Rattle.std.specs.Str.{bytes_eq}
-use Rattle.clap.specs.Words.{App, Row, Rule, Text, fault_of, first_of, matches_of, new_rule, with_rule}
+use Rattle.clap.specs.Words.{App, Row as Matched, Rule, Text, fault_of, first_of, matches_of, new_rule, with_rule}
 use Rattle.clap.specs.Walk.{is_empty}
 use Rattle.clap.specs.Simple.{new_shape}
 use Rattle.cli_words.specs.Budget.{budget_of}
 use Rattle.cli_words.specs.Order.{Ordered, has_same_path}
 use Rattle.cli_words.specs.Organisations.{organisations_of}
+use Rattle.cli_words.specs.Table.{Row, commands, common, file_id, flag_id, row_of, subject_id}
+use Rattle.cli_words.specs.declared.table.Subject.TheVariants.{Config, Organisations}
+use Rattle.cli_words.specs.declared.table.SecondFile.{SecondFile}
+use Rattle.cli_words.specs.declared.table.SecondFile.TheVariants.{Certificate}
+use Rattle.cli_words.specs.declared.table.Flag.{Flag}
+use Rattle.cli_words.specs.declared.table.Flag.TheVariants.{From, Faulty, Orgs, FaultyOrgs, Node, Set, Budget}
+use Rattle.cli_words.specs.declared.table.Parameter.{Parameter}
+use Rattle.cli_words.specs.declared.table.Parameter.TheVariants.{Needs, Takes, Common}
 use Rattle.cli_words.specs.declared.orders.Command.{Command}
-use Rattle.cli_words.specs.declared.orders.Command.TheVariants.{Query, Search, Check, CheckLrat}
-use Rattle.cli_words.specs.declared.orders.Goal.TheVariants.{Intersect, Dset, Splits, Blocking, Trial}
-use Rattle.cli_words.specs.declared.orders.Query.TheVariants.{Show, Closure, Greatest, Available, Blocks, Vblocks, Export}
 use Rattle.cli_words.specs.declared.orders.OrderFault.{OrderFault}
 use Rattle.cli_words.specs.declared.orders.OrderFault.TheVariants.{Words, SamePath}
 
@@ -33,30 +38,34 @@ abbrev pub with_rules : App → List Rule → App
 with_rules app [] = app
 with_rules app (rule ∷ rules) = with_rules (with_rule app rule) rules
 
--- the options that ask about a part of the system, and that name faulty nodes
-abbrev pub common_options : List Rule
-common_options = optional (codes "from") ∷ optional (codes "faulty") ∷ optional (codes "orgs") ∷ optional (codes "faulty-orgs") ∷ []
-
 -- an app of this name and these arguments
 abbrev pub app_with : Text → List Rule → App
 app_with name rules = record { top = record (new_shape name) { rules = rules }; subs = [] }
 
+abbrev pub optionals : List Flag → List Rule
+optionals [] = []
+optionals (flag ∷ flags) = optional (flag_id flag) ∷ optionals flags
+
+abbrev pub option_rules : Parameter → List Rule
+option_rules (Needs flag) = needed (flag_id flag) ∷ []
+option_rules (Takes flag) = optional (flag_id flag) ∷ []
+option_rules Common = optionals common
+
+abbrev pub all_option_rules : List Parameter → List Rule
+all_option_rules [] = []
+all_option_rules (parameter ∷ parameters) = option_rules parameter ++ all_option_rules parameters
+
+abbrev pub file_rules : Option SecondFile → List Rule
+file_rules None = []
+file_rules (Some file) = positional (file_id file) ∷ []
+
+-- the arguments of a row: what the command is about, its second file, and its options
+abbrev pub rules_of_row : Row → List Rule
+rules_of_row row = positional (subject_id row.subject) ∷ (file_rules row.second ++ all_option_rules row.options)
+
 -- the arguments of a command, as clap reads them
 unfoldable pub app_for : Command → App
-app_for (Query Show) = app_with (codes "show") (positional (codes "config") ∷ [])
-app_for (Query Closure) = app_with (codes "closure") (positional (codes "config") ∷ needed (codes "node") ∷ [])
-app_for (Query Greatest) = app_with (codes "greatest") (positional (codes "config") ∷ common_options)
-app_for (Query Available) = app_with (codes "available") (positional (codes "config") ∷ needed (codes "set") ∷ optional (codes "from") ∷ [])
-app_for (Query Blocks) = app_with (codes "blocks") (positional (codes "config") ∷ needed (codes "set") ∷ common_options)
-app_for (Query Vblocks) = app_with (codes "vblocks") (positional (codes "config") ∷ needed (codes "node") ∷ needed (codes "set") ∷ [])
-app_for (Search Intersect) = app_with (codes "intersect") (positional (codes "config") ∷ positional (codes "cert") ∷ (common_options ++ optional (codes "budget") ∷ []))
-app_for (Search Dset) = app_with (codes "dset") (positional (codes "config") ∷ positional (codes "cert") ∷ needed (codes "set") ∷ optional (codes "from") ∷ optional (codes "budget") ∷ [])
-app_for (Search Splits) = app_with (codes "splits") (positional (codes "config") ∷ positional (codes "cert") ∷ needed (codes "set") ∷ (common_options ++ optional (codes "budget") ∷ []))
-app_for (Search Blocking) = app_with (codes "blocking") (positional (codes "config") ∷ positional (codes "cert") ∷ (common_options ++ optional (codes "budget") ∷ []))
-app_for (Search Trial) = app_with (codes "trial") (positional (codes "organisations") ∷ positional (codes "cert") ∷ optional (codes "budget") ∷ [])
-app_for Check = app_with (codes "check") (positional (codes "config") ∷ positional (codes "cert") ∷ [])
-app_for (Query Export) = app_with (codes "export") (positional (codes "config") ∷ common_options)
-app_for CheckLrat = app_with (codes "check-lrat") (positional (codes "config") ∷ positional (codes "cert") ∷ common_options)
+app_for command = app_with (row_of command).word (rules_of_row (row_of command))
 
 -- clap takes the words: it has no kind of refusal for them
 unfoldable pub is_taken : App → List Text → Bool
@@ -65,21 +74,21 @@ is_taken app words = is_empty (fault_of app words)
 -- ---- what is read of words that are taken
 
 -- the first text of an argument, or the empty text
-abbrev pub text_of : Text → List Row → Text
+abbrev pub text_of : Text → List Matched → Text
 text_of id rows = unwrap_or (first_of id rows) []
 
 -- the texts of a command: what it does not have, or what was not given, is among no rows
-abbrev pub order_in : Command → ℕ → ℕ → List Row → Ordered
+abbrev pub order_in : Command → ℕ → ℕ → List Matched → Ordered
 order_in command budget trial rows = record {
   command = command;
-  config = text_of (codes "config") rows;
-  cert = text_of (codes "cert") rows;
-  orgs = first_of (codes "orgs") rows;
-  node = first_of (codes "node") rows;
-  from = first_of (codes "from") rows;
-  faulty = first_of (codes "faulty") rows;
-  faulty_orgs = first_of (codes "faulty-orgs") rows;
-  set = first_of (codes "set") rows;
+  config = text_of (subject_id Config) rows;
+  cert = text_of (file_id Certificate) rows;
+  orgs = first_of (flag_id Orgs) rows;
+  node = first_of (flag_id Node) rows;
+  from = first_of (flag_id From) rows;
+  faulty = first_of (flag_id Faulty) rows;
+  faulty_orgs = first_of (flag_id FaultyOrgs) rows;
+  set = first_of (flag_id Set) rows;
   budget = budget;
   trial = trial;
 }
@@ -89,14 +98,14 @@ abbrev pub path_checked : Ordered → Result Ordered OrderFault
 path_checked o = if has_same_path o then Err SamePath else Ok o
 
 -- the order of a command's texts with this budget and so many organisations, if both are numbers
-abbrev pub order_with : Command → List Row → Option ℕ → Option ℕ → Result Ordered OrderFault
+abbrev pub order_with : Command → List Matched → Option ℕ → Option ℕ → Result Ordered OrderFault
 order_with command rows None trial = Err Words
 order_with command rows (Some budget) None = Err Words
 order_with command rows (Some budget) (Some trial) = path_checked (order_in command budget trial rows)
 
 -- the order of a command's texts
-abbrev pub order_among : Command → List Row → Result Ordered OrderFault
-order_among command rows = order_with command rows (budget_of command (first_of (codes "budget") rows)) (organisations_of command (first_of (codes "organisations") rows))
+abbrev pub order_among : Command → List Matched → Result Ordered OrderFault
+order_among command rows = order_with command rows (budget_of command (first_of (flag_id Budget) rows)) (organisations_of command (first_of (subject_id Organisations) rows))
 
 -- the order that a command's own words give, which begin with its name
 unfoldable pub order_by : Command → List Text → Result Ordered OrderFault
@@ -104,22 +113,14 @@ order_by command words = if is_taken (app_for command) words then order_among co
 
 -- ---- the command line
 
+-- the first of these whose word the name is
+abbrev pub named_among : List Command → Text → Option Command
+named_among [] name = None
+named_among (command ∷ rest) name = if bytes_eq name (row_of command).word then Some command else named_among rest name
+
 -- the command of a name
 unfoldable pub command_named : Text → Option Command
-command_named name = if bytes_eq name (codes "show") then Some (Query Show)
-    else (if bytes_eq name (codes "closure") then Some (Query Closure)
-    else (if bytes_eq name (codes "greatest") then Some (Query Greatest)
-    else (if bytes_eq name (codes "available") then Some (Query Available)
-    else (if bytes_eq name (codes "blocks") then Some (Query Blocks)
-    else (if bytes_eq name (codes "vblocks") then Some (Query Vblocks)
-    else (if bytes_eq name (codes "intersect") then Some (Search Intersect)
-    else (if bytes_eq name (codes "dset") then Some (Search Dset)
-    else (if bytes_eq name (codes "splits") then Some (Search Splits)
-    else (if bytes_eq name (codes "blocking") then Some (Search Blocking)
-    else (if bytes_eq name (codes "trial") then Some (Search Trial)
-    else (if bytes_eq name (codes "check") then Some Check
-    else (if bytes_eq name (codes "export") then Some (Query Export)
-    else (if bytes_eq name (codes "check-lrat") then Some CheckLrat else None)))))))))))))
+command_named name = named_among commands name
 
 -- the order of a command, if there is one
 abbrev pub order_if_any : Option Command → List Text → Result Ordered OrderFault

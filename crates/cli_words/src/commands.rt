@@ -1,117 +1,102 @@
 //! What clap reads for each command, and the order that its matches give.
 ghost use Rattle.std.specs.Prelude.{◌≡◌, ◌≢◌, ◌⊎◌, true, false, map, IfOk, IfErr, OnOk, string_bytes, option_map};
 ghost use Rattle.clap.specs.Words.{kind_of, app_of, rule_of, found_of, rows_of, matches_of, is_simple_and_free, first_of};
-ghost use Rattle.cli_words.specs.Arguments.{rule_of_argument};
-ghost use Rattle.cli_words.specs.Words.{app_for, app_with, with_rules, is_taken, text_of, order_in};
+ghost use Rattle.cli_words.specs.Table.{flag_id};
+ghost use Rattle.cli_words.specs.Words.{all_option_rules, app_for, file_rules, is_taken, needed as spec_needed, option_rules, optional as spec_optional, order_in, positional as spec_positional, text_of, with_rules};
 ghost use Rattle.cli_words.specs.Order.{order_view};
 
-use crate::orders::{Command, Goal, Order, OrderFault, Query};
+use crate::orders::{Command, Order, OrderFault};
+use crate::table::{Flag, Parameter, SecondFile, Subject, row_of};
 use clap::error::ErrorKind;
 use clap::{Arg, ArgMatches};
 use std::alloc::{AllocError, Global};
 
-// An argument of a command, by its id.
-#[derive(Clone, Copy)]
-enum Argument<'a> {
-    // A word that must be there, by its place among these.
-    Positional(&'a str),
-    // An option that must be there.
-    Needed(&'a str),
-    // An option that may be left out.
-    Optional(&'a str),
-}
-
-// The arguments that the commands have.
-const CONFIG: Argument<'static> = Argument::Positional("config");
-
-const CERT: Argument<'static> = Argument::Positional("cert");
-
-const ORGANISATIONS: Argument<'static> = Argument::Positional("organisations");
-
-const NODE: Argument<'static> = Argument::Needed("node");
-
-const SET: Argument<'static> = Argument::Needed("set");
-
-const FROM: Argument<'static> = Argument::Optional("from");
-
-const FAULTY: Argument<'static> = Argument::Optional("faulty");
-
-const ORGS: Argument<'static> = Argument::Optional("orgs");
-
-const FAULTY_ORGS: Argument<'static> = Argument::Optional("faulty-orgs");
-
-const BUDGET: Argument<'static> = Argument::Optional("budget");
-
-// The name of a command, and its arguments in the order in which clap places them.
-#[tactic(auto, unfolding(crate::specs::Words::app_for))]
-fn form_of<'a>(command: Command) -> (&'a str, &'a [Argument<'a>])
-    ensures { app_with result.0.now (map rule_of_argument result.1.now) ≡ app_for command }
-{
-    match command {
-        Command::Query(Query::Show) => ("show", &[CONFIG]),
-        Command::Query(Query::Closure) => ("closure", &[CONFIG, NODE]),
-        Command::Query(Query::Greatest) => ("greatest", &[CONFIG, FROM, FAULTY, ORGS, FAULTY_ORGS]),
-        Command::Query(Query::Available) => ("available", &[CONFIG, SET, FROM]),
-        Command::Query(Query::Blocks) => (
-            "blocks",
-            &[CONFIG, SET, FROM, FAULTY, ORGS, FAULTY_ORGS],
-        ),
-        Command::Query(Query::Vblocks) => ("vblocks", &[CONFIG, NODE, SET]),
-        Command::Query(Query::Export) => ("export", &[CONFIG, FROM, FAULTY, ORGS, FAULTY_ORGS]),
-        Command::Search(Goal::Intersect) => (
-            "intersect",
-            &[CONFIG, CERT, FROM, FAULTY, ORGS, FAULTY_ORGS, BUDGET],
-        ),
-        Command::Search(Goal::Dset) => ("dset", &[CONFIG, CERT, SET, FROM, BUDGET]),
-        Command::Search(Goal::Splits) => (
-            "splits",
-            &[CONFIG, CERT, SET, FROM, FAULTY, ORGS, FAULTY_ORGS, BUDGET],
-        ),
-        Command::Search(Goal::Blocking) => (
-            "blocking",
-            &[CONFIG, CERT, FROM, FAULTY, ORGS, FAULTY_ORGS, BUDGET],
-        ),
-        Command::Search(Goal::Trial) => ("trial", &[ORGANISATIONS, CERT, BUDGET]),
-        Command::Check => ("check", &[CONFIG, CERT]),
-        Command::CheckLrat => (
-            "check-lrat",
-            &[CONFIG, CERT, FROM, FAULTY, ORGS, FAULTY_ORGS],
-        ),
-    }
-}
-
-// An argument as clap reads it.
-fn read_by_clap<'a>(alloc: Global, argument: Argument<'a>) -> Arg<'a>
-    ensures rule { rule_of result ≡ rule_of_argument argument.entry }
+// A word that must be there, by its place among these.
+fn positional<'a>(alloc: Global, id: &'a str) -> Arg<'a>
+    ensures rule { rule_of result ≡ spec_positional id.entry.now }
     ensures local { result.global ≡ false }
 {
-    match argument {
-        Argument::Positional(id) => Arg::new(alloc, id).required(true),
-        Argument::Needed(id) => Arg::new(alloc, id).long(id).required(true),
-        Argument::Optional(id) => Arg::new(alloc, id).long(id),
+    Arg::new(alloc, id).required(true)
+}
+
+// An option that must be there.
+fn needed<'a>(alloc: Global, flag: Flag) -> Arg<'a>
+    ensures rule { rule_of result ≡ spec_needed (flag_id flag) }
+    ensures local { result.global ≡ false }
+{
+    Arg::new(alloc, flag.id()).long(flag.id()).required(true)
+}
+
+// An option that may be left out.
+fn optional<'a>(alloc: Global, flag: Flag) -> Arg<'a>
+    ensures rule { rule_of result ≡ spec_optional (flag_id flag) }
+    ensures local { result.global ≡ false }
+{
+    Arg::new(alloc, flag.id()).long(flag.id())
+}
+
+// The command with the options that ask about a part of the system, and that name faulty nodes.
+fn with_common(alloc: Global, command: clap::Command<'_>) -> Result<clap::Command<'_>, AllocError>
+    ensures { IfOk result (λ c. app_of c ≡ with_rules (app_of command.entry) (option_rules Parameter.Common)) }
+{
+    command
+        .arg(optional(alloc, Flag::From))?
+        .arg(optional(alloc, Flag::Faulty))?
+        .arg(optional(alloc, Flag::Orgs))?
+        .arg(optional(alloc, Flag::FaultyOrgs))
+}
+
+// The command with what it has of an option.
+fn with_option(
+    alloc: Global,
+    command: clap::Command<'_>,
+    option: Parameter,
+) -> Result<clap::Command<'_>, AllocError>
+    ensures { IfOk result (λ c. app_of c ≡ with_rules (app_of command.entry) (option_rules option)) }
+{
+    match option {
+        Parameter::Needs(flag) => command.arg(needed(alloc, flag)),
+        Parameter::Takes(flag) => command.arg(optional(alloc, flag)),
+        Parameter::Common => with_common(alloc, command),
     }
 }
 
-// The command with these arguments behind its own.
-fn with_arguments<'a>(
+// The command with these options after its own.
+fn with_options<'a>(
     alloc: Global,
     mut command: clap::Command<'a>,
-    arguments: &[Argument<'a>],
+    options: &[Parameter],
 ) -> Result<clap::Command<'a>, AllocError>
-    ensures { IfOk result (λ c. app_of c ≡ with_rules (app_of command.entry) (map rule_of_argument arguments.now)) }
+    ensures { IfOk result (λ c. app_of c ≡ with_rules (app_of command.entry) (all_option_rules options.now)) }
 {
-    for argument in arguments {
-        command = command.arg(read_by_clap(alloc, *argument))?;
+    for option in options {
+        command = with_option(alloc, command, *option)?;
     }
     Ok(command)
+}
+
+// The command with its second file.
+fn with_file(
+    alloc: Global,
+    command: clap::Command<'_>,
+    second: Option<SecondFile>,
+) -> Result<clap::Command<'_>, AllocError>
+    ensures { IfOk result (λ c. app_of c ≡ with_rules (app_of command.entry) (file_rules second)) }
+{
+    match second {
+        Some(file) => command.arg(positional(alloc, file.id())),
+        None => Ok(command),
+    }
 }
 
 // The arguments that the command takes.
 fn arguments_of<'a>(alloc: Global, command: Command) -> Result<clap::Command<'a>, AllocError>
     ensures { IfOk result (λ c. app_of c ≡ app_for command) }
 {
-    let (name, arguments) = form_of(command);
-    with_arguments(alloc, clap::Command::new(alloc, name), arguments)
+    let row = row_of(command);
+    let command = clap::Command::new(alloc, row.word).arg(positional(alloc, row.subject.id()))?;
+    let command = with_file(alloc, command, row.second)?;
+    with_options(alloc, command, row.options)
 }
 
 /// The matches of a command's own words, or their refusal.
@@ -174,16 +159,16 @@ fn put_text(
     Ok(())
 }
 
-// Puts the text of an argument there, where there is one.
+// Puts the text of an option there, if it is given.
 fn put_if_any(
     alloc: Global,
     slot: &mut Option<String>,
     matches: &ArgMatches<'_>,
-    id: &str,
+    flag: Flag,
 ) -> Result<(), AllocError>
-    ensures { OnOk result (option_map string_bytes slot.new ≡ first_of id.now (rows_of (found_of matches.now))) }
+    ensures { OnOk result (option_map string_bytes slot.new ≡ first_of (flag_id flag) (rows_of (found_of matches.now))) }
 {
-    *slot = match text_at(matches, id) {
+    *slot = match text_at(matches, flag.id()) {
         Some(text) => Some(String::from_str(alloc, text)?),
         None => None,
     };
@@ -195,14 +180,19 @@ fn put_texts(alloc: Global, order: &mut Order, matches: &ArgMatches<'_>) -> Resu
     ensures { OnOk result (order_view order.new
         ≡ order_in order.old.command order.old.budget order.old.trial (rows_of (found_of matches.now))) }
 {
-    put_text(alloc, &mut order.config, matches, "config")?;
-    put_text(alloc, &mut order.cert, matches, "cert")?;
-    put_if_any(alloc, &mut order.orgs, matches, "orgs")?;
-    put_if_any(alloc, &mut order.node, matches, "node")?;
-    put_if_any(alloc, &mut order.from, matches, "from")?;
-    put_if_any(alloc, &mut order.faulty, matches, "faulty")?;
-    put_if_any(alloc, &mut order.faulty_orgs, matches, "faulty-orgs")?;
-    put_if_any(alloc, &mut order.set, matches, "set")
+    put_text(alloc, &mut order.config, matches, Subject::Config.id())?;
+    put_text(
+        alloc,
+        &mut order.cert,
+        matches,
+        SecondFile::Certificate.id(),
+    )?;
+    put_if_any(alloc, &mut order.orgs, matches, Flag::Orgs)?;
+    put_if_any(alloc, &mut order.node, matches, Flag::Node)?;
+    put_if_any(alloc, &mut order.from, matches, Flag::From)?;
+    put_if_any(alloc, &mut order.faulty, matches, Flag::Faulty)?;
+    put_if_any(alloc, &mut order.faulty_orgs, matches, Flag::FaultyOrgs)?;
+    put_if_any(alloc, &mut order.set, matches, Flag::Set)
 }
 
 /// The order that the command's matches give. It is made without texts and lent to what puts them there, so that it is let go

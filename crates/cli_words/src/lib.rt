@@ -1,10 +1,12 @@
 //! The words of the command line, read to an order.
 #![tactic(auto)]
 
-ghost use Rattle.std.specs.Prelude.{◌≡◌, ◌⊎◌, ◌≤◌, ℕ, map, None, Ok, Err, IfOk, IfErr, IfSome, string_bytes, option_map};
+ghost use Rattle.std.specs.Prelude.{◌≡◌, ◌⊎◌, ◌≤◌, ℕ, false, map, None, Ok, Err, IfOk, IfErr, IfSome, string_bytes, option_map};
+ghost use Rattle.std.specs.Str.{bytes_eq};
 ghost use Rattle.clap.specs.Words.{found_of, rows_of};
 ghost use Rattle.cli_words.specs.Words.{order_among, order_by, order_in, order_of, path_checked, command_named as spec_command_named};
-ghost use Rattle.cli_words.specs.Order.{order_view, has_same_path as spec_has_same_path, has_certificate as spec_has_certificate, is_path as spec_is_path};
+ghost use Rattle.cli_words.specs.Order.{order_view, has_same_path as spec_has_same_path, is_path as spec_is_path};
+ghost use Rattle.cli_words.specs.Table.{has_configuration, row_of as spec_row_of};
 ghost use Rattle.cli_words.specs.declared.budget.TheConstants.{MOST_BUDGET};
 ghost use Rattle.cli_words.specs.declared.organisations.TheConstants.{MOST_ORGANISATIONS};
 
@@ -13,6 +15,8 @@ mod commands;
 mod numbers;
 mod orders;
 mod organisations;
+mod table;
+mod usage_text;
 
 use budget::budget_of;
 pub use budget::{MOST_BUDGET, USUAL_BUDGET};
@@ -22,6 +26,8 @@ pub use orders::{Command, Goal, Order, OrderFault, Query};
 pub use organisations::MOST_ORGANISATIONS;
 use organisations::organisations_of;
 use std::alloc::Global;
+use table::{Flag, SecondFile, Subject, all_commands, has_certificate, row_of};
+pub use usage_text::usage;
 
 /// The order that the words give, or why they give none. The words begin with the program's name, and a
 /// request for help is no order. No names are read here: a list of names stays a text.
@@ -33,7 +39,7 @@ pub fn order(alloc: Global, words: &[String]) -> Result<Order, OrderFault>
     ensures err { IfErr result (λ e. (e ≡ OrderFault.Memory)
         ⊎ (order_of (map string_bytes words.now) ≡ Err e)) }
     ensures few { IfOk result (λ o. o.budget ≤ MOST_BUDGET) }
-    ensures organisations { IfOk result (λ o. o.command ≡ Command.Search Goal.Trial → (1 ≤ o.trial) × (o.trial ≤ MOST_ORGANISATIONS)) }
+    ensures organisations { IfOk result (λ o. has_configuration o.command ≡ false → (1 ≤ o.trial) × (o.trial ≤ MOST_ORGANISATIONS)) }
 {
     let [_, rest @ ..] = words else {
         return Err(OrderFault::Words);
@@ -47,27 +53,25 @@ pub fn order(alloc: Global, words: &[String]) -> Result<Order, OrderFault>
     }
 }
 
+// Whether the name is the command's word.
+fn is_named(command: Command, name: &str) -> bool
+    ensures { result ≡ bytes_eq name.now (spec_row_of command).word }
+{
+    name == row_of(command).word
+}
+
+// The command whose word the name is.
 #[tactic(auto, unfolding(crate::specs::Words::command_named))]
 fn command_named(name: &str) -> Option<Command>
     ensures { result ≡ spec_command_named name.now }
 {
-    match name {
-        "show" => Some(Command::Query(Query::Show)),
-        "closure" => Some(Command::Query(Query::Closure)),
-        "greatest" => Some(Command::Query(Query::Greatest)),
-        "available" => Some(Command::Query(Query::Available)),
-        "blocks" => Some(Command::Query(Query::Blocks)),
-        "vblocks" => Some(Command::Query(Query::Vblocks)),
-        "intersect" => Some(Command::Search(Goal::Intersect)),
-        "dset" => Some(Command::Search(Goal::Dset)),
-        "splits" => Some(Command::Search(Goal::Splits)),
-        "blocking" => Some(Command::Search(Goal::Blocking)),
-        "trial" => Some(Command::Search(Goal::Trial)),
-        "check" => Some(Command::Check),
-        "export" => Some(Command::Query(Query::Export)),
-        "check-lrat" => Some(Command::CheckLrat),
-        _ => None,
+    let commands = all_commands();
+    for command in commands {
+        if is_named(*command, name) {
+            return Some(*command);
+        }
     }
+    None
 }
 
 // The order of a command by its own words, which begin with its name.
@@ -77,7 +81,7 @@ fn command_order(alloc: Global, command: Command, words: &[String]) -> Result<Or
     ensures err { IfErr result (λ e. (e ≡ OrderFault.Memory)
         ⊎ (order_by command (map string_bytes words.now) ≡ Err e)) }
     ensures few { IfOk result (λ o. o.budget ≤ MOST_BUDGET) }
-    ensures organisations { IfOk result (λ o. o.command ≡ Command.Search Goal.Trial → (1 ≤ o.trial) × (o.trial ≤ MOST_ORGANISATIONS)) }
+    ensures organisations { IfOk result (λ o. has_configuration o.command ≡ false → (1 ≤ o.trial) × (o.trial ≤ MOST_ORGANISATIONS)) }
 {
     let matches = matched(alloc, command, words)?;
     let Some((budget, trial)) = numbers_of(command, &matches) else {
@@ -94,28 +98,20 @@ fn numbers_of(command: Command, matches: &ArgMatches<'_>) -> Option<(u64, u32)>
     ensures none { result ≡ None → order_among command (rows_of (found_of matches.now)) ≡ Err OrderFault.Words }
     ensures some { IfSome result (λ n. order_among command (rows_of (found_of matches.now)) ≡ path_checked (order_in command n.0 n.1 (rows_of (found_of matches.now)))) }
     ensures few { IfSome result (λ n. n.0 ≤ MOST_BUDGET) }
-    ensures organisations { IfSome result (λ n. command ≡ Command.Search Goal.Trial → (1 ≤ n.1) × (n.1 ≤ MOST_ORGANISATIONS)) }
+    ensures organisations { IfSome result (λ n. has_configuration command ≡ false → (1 ≤ n.1) × (n.1 ≤ MOST_ORGANISATIONS)) }
 {
-    let budget = budget_of(command, text_at(matches, "budget"));
-    budget.zip(organisations_of(command, text_at(matches, "organisations")))
+    let budget = budget_of(command, text_at(matches, Flag::Budget.id()));
+    budget.zip(organisations_of(command, text_at(matches, Subject::Organisations.id())))
 }
 
 fn has_same_path(command: Command, matches: &ArgMatches<'_>) -> bool
     ensures { (budget trial : ℕ) → result ≡ spec_has_same_path (order_in command budget trial (rows_of (found_of matches.now))) }
 {
-    let cert = text_or_empty(matches, "cert");
+    let cert = text_or_empty(matches, SecondFile::Certificate.id());
     has_certificate(command)
         && command.has_configuration()
-        && (text_or_empty(matches, "config") == cert || is_path(text_at(matches, "orgs"), cert))
-}
-
-fn has_certificate(command: Command) -> bool
-    ensures { result ≡ spec_has_certificate command }
-{
-    matches!(
-        command,
-        Command::Search(_) | Command::Check | Command::CheckLrat
-    )
+        && (text_or_empty(matches, Subject::Config.id()) == cert
+            || is_path(text_at(matches, Flag::Orgs.id()), cert))
 }
 
 fn is_path(given: Option<&str>, path: &str) -> bool

@@ -1,57 +1,56 @@
 //! Orders, and why words give none.
 ghost use Rattle.std.specs.Prelude.{◌≡◌};
-ghost use Rattle.cli_words.specs.Order.{has_configuration};
+ghost use Rattle.cli_words.specs.Table.{has_configuration};
 ghost use Rattle.cli_words.specs.declared.orders.OrderFault.TheVariants.{Memory};
 
+use crate::table::{Subject, row_of};
 use std::alloc::AllocError;
 use thiserror::Error;
 
 /// A question about a system that is answered at once.
-///
-/// `COMMON` stands for `--from NAME --faulty NAMES --orgs ORGS --faulty-orgs IDS`, each of which may be left out.
 #[derive(Clone, Copy)]
 pub enum Query {
-    /// `show CONFIG`
+    /// How large the system is, and what is odd in its quorum sets.
     Show,
-    /// `closure CONFIG --node NAME`
+    /// The trust closure of a node.
     Closure,
-    /// `greatest CONFIG [COMMON]`
+    /// The greatest quorum without the faulty nodes.
     Greatest,
-    /// `available CONFIG --set NAMES [--from NAME]`
+    /// Whether the system is available without a set of nodes.
     Available,
-    /// `blocks CONFIG --set NAMES [COMMON]`
+    /// Whether a set meets every quorum without the faulty nodes.
     Blocks,
-    /// `vblocks CONFIG --node NAME --set NAMES`
+    /// Whether a set meets every slice of a node.
     Vblocks,
-    /// `export CONFIG [COMMON]`
+    /// The intersection formula as a text.
     Export,
 }
 
 /// What a search finds out, within a budget. The evidence for the answer is written to a certificate.
 #[derive(Clone, Copy)]
 pub enum Goal {
-    /// `intersect CONFIG CERT [COMMON] [--budget UNITS]`
+    /// Whether every two quorums without the faulty nodes share a node.
     Intersect,
-    /// `dset CONFIG CERT --set NAMES [--from NAME] [--budget UNITS]`
+    /// Whether a set is dispensable: the system is available without it, and its quorums intersect despite it.
     Dset,
-    /// `splits CONFIG CERT --set NAMES [COMMON] [--budget UNITS]`
+    /// Whether quorums intersect once the nodes of a set are deleted.
     Splits,
-    /// `blocking CONFIG CERT [COMMON] [--budget UNITS]`
+    /// All minimal blocking sets.
     Blocking,
-    /// `trial N CERT [--budget UNITS]`
+    /// Whether every two quorums of a trial configuration share a node.
     Trial,
 }
 
-/// What the program is to do, by the command's name and arguments.
+/// What the program is to do, by the command's word. The table of the commands has what each is about, and its options.
 #[derive(Clone, Copy)]
 pub enum Command {
     /// A question is answered at once.
     Query(Query),
     /// A question is searched.
     Search(Goal),
-    /// `check CONFIG CERT`
+    /// A certificate is checked.
     Check,
-    /// `check-lrat CONFIG LRAT [COMMON]`
+    /// Another solver's proof is checked.
     CheckLrat,
 }
 
@@ -60,7 +59,7 @@ impl Command {
     pub fn has_configuration(self) -> bool
         ensures { result ≡ has_configuration self }
     {
-        !matches!(self, Command::Search(Goal::Trial))
+        matches!(row_of(self).subject, Subject::Config)
     }
 }
 

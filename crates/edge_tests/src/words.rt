@@ -171,3 +171,18 @@ static REFUSED: [(&str, &str); 12] = [
 fn refuses_other_words(rt: HostRuntime) {
     wants_read(&rt, rt.alloc(), Part::Own, &REFUSED);
 }
+
+/// The usage text as a string.
+fn printed(alloc: Global) -> Result<String, AllocError> {
+    let text = usage(alloc)?;
+    String::from_utf8_lossy(alloc, &text)
+}
+
+#[test]
+fn prints_a_line_for_each_command(rt: HostRuntime) {
+    same(
+        &rt,
+        printed(rt.alloc()),
+        "usage: quorum_cli COMMAND\nshow CONFIG\nclosure CONFIG --node NAME\ngreatest CONFIG [COMMON]\nintersect CONFIG CERT [COMMON] [--budget UNITS]\navailable CONFIG --set NAMES [--from NAME]\ndset CONFIG CERT --set NAMES [--from NAME] [--budget UNITS]\nblocks CONFIG --set NAMES [COMMON]\nvblocks CONFIG --node NAME --set NAMES\nsplits CONFIG CERT --set NAMES [COMMON] [--budget UNITS]\nblocking CONFIG CERT [COMMON] [--budget UNITS]\ncheck CONFIG CERT\nexport CONFIG [COMMON]\ntrial N CERT [--budget UNITS]\ncheck-lrat CONFIG LRAT [COMMON]\nCOMMON: --from NAME --faulty NAMES --orgs ORGS --faulty-orgs IDS\n",
+    );
+}

@@ -1,28 +1,26 @@
--- A command without a configuration's file is a trial, and what that asks.
-use Rattle.std.proofs.Common.{◌≡◌, ◌∙◌, ℕ, List, Result, Ok, false, refl, sym, ap}
+-- What a trial asks, and that nothing is told of it early.
+use Rattle.std.proofs.Common.{◌≡◌, IsTrue, ◌∙◌, ℕ, List, Result, Ok, false, sym, ap}
 use Rattle.fbas_model.specs.Systems.{System}
 use Rattle.node_json.specs.Configuration.{system_of}
 use Rattle.trial_network.specs.Tree.{trial_text}
-use Rattle.cli_words.specs.Order.{Ordered, has_configuration}
+use Rattle.cli_words.specs.Order.{Ordered}
+use Rattle.cli_words.specs.Table.{has_configuration, row_of}
 use Rattle.cli_words.specs.declared.orders.Command.{Command}
 use Rattle.cli_words.specs.declared.orders.Command.TheVariants.{Query, Search, Check, CheckLrat}
-use Rattle.cli_words.specs.declared.orders.Goal.TheVariants.{Intersect, Dset, Splits, Blocking, Trial}
 use Rattle.order_reading.specs.declared.early.Early.{Early}
 use Rattle.order_reading.specs.declared.reading.Asked.{Asked}
 use Rattle.order_reading.specs.declared.reading.Asked.TheVariants as asked
 use Rattle.order_reading.specs.declared.searches.Search.{Search as Sought}
 use Rattle.order_reading.specs.Searches.{trial_of}
-use Rattle.order_reading.specs.Answers.{trial_asked}
+use Rattle.order_reading.specs.Answers.{is_told, trial_asked}
 
-pub is_trial : (k : Command) → has_configuration k ≡ false → k ≡ Search Trial
-is_trial (Query q) e = absurd cc
-is_trial Check e = absurd cc
-is_trial CheckLrat e = absurd cc
-is_trial (Search Intersect) e = absurd cc
-is_trial (Search Dset) e = absurd cc
-is_trial (Search Splits) e = absurd cc
-is_trial (Search Blocking) e = absurd cc
-is_trial (Search Trial) e = refl
+-- what is told early is told of a configuration
+pub told_of_configuration : (k : Command) → IsTrue (is_told k) → has_configuration k ≡ false → ⊥
+unfolding row_of
+told_of_configuration Check told e = cc
+told_of_configuration CheckLrat told e = cc
+told_of_configuration (Query q) told e = cc
+told_of_configuration (Search goal) told e = cc
 
 -- what a trial asks, where its text was read back
 pub trial_read : (o : Ordered) (f : System) (text : List ℕ) (s : Sought) → system_of (trial_text o.trial) ≡ Ok f → text ≡ trial_text o.trial → s ≡ trial_of f text o → trial_asked o ≡ Ok (asked.Search s)

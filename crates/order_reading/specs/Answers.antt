@@ -5,7 +5,9 @@ use Rattle.sha2.specs.Sha256.{sha256}
 use Rattle.desk_io.specs.State.{Files}
 use Rattle.fbas_model.specs.Names.{Name}
 use Rattle.fbas_model.specs.Systems.{System}
-use Rattle.cli_words.specs.Order.{Ordered, has_configuration}
+use Rattle.cli_words.specs.Order.{Ordered}
+use Rattle.cli_words.specs.Table.{has_configuration}
+use Rattle.cli_words.specs.Usage.{usage}
 use Rattle.cli_words.specs.Words.{order_of}
 use Rattle.cli_words.specs.declared.orders.Command.{Command}
 use Rattle.cli_words.specs.declared.orders.Command.TheVariants as command
@@ -26,7 +28,7 @@ use Rattle.certificate_file.specs.declared.places.Answer.{Answer as Shown}
 use Rattle.certificate_file.specs.declared.places.Answer.TheVariants.{Partial, PartialBlocking, PartialQuorums}
 use Rattle.cert_lines.specs.declared.faults.CertError.{CertError}
 use Rattle.cert_lines.specs.declared.faults.CertError.TheVariants.{TooLarge as TooManyVariables}
-use Rattle.report.specs.Lines.{Text, usage, same_path, config_too_long, config_refused, orgs_too_long, orgs_refused, cert_refused, accepted, verified as verified_lines}
+use Rattle.report.specs.Lines.{Text, same_path, config_too_long, config_refused, orgs_too_long, orgs_refused, cert_refused, accepted, verified as verified_lines}
 use Rattle.order_reading.specs.declared.status.Status.TheVariants.{Yes, Unknown, Usage, ConfigRefused, CertRefused, TooLarge}
 use Rattle.order_reading.specs.declared.status.Status.{Status}
 use Rattle.order_reading.specs.declared.reply.Reply.{Reply as Answer}

@@ -1,8 +1,9 @@
 //! What the words ask, once everything that they name was read.
-ghost use Rattle.std.specs.Prelude.{◌≡◌, ◌≤◌, All, Ok, IsTrue, IfOk, IfErr, IsOk, IsErr, IsErrOf, length, option_map, string_bytes};
+ghost use Rattle.std.specs.Prelude.{◌≡◌, ◌≤◌, All, Ok, IsTrue, IfOk, IfErr, IsOk, IsErr, IsErrOf, false, length, option_map, string_bytes};
 ghost use Rattle.desk_io.specs.State.{OnlyReads};
 ghost use Rattle.desk_io.specs.Faults.{ReadFails};
-ghost use Rattle.cli_words.specs.Order.{order_view, has_configuration};
+ghost use Rattle.cli_words.specs.Order.{order_view};
+ghost use Rattle.cli_words.specs.Table.{has_configuration};
 ghost use Rattle.cli_words.specs.Words.{order_of};
 ghost use Rattle.cli_words.specs.declared.budget.TheConstants.{MOST_BUDGET};
 ghost use Rattle.cli_words.specs.declared.organisations.TheConstants.{MOST_ORGANISATIONS};
@@ -45,11 +46,7 @@ fn refuse_words(alloc: Global, fault: OrderFault) -> Result<Reply, AllocError>
     ensures usage { IfOk result (λ a. a.status ≡ Status.Usage) }
 {
     match fault {
-        OrderFault::Words => says(
-            alloc,
-            Status::Usage,
-            "usage: quorum_cli COMMAND\nshow CONFIG\nclosure CONFIG --node NAME\ngreatest CONFIG [COMMON]\nintersect CONFIG CERT [COMMON] [--budget UNITS]\navailable CONFIG --set NAMES [--from NAME]\ndset CONFIG CERT --set NAMES [--from NAME] [--budget UNITS]\nblocks CONFIG --set NAMES [COMMON]\nvblocks CONFIG --node NAME --set NAMES\nsplits CONFIG CERT --set NAMES [COMMON] [--budget UNITS]\nblocking CONFIG CERT [COMMON] [--budget UNITS]\ncheck CONFIG CERT\nexport CONFIG [COMMON]\ntrial N CERT [--budget UNITS]\ncheck-lrat CONFIG LRAT [COMMON]\nCOMMON: --from NAME --faulty NAMES --orgs ORGS --faulty-orgs IDS\n",
-        ),
+        OrderFault::Words => Ok(Reply::new(Status::Usage, cli_words::usage(alloc)?)),
         OrderFault::SamePath => says(alloc, Status::Usage, "usage same-path\n"),
         OrderFault::Memory => Err(AllocError),
     }
@@ -60,7 +57,7 @@ fn order_in(alloc: Global, words: &[String]) -> Result<Order, Early>
     ensures ok { IfOk result (λ o. order_of (words_of words.now) ≡ Ok (order_view o)) }
     ensures err { IfErr result (λ e. Fails e (or_words_refused (order_of (words_of words.now)))) }
     ensures few { IfOk result (λ o. o.budget ≤ MOST_BUDGET) }
-    ensures organisations { IfOk result (λ o. o.command ≡ Command.Search Goal.Trial → (1 ≤ o.trial) × (o.trial ≤ MOST_ORGANISATIONS)) }
+    ensures organisations { IfOk result (λ o. has_configuration o.command ≡ false → (1 ≤ o.trial) × (o.trial ≤ MOST_ORGANISATIONS)) }
     ensures refused { IfErr result IsUsage }
 {
     match cli_words::order(alloc, words) {
@@ -342,7 +339,7 @@ fn over_trial(alloc: Global, order: &Order) -> Result<Asked, Early>
 // What an order asks.
 fn carry_out<D: Desk>(alloc: Global, order: &Order, desk: &mut D) -> Result<Asked, Early>
     requires few { order.now.budget ≤ MOST_BUDGET }
-    requires organisations { order.now.command ≡ Command.Search Goal.Trial → (1 ≤ order.now.trial) × (order.now.trial ≤ MOST_ORGANISATIONS) }
+    requires organisations { has_configuration order.now.command ≡ false → (1 ≤ order.now.trial) × (order.now.trial ≤ MOST_ORGANISATIONS) }
     ensures gives { IsTrue D.tells → GivesReading (D.state desk.old).plain result (order_asked (order_view order.now) (D.state desk.old).files) }
     ensures answers { IfErr result IsAnswer }
     ensures fits { IfOk result FitsAsked }

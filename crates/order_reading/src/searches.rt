@@ -2,7 +2,8 @@
 ghost use Rattle.std.specs.Prelude.{◌≡◌, ◌≤◌, ◌<◌, All, IfOk, IfErr, IfSome, IsTrue, Ok, length, option_map, string_bytes};
 ghost use Rattle.fbas_model.specs.Nodes.{members, ∅};
 ghost use Rattle.fbas_model.specs.Fbas.{Intersects};
-ghost use Rattle.cli_words.specs.Order.{order_view, has_configuration};
+ghost use Rattle.cli_words.specs.Order.{order_view};
+ghost use Rattle.cli_words.specs.Table.{has_configuration};
 ghost use Rattle.cli_words.specs.declared.budget.TheConstants.{MOST_BUDGET};
 ghost use Rattle.order_reading.specs.Questions.{set_named as set_by_option, faulty_named as faulty_by_options};
 ghost use Rattle.order_reading.specs.Searches.{deleted_by, nobody as spec_nobody, cut_within as spec_cut_within, header_by_goal, search_of, trial_of, FitsSearch};
@@ -167,6 +168,7 @@ fn search_with(
 }
 
 /// What an order with this goal asks of the system of a configuration.
+#[tactic(auto, unfolding(cli_words::specs::Table::row_of))]
 pub fn search_asked(
     alloc: Global,
     goal: Goal,

@@ -1,0 +1,121 @@
+-- The table of the commands: a row for each, from which all that depends on the command follows.
+use Rattle.std.specs.Prelude.{ℕ, List, [], ◌∷◌, Bool, true, false, Option, Some, None, codes}
+use Rattle.std.specs.List.{list_any}
+use Rattle.cli_words.specs.declared.orders.Command.{Command}
+use Rattle.cli_words.specs.declared.orders.Command.TheVariants.{Query, Search, Check, CheckLrat}
+use Rattle.cli_words.specs.declared.orders.Goal.TheVariants.{Intersect, Dset, Splits, Blocking, Trial}
+use Rattle.cli_words.specs.declared.orders.Query.TheVariants.{Show, Closure, Greatest, Available, Blocks, Vblocks, Export}
+use Rattle.cli_words.specs.declared.table.Subject.{Subject}
+use Rattle.cli_words.specs.declared.table.Subject.TheVariants.{Config, Organisations}
+use Rattle.cli_words.specs.declared.table.SecondFile.{SecondFile}
+use Rattle.cli_words.specs.declared.table.SecondFile.TheVariants.{Certificate, Proof}
+use Rattle.cli_words.specs.declared.table.Flag.{Flag}
+use Rattle.cli_words.specs.declared.table.Flag.TheVariants.{From, Faulty, Orgs, FaultyOrgs, Node, Set, Budget}
+use Rattle.cli_words.specs.declared.table.Parameter.{Parameter}
+use Rattle.cli_words.specs.declared.table.Parameter.TheVariants.{Needs, Takes, Common}
+use Rattle.cli_words.specs.declared.table.Row.{Row as RowValue}
+
+abbrev pub Text : Type 0
+Text = List ℕ
+
+-- a command's own word, what it is about, its second file, and its options
+pub record Row : Type 0 where
+  pub word : Text
+  pub subject : Subject
+  pub second : Option SecondFile
+  pub options : List Parameter
+
+-- the row that a Rust value is
+abbrev pub row_view : RowValue → Row
+row_view r = record { word = r.word.now; subject = r.subject; second = r.second; options = r.options.now }
+
+abbrev pub row : Text → Subject → Option SecondFile → List Parameter → Row
+row word subject second options = record { word = word; subject = subject; second = second; options = options }
+
+-- the table
+unfoldable pub row_of : Command → Row
+row_of (Query Show) = row (codes "show") Config None []
+row_of (Query Closure) = row (codes "closure") Config None (Needs Node ∷ [])
+row_of (Query Greatest) = row (codes "greatest") Config None (Common ∷ [])
+row_of (Query Available) = row (codes "available") Config None (Needs Set ∷ Takes From ∷ [])
+row_of (Query Blocks) = row (codes "blocks") Config None (Needs Set ∷ Common ∷ [])
+row_of (Query Vblocks) = row (codes "vblocks") Config None (Needs Node ∷ Needs Set ∷ [])
+row_of (Query Export) = row (codes "export") Config None (Common ∷ [])
+row_of (Search Intersect) = row (codes "intersect") Config (Some Certificate) (Common ∷ Takes Budget ∷ [])
+row_of (Search Dset) = row (codes "dset") Config (Some Certificate) (Needs Set ∷ Takes From ∷ Takes Budget ∷ [])
+row_of (Search Splits) = row (codes "splits") Config (Some Certificate) (Needs Set ∷ Common ∷ Takes Budget ∷ [])
+row_of (Search Blocking) = row (codes "blocking") Config (Some Certificate) (Common ∷ Takes Budget ∷ [])
+row_of (Search Trial) = row (codes "trial") Organisations (Some Certificate) (Takes Budget ∷ [])
+row_of Check = row (codes "check") Config (Some Certificate) []
+row_of CheckLrat = row (codes "check-lrat") Config (Some Proof) (Common ∷ [])
+
+-- the commands in the order of the usage text
+abbrev pub commands : List Command
+commands = Query Show ∷ Query Closure ∷ Query Greatest ∷ Search Intersect ∷ Query Available ∷ Search Dset ∷ Query Blocks ∷ Query Vblocks ∷ Search Splits ∷ Search Blocking ∷ Check ∷ Query Export ∷ Search Trial ∷ CheckLrat ∷ []
+
+-- ---- the names that clap knows the arguments by, and what stands for them in the usage text
+
+abbrev pub subject_id : Subject → Text
+subject_id Config = codes "config"
+subject_id Organisations = codes "organisations"
+
+abbrev pub subject_place : Subject → Text
+subject_place Config = codes "CONFIG"
+subject_place Organisations = codes "N"
+
+abbrev pub file_id : SecondFile → Text
+file_id Certificate = codes "cert"
+file_id Proof = codes "cert"
+
+abbrev pub file_place : SecondFile → Text
+file_place Certificate = codes "CERT"
+file_place Proof = codes "LRAT"
+
+abbrev pub flag_id : Flag → Text
+flag_id From = codes "from"
+flag_id Faulty = codes "faulty"
+flag_id Orgs = codes "orgs"
+flag_id FaultyOrgs = codes "faulty-orgs"
+flag_id Node = codes "node"
+flag_id Set = codes "set"
+flag_id Budget = codes "budget"
+
+abbrev pub flag_place : Flag → Text
+flag_place From = codes "NAME"
+flag_place Faulty = codes "NAMES"
+flag_place Orgs = codes "ORGS"
+flag_place FaultyOrgs = codes "IDS"
+flag_place Node = codes "NAME"
+flag_place Set = codes "NAMES"
+flag_place Budget = codes "UNITS"
+
+-- the options that `COMMON` stands for
+abbrev pub common : List Flag
+common = From ∷ Faulty ∷ Orgs ∷ FaultyOrgs ∷ []
+
+-- ---- what a row says of its command
+
+abbrev pub is_config : Subject → Bool
+is_config Config = true
+is_config Organisations = false
+
+-- the commands with a configuration: a trial makes its own
+abbrev pub has_configuration : Command → Bool
+has_configuration command = is_config (row_of command).subject
+
+abbrev pub is_evidence : Option SecondFile → Bool
+is_evidence None = false
+is_evidence (Some Certificate) = true
+is_evidence (Some Proof) = true
+
+-- the commands with a certificate, or with another solver's proof in its place
+abbrev pub has_certificate : Command → Bool
+has_certificate command = is_evidence (row_of command).second
+
+abbrev pub is_budget : Parameter → Bool
+is_budget (Takes Budget) = true
+is_budget parameter = false
+
+-- the commands with a budget: those that search
+abbrev pub has_budget : Command → Bool
+has_budget command = list_any is_budget (row_of command).options

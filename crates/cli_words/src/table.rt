@@ -1,0 +1,251 @@
+//! The table of the commands: a row for each, from which all that depends on the command follows.
+ghost use Rattle.std.specs.Prelude.{◌≡◌};
+ghost use Rattle.cli_words.specs.Table.{commands, file_id, file_place, flag_id, flag_place, has_budget as spec_has_budget, has_certificate as spec_has_certificate, row_of as spec_row_of, row_view, subject_id, subject_place};
+
+use crate::orders::{Command, Goal, Query};
+use crate::table::Flag::{Budget, From, Node, Set};
+use crate::table::Parameter::{Common, Needs, Takes};
+use crate::table::SecondFile::{Certificate, Proof};
+use crate::table::Subject::{Config, Organisations};
+
+/// What a command is about: the word that comes first after the command's own.
+#[derive(Clone, Copy)]
+pub enum Subject {
+    /// A configuration, by its path.
+    Config,
+    /// A trial, by how many organisations it has.
+    Organisations,
+}
+
+/// The file that a command has beside its configuration, by its path.
+#[derive(Clone, Copy)]
+pub enum SecondFile {
+    /// A certificate, which a search writes and `check` reads.
+    Certificate,
+    /// The proof of another solver.
+    Proof,
+}
+
+/// An option, which has a value.
+#[derive(Clone, Copy)]
+pub enum Flag {
+    From,
+    Faulty,
+    Orgs,
+    FaultyOrgs,
+    Node,
+    Set,
+    Budget,
+}
+
+/// What a command has of options.
+#[derive(Clone, Copy)]
+pub enum Parameter {
+    /// This option must be there.
+    Needs(Flag),
+    /// This option may be left out.
+    Takes(Flag),
+    /// Those that ask about a part of the system, and that name faulty nodes. Each may be left out.
+    Common,
+}
+
+/// A row of the table.
+#[derive(Clone, Copy)]
+pub struct Row<'a> {
+    /// The command's word.
+    pub word: &'a str,
+    pub subject: Subject,
+    pub second: Option<SecondFile>,
+    pub options: &'a [Parameter],
+}
+
+impl Subject {
+    /// By which name clap knows it.
+    pub fn id<'a>(self) -> &'a str
+        ensures { result.now ≡ subject_id self }
+    {
+        match self {
+            Subject::Config => "config",
+            Subject::Organisations => "organisations",
+        }
+    }
+
+    /// What stands for it in the usage text.
+    pub fn place<'a>(self) -> &'a str
+        ensures { result.now ≡ subject_place self }
+    {
+        match self {
+            Subject::Config => "CONFIG",
+            Subject::Organisations => "N",
+        }
+    }
+}
+
+impl SecondFile {
+    /// By which name clap knows it.
+    pub fn id<'a>(self) -> &'a str
+        ensures { result.now ≡ file_id self }
+    {
+        match self {
+            SecondFile::Certificate | SecondFile::Proof => "cert",
+        }
+    }
+
+    /// What stands for it in the usage text.
+    pub fn place<'a>(self) -> &'a str
+        ensures { result.now ≡ file_place self }
+    {
+        match self {
+            SecondFile::Certificate => "CERT",
+            SecondFile::Proof => "LRAT",
+        }
+    }
+}
+
+impl Flag {
+    /// Its word after the two dashes, by which clap knows it.
+    pub fn id<'a>(self) -> &'a str
+        ensures { result.now ≡ flag_id self }
+    {
+        match self {
+            Flag::From => "from",
+            Flag::Faulty => "faulty",
+            Flag::Orgs => "orgs",
+            Flag::FaultyOrgs => "faulty-orgs",
+            Flag::Node => "node",
+            Flag::Set => "set",
+            Flag::Budget => "budget",
+        }
+    }
+
+    /// What stands for its value in the usage text.
+    pub fn place<'a>(self) -> &'a str
+        ensures { result.now ≡ flag_place self }
+    {
+        match self {
+            Flag::From | Flag::Node => "NAME",
+            Flag::Faulty | Flag::Set => "NAMES",
+            Flag::Orgs => "ORGS",
+            Flag::FaultyOrgs => "IDS",
+            Flag::Budget => "UNITS",
+        }
+    }
+}
+
+impl<'a> Row<'a> {
+    fn of(
+        word: &'a str,
+        subject: Subject,
+        second: Option<SecondFile>,
+        options: &'a [Parameter],
+    ) -> Row<'a>
+        ensures { row_view result ≡ record { word = word.entry.now; subject = subject; second = second; options = options.entry.now } }
+    {
+        Row {
+            word,
+            subject,
+            second,
+            options,
+        }
+    }
+}
+
+/// The row of a command.
+#[tactic(auto, unfolding(crate::specs::Table::row_of))]
+pub fn row_of<'a>(command: Command) -> Row<'a>
+    ensures { row_view result ≡ spec_row_of command }
+{
+    match command {
+        Command::Query(Query::Show) => Row::of("show", Config, None, &[]),
+        Command::Query(Query::Closure) => Row::of("closure", Config, None, &[Needs(Node)]),
+        Command::Query(Query::Greatest) => Row::of("greatest", Config, None, &[Common]),
+        Command::Query(Query::Available) => Row::of(
+            "available",
+            Config,
+            None,
+            &[Needs(Set), Takes(From)],
+        ),
+        Command::Query(Query::Blocks) => Row::of("blocks", Config, None, &[Needs(Set), Common]),
+        Command::Query(Query::Vblocks) => Row::of(
+            "vblocks",
+            Config,
+            None,
+            &[Needs(Node), Needs(Set)],
+        ),
+        Command::Query(Query::Export) => Row::of("export", Config, None, &[Common]),
+        Command::Search(Goal::Intersect) => Row::of(
+            "intersect",
+            Config,
+            Some(Certificate),
+            &[Common, Takes(Budget)],
+        ),
+        Command::Search(Goal::Dset) => Row::of(
+            "dset",
+            Config,
+            Some(Certificate),
+            &[Needs(Set), Takes(From), Takes(Budget)],
+        ),
+        Command::Search(Goal::Splits) => Row::of(
+            "splits",
+            Config,
+            Some(Certificate),
+            &[Needs(Set), Common, Takes(Budget)],
+        ),
+        Command::Search(Goal::Blocking) => Row::of(
+            "blocking",
+            Config,
+            Some(Certificate),
+            &[Common, Takes(Budget)],
+        ),
+        Command::Search(Goal::Trial) => Row::of(
+            "trial",
+            Organisations,
+            Some(Certificate),
+            &[Takes(Budget)],
+        ),
+        Command::Check => Row::of("check", Config, Some(Certificate), &[]),
+        Command::CheckLrat => Row::of("check-lrat", Config, Some(Proof), &[Common]),
+    }
+}
+
+/// All commands, in the order of the usage text.
+pub fn all_commands<'a>() -> &'a [Command]
+    ensures { result.now ≡ commands }
+{
+    &[
+        Command::Query(Query::Show),
+        Command::Query(Query::Closure),
+        Command::Query(Query::Greatest),
+        Command::Search(Goal::Intersect),
+        Command::Query(Query::Available),
+        Command::Search(Goal::Dset),
+        Command::Query(Query::Blocks),
+        Command::Query(Query::Vblocks),
+        Command::Search(Goal::Splits),
+        Command::Search(Goal::Blocking),
+        Command::Check,
+        Command::Query(Query::Export),
+        Command::Search(Goal::Trial),
+        Command::CheckLrat,
+    ]
+}
+
+/// Whether the command has a certificate, or another solver's proof in its place.
+pub fn has_certificate(command: Command) -> bool
+    ensures { result ≡ spec_has_certificate command }
+{
+    matches!(
+        row_of(command).second,
+        Some(SecondFile::Certificate | SecondFile::Proof)
+    )
+}
+
+/// Whether the command has a budget.
+pub fn has_budget(command: Command) -> bool
+    ensures { result ≡ spec_has_budget command }
+{
+    row_of(command)
+        .options
+        .iter()
+        .any(|option| matches!(option, Parameter::Takes(Flag::Budget)))
+}
