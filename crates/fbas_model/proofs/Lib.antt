@@ -15,3 +15,4 @@ pub mod Listed
 pub mod WholeLaw
 pub mod SortedNames
 pub mod Chosen
+mod LimitSamples

@@ -1,10 +1,9 @@
 -- The findings of a quorum set, one after another.
-use Rattle.std.proofs.Common.{◌≡◌, ℕ, ◌+◌, ◌-◌, ◌<◌, ◌≤◌, ◌==◌, Bool, true, false, List, [], ◌∷◌, ◌++◌, length, map, take, drop, refl, sym, ◌∙◌, ap, subst, inl, inr, arith, slice_index_or, append_assoc, if◌then◌else◌}
+use Rattle.std.proofs.Common.{◌≡◌, ℕ, ◌+◌, ◌-◌, ◌<◌, ◌==◌, Bool, true, false, List, [], ◌∷◌, ◌++◌, length, map, take, drop, refl, sym, ◌∙◌, ap, subst, inl, inr, arith, slice_index_or, append_assoc, if◌then◌else◌}
 use Rattle.std.proofs.lemmas.List.{append-nil, drop_more, take_more, take_at, take-append-drop, length_push}
 use Rattle.std.proofs.lemmas.List.Sums.{count_by_more_yes, count_by_more_no}
 use Rattle.std.proofs.lemmas.Bool.{cases_Bool, eq-eqb, ne_eqb}
 use Rattle.fbas_model.specs.Trees.{QuorumSet, quorum_set}
-use Rattle.fbas_model.specs.QuorumSets.{all_entries_of}
 use Rattle.fbas_model.specs.Lists.{inner_entries, entries_of}
 use Rattle.fbas_model.proofs.Lists.{count-lists}
 use Rattle.quorum_set.specs.Findings.{Found, repeated, threshold_found, validators_of, times, second_times, findings_at, findings_inside, HoldsFirst}
@@ -96,15 +95,6 @@ pushed path was new i e put = put ∙ ap (λ (l : List ℕ). l ++ i ∷ []) e
 -- the last place of a path is taken off
 pub popped : (path was : List ℕ) (i n : ℕ) (new : List ℕ) → n ≡ length was → was ≡ path ++ i ∷ [] → new ≡ take (n - 1) was → new ≡ path
 popped path was i n new size e taken = taken ∙ ap (take (n - 1)) e ∙ take_at path (i ∷ []) (n - 1) (omega (arith, size, ap length e, length_push path i))
-
--- there are fewer inner sets than entries
-lengths-inner : (qs : List QuorumSet) → length qs ≤ all_entries_of (inner_entries qs)
-lengths-inner [] = omega arith
-lengths-inner (q ∷ qs) = omega (arith, lengths-inner qs)
-
-pub lengths-le : (ws : List ℕ) (qs : List QuorumSet) → length ws + length qs ≤ all_entries_of (entries_of ws qs)
-lengths-le [] qs = omega (arith, lengths-inner qs)
-lengths-le (w ∷ ws) qs = omega (arith, lengths-le ws qs)
 
 -- ---- the repeated nodes of a list
 

@@ -1,5 +1,5 @@
 -- What is found in a quorum set: thresholds that leave no choice, and nodes that stand twice in one list.
-use Rattle.std.specs.Prelude.{◌≡◌, ℕ, ◌+◌, ◌==◌, nat_lt, ◌||◌, List, [], ◌∷◌, ◌++◌, map, take, count_by, if◌then◌else◌}
+use Rattle.std.specs.Prelude.{◌≡◌, ℕ, ◌+◌, ◌<◌, ◌^◌, ◌==◌, nat_lt, ◌||◌, List, [], ◌∷◌, ◌++◌, map, take, count_by, if◌then◌else◌}
 use Rattle.fbas_model.specs.Trees.{QuorumSet, quorum_set, Entries, none, node, inner}
 use Rattle.fbas_model.specs.QuorumSets.{count}
 use Rattle.quorum_set.specs.declared.findings.Finding.{Finding}
@@ -52,6 +52,22 @@ abbrev mutual
 -- what is found in a quorum set
 unfoldable pub findings_of : QuorumSet → List Found
 findings_of q = findings_at [] q
+
+-- how many inner sets stand among the entries themselves
+abbrev pub inner_sets : Entries → ℕ
+inner_sets none = 0
+inner_sets (node w rest) = inner_sets rest
+inner_sets (inner q rest) = 1 + inner_sets rest
+
+abbrev mutual
+  -- the place of each inner set fits 32 bits: no set in it has 2^32 or more of them
+  pub HasPlaces : QuorumSet → Type 0
+  HasPlaces (quorum_set k entries) = (inner_sets entries < 2 ^ 32) × HavePlaces entries
+
+  pub HavePlaces : Entries → Type 0
+  HavePlaces none = Unit {0}
+  HavePlaces (node w rest) = HavePlaces rest
+  HavePlaces (inner q rest) = HasPlaces q × HavePlaces rest
 
 -- the list is what it was, followed by the first so many of the findings
 pub record HoldsFirst (old findings new : List Found) : Type 0 where

@@ -3,8 +3,7 @@
 ghost use Rattle.std.specs.Prelude.{◌≡◌, ◌+◌, ◌<◌, ◌^◌, ◌==◌, ℕ, [], ◌++◌, map, length, sum_by, unwrap_or, IfOk, OnOk, OnErr, if◌then◌else◌};
 ghost use Rattle.std.specs.Ordering.{nat_cmp};
 ghost use Rattle.std.specs.BTreeMap.{get};
-ghost use Rattle.fbas_model.specs.QuorumSets.{all_entries};
-ghost use Rattle.quorum_set.specs.Findings.{repeated, found_all, threshold_found, second_times, findings_at, findings_of, HoldsFirst};
+ghost use Rattle.quorum_set.specs.Findings.{repeated, found_all, threshold_found, second_times, findings_at, findings_of, HasPlaces, HoldsFirst};
 
 use crate::QuorumSet;
 use std::alloc::{AllocError, Global};
@@ -80,7 +79,7 @@ impl QuorumSet {
         path: &mut Vec<u32>,
         into: &mut Vec<Finding>,
     ) -> Result<(), AllocError>
-        requires { all_entries self.now < 2 ^ 32 }
+        requires { HasPlaces self.now }
         ensures path { OnOk result (path.new.items ≡ path.old.items) }
         ensures ok { OnOk result (found_all into.new.items ≡ found_all into.old.items ++ findings_at path.old.items self.now) }
         ensures err { OnErr result (HoldsFirst (found_all into.old.items) (findings_at path.old.items self.now) (found_all into.new.items)) }
@@ -100,10 +99,10 @@ impl QuorumSet {
     /// the places where they stand the second time, then what is found in its inner sets, in order.
     ///
     /// Where memory runs out, the list keeps what it held, followed by the first of the findings. O(e log e) for e entries
-    /// at all depths, and the length of its path for each finding. There have to be fewer than 2^32 entries, since a path has
-    /// the places of inner sets as numbers of 32 bits; a system has a million at most.
+    /// at all depths, and the length of its path for each finding. No set in it may have 2^32 or more inner
+    /// sets, since a path has their places as numbers of 32 bits; a system has a million entries at most.
     pub fn findings(&self, alloc: Global, into: &mut Vec<Finding>) -> Result<(), AllocError>
-        requires { all_entries self.now < 2 ^ 32 }
+        requires { HasPlaces self.now }
         ensures ok { OnOk result (found_all into.new.items ≡ found_all into.old.items ++ findings_of self.now) }
         ensures err { OnErr result (HoldsFirst (found_all into.old.items) (findings_of self.now) (found_all into.new.items)) }
     {

@@ -1,9 +1,9 @@
 use Rattle.std.proofs.Common.{◌≡◌, ℕ, ◌+◌, ◌<◌, ◌++◌, List, ◌∙◌, ap, refl, length, subst, arith}
 use Rattle.std.proofs.lemmas.Result.{err_from_is_err_and}
-use Rattle.quorum_set.specs.Findings.{found_all, findings_at, HoldsFirst}
-use Rattle.fbas_model.proofs.Lists.{lighter}
-use Rattle.quorum_set.proofs.Entries.{entries_within}
-use Rattle.quorum_set.proofs.FindingLaws.{holds_first, holds_lists, holds_lists_part, inner_added, inner_part, pushed, popped, lengths-le}
+use Rattle.quorum_set.specs.Findings.{found_all, findings_at, HasPlaces, HoldsFirst}
+use Rattle.fbas_model.proofs.Lists.{lighter, item_of_all}
+use Rattle.quorum_set.proofs.Places.{inner_sets-lists, places_inners}
+use Rattle.quorum_set.proofs.FindingLaws.{holds_first, holds_lists, holds_lists_part, inner_added, inner_part, pushed, popped}
 use Rattle.quorum_set.proofs.QuorumSet.+find_at.Goals as goal
 
 pub returns-in_err-find_repeated-clause-err : goal.returns-in_err-find_repeated-clause-err
@@ -27,8 +27,8 @@ overflow_cast-at t c =
     let ws = c.self.inside.validators.items in
     let qs = c.self.inside.inner.items in
     let in_range : c.loop-at.at < length qs = rw (← c.deref-inner-items.ensures.value) c.loop-at-test.true in
-    let bound = rw (← c.self.view_is) at c.requires in
-    omega (arith, lengths-le ws qs)
+    let bound = (rw (← c.self.view_is) at c.requires).0 in
+    omega (arith, inner_sets-lists ws qs, bound)
 
 pub returns-in_err-push-clause-err : goal.returns-in_err-push-clause-err
 returns-in_err-push-clause-err t c =
@@ -42,9 +42,8 @@ find_at-requires t c =
     let in_range : c.loop-at.at < length qs = rw (← c.deref-inner-items.ensures.value) c.loop-at-test.true in
     let item = rw c.deref-inner-items.ensures.value at c.inner-item.is in
     let light = lighter ws qs c.loop-at.at c.inner-item.result in_range item in
-    let within = entries_within ws qs c.loop-at.at c.inner-item.result in_range item in
-    let bound = rw (← c.self.view_is) at c.requires in
-    (rw (← c.decreases, ← c.self.view_is) (omega arith), omega arith)
+    let places = places_inners ws qs (rw (← c.self.view_is) at c.requires).1 in
+    (rw (← c.decreases, ← c.self.view_is) (omega arith), item_of_all HasPlaces qs c.loop-at.at c.inner-item.result in_range item places)
 
 pub returns-in_err-find_at-clause-err : goal.returns-in_err-find_at-clause-err
 returns-in_err-find_at-clause-err t c =
