@@ -3,15 +3,19 @@
 #![tactic(auto)]
 
 mod entries;
+mod groups;
 mod heap;
 mod mean;
 mod order;
+mod plan;
 mod queue;
 mod restarts;
 mod turns;
 mod uses;
 
 pub use entries::entry_or;
+pub use groups::{Counter, Groups, Part, RowPair, Rows};
 pub use order::Order;
+pub use plan::Plan;
 pub use restarts::Restarts;
 pub use uses::Uses;

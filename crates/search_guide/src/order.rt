@@ -1,13 +1,14 @@
 //! The order in which variables are decided, each with the value that it had last (phase saving, of Pipatsrisawat and
 //! Darwiche): by turns those first that a conflict saw last, or by scores that conflicts raise, late ones more than early
-//! ones (VSIDS, of Chaff and MiniSat); in a search for many models, and where a caller says so, by scores alone. No answer
-//! depends on it, and only that the variable is open is proved.
+//! ones (VSIDS, of Chaff and MiniSat); in a search for many models, and where a caller says so, by scores alone. A plan,
+//! where there is one, goes first. No answer depends on it, and only that the variable is open is proved.
 ghost use Rattle.std.specs.Prelude.{◌≡◌, ◌⊎◌, ◌||◌, not, ℕ, ◌+◌, ◌<◌, ◌≤◌, ◌^◌, true, false, None, Some, IfOk, IfSome, length, slice_index_or};
 ghost use Rattle.lrat_model.specs.Literal.{Literal, Plus, Minus, has, variable_of};
 ghost use Rattle.search_guide.specs.Open.{open_count};
 
 use crate::entries::entry_or;
 use crate::heap::Heap;
+use crate::plan::Plan;
 use crate::queue::Queue;
 use crate::turns::Turns;
 use lrat_model::Lit;
@@ -29,7 +30,7 @@ const SLOW: u64 = 80;
 const CONFLICTS_OF_A_CLAUSE: u64 = 32;
 
 /// The variables by when a conflict saw them last; scores that conflicts raise, late ones more than early ones; which of
-/// the two decides; and the value that each variable had last.
+/// the two decides; the value that each variable had last; and the plan that goes before both.
 #[derive(Drop)]
 pub struct Order {
     vars: u32,
@@ -39,6 +40,7 @@ pub struct Order {
     heap: Heap,
     queue: Queue,
     turns: Turns,
+    plan: Plan,
 }
 
 impl Model for Order {
@@ -68,7 +70,36 @@ impl Order {
             heap: Heap::new(alloc, vars)?,
             queue: Queue::new(alloc, vars)?,
             turns: Turns::new(),
+            plan: Plan::none(alloc),
         })
+    }
+
+    /// Decides by this plan from here on, as long as groups of it are left.
+    pub fn follow(&mut self, plan: Plan)
+        ensures { self.new ≡ self.old }
+    {
+        self.plan = plan;
+    }
+
+    /// Whether a plan decides. Scores, the queue, phases and turns rest then.
+    pub fn has_plan(&self) -> bool {
+        self.plan.is_on()
+    }
+
+    /// How many times the plan may have the trail cut before the next conflict.
+    pub fn cuts(&self) -> usize {
+        self.plan.cuts()
+    }
+
+    /// Has the plan choose what is decided next, or a place where the trail is to be cut before.
+    pub fn look(
+        &mut self,
+        assignment: &Assignment,
+        reasons: &[u64],
+    ) -> Result<Option<usize>, AllocError>
+        ensures { self.new ≡ self.old }
+    {
+        self.plan.look(assignment, reasons)
     }
 
     /// In each turn variables are decided by their scores, as suits formulas whose gates are written out.
@@ -99,7 +130,11 @@ impl Order {
     pub fn count(&mut self, literals: usize)
         ensures { self.new ≡ self.old }
     {
-        self.turns.count(literals.min(1 << 20) as u32);
+        if self.plan.is_on() {
+            self.plan.count();
+        } else {
+            self.turns.count(literals.min(1 << 20) as u32);
+        }
     }
 
     /// An open variable, the one that was seen last or of the greatest score. O(1) for each that was seen later, and
@@ -110,9 +145,25 @@ impl Order {
         ensures some { IfSome result (λ x. (0 < x) × (x ≤ self.old) × (has assignment.now.trues (Plus x) ≡ false) × (has assignment.now.trues (Minus x) ≡ false)) }
         ensures vars { self.new ≡ self.old }
     {
+        if let Some(x) = self.planned(assignment) {
+            return Some(x);
+        }
         match self.first_choice(assignment) {
             Some(x) => Some(x),
             None => first_open(assignment, self.vars),
+        }
+    }
+
+    /// The variable that is to be decided by the plan, if it is open.
+    fn planned(&self, assignment: &Assignment) -> Option<u32>
+        requires { assignment.now.vars ≡ self.now }
+        ensures { IfSome result (λ x. (0 < x) × (x ≤ self.now) × (has assignment.now.trues (Plus x) ≡ false) × (has assignment.now.trues (Minus x) ≡ false)) }
+    {
+        let x = self.plan.planned()?.variable();
+        if x <= self.vars && is_open(assignment, x) {
+            Some(x)
+        } else {
+            None
         }
     }
 
@@ -129,12 +180,15 @@ impl Order {
         }
     }
 
-    /// The variable or its negation, as its phase is.
+    /// The variable or its negation, as the plan has it, or its phase is.
     pub fn literal(&self, x: u32) -> Lit
         requires some { 0 < x }
         requires range { x ≤ self.now }
         ensures { variable_of result ≡ x }
     {
+        if let Some(l) = self.plan.literal_of(x) {
+            return l;
+        }
         if self.phases[x as usize] {
             Lit::positive(x)
         } else {
@@ -159,7 +213,11 @@ impl Order {
     pub fn reopen(&mut self, undone: &[Lit])
         ensures { self.new ≡ self.old }
     {
-        reopen_all(&mut self.phases, &mut self.heap, &self.scores, undone);
+        if self.plan.is_on() {
+            insert_all(&mut self.heap, &self.scores, undone);
+        } else {
+            reopen_all(&mut self.phases, &mut self.heap, &self.scores, undone);
+        }
         self.queue.reopen(undone);
     }
 
@@ -167,6 +225,9 @@ impl Order {
     pub fn raise(&mut self, seen: &[u32]) -> Result<(), AllocError>
         ensures { self.new ≡ self.old }
     {
+        if self.plan.is_on() {
+            return Ok(());
+        }
         if !self.turns.by_scores() {
             self.queue.move_to_end(seen)?;
             return Ok(());
@@ -208,6 +269,13 @@ fn reopen_all(phases: &mut [bool], heap: &mut Heap, scores: &[u64], lits: &[Lit]
         if let Some(phase) = phases.get_mut(l.variable() as usize) {
             *phase = l.number() > 0;
         }
+        heap.insert(l.variable(), scores);
+    }
+}
+
+/// Puts the variables of literals into a heap.
+fn insert_all(heap: &mut Heap, scores: &[u64], lits: &[Lit]) {
+    for l in lits {
         heap.insert(l.variable(), scores);
     }
 }
