@@ -85,7 +85,9 @@ impl Guide {
         ensures marks { self.new.marks ≡ self.old.marks }
     {
         let levels = self.minimiser.levels_of(lits, places);
-        self.restarts.note(levels);
+        if !self.order.has_plan() {
+            self.restarts.note(levels);
+        }
         self.order.count(lits.len());
         if levels >= FEW_LEVELS && self.order.has_scores_by_turns() {
             lits.len().min(MANY_LITERALS) as u32
@@ -99,6 +101,9 @@ impl Guide {
         ensures order { self.new.order ≡ self.old.order }
         ensures marks { self.new.marks ≡ self.old.marks }
     {
+        if self.order.has_plan() {
+            return false;
+        }
         if self.order.has_scores() {
             self.restarts.is_next()
         } else {

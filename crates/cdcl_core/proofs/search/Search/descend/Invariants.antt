@@ -1,3 +1,4 @@
+use Rattle.std.proofs.Common.{suc, ◌+◌, ◌*◌}
 use Rattle.cdcl_core.specs.Searching.{HasSame, IsSearching}
 use Rattle.search_guide.specs.Open.{open_count}
 use Rattle.cdcl_core.proofs.search.Search.descend.Given as goal
@@ -9,4 +10,4 @@ invariant-turns l = record {
 }
 
 abbrev pub decreases-turns : goal.decreases-turns
-decreases-turns l = open_count l.self.assignment.trues l.self.vars
+decreases-turns l = l.cuts * suc l.self.vars + open_count l.self.assignment.trues l.self.vars
