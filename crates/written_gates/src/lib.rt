@@ -13,5 +13,6 @@ mod writing;
 
 pub use cells::{Cell, is_outer};
 pub use counters::Counter;
+pub use reading::read_counter;
 pub use search::has_gates;
 pub use writing::{Origin, Written, write_out};

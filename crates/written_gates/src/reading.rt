@@ -4,9 +4,6 @@ use crate::counters::Counter;
 use clause_store::{Lit, Store};
 use std::alloc::{AllocError, Global};
 
-/// More inputs than a gate that is written out may have are not looked for.
-pub const MOST_INPUTS: u32 = 32;
-
 /// The row of a counter after so many inputs: its first variable, and how many it has.
 #[derive(Clone, Copy)]
 struct Row {
@@ -134,12 +131,13 @@ fn first_place(formula: &Store, start: u64) -> Option<u32> {
     }
 }
 
-/// The counter whose first clause is that of this id, without heads, where it wants at least two of more inputs. It is read
-/// to one input more than `MOST_INPUTS` at most: then it may go on behind its end. O(the clauses that are read).
+/// The counter whose first clause is that of this id, without heads, where it wants at least two of more inputs. No more than
+/// `most` inputs are read: where there are so many, it may go on behind its end. O(the clauses that are read).
 pub fn read_counter(
     alloc: Global,
     formula: &Store,
     start: u64,
+    most: u32,
 ) -> Result<Option<Counter>, AllocError> {
     let Some(first) = first_place(formula, start) else {
         return Ok(None);
@@ -152,7 +150,7 @@ pub fn read_counter(
     let mut inputs = Vec::new(alloc);
     let mut rows = Vec::new(alloc);
     let mut end = start;
-    for _ in 0..MOST_INPUTS + 1 {
+    for _ in 0..most {
         let Some(read) = read_row(formula, end, &row) else {
             break;
         };

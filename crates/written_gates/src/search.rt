@@ -1,9 +1,12 @@
 //! The gates of a formula that are worth writing out.
 
 use crate::counters::Counter;
-use crate::reading::{MOST_INPUTS, read_counter};
+use crate::reading::read_counter;
 use clause_store::{Lit, Store};
 use std::alloc::{AllocError, Global};
+
+/// The most inputs of a gate that is written out.
+const MOST_INPUTS: u32 = 32;
 
 /// The most sets of inputs that a whole gate may have.
 const MOST_SETS: u64 = 1 << 14;
@@ -57,7 +60,7 @@ fn whole_counters(alloc: Global, formula: &Store) -> Result<Vec<Counter>, AllocE
         if id < next {
             continue;
         }
-        if let Some(counter) = read_counter(alloc, formula, id)? {
+        if let Some(counter) = read_counter(alloc, formula, id, MOST_INPUTS + 1)? {
             next = counter.end;
             if is_whole(&counter) {
                 counters.push(counter)?;
