@@ -8,9 +8,11 @@ the searches do not use, and builds FOLDER/search, which takes a formula in DIMA
 
     FOLDER/search FORMULA [UNITS]
     FOLDER/search --gates FORMULA [UNITS]
+    FOLDER/search --plan FORMULA [UNITS]
 
 It prints the verdict, the lemmas and the steps of the log, and the seconds: the same lemmas as by the proved program, in
-about the same time. With `--gates` the formula's gates are written out, and what is printed is what `gate_search` finds. So what only guides the search can be tried in a minute, where a proof takes ten; what is found is
+about the same time. With `--gates` the formula's gates are written out, and what is printed is what `gate_search` finds. With `--plan` the search
+follows the plan of `counter_pairs` from the first lemma on, where there is one. So what only guides the search can be tried in a minute, where a proof takes ten; what is found is
 then written into the crate and proved. Wants a `rustc` that knows the edition of 2024; nothing of the gate uses it.
 """
 import glob
@@ -31,6 +33,7 @@ CRATES = [
     "lrat_checker",
     "written_gates",
     "gate_search",
+    "counter_pairs",
 ]
 # what of a crate the searches use, where that is not all
 PARTS = {"lrat_model": ["lit"], "lrat_text": ["arena", "entry", "lent", "log"]}
@@ -131,12 +134,14 @@ mod rat_candidates;
 mod lrat_checker;
 mod written_gates;
 mod gate_search;
+mod counter_pairs;
 use kit::*;
 
 fn main() {
     let mut words: std::vec::Vec<String> = std::env::args().collect();
     let has_gates = words[1] == "--gates";
-    if has_gates {
+    let has_plan = words[1] == "--plan";
+    if has_gates || has_plan {
         words.remove(1);
     }
     let units = words.get(2).map_or(4_000_000, |it| it.parse().unwrap());
@@ -171,6 +176,13 @@ fn main() {
         return;
     }
     let mut solver = cdcl_core::Solver::start(Global, &store, vars).unwrap();
+    if has_plan {
+        let plan = counter_pairs::plan_of(Global, &store, vars).unwrap();
+        print!("{} after {:.3} ", if plan.is_some() { "planned" } else { "no plan" }, since.elapsed().as_secs_f64());
+        if let Some(plan) = plan {
+            solver.plan(plan);
+        }
+    }
     let mut budget = cdcl_core::Budget::of(units);
     let verdict = solver.solve(&mut budget).unwrap();
     let (lemmas, steps) = (units - budget.left(), solver.log().len());
