@@ -1,13 +1,15 @@
 #!/usr/bin/env python3
-"""Times searches beside minisat, cadical and cryptominisat on the same formulas: bench/trials.py PROGRAM [SYSTEM ..].
+"""Times searches beside other solvers on the same formulas: bench/trials.py PROGRAM [--limit SECONDS] [SYSTEM ..].
 
-PROGRAM is the built program. A SYSTEM is a number of organisations, whose configuration is the one that `trial` speaks of; the
-path of a configuration; or random:NODES:SIZE:THRESHOLD:SEED, in which each node wants so many of SIZE nodes, itself and others
-drawn at random (16, 24, 50, 75 and 100 organisations where none is given). For each it prints the answer, the lemmas learnt, the
-processor time and the greatest memory of one run each: of the search (`trial`, or `intersect`) with its certificate on a file in
-memory, and of `check` of the certificate; then the conflicts, time and memory of minisat, of minisat without its preprocessing,
-which eliminates variables, and of cadical and cryptominisat (Debian's packages, else with their own settings) on the formula that
-`export` writes. A run ends after LIMIT seconds of processor time. Answers that differ end the script with status 1.
+PROGRAM is the built program. A SYSTEM is a number of organisations, whose configuration is the one that `trial` speaks of, or as
+a file above 100; a kind of bench/organisations.py with its arguments, as rotated:30; the path of a configuration; or
+random:NODES:SIZE:THRESHOLD:SEED, in which each node wants so many of SIZE nodes, itself and others drawn at random (16, 24, 50, 75
+and 100 organisations where none is given). `networks` stands for the networks of NETWORKS, with the growth from 50 to 250
+organisations. For each it prints the answer, the lemmas learnt, the processor time and the greatest memory of one run each: of the
+search (`trial`, or `intersect`) with its certificate on a file in memory, and of `check` of the certificate; then the conflicts,
+time and memory of minisat, of minisat without its preprocessing, which eliminates variables, and of cadical, cryptominisat and
+clasp (Debian's packages, else with their own settings) on the formula that `export` writes. A run ends after so many seconds of
+processor time, 900 where nothing is said. Answers that differ end the script with status 1.
 """
 import json
 import os
@@ -18,14 +20,26 @@ import subprocess
 import sys
 import tempfile
 
-LIMIT = 900
+import organisations
+
+NETWORKS = (
+    "50 75 100 150 200 250 apart:30 beside:30 rotated:30 apart:60 beside:60 tiers:10:20 tiers:50:50 mixed:40:5:1 sizes:60:2 "
+    "flat:50:34 flat:100:67 flat:100:51 flat:300:201"
+).split()
 MEMORY = "/dev/shm"
 OTHERS = {
     "minisat": (["minisat", "{}", "/dev/null"], r"conflicts +: (\d+)"),
     "minisat -no-pre": (["minisat", "-no-pre", "{}", "/dev/null"], r"conflicts +: (\d+)"),
     "cadical": (["cadical", "{}"], r"conflicts: +(\d+)"),
     "cryptominisat": (["cryptominisat5", "--verb", "1", "{}"], r"c conflicts *: (\d+)"),
+    "clasp": (["clasp", "--stats", "{}"], r"Conflicts *: +(\d+)"),
 }
+limit = 900
+
+
+def is_trial(system):
+    """Whether `trial` makes the system itself."""
+    return system.isdigit() and int(system) <= 100
 
 
 def trial(count):
@@ -47,15 +61,18 @@ def drawn(nodes, size, threshold, seed):
 def configuration(system):
     if system.isdigit():
         return trial(int(system))
-    if system.startswith("random:"):
-        return drawn(*map(int, system.split(":")[1:]))
+    kind, *arguments = system.split(":")
+    if kind == "random":
+        return drawn(*map(int, arguments))
+    if kind in organisations.KINDS:
+        return organisations.text(kind, *arguments)
     with open(system, encoding="utf-8") as it:
         return it.read()
 
 
 def timed(words, out=subprocess.PIPE):
     """The text that a run puts out, its processor time and its greatest memory in MB; no text where it was cut off."""
-    done = subprocess.Popen(words, stdout=out, stderr=subprocess.DEVNULL, preexec_fn=lambda: resource.setrlimit(resource.RLIMIT_CPU, (LIMIT, LIMIT)))
+    done = subprocess.Popen(words, stdout=out, stderr=subprocess.DEVNULL, preexec_fn=lambda: resource.setrlimit(resource.RLIMIT_CPU, (limit, limit)))
     text = done.stdout.read().decode() if done.stdout is not None else ""
     _, status, used = os.wait4(done.pid, 0)
     return "" if os.WIFSIGNALED(status) else text, used.ru_utime + used.ru_stime, used.ru_maxrss // 1024
@@ -67,7 +84,7 @@ def told(seconds, memory):
 
 def ours(program, system, config, cert):
     """The answer, the lemmas, time and memory of the search, the bytes of its certificate, time and memory of its check."""
-    said, *searched = timed([program, "trial", system, cert] if system.isdigit() else [program, "intersect", config, cert])
+    said, *searched = timed([program, "trial", system, cert] if is_trial(system) else [program, "intersect", config, cert])
     answer = re.search(r"^intersects (\w+)", said, re.M)
     if not answer:
         return "did not end", ["-", *told(*searched), "-", "-", "-"]
@@ -102,13 +119,23 @@ def row(program, system, folder):
     return [os.path.basename(system), answer, *cells]
 
 
+def systems(words):
+    """The systems that words name."""
+    for word in words or ["16", "24", "50", "75", "100"]:
+        yield from NETWORKS if word == "networks" else [word]
+
+
 def main():
+    global limit
     if len(sys.argv) < 2:
         raise SystemExit(__doc__.strip())
+    words = sys.argv[2:]
+    if words[:1] == ["--limit"]:
+        limit, words = int(words[1]), words[2:]
     heads = ["system", "intersects", "lemmas", "time", "memory", "bytes of the certificate", "`check`", "memory"]
     heads += [it for name in OTHERS for it in ("%s: conflicts" % name, "time", "memory")]
     print("| " + " | ".join(heads) + " |\n" + "|---" * len(heads) + "|")
-    for system in sys.argv[2:] or ["16", "24", "50", "75", "100"]:
+    for system in systems(words):
         with tempfile.TemporaryDirectory(dir=MEMORY if os.path.isdir(MEMORY) else None) as folder:
             print("| " + " | ".join(row(sys.argv[1], system, folder)) + " |", flush=True)
 
