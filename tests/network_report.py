@@ -8,15 +8,18 @@ import hashlib
 import json
 import os
 import re
+import shutil
 import subprocess
 import sys
 import tempfile
+import time
 import xml.etree.ElementTree
 
 TOP = os.path.dirname(os.path.dirname(os.path.abspath(__file__)))
 PROGRAM = os.environ.get("QUORUM_CLI", os.path.join(TOP, "crates", "quorum_cli", "out", "quorum_cli"))
 NETWORK = os.path.join(TOP, "examples", "network.json")
 ORGS = os.path.join(TOP, "examples", "orgs.json")
+TOOL = os.path.join(TOP, "tools", "network-report")
 
 # A quorum set that no choice meets, a validator that stands twice, names with markup, two nodes of one name, a key like an option.
 ODD = [
@@ -30,6 +33,20 @@ ODD_ORGS = [{"id": "none", "validators": ["zz"]}, {"id": "oak/<k>", "name": "Oak
 REFUSING = '#!/bin/sh\nif [ "$1" = check ]; then echo "refused trailing"; exit 5; fi\nexec "%s" "$@"\n'
 # The program, but that it finds every certificate to be about other faulty nodes.
 ABOUT_OTHERS = '#!/bin/sh\nif [ "$1" = check ]; then "%s" "$@" | sed "s/^faulty.*/faulty zz/"; exit 0; fi\nexec "%s" "$@"\n'
+
+
+# The program, with a line for each command in the file LOG, where searches wait.
+LOGGING = '#!/bin/sh\necho "$1" >>"%s"\nif [ "$1" = intersect ] && [ -e "%s" ]; then sleep 60; fi\nexec "%s" "$@"\n'
+
+
+def contents(folder):
+    """The files below a folder, with their bytes."""
+    found = {}
+    for here, _, names in os.walk(folder):
+        for name in names:
+            with open(os.path.join(here, name), "rb") as it:
+                found[os.path.relpath(os.path.join(here, name), folder)] = it.read()
+    return found
 
 
 class Trial:
@@ -59,7 +76,7 @@ class Trial:
         page = self.path("page.html")
         if os.path.exists(page):
             os.remove(page)
-        words = [os.path.join(TOP, "tools", "network-report"), *words, "-o", page, "--program", program]
+        words = [TOOL, *words, "-o", page, "--program", program]
         ended = subprocess.run(words, stdout=subprocess.PIPE, stderr=subprocess.PIPE, timeout=600)
         text = open(page, encoding="utf-8").read() if os.path.exists(page) else None
         return ended.returncode, ended.stderr.decode(), text
@@ -148,8 +165,56 @@ class Trial:
         self.judge("a refused configuration", status == 1 and page is None and "config not-json" in error, error)
         status, error, page = self.run(self.path("missing.json"))
         self.judge("a missing configuration", status == 1 and page is None and "could not be read" in error, error)
-        status, error, page = self.run(NETWORK, "--node", "nobody")
+        log, slow = self.path("log"), self.path("slow")
+        program = self.written("logging", LOGGING % (log, slow, PROGRAM), 0o755)
+        status, error, page = self.run(NETWORK, "--node", "nobody", program=program)
         self.judge("an unknown node", status == 1 and page is None and "usage unknown-name --node 1" in error, error)
+        with open(log) as it:
+            asked = it.read().split()
+        self.judge("the node is asked first", asked == ["closure"], asked)
+        self.aliases(log, program)
+        self.stopped(slow, program)
+
+    def aliases(self, log, program):
+        """A page in the place of a file that is read is refused before anything is asked, whatever it is called."""
+        folder = os.path.join(self.folder, "aliases")
+        os.mkdir(folder)
+        config, orgs = shutil.copy(NETWORK, os.path.join(folder, "config.json")), shutil.copy(ORGS, os.path.join(folder, "orgs.json"))
+        os.symlink("config.json", os.path.join(folder, "link"))
+        os.symlink(folder, os.path.join(folder, "same"))
+        os.link(orgs, os.path.join(folder, "hard.html"))
+        before = contents(folder)
+        os.remove(log)
+        for name in ("config.json", "./config.json", "link", "same/config.json", "orgs.json", "hard.html", "."):
+            words = [TOOL, config, "--orgs", orgs, "--program", program, "-o", os.path.join(folder, name)]
+            ended = subprocess.run(words, stdout=subprocess.PIPE, stderr=subprocess.PIPE, timeout=600)
+            right = ended.returncode == 2 and not os.path.exists(log) and contents(folder) == before
+            self.judge("the page is not to be " + name, right, ended.stderr)
+
+    def stopped(self, slow, program):
+        """A run that fails or is stopped leaves the old page and its certificates, and nothing beside them."""
+        folder = os.path.join(self.folder, "stopped")
+        os.mkdir(folder)
+        words = [TOOL, NETWORK, "-o", os.path.join(folder, "it.html"), "--program"]
+        subprocess.run([*words, program], stderr=subprocess.DEVNULL, timeout=600)
+        for name in ("faulty-09-gone.cert", "notes.txt"):
+            with open(os.path.join(folder, "it-certificates", name), "w") as it:
+                it.write("kept, or not")
+        before = contents(folder)
+        refusing = self.written("refusing", REFUSING % PROGRAM, 0o755)
+        ended = subprocess.run([*words, refusing], stderr=subprocess.DEVNULL, timeout=600)
+        self.judge("a run that fails leaves all as it was", ended.returncode == 1 and contents(folder) == before, sorted(before))
+        self.written("slow", "")
+        running = subprocess.Popen([*words, program], stderr=subprocess.DEVNULL)
+        while len(os.listdir(folder)) == 2 and running.poll() is None:
+            time.sleep(0.05)
+        time.sleep(0.5)
+        running.terminate()
+        self.judge("a run that is stopped leaves all as it was", running.wait(60) == 143 and contents(folder) == before, sorted(contents(folder)))
+        os.remove(slow)
+        ended = subprocess.run([*words, program], stderr=subprocess.DEVNULL, timeout=600)
+        after = {name for name in before if "faulty-09" not in name}
+        self.judge("a stale certificate goes, what else lies there stays", ended.returncode == 0 and set(contents(folder)) == after, sorted(contents(folder)))
 
 
 def main():

@@ -2,7 +2,6 @@
 
 import hashlib
 import os
-import re
 import subprocess
 import sys
 import time
@@ -20,7 +19,7 @@ class Certificate:
     """A file that `check` has accepted, with what `check` said of it."""
 
     def __init__(self, path, accepted):
-        self.path = path
+        self.name = os.path.basename(path)
         self.accepted = accepted
         with open(path, "rb") as it:
             held = it.read()
@@ -55,11 +54,11 @@ class Blocking:
 class Program:
     """The program on one configuration."""
 
-    def __init__(self, path, config, orgs, folder, budget):
+    def __init__(self, path, config, orgs, beside, budget):
         self.path = path
         self.config = config
         self.orgs = orgs
-        self.folder = folder
+        self.beside = beside
         self.budget = budget
         self.accepted = 0
         self.began = time.monotonic()
@@ -93,6 +92,13 @@ class Program:
             self.known = {line.split(" ")[0] for line in self.run()[1][1:]}
         return command in self.known
 
+    def closure(self, node):
+        """The trust closure of a node, if there is one to ask about."""
+        if node is None:
+            return None
+        self.say("the node %s" % node)
+        return self.listed("closure", self.config, "--node=" + node)
+
     def show(self):
         self.say("reading the configuration")
         return self.answer("show", self.config)[1]
@@ -112,7 +118,7 @@ class Program:
 
     def intersect(self, name, faulty=(), org=None):
         """The verdict with its certificate, which is checked, and checked to be about these faulty nodes."""
-        path = self.new_file(name)
+        path = self.beside.certificate(name)
         extra = ["--orgs=" + self.orgs, "--faulty-orgs=" + org] if org is not None else []
         if self.budget is not None:
             extra.append("--budget=" + self.budget)
@@ -126,7 +132,7 @@ class Program:
 
     def blocking(self, name, most):
         """The minimal blocking sets with their certificate; where the units were spent, the smallest ones of those found."""
-        path = self.new_file(name)
+        path = self.beside.certificate(name)
         extra = ["--budget=" + self.budget] if self.budget is not None else []
         status, lines = self.answer("blocking", self.config, path, *extra)
         kind = "blocking" if status == 0 else "partial-blocking"
@@ -147,15 +153,11 @@ class Program:
         """Whether the keys stop every agreement, and without any one of them they do not."""
         return self.blocks(keys)[0] and not any(self.blocks([it for it in keys if it != key])[0] for key in keys)
 
-    def new_file(self, name):
-        os.makedirs(self.folder, exist_ok=True)
-        return os.path.join(self.folder, re.sub(r"[^A-Za-z0-9._-]", "_", name)[:80] + ".cert")
-
     def checked(self, path, kind, faulty):
         """The certificate where `check` accepts it as one of this kind and for exactly these faulty nodes."""
         status, lines = self.run("check", self.config, path)
         wanted = ["from", " ".join(["faulty", *sorted(faulty)])]
         if status not in (0, 2) or lines[0].split(" ")[:2] != ["accepted", kind] or lines[1:3] != wanted:
-            raise Failed("the certificate %s is not accepted: %s" % (path, " / ".join(lines[:3])))
+            raise Failed("the certificate %s is not accepted: %s" % (os.path.basename(path), " / ".join(lines[:3])))
         self.accepted += 1
         return Certificate(path, lines[0])

@@ -55,7 +55,7 @@ class Found:
         return [], ""
 
 
-def find(program, network, node):
+def find(program, network, node, closure):
     found = Found()
     orgs = [org for org in network.orgs if org.keys]
     program.say("the greatest quorum")
@@ -73,7 +73,7 @@ def find(program, network, node):
         program.say("the minimal blocking sets")
         found.blocking = program.blocking("blocking", MOST_OF_PART)
     if node is not None:
-        found.own = own_node(program, found, orgs, node)
+        found.own = own_node(program, found, orgs, node, closure)
     return found
 
 
@@ -90,9 +90,8 @@ def pairs_of(orgs, alone, holds):
     return [(one, other) for one, other in itertools.combinations(others, 2) if holds(one.keys + other.keys)]
 
 
-def own_node(program, found, orgs, node):
-    program.say("the node %s" % node)
-    closure = program.listed("closure", program.config, "--node=" + node)
+def own_node(program, found, orgs, node, closure):
+    program.say("what the node depends on")
 
     def v_blocks(keys):
         return program.answer("vblocks", program.config, "--node=" + node, "--set=" + ",".join(keys))[0] == 0

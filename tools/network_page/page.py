@@ -35,8 +35,9 @@ def counted(number, what):
 class Page:
     """The sections, each a text."""
 
-    def __init__(self, title, network, shown, found):
+    def __init__(self, title, folder, network, shown, found):
         self.title = title
+        self.folder = folder
         self.network = network
         self.shown = shown
         self.found = found
@@ -50,8 +51,7 @@ class Page:
         return ", ".join(self.node(key) for key in sorted(keys, key=lambda key: self.network.names[key]))
 
     def certificate(self, certificate):
-        folder, name = os.path.split(certificate.path)
-        shown = os.path.join(os.path.basename(folder), name)
+        shown = os.path.join(self.folder, certificate.name)
         text = 'certificate <code>%s</code> (%s, SHA-256 <code>%s</code>): <code>check</code> answers <code>%s</code>'
         return text % (escaped(shown), counted(certificate.size, "byte"), certificate.digest, escaped(certificate.accepted))
 
@@ -223,6 +223,6 @@ class Page:
         return head % (escaped(self.title), STYLE) + "<body><h1>Quorums of %s</h1>%s</body></html>\n" % (escaped(self.title), "\n".join(sections))
 
 
-def write(title, network, shown, found):
-    """The text of the page."""
-    return Page(title, network, shown, found).whole()
+def write(title, folder, network, shown, found):
+    """The text of the page, whose certificates are in the folder of this name."""
+    return Page(title, folder, network, shown, found).whole()
