@@ -5,15 +5,17 @@ Its last line is 'network-report: N passed, M failed'. Where the program is not 
 """
 
 import hashlib
+import html
+import html.parser
 import json
 import os
 import re
+import shlex
 import shutil
 import subprocess
 import sys
 import tempfile
 import time
-import xml.etree.ElementTree
 
 TOP = os.path.dirname(os.path.dirname(os.path.abspath(__file__)))
 PROGRAM = os.environ.get("QUORUM_CLI", os.path.join(TOP, "crates", "quorum_cli", "out", "quorum_cli"))
@@ -49,6 +51,27 @@ def contents(folder):
     return found
 
 
+class Tags(html.parser.HTMLParser):
+    """The tags that are opened, and those that are closed in the wrong place."""
+
+    def __init__(self):
+        super().__init__()
+        self.opened = []
+        self.wrong = []
+
+    def handle_starttag(self, tag, attrs):
+        if tag in ("div", "p", "ol", "ul", "table", "details", "section") and "p" in self.opened:
+            self.wrong.append(tag + " in p")
+        if tag not in ("meta", "br"):
+            self.opened.append(tag)
+
+    def handle_endtag(self, tag):
+        if self.opened and self.opened[-1] == tag:
+            self.opened.pop()
+        else:
+            self.wrong.append(tag)
+
+
 class Trial:
     def __init__(self, folder):
         self.folder = folder
@@ -82,54 +105,96 @@ class Trial:
         return ended.returncode, ended.stderr.decode(), text
 
     def loads_nothing(self, page):
-        """One page: no script, no style, font or picture from elsewhere, and each inner link leads somewhere."""
-        without_name = page.replace('xmlns="http://www.w3.org/2000/svg"', "")
-        found = re.findall(r"<script|<link|<img|src=|url\(|@import|https?:", without_name)
-        places = set(re.findall(r'id="(n\d+)"', page))
-        lost = [link for link in re.findall(r'href="#(n\d+)"', page) if link not in places]
+        """One page: no script, no style, font or picture from elsewhere, each inner link leads somewhere, and each tag is closed."""
+        found = re.findall(r"<script|<link|<img|src=|url\(|@import|https?:", page)
+        places = set(re.findall(r' id="([^"]+)"', page))
+        lost = [link for link in re.findall(r'href="#([^"]+)"', page) if link not in places]
         self.judge("the page loads nothing", not found and not lost and len(page) < 300_000, (found, lost, len(page)))
-        picture = re.search(r"<svg.*?</svg>", page, re.S).group()
-        xml.etree.ElementTree.fromstring(picture)
-        wide = [text for x, text in re.findall(r'<text class="k" x="(\d+)"[^>]*>([^<]*)', picture) if int(x) + 6.3 * len(text) > 960]
-        self.judge("what the circles mean fits the picture", not wide, wide)
+        tags = Tags()
+        tags.feed(page)
+        self.judge("each tag is closed", not tags.wrong and not tags.opened, (tags.wrong, tags.opened))
+        self.judge("headings of tables, and one main part", page.count("<th>") == 0 and page.count("<main>") == 1 and page.count("<nav ") == 1)
+        self.judge("four lines come first", page.count("<dt>") == 4 and page.index("</dl>") < page.index("<h2"))
 
-    def certificates(self, page):
-        """Each certificate that the page names lies beside it, has the digest that the page says, and is accepted."""
-        named = re.findall(r"<code>(page-certificates/[^<]+)</code> \(\d+ bytes?, SHA-256 <code>([0-9a-f]{64})</code>", page)
-        for name, digest in named:
-            held = open(self.path(name), "rb").read()
-            ended = subprocess.run([PROGRAM, "check", NETWORK, self.path(name)], stdout=subprocess.PIPE)
-            self.judge(name, hashlib.sha256(held).hexdigest() == digest and ended.returncode in (0, 2), ended.stdout)
-        self.judge("a certificate for the verdict and one for each organisation", len(named) >= 4, named)
+    def summary(self, page):
+        """The four lines, without markup."""
+        return [re.sub(r"<[^>]*>", "", line) for line in re.findall(r"<dd>(.*?)</dd>", page)]
+
+    def certificates(self, config, page):
+        """Each certificate of the page's list lies beside it, has the digest that the page says, is accepted, and is made anew by the command that stands there."""
+        row = r'<a href="(page-certificates/[^"]+)">[^<]+</a></th><td><code>([^<]*)</code></td><td>(\d+)</td><td><code>([0-9a-f]{64})</code></td><td><code>([^<]*)</code>'
+        listed = re.findall(row, page)
+        for name, accepted, size, digest, command in listed:
+            held = contents(self.path("page-certificates"))[os.path.basename(name)]
+            ended = subprocess.run([PROGRAM, "check", config, self.path(name)], stdout=subprocess.PIPE)
+            right = hashlib.sha256(held).hexdigest() == digest and len(held) == int(size) and ended.returncode in (0, 2)
+            self.judge(name, right and ended.stdout.decode().split("\n")[0] == accepted, ended.stdout)
+            words = [{"network.json": config, "--orgs=orgs.json": "--orgs=" + ORGS, name: self.path("again.cert")}.get(it, it) for it in shlex.split(html.unescape(command))]
+            subprocess.run([PROGRAM, *words[1:]], stdout=subprocess.DEVNULL)
+            with open(self.path("again.cert"), "rb") as it:
+                self.judge("made again: " + command, words[0] == "quorum_cli" and it.read() == held)
+        named = re.findall(r'href="(page-certificates/[^"]+)"', page)
+        self.judge("each is in the list, and in the folder", set(named) == {it[0] for it in listed} == {"page-certificates/" + it for it in contents(self.path("page-certificates"))}, named)
+        return len(listed)
 
     def a_network(self):
-        status, error, page = self.run(NETWORK, "--orgs", ORGS, "--node", "GWATCH")
+        status, error, page = self.run(NETWORK, "--orgs", ORGS, "--node", "GAAA1")
         self.judge("a page of the example", status == 0 and page is not None, error)
         if page is None:
             return
         self.loads_nothing(page)
-        self.certificates(page)
-        wanted = ["The network cannot fork.", "10, of which 1 without a quorum set", "<li>Alder and Beech</li>", "It is in no quorum"]
+        self.judge("the verdict in both views, each organisation, the list", self.certificates(NETWORK, page) == 6)
+        lines = ["No", "Each organisation can fork it: Alder, Beech, Cedar", "any 2 of these 3 organisations together: Alder, Beech, Cedar; of single nodes, 4 are enough", "gaaa1 is in the greatest quorum; it goes on whichever other organisation is silent"]
+        self.judge("the summary", self.summary(page) == lines, self.summary(page))
+        wanted = ["As your node sees it the network cannot fork.", "In the whole file the network cannot fork.", "10, of which 1 without a quorum set; 1 are watchers", "9 of the 10 nodes", "it is one of its keys", "<li>Beech and Cedar</li>", "1 quorum set for the nodes", "Alder (2 of 3)"]
         self.judge("what the page says", all(text in page for text in wanted), [text for text in wanted if text not in page])
         self.judge("each organisation that lies lets it fork", page.count('<span class="bad">Yes</span>: ') == 3)
         self.judge("progress on standard error", "organisation 3 of 3: Cedar" in error, error)
         usage = subprocess.run([PROGRAM], stdout=subprocess.PIPE).stdout.decode()
-        has_list = "minimal blocking sets are left out" not in page
-        self.judge("the list stands there exactly where the program has it", has_list == ("\nblocking " in usage))
+        self.judge("the list stands there exactly where the program has it", ("The sets of nodes are left out" not in page) == ("\nblocking " in usage))
+
+    def a_watcher(self):
+        """The node of one's own that is in no quorum is said to be so."""
+        status, error, page = self.run(NETWORK, "--orgs", ORGS, "--node", "GWATCH")
+        self.judge("a page for a watcher", status == 0 and page is not None, error)
+        if page is not None:
+            self.loads_nothing(page)
+            self.judge("it is in no quorum", "in no quorum" in self.summary(page)[3] and "It is in no quorum" in page, self.summary(page))
+
+    def split_off(self):
+        """A fork of the whole file that only splits off a watcher: said so, and not in red."""
+        validators = [{"publicKey": it, "homeDomain": it[0] + ".example", "quorumSet": {"threshold": 4, "validators": ["a1", "a2", "b1", "b2", "c1"]}} for it in ("a1", "a2", "b1", "b2", "c1")]
+        watcher = {"publicKey": "w", "name": "Watcher", "homeDomain": "w.example", "quorumSet": {"threshold": 2, "validators": ["a1", "a2", "c1"]}}
+        config = self.written("watched.json", json.dumps([*validators, watcher]))
+        status, error, page = self.run(config)
+        self.judge("a page of a watched network", status == 0 and page is not None, error)
+        if page is None:
+            return
+        self.loads_nothing(page)
+        self.certificates_of_domains(config, page)
+        lines = ["No", "None can fork it; a.example could split off nodes of the whole file on which nobody here depends"]
+        self.judge("organisations by home domain, of nodes that are named", self.summary(page)[:2] == lines and "w.example" not in page, self.summary(page))
+        wanted = ["Watcher</a>, which no other node's quorum set names, would be split off: nobody waits for it", "As the validators see it", "5 of the 6 nodes"]
+        self.judge("who would be split off", all(text in page for text in wanted) and '<span class="bad">Yes' not in page, [text for text in wanted if text not in page])
+
+    def certificates_of_domains(self, config, page):
+        """Without a file of organisations the lying keys stand in the command."""
+        self.judge("the lying keys by name", re.search(r"quorum_cli intersect watched.json page-certificates/from-faulty-01-a.example.cert --from=a1 --faulty=a1,a2<", page) is not None)
 
     def spent(self):
         """Where the budget is spent the page says so, and lists what was found until then."""
-        status, error, page = self.run(NETWORK, "--orgs", ORGS, "--budget", "60")
+        status, error, page = self.run(NETWORK, "--orgs", ORGS, "--node", "GAAA1", "--budget", "60")
         self.judge("a page with little budget", status == 0 and page is not None, error)
         if page is None:
             return
         self.loads_nothing(page)
-        sets = re.findall(r"<li>(.*?)</li>", page.partition("not all found within 60 units")[2])
-        self.judge("some blocking sets of those found", 1 <= len(sets) <= 10 and "a minimal blocking set</text>" in page, sets)
+        sets = re.findall(r"<li>(.*?)</li>", page.partition("not all found within 60 units")[2].partition("</ol>")[0])
+        self.judge("some blocking sets of those found", 1 <= len(sets) <= 10 and "in one set that stops the network" in page, sets)
         for number, names in enumerate(sets):
             keys = [it.upper() for it in re.sub(r"<[^>]*>", "", names).split(", ")]
             stops = [self.blocks(keys)] + [self.blocks([it for it in keys if it != key]) for key in keys]
             self.judge("listed set %d" % number, stops == [True] + [False] * len(keys), keys)
+        self.judge("organisations are asked about", self.summary(page)[2] == "any 2 of these 3 organisations together: Alder, Beech, Cedar", self.summary(page))
 
     @staticmethod
     def blocks(keys):
@@ -142,8 +207,8 @@ class Trial:
         if page is None:
             return
         self.loads_nothing(page)
-        self.judge("names have no markup", not re.search(r"<b>A|<i>|<k>|<1>", page))
-        wanted = ["twin (b)", "twin (-x&lt;i&gt;)", "has the threshold 4 over 3 entries", "more than once", "organisations is in the network: none."]
+        self.judge("names have no markup", not re.search(r'<b>A&"|<i>|<k>|<1>', page))
+        wanted = ["twin (b)", "twin (-x&lt;i&gt;)", "has the threshold 4 over 3 entries", "more than once", "organisations is in the network: none.", "Oak &lt;1&gt;"]
         self.judge("what is odd", all(text in page for text in wanted), [text for text in wanted if text not in page])
 
     def two_apart(self):
@@ -153,7 +218,10 @@ class Trial:
         self.judge("a page of a network that can fork", status == 0 and page is not None, error)
         if page is not None:
             self.loads_nothing(page)
-            self.judge("every circle is explained", len(re.findall('class="k"', page)) == 5 and "The network can fork." in page)
+            circles = set(re.findall(r'<li title="[^"]*"><span class="dot ([^"]*)"', page))
+            explained = set(re.findall(r'<span class="dot ([^"]*)"', page.partition('class="legend"')[2]))
+            self.judge("every circle is explained", {word for it in circles for word in it.split()} == {word for it in explained for word in it.split()} - {"q"}, (circles, explained))
+            self.judge("it forks, and lies are not asked about", self.summary(page)[0] == "Yes, though no node lies" and "it forks without that" == self.summary(page)[1], self.summary(page))
 
     def nothing_unchecked(self):
         for name, text in (("refusing", REFUSING % PROGRAM), ("about-others", ABOUT_OTHERS % (PROGRAM, PROGRAM))):
@@ -224,6 +292,8 @@ def main():
     with tempfile.TemporaryDirectory() as folder:
         trial = Trial(folder)
         trial.a_network()
+        trial.a_watcher()
+        trial.split_off()
         trial.spent()
         trial.odd_names()
         trial.two_apart()

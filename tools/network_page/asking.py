@@ -2,6 +2,7 @@
 
 import hashlib
 import os
+import shlex
 import subprocess
 import sys
 import time
@@ -15,12 +16,28 @@ class Failed(Exception):
     """The program gave no answer, or did not accept its own certificate."""
 
 
-class Certificate:
-    """A file that `check` has accepted, with what `check` said of it."""
+class View:
+    """The system that a question is about: what one node depends on, or with no node the whole file."""
 
-    def __init__(self, path, accepted):
+    def __init__(self, node, keys):
+        self.node = node
+        self.keys = set(keys)
+
+    def words(self):
+        return ["--from=" + self.node] if self.node is not None else []
+
+    def file(self, name):
+        """What the certificate of a question is called."""
+        return "from-" + name if self.node is not None else name
+
+
+class Certificate:
+    """A file that `check` has accepted, with what `check` said of it and the words that made it."""
+
+    def __init__(self, path, accepted, command):
         self.name = os.path.basename(path)
         self.accepted = accepted
+        self.command = command
         with open(path, "rb") as it:
             held = it.read()
         self.digest = hashlib.sha256(held).hexdigest()
@@ -30,7 +47,8 @@ class Certificate:
 class Verdict:
     """Whether every two quorums share a node: `yes`, `no`, `unknown` (with the units) or `too-large` (with the variables)."""
 
-    def __init__(self, word, number=None, first=(), second=(), certificate=None):
+    def __init__(self, view, word, number=None, first=(), second=(), certificate=None):
+        self.view = view
         self.word = word
         self.number = number
         self.first = first
@@ -60,7 +78,8 @@ class Program:
         self.orgs = orgs
         self.beside = beside
         self.budget = budget
-        self.accepted = 0
+        self.certificates = []
+        self.commands = []
         self.began = time.monotonic()
         self.known = None
 
@@ -86,6 +105,19 @@ class Program:
             raise Failed("`%s` was refused: %s" % (words[0], lines[0] if lines else status))
         return status, lines
 
+    def noted(self, *words):
+        """An answer whose command the page shows."""
+        self.commands.append(self.shown(words))
+        return self.answer(*words)
+
+    def shown(self, words):
+        """A command as whoever has the page and the files beside it can repeat it."""
+        names = {self.config: os.path.basename(self.config)}
+        if self.orgs is not None:
+            names["--orgs=" + self.orgs] = "--orgs=" + os.path.basename(self.orgs)
+        here = [os.path.join(self.beside.name, os.path.basename(word)) if word.startswith(self.beside.part + os.sep) else names.get(word, word) for word in words]
+        return " ".join(["quorum_cli", *map(shlex.quote, here)])
+
     def knows(self, command):
         """Whether the program has a command, by its usage text."""
         if self.known is None:
@@ -93,55 +125,58 @@ class Program:
         return command in self.known
 
     def closure(self, node):
-        """The trust closure of a node, if there is one to ask about."""
-        if node is None:
-            return None
+        """The trust closure of a node."""
         self.say("the node %s" % node)
         return self.listed("closure", self.config, "--node=" + node)
 
     def show(self):
         self.say("reading the configuration")
-        return self.answer("show", self.config)[1]
+        return self.noted("show", self.config)[1]
 
     def listed(self, *words):
         """The names on the one line that the command prints."""
-        return self.answer(*words)[1][0].split(" ")[1:]
+        return self.noted(*words)[1][0].split(" ")[1:]
 
-    def yes_or_names(self, *words):
-        """Whether the answer is yes, and else the names of its second line."""
-        status, lines = self.answer(*words)
-        return status == 0, lines[1].split(" ")[1:] if len(lines) > 1 else []
-
-    def blocks(self, keys):
+    def blocks(self, view, keys, asked=None):
         """Whether the keys stop every agreement, else the greatest quorum that goes on without them."""
-        return self.yes_or_names("blocks", self.config, "--set=" + ",".join(keys))
+        return yes_or_names((asked or self.answer)("blocks", self.config, "--set=" + ",".join(keys), *view.words()))
 
-    def intersect(self, name, faulty=(), org=None):
-        """The verdict with its certificate, which is checked, and checked to be about these faulty nodes."""
-        path = self.beside.certificate(name)
-        extra = ["--orgs=" + self.orgs, "--faulty-orgs=" + org] if org is not None else []
-        if self.budget is not None:
-            extra.append("--budget=" + self.budget)
-        status, lines = self.answer("intersect", self.config, path, *extra)
+    def available(self, view, keys):
+        """Whether all other nodes have a slice left without the keys, else those that have none."""
+        return yes_or_names(self.noted("available", self.config, "--set=" + ",".join(keys), *view.words()))
+
+    def v_blocks(self, node, keys):
+        return self.answer("vblocks", self.config, "--node=" + node, "--set=" + ",".join(keys))[0] == 0
+
+    def searched(self, *words):
+        extra = ["--budget=" + self.budget] if self.budget is not None else []
+        return [*words, *extra]
+
+    def intersect(self, view, name, org=None):
+        """The verdict with its certificate, which is checked, and checked to be about this view and these faulty nodes."""
+        path = self.beside.certificate(view.file(name))
+        lying = [] if org is None else ["--orgs=" + self.orgs, "--faulty-orgs=" + org.id] if self.orgs is not None else ["--faulty=" + ",".join(org.keys)]
+        words = self.searched("intersect", self.config, path, *view.words(), *lying)
+        status, lines = self.answer(*words)
         if status == 9:
-            return Verdict("too-large", lines[0].split(" ")[1])
+            return Verdict(view, "too-large", lines[0].split(" ")[1])
         word = lines[0].split(" ")[1]
         sets = [line.split(" ")[1:] for line in lines[1:3]] if word == "no" else [(), ()]
         number = lines[0].split(" ")[2] if word == "unknown" else None
-        return Verdict(word, number, *sets, certificate=self.checked(path, KIND[word], faulty))
+        certificate = self.checked(path, KIND[word], view, org.keys if org is not None else (), words)
+        return Verdict(view, word, number, *sets, certificate=certificate)
 
-    def blocking(self, name, most):
+    def blocking(self, view, name, most):
         """The minimal blocking sets with their certificate; where the units were spent, the smallest ones of those found."""
-        path = self.beside.certificate(name)
-        extra = ["--budget=" + self.budget] if self.budget is not None else []
-        status, lines = self.answer("blocking", self.config, path, *extra)
-        kind = "blocking" if status == 0 else "partial-blocking"
-        certificate = self.checked(path, kind, ())
+        path = self.beside.certificate(view.file(name))
+        words = self.searched("blocking", self.config, path, *view.words())
+        status, lines = self.answer(*words)
+        certificate = self.checked(path, "blocking" if status == 0 else "partial-blocking", view, (), words)
         if status == 0:
             sets = [line.split(" ")[1:] for line in lines[1:]]
             return Blocking(sets, len(sets), None, certificate)
         found = self.found_in(path)
-        return Blocking([keys for keys in found[:most] if self.is_minimal(keys)], len(found), lines[0].split(" ")[2], certificate)
+        return Blocking([keys for keys in found[:most] if self.is_minimal(view, keys)], len(found), lines[0].split(" ")[2], certificate)
 
     @staticmethod
     def found_in(path):
@@ -149,15 +184,35 @@ class Program:
         with open(path, encoding="ascii") as it:
             return sorted((line[:-1].split(" ")[2:] for line in it if line.startswith("b ")), key=len)
 
-    def is_minimal(self, keys):
+    def is_minimal(self, view, keys):
         """Whether the keys stop every agreement, and without any one of them they do not."""
-        return self.blocks(keys)[0] and not any(self.blocks([it for it in keys if it != key])[0] for key in keys)
+        return self.blocks(view, keys)[0] and not any(self.blocks(view, [it for it in keys if it != key])[0] for key in keys)
 
-    def checked(self, path, kind, faulty):
-        """The certificate where `check` accepts it as one of this kind and for exactly these faulty nodes."""
+    def checked(self, path, kind, view, faulty, words):
+        """The certificate where `check` accepts it as one of this kind, for this view and for exactly these faulty nodes."""
         status, lines = self.run("check", self.config, path)
-        wanted = ["from", " ".join(["faulty", *sorted(faulty)])]
+        wanted = [" ".join(["from", *([view.node] if view.node is not None else [])]), " ".join(["faulty", *sorted(set(faulty) & view.keys)])]
         if status not in (0, 2) or lines[0].split(" ")[:2] != ["accepted", kind] or lines[1:3] != wanted:
             raise Failed("the certificate %s is not accepted: %s" % (os.path.basename(path), " / ".join(lines[:3])))
-        self.accepted += 1
-        return Certificate(path, lines[0])
+        self.certificates.append(Certificate(path, lines[0], self.shown(words)))
+        return self.certificates[-1]
+
+    def digest(self):
+        """The SHA-256 of the program: of what the script of this repository runs, where it is that script."""
+        built = os.path.join(os.path.dirname(os.path.realpath(self.path)), "crates", "quorum_cli", "out", "quorum_cli")
+        with open(built if os.path.exists(built) else self.path, "rb") as it:
+            return hashlib.sha256(it.read()).hexdigest()
+
+    def version(self):
+        """What the file VERSION beside the program says, if there is one."""
+        path = os.path.join(os.path.dirname(os.path.realpath(self.path)), "VERSION")
+        if not os.path.isfile(path):
+            return None
+        with open(path, encoding="utf-8") as it:
+            return it.read().strip()
+
+
+def yes_or_names(answered):
+    """Whether the answer is yes, and else the names of its second line."""
+    status, lines = answered
+    return status == 0, lines[1].split(" ")[1:] if len(lines) > 1 else []

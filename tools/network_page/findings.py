@@ -2,10 +2,12 @@
 
 import itertools
 
-# Above so many organisations pairs of them are not asked about.
-MOST_PAIRED = 40
+from network_page.asking import View
+
 # Of a list that is not whole so many sets are asked about, the smallest ones.
 MOST_OF_PART = 10
+# So many sets of organisations are asked about, the smallest ones, to find which together do a thing.
+MOST_ASKED = 600
 
 
 class OrgTurn:
@@ -19,88 +21,126 @@ class OrgTurn:
         self.unmet = unmet
 
 
+class Together:
+    """The minimal sets of organisations that do a thing, where the key of a node of none stands for itself. All of them, or those of at most so many organisations."""
+
+    def __init__(self, sets, most, certificate=None):
+        self.sets = sorted(sets, key=len)
+        self.most = most
+        self.certificate = certificate
+
+
 class OwnNode:
     """What one node depends on: its trust closure, and for each organisation whether its silence stops the node."""
 
-    def __init__(self, key, closure, unmet_by, goes_on_without, v_blocking, v_blocking_pairs):
+    def __init__(self, key, closure, unmet_by, goes_on_without, v_blocking):
         self.key = key
         self.closure = closure
         self.unmet_by = unmet_by
         self.goes_on_without = goes_on_without
         self.v_blocking = v_blocking
-        self.v_blocking_pairs = v_blocking_pairs
 
 
 class Found:
-    """All that the program answered, for the page."""
+    """All that the program answered, for the page. The first view is what the page is about, a second one the whole file."""
 
-    def __init__(self):
+    def __init__(self, views):
+        self.views = views
         self.greatest = []
-        self.verdict = None
+        self.verdicts = []
         self.turns = []
-        self.stopping_pairs = None
+        self.stopping = None
         self.blocking = None
         self.own = None
 
+    def forks(self):
+        """Whether two quorums of the first view share no node, though no node lies."""
+        return bool(self.verdicts) and self.verdicts[0].word == "no"
+
     def marked(self):
-        """A set that stops the network, for the picture: a smallest minimal one, or one of those found, else the keys of organisations."""
+        """A set that stops the network, for the picture."""
         if self.blocking and self.blocking.sets:
-            return min(self.blocking.sets, key=len), "a smallest minimal blocking set" if self.blocking.is_whole() else "a minimal blocking set"
-        inside = set(self.greatest)
+            return min(self.blocking.sets, key=len), "in one smallest set that stops the network" if self.blocking.is_whole() else "in one set that stops the network"
         for turn in self.turns:
-            if turn.stops and inside:
-                return [key for key in turn.org.keys if key in inside], "the keys of one organisation that stops the network"
-        for one, other in self.stopping_pairs or []:
-            return [key for key in one.keys + other.keys if key in inside], "the keys of two organisations that stop the network together"
+            if turn.stops and self.greatest:
+                return [key for key in turn.org.keys if key in set(self.greatest)], "of one organisation that stops the network"
         return [], ""
 
 
+def views_of(program, network, node, closure):
+    """What the questions are about: what the node depends on, or with none given the node that most quorum sets name; and the whole file, where that is more."""
+    whole = View(None, network.keys)
+    asked = node if node is not None else network.most_named()
+    if asked is None:
+        return [whole]
+    keys = closure if closure is not None else program.closure(asked)
+    return [whole] if len(keys) == len(network.keys) else [View(asked, keys), whole]
+
+
 def find(program, network, node, closure):
-    found = Found()
-    orgs = [org for org in network.orgs if org.keys]
+    found = Found(views_of(program, network, node, closure))
+    view = found.views[0]
     program.say("the greatest quorum")
-    found.greatest = program.listed("greatest", program.config)
+    found.greatest = program.listed("greatest", program.config, *view.words())
     if program.knows("intersect"):
         program.say("whether every two quorums share a node")
-        found.verdict = program.intersect("intersect")
+        found.verdicts = until_fork(program, found.views, "intersect")
+    orgs = [org for org in network.orgs if set(org.keys) & view.keys]
     for at, org in enumerate(orgs):
         program.say("organisation %d of %d: %s" % (at + 1, len(orgs), org.name))
-        found.turns.append(turn_of(program, org))
-    if len(orgs) <= MOST_PAIRED:
-        program.say("pairs of organisations that can stop the network")
-        found.stopping_pairs = pairs_of(orgs, [turn.org for turn in found.turns if turn.stops], lambda keys: program.blocks(keys)[0])
+        found.turns.append(turn_of(program, found, org))
     if program.knows("blocking"):
         program.say("the minimal blocking sets")
-        found.blocking = program.blocking("blocking", MOST_OF_PART)
+        found.blocking = program.blocking(view, "blocking", MOST_OF_PART)
+    program.say("organisations that stop the network together")
+    found.stopping = stopping(program, network, found, orgs)
     if node is not None:
+        program.say("what the node depends on")
         found.own = own_node(program, found, orgs, node, closure)
     return found
 
 
-def turn_of(program, org):
-    lies = program.intersect(org.file, org.keys, org.id) if program.knows("intersect") else None
-    stops, goes_on = program.blocks(org.keys)
-    _, unmet = program.yes_or_names("available", program.config, "--set=" + ",".join(org.keys))
-    return OrgTurn(org, lies, stops, goes_on, unmet)
+def until_fork(program, views, name, org=None):
+    """The verdict of each view, up to the first that forks: each later view has the same two quorums."""
+    verdicts = []
+    for view in views:
+        verdicts.append(program.intersect(view, name, org))
+        if verdicts[-1].word == "no":
+            break
+    return verdicts
 
 
-def pairs_of(orgs, alone, holds):
-    """The pairs of organisations for whose keys together a question holds, of those for which it does not hold alone."""
-    others = [org for org in orgs if org not in alone]
-    return [(one, other) for one, other in itertools.combinations(others, 2) if holds(one.keys + other.keys)]
+def turn_of(program, found, org):
+    """Of lies only those views are asked about that do not fork without them."""
+    forks = {verdict.view for verdict in found.verdicts if verdict.word == "no"}
+    views = [view for view in found.views if view not in forks] if found.verdicts and not found.forks() else []
+    view = found.views[0]
+    stops, goes_on = program.blocks(view, org.keys, program.noted)
+    return OrgTurn(org, until_fork(program, views, org.file, org), stops, goes_on, program.available(view, org.keys)[1])
+
+
+def stopping(program, network, found, orgs):
+    """By the certified list of the sets of nodes, where it is whole; else by asking."""
+    if found.blocking is None or not found.blocking.is_whole():
+        return together(orgs, lambda keys: program.blocks(found.views[0], keys)[0])
+    called = {frozenset(network.org_of.get(key, key) for key in keys) for keys in found.blocking.sets if keys}
+    return Together([some for some in called if not any(other < some for other in called)], None, found.blocking.certificate)
+
+
+def together(orgs, holds):
+    """The minimal sets of organisations for whose keys a question holds, of one, of two and so on, as far as few enough are asked about."""
+    found, asked = [], 0
+    for size in range(1, len(orgs) + 1):
+        left = [some for some in itertools.combinations(orgs, size) if not any(set(it) <= set(some) for it in found)]
+        asked += len(left)
+        if asked > MOST_ASKED:
+            return Together(found, size - 1)
+        found += [some for some in left if holds(sorted(set().union(*(org.keys for org in some))))]
+    return Together(found, None)
 
 
 def own_node(program, found, orgs, node, closure):
-    program.say("what the node depends on")
-
-    def v_blocks(keys):
-        return program.answer("vblocks", program.config, "--node=" + node, "--set=" + ",".join(keys))[0] == 0
-
-    def is_unmet(keys):
-        return node in program.yes_or_names("available", program.config, "--from=" + node, "--set=" + ",".join(keys))[1]
-
-    alone = [org for org in orgs if v_blocks(org.keys)]
-    pairs = pairs_of(orgs, alone, v_blocks) if len(orgs) <= MOST_PAIRED else None
-    unmet_by = [org for org in orgs if is_unmet(org.keys)]
+    unmet_by = [turn.org for turn in found.turns if node in turn.unmet]
     goes_on_without = [turn.org for turn in found.turns if node in turn.goes_on]
-    return OwnNode(node, closure, unmet_by, goes_on_without, alone, pairs)
+    others = [org for org in orgs if node not in org.keys]
+    return OwnNode(node, closure, unmet_by, goes_on_without, together(others, lambda keys: program.v_blocks(node, keys)))

@@ -1,26 +1,20 @@
 """Writes the page: one file with its style and picture in it, which loads nothing."""
 
 import html
-import os
+import math
+import time
+import urllib.parse
 
 from network_page import picture
+from network_page.style import STYLE
 
-# So many blocking sets are listed, the smallest ones.
-MOST_LISTED = 250
-
-STYLE = """
-body{font:15px/1.5 system-ui,"DejaVu Sans",sans-serif;color:#1a202c;max-width:980px;margin:2em auto;padding:0 1em}
-h1{font-size:1.6em;margin:0}h2{font-size:1.2em;margin:2em 0 .4em}p{margin:.5em 0}
-.verdict{border-left:8px solid;padding:.8em 1em;margin:1em 0;font-size:1.1em}
-.yes{border-color:#2f855a;background:#f0fff4}.no{border-color:#c53030;background:#fff5f5}.open{border-color:#b7791f;background:#fffff0}
-table{border-collapse:collapse;width:100%;margin:.6em 0}th,td{text-align:left;vertical-align:top;padding:.3em .7em .3em 0;border-bottom:1px solid #e2e8f0}
-th{font-weight:600}code,.key{font:12.5px/1.4 ui-monospace,"DejaVu Sans Mono",monospace;overflow-wrap:anywhere}
-.bad{color:#c53030;font-weight:600}.good{color:#276749}.small{color:#4a5568;font-size:.88em}
-a{color:inherit;text-decoration-color:#a0aec0}svg{width:100%;height:auto;margin:1em 0}summary{cursor:pointer}
-svg text{font-family:system-ui,"DejaVu Sans",sans-serif;fill:#1a202c}.o{fill:#f7fafc;stroke:#cbd5e0}.t{font-size:13px;font-weight:600}
-.m{font-size:9.5px;text-anchor:middle}.l{font-size:10px;font-weight:700;text-anchor:middle}svg .l{fill:#fff}.k{font-size:12px}
-.q{fill:#3182ce;stroke:#2a4365}.n{fill:#fff;stroke:#718096}.p1{fill:#c05621;stroke:#7b341e}.p2{fill:#6b46c1;stroke:#44337a}.b{fill:none;stroke:#e53e3e;stroke-width:3}
-"""
+# So many sets that stop the network are listed, the smallest ones; the certificate has all.
+MOST_LISTED = 60
+# So many nodes are named one by one; more of them by their organisations.
+MOST_NAMED = 12
+# So many oddities of quorum sets are shown at once, and so many quorum sets that only watchers have.
+MOST_ODD = 12
+MOST_SETS = 40
 
 
 def escaped(text):
@@ -32,197 +26,420 @@ def counted(number, what):
     return "%d %s%s" % (number, what, "" if number == 1 else "s")
 
 
-class Page:
-    """The sections, each a text."""
+def fold(head, body):
+    return "<details><summary>%s</summary>%s</details>" % (head, body)
 
-    def __init__(self, title, folder, network, shown, found):
-        self.title = title
-        self.folder = folder
+
+def table(heads, rows, kind=""):
+    """A table whose first cell of each row is its heading; of facts, where no column has one."""
+    head = "<thead><tr>%s</tr></thead>" % "".join('<th scope="col">%s</th>' % it for it in heads) if heads else ""
+    lines = "\n".join('<tr%s><th scope="row">%s</th>%s</tr>' % (mark, first, "".join("<td>%s</td>" % it for it in rest)) for mark, first, *rest in rows)
+    return '<table class="%s">%s<tbody>%s</tbody></table>' % (kind, head, lines)
+
+
+class Names:
+    """Nodes and organisations as the page shows them."""
+
+    def __init__(self, network):
         self.network = network
-        self.shown = shown
-        self.found = found
 
     def node(self, key):
         """A node by its name, which leads to its key."""
         return '<a href="#n%d">%s</a>' % (self.network.place[key], escaped(self.network.names[key]))
 
-    def nodes(self, keys):
+    def each(self, keys):
         """Nodes in the order of their names."""
         return ", ".join(self.node(key) for key in sorted(keys, key=lambda key: self.network.names[key]))
 
-    def certificate(self, certificate):
-        shown = os.path.join(self.folder, certificate.name)
-        text = 'certificate <code>%s</code> (%s, SHA-256 <code>%s</code>): <code>check</code> answers <code>%s</code>'
-        return text % (escaped(shown), counted(certificate.size, "byte"), certificate.digest, escaped(certificate.accepted))
+    def nodes(self, keys):
+        """Nodes by their names, or where they are many by their organisations."""
+        keys = set(keys)
+        if len(keys) <= MOST_NAMED:
+            return self.each(keys)
+        parts = []
+        for org in self.network.orgs:
+            own = keys & {key for key in org.keys if self.network.org_of[key] is org}
+            if own:
+                parts.append("all of %s" % escaped(org.name) if len(own) == len(org.keys) else "%d of %s" % (len(own), escaped(org.name)))
+        outside = len(keys - set(self.network.org_of))
+        if outside:
+            parts.append("%d of no organisation" % outside if parts else counted(outside, "node"))
+        return "%s (%s)" % (counted(len(keys), "node") if len(parts) > 1 else "%d" % len(keys), ", ".join(parts))
 
-    def verdict(self):
-        verdict = self.found.verdict
-        if verdict is None:
-            return "<p>The program has no command <code>intersect</code>; whether the network can fork is left out.</p>"
+    def one(self, it):
+        """An organisation, or the key of a node of none."""
+        return self.node(it) if isinstance(it, str) else escaped(it.name)
+
+    def sort_name(self, it):
+        return self.network.names[it] if isinstance(it, str) else it.name
+
+    def group(self, some):
+        return " and ".join(self.one(it) for it in sorted(some, key=self.sort_name))
+
+    def quorum_set(self, held):
+        """A quorum set in words: so many of these, with an organisation's name for its keys."""
+        parts = [self.inner(it) for it in held.inner] + [self.node(key) for key in sorted(held.validators, key=lambda key: self.network.names[key])]
+        return "<b>%d of %d</b>: %s" % (held.threshold, len(parts), ", ".join(sorted(parts, key=lambda part: part.lower())))
+
+    def inner(self, held):
+        orgs = {self.network.org_of.get(key) for key in held.validators}
+        org = orgs.pop() if len(orgs) == 1 else None
+        if org and not held.inner and held.validators == org.keys:
+            return "%s (%d of %d)" % (escaped(org.name), held.threshold, len(held.validators))
+        return "(%s)" % self.quorum_set(held)
+
+
+class Page:
+    """The sections, each a text."""
+
+    def __init__(self, title, network, shown, found, program):
+        self.title = title
+        self.network = network
+        self.shown = shown
+        self.found = found
+        self.program = program
+        self.names = Names(network)
+        self.view = found.views[0]
+        self.own = found.own
+
+    # What is common to sections.
+
+    def link(self, certificate):
+        """A certificate as a link."""
+        if certificate is None:
+            return ""
+        return '<a class="small" href="%s">certificate</a>' % escaped(urllib.parse.quote("%s/%s" % (self.program.beside.name, certificate.name)))
+
+    def seen(self, view):
+        """Whom a view speaks of."""
+        if view.node is None:
+            return "In the whole file"
+        if self.own is not None:
+            return "As your node sees it"
+        return "As the validators see it"
+
+    def asked(self):
+        """The same of the first view, within a sentence."""
+        return self.seen(self.view)[0].lower() + self.seen(self.view)[1:]
+
+    def about(self):
+        """What the page is about, in a sentence."""
+        if self.view.node is None:
+            return "Each answer is about all %s of the file." % counted(len(self.network.keys), "node")
+        whole = "%d of the %d nodes of the file" % (len(self.view.keys), len(self.network.keys))
+        if self.own is not None:
+            return "Each answer is first about the node %s and all on whom it depends, also through others: %s." % (self.names.node(self.view.node), whole)
+        text = "Each answer is first about %s, which most quorum sets name (%d), and all on whom it depends, also through others: %s. Give <code>--node</code> to ask as your own node sees it."
+        return text % (self.names.node(self.view.node), self.network.named[self.view.node], whole)
+
+    def fooled(self, verdict):
+        """Of a fork of the whole file alone: which of the two sides has nobody on whom the first view depends."""
+        for keys in (verdict.first, verdict.second):
+            if not set(keys) & set(self.network.named):
+                one = len(keys) == 1
+                return "%s, which no other node's quorum set names, would be split off: nobody waits for %s" % (self.names.nodes(keys), "it" if one else "them")
+            if not set(keys) & self.view.keys:
+                return "%s would be split off, on which nothing of the first view depends" % self.names.nodes(keys)
+        return "%s against %s" % (self.names.nodes(verdict.first), self.names.nodes(verdict.second))
+
+    def undecided(self, verdict):
         if verdict.word == "too-large":
-            return '<div class="verdict open"><b>Not decided:</b> the formula would have %s variables, more than the program takes.</div>' % escaped(verdict.number)
+            return "not decided: the formula would have %s variables, more than the program takes" % escaped(verdict.number)
+        return "not decided within %s units" % escaped(verdict.number)
+
+    # The summary.
+
+    def summary(self):
+        rows = [("Can it fork?", self.short_fork()), ("If one organisation lies?", self.short_lies()), ("Who can stop it?", self.short_stop()), ("Your node", self.short_own())]
+        return '<dl class="summary">%s</dl><p>%s</p>' % ("".join("<dt>%s</dt><dd>%s</dd>" % row for row in rows), self.about())
+
+    def short_fork(self):
+        if not self.found.verdicts:
+            return "not asked: this program has no command <code>intersect</code>"
+        first = self.found.verdicts[0]
+        if first.word == "yes":
+            text = '<span class="good">No</span>' if self.found.greatest else '<span class="bad">There is no quorum</span>, so nothing is ever agreed on'
+            later = [verdict for verdict in self.found.verdicts[1:] if verdict.word == "no"]
+            return text + "".join('; <span class="warn">in the whole file: %s</span>' % self.fooled(verdict) for verdict in later)
+        return '<span class="bad">Yes</span>, though no node lies' if first.word == "no" else self.undecided(first)
+
+    def short_lies(self):
+        if self.found.forks():
+            return "it forks without that"
+        asked = [turn for turn in self.found.turns if turn.lies]
+        if not asked:
+            return "not asked: no organisations are known"
+        by = [escaped(turn.org.name) for turn in asked if turn.lies[0].word == "no"]
+        text = '<span class="bad">%s can fork it</span>: %s' % ("Each organisation" if len(by) == len(asked) > 1 else counted(len(by), "organisation"), ", ".join(by)) if by else '<span class="good">None can fork it</span>'
+        open_ = [escaped(turn.org.name) for turn in asked if turn.lies[0].word not in ("yes", "no")]
+        if open_:
+            text = (text if by else "") + " Not decided of %s" % ", ".join(open_)
+        apart = [escaped(turn.org.name) for turn in asked if len(turn.lies) > 1 and turn.lies[1].word == "no"]
+        return text + ('; <span class="warn">%s could split off nodes of the whole file on which nobody here depends</span>' % ", ".join(apart) if apart else "")
+
+    def short_stop(self):
+        if not self.found.greatest:
+            return "there is no quorum to stop"
+        stopping = self.found.stopping
+        if not stopping.sets:
+            return "no %d organisations together" % stopping.most if stopping.most else "see below"
+        text = self.sets_in_short(stopping)
+        if self.found.blocking and self.found.blocking.is_whole():
+            text += "; of single nodes, %d are enough" % min(map(len, self.found.blocking.sets))
+        return text
+
+    def sets_in_short(self, sets):
+        """The smallest sets, in a few words."""
+        whole = self.any_of(sets)
+        if whole:
+            return whole
+        least = [some for some in sets.sets if len(some) == len(sets.sets[0])]
+        shown = ", or ".join(sorted(self.names.group(some) for some in least[:3]))
+        if len(least[0]) == 1:
+            return "%s alone" % shown
+        return shown + (", or one of %d other sets of %d" % (len(least) - 3, len(least[0])) if len(least) > 3 else "") + (" together" if len(least) == 1 else "")
+
+    def any_of(self, sets):
+        """Where the sets are just those of one size out of some: so in words."""
+        every = set().union(*sets.sets)
+        size = len(sets.sets[0])
+        if sets.most is not None or len(sets.sets[-1]) != size or len(every) <= size or len(sets.sets) != math.comb(len(every), size):
+            return None
+        kind = "organisations" if not any(isinstance(it, str) for it in every) else "organisations and nodes"
+        if size == 1:
+            return "each of %s alone" % ", ".join(self.names.one(it) for it in sorted(every, key=self.names.sort_name))
+        return "any %d of these %d %s together: %s" % (size, len(every), kind, ", ".join(self.names.one(it) for it in sorted(every, key=self.names.sort_name)))
+
+    def short_own(self):
+        own = self.own
+        if own is None:
+            return "none was given (<code>--node KEY</code>)"
+        if own.key not in self.found.greatest:
+            return '%s: <span class="bad">in no quorum</span>, so it never agrees with anyone on anything' % self.names.node(own.key)
+        others = [turn.org for turn in self.found.turns if own.key not in turn.org.keys]
+        stopped = [escaped(org.name) for org in others if org not in own.goes_on_without]
+        text = "%s is in the greatest quorum; " % self.names.node(own.key)
+        if not others:
+            return text + "no organisations are known"
+        return text + ('<span class="bad">it stops where %s is silent</span>' % " or ".join(stopped) if stopped else '<span class="good">it goes on whichever other organisation is silent</span>')
+
+    # The sections.
+
+    def fork(self):
+        if not self.found.verdicts:
+            return "<p>The program has no command <code>intersect</code>; whether the network can fork is left out.</p>"
+        same = "<p>The whole file has the same two quorums.</p>" if self.found.forks() and len(self.found.views) > 1 else ""
+        return "".join(self.verdict(at, verdict) for at, verdict in enumerate(self.found.verdicts)) + same
+
+    def verdict(self, at, verdict):
+        where, kind = self.seen(verdict.view), "open"
         if verdict.word == "yes":
-            head, kind = "<b>The network cannot fork.</b> Every two quorums share a node, so while no node lies, no two groups agree on different ledgers.", "yes"
-            if not self.found.greatest:
-                head = "<b>There is no quorum.</b> Nothing is ever agreed on, so no two quorums are disjoint."
+            head, kind = "the network cannot fork.</b> Every two quorums share a node, so while no node lies, no two groups agree on different ledgers.", "yes"
+            if at == 0 and not self.found.greatest:
+                head, kind = "there is no quorum.</b> Nothing is ever agreed on, so no two quorums are disjoint.", "no"
+        elif verdict.word == "no" and at == 0:
+            head, kind = "the network can fork.</b> Two quorums share no node: each can agree on a ledger of its own, though no node lies.", "no"
+            head += "<br>One: %s<br>The other: %s" % (self.names.nodes(verdict.first), self.names.nodes(verdict.second))
         elif verdict.word == "no":
-            head, kind = "<b>The network can fork.</b> Two quorums share no node: each can agree on a ledger of its own, though no node lies.", "no"
-            head += "<br>One: %s<br>The other: %s" % (self.nodes(verdict.first), self.nodes(verdict.second))
+            head = "two quorums share no node.</b> %s." % self.fooled(verdict)
         else:
-            head, kind = "<b>Not decided</b> within a budget of %s units." % escaped(verdict.number), "open"
-        return '<div class="verdict %s">%s<p class="small">%s</p></div>' % (kind, head, self.certificate(verdict.certificate))
+            head = "%s.</b>" % self.undecided(verdict)
+        return '<div class="verdict %s"><b>%s %s %s</div>' % (kind, where, head, self.link(verdict.certificate))
 
     def drawing(self):
-        verdict = self.found.verdict
-        first, second = (verdict.first, verdict.second) if verdict else ((), ())
-        marked, marked_as = self.found.marked()
-        return picture.draw(self.network, picture.Paint(self.found.greatest, first, second, marked), marked_as)
+        verdict = next((verdict for verdict in self.found.verdicts if verdict.word == "no"), None)
+        return picture.draw(self.network, picture.Paint(self.found.greatest, verdict, *self.found.marked(), self.view.keys))
+
+    def in_turn(self):
+        if not self.found.turns:
+            return ""
+        asked = any(turn.lies for turn in self.found.turns)
+        text = "<p>%sSilent: all its keys are down. Asked %s.</p>" % ("Lying: its keys say to each node what that waits for. " if asked else "", self.asked())
+        if self.found.forks():
+            text += "<p>It forks with no node lying, so nothing more is asked about lies.</p>"
+        heads = ["Organisation", *(["If it lies, can the network fork?"] if asked else []), "If it is silent"]
+        return text + self.from_domain() + table(heads, [self.turn(turn, asked) for turn in self.found.turns]) + self.left_out()
+
+    def from_domain(self):
+        if self.network.has_orgs_file:
+            return ""
+        return '<p class="small">The organisations are read from the home domain that each node says of itself, of the nodes that quorum sets name.</p>'
+
+    def left_out(self):
+        names = [escaped(org.name) for org in self.network.orgs if org.keys and org not in {turn.org for turn in self.found.turns}]
+        return '<p>Nobody here depends on a key of %s.</p>' % ", ".join(names) if names else ""
+
+    def turn(self, turn, asked):
+        inside = len(set(turn.org.keys) & set(self.found.greatest))
+        name = '<b>%s</b><br><span class="small">%s, %d in the greatest quorum</span>' % (escaped(turn.org.name), counted(len(turn.org.keys), "key"), inside)
+        return ["", name, *([self.lying(turn.lies)] if asked else []), self.silent(turn)]
+
+    def lying(self, verdicts):
+        return "<br>".join(self.lie(at, verdict) for at, verdict in enumerate(verdicts))
+
+    def lie(self, at, verdict):
+        if verdict.word == "yes":
+            text = '<span class="good">No</span>' if at == 0 else '<span class="small">nor in the whole file</span>'
+        elif verdict.word == "no" and at == 0 and verdict.view is self.view:
+            text = '<span class="bad">Yes</span>: %s against %s' % (self.names.nodes(verdict.first), self.names.nodes(verdict.second))
+        elif verdict.word == "no":
+            text = '<span class="small warn">in the whole file: %s</span>' % self.fooled(verdict)
+        else:
+            text = self.undecided(verdict)
+        return "%s %s" % (text, self.link(verdict.certificate))
+
+    def silent(self, turn):
+        if turn.stops:
+            return '<span class="bad">Nothing goes on</span>: it stops the network'
+        text = "%d of %s go on" % (len(turn.goes_on), counted(len(self.found.greatest), "node"))
+        lost = [key for key in turn.unmet if key in set(self.found.greatest)]
+        return text + ("; %s %s every slice" % (self.names.nodes(lost), "loses" if len(lost) == 1 else "lose") if lost else "")
+
+    def who_stops(self):
+        if not self.found.greatest:
+            return "<p>There is no quorum, so there is nothing to stop.</p>"
+        return "<p>These together stop every agreement where they fall silent, %s.</p>%s%s" % (self.asked(), self.stopping(), self.blocking())
+
+    def stopping(self):
+        stopping = self.found.stopping
+        how = "The list is whole: it is that of the %d minimal blocking sets of nodes, read by organisations, without those in which an organisation can be left out. %s" % (len(self.found.blocking.sets), self.link(stopping.certificate)) if stopping.certificate else "Asked by <code>blocks</code> of the keys of all of them."
+        return self.sets(stopping, "stop it") + '<p class="small">%s</p>' % how if self.network.orgs else ""
+
+    def sets(self, sets, does):
+        """Minimal sets of organisations, the smallest first."""
+        upto = " More than %d were not asked about together." % sets.most if sets.most is not None else ""
+        if not sets.sets:
+            return "<p>None %s.%s</p>" % (does, upto)
+        whole = self.any_of(sets)
+        if whole:
+            return "<p>%s%s.%s</p>" % (whole[0].upper(), whole[1:], upto)
+        rows = sorted(sets.sets, key=lambda some: (len(some), sorted(map(self.names.sort_name, some))))
+        listed = "".join("<li>%s</li>" % self.names.group(some) for some in rows[:MOST_LISTED])
+        more = "<p>And %d others.</p>" % (len(rows) - MOST_LISTED) if len(rows) > MOST_LISTED else ""
+        return "<ol>%s</ol>%s<p>In each of these none can be left out.%s</p>" % (listed, more, upto)
+
+    def blocking(self):
+        blocking = self.found.blocking
+        if blocking is None:
+            return "<p>The sets of nodes are left out: this program has no command <code>blocking</code>.</p>"
+        rows = sorted(blocking.sets, key=len)[:MOST_LISTED]
+        listed = "<ol>%s</ol>" % "".join("<li>%s</li>" % (self.names.each(keys) or "nobody: there is no quorum") for keys in rows)
+        if not blocking.is_whole():
+            head = "The sets of nodes were not all found within %s units" % escaped(blocking.units)
+            how = "<p>%d of the %d found, the smallest; <code>blocks</code> says yes of each, and no once any one node is left out.</p>" % (len(rows), blocking.found)
+            return "<p>%s. %s</p>%s" % (head, self.link(blocking.certificate), fold("Some sets of nodes", how + listed) if rows else "")
+        head = "<p>By single nodes there are %s, of which none can do without one of its nodes; the smallest has %s. %s</p>" % (
+            counted(len(blocking.sets), "set"), counted(min(map(len, blocking.sets)), "node"), self.link(blocking.certificate))
+        return head + fold("The sets of nodes%s" % (", the %d smallest" % MOST_LISTED if len(blocking.sets) > MOST_LISTED else ""), listed)
+
+    def own_node(self):
+        own = self.own
+        if own is None:
+            return ""
+        inside = "It is in the greatest quorum." if own.key in self.found.greatest else '<span class="bad">It is in no quorum: it never agrees with anyone on anything.</span>'
+        text = '<p>%s <span class="key">%s</span></p><p>%s All on whom it depends: %s.</p>' % (escaped(self.network.names[own.key]), escaped(own.key), inside, self.names.nodes(own.closure))
+        if not self.found.turns:
+            return text
+        v_blocking = "<p>Which other organisations can stop this node, whatever the rest does (v-blocking: together they meet every slice of it):</p>" + self.sets(own.v_blocking, "can")
+        return text + table(["Organisation that is silent", "Does the node go on?", "Has it a slice left?"], [self.own_turn(turn.org) for turn in self.found.turns]) + v_blocking
+
+    def own_turn(self, org):
+        own = self.own
+        if own.key in org.keys:
+            return ["", escaped(org.name), "it is one of its keys", "it is one of its keys"]
+        goes = "yes" if org in own.goes_on_without else '<span class="bad">no</span>'
+        return ["", escaped(org.name), goes, '<span class="bad">no</span>' if org in own.unmet_by else "yes"]
+
+    def quorum_sets(self):
+        """The quorum sets of nodes that others name, each with those who have it; and those that only watchers have."""
+        waited = [(held, keys) for held, keys in self.network.distinct_sets() if held and set(keys) & set(self.network.named)]
+        apart = [(held, keys) for held, keys in self.network.distinct_sets() if held and not set(keys) & set(self.network.named)]
+        none = [keys for held, keys in self.network.distinct_sets() if held is None]
+        text = "<p>%s for the nodes that others name%s.</p>" % (counted(len(waited), "quorum set"), "; nodes that are one organisation's or one kind's should share theirs" if len(waited) > 1 else "")
+        text += table(["Who has it", "Quorum set"], [["", self.having(keys), self.names.quorum_set(held)] for held, keys in waited])
+        if none:
+            text += "<p>No quorum set: %s.</p>" % self.having(none[0])
+        if apart:
+            rows = [["", self.having(keys), self.names.quorum_set(held)] for held, keys in apart[:MOST_SETS]]
+            text += fold("%s that only watchers have, whom no other node names" % counted(len(apart), "quorum set"), table(["Who has it", "Quorum set"], rows))
+        return text
+
+    def having(self, keys):
+        named, others = [key for key in keys if key in self.network.named], [key for key in keys if key not in self.network.named]
+        parts = ([self.names.nodes(named)] if named else []) + ([self.names.each(others) if len(others) <= 3 else counted(len(others), "watcher")] if others else [])
+        return " and ".join(parts)
 
     def what_it_is(self):
         numbers = dict(line.split(" ") for line in self.shown[:3])
+        watchers = len(self.network.keys) - len(self.network.named)
         rows = [
-            ("Nodes", "%s, of which %s without a quorum set" % (numbers["nodes"], numbers["unset"])),
-            ("Entries of all quorum sets", numbers["entries"]),
-            ("Nodes in the greatest quorum", "%d: the nodes that can agree on anything at all" % len(self.found.greatest)),
-            ("Organisations", "%d, with %s of the network" % (len(self.network.orgs), counted(len(self.network.org_of), "node")) if self.network.orgs else "no file of organisations was given"),
-            ("SHA-256 of the configuration", "<code>%s</code>" % self.network.digest),
+            ["", "Nodes", "%s, of which %s without a quorum set; %d are watchers, which no other node's quorum set names" % (numbers["nodes"], numbers["unset"], watchers)],
+            ["", "Entries of all quorum sets", numbers["entries"]],
+            ["", "Nodes in the greatest quorum", "%d: those that can agree on anything at all (%s)" % (len(self.found.greatest), self.asked())],
+            ["", "Organisations", "%d, with %s of the network" % (len(self.network.orgs), counted(len(self.network.org_of), "node")) if self.network.orgs else "none are known: there is no file of them, and no home domain"],
         ]
-        text = "<h2>What the network is</h2><table>%s</table>" % "".join("<tr><th>%s</th><td>%s</td></tr>" % row for row in rows)
+        text = table([], rows, "facts")
         without = [org.name for org in self.network.orgs if not org.keys]
         if without:
             text += '<p class="bad">None of the keys of these organisations is in the network: %s. Is it the right file?</p>' % escaped(", ".join(without))
         return text + self.odd()
 
     def odd(self):
-        odd = [self.finding(line.split(" ")) for line in self.shown[3:]]
+        odd = ["<li>%s</li>" % self.finding(line.split(" ")) for line in self.shown[3:]]
         if not odd:
             return "<p>Nothing is odd in the quorum sets: each threshold can be met, and none names a validator twice.</p>"
-        return "<p>Odd in the quorum sets:</p><ul>%s</ul>" % "".join("<li>%s</li>" % line for line in odd)
+        more = fold("And %d more" % (len(odd) - MOST_ODD), "<ul>%s</ul>" % "".join(odd[MOST_ODD:])) if len(odd) > MOST_ODD else ""
+        return "<p>Odd in the quorum sets:</p><ul>%s</ul>%s" % ("".join(odd[:MOST_ODD]), more)
 
     def finding(self, words):
         where = "its own quorum set" if words[2] == "." else "its inner quorum set <code>%s</code>" % escaped(words[2])
         if words[0] == "threshold":
-            return "%s: %s has the threshold %s over %s entries, so no choice meets it" % (self.node(words[1]), where, words[3], words[4])
-        return "%s: %s names %s more than once" % (self.node(words[1]), where, self.node(words[3]))
-
-    def in_turn(self):
-        if not self.found.turns:
-            return ""
-        rows = "".join(self.turn(turn) for turn in self.found.turns)
-        text = "<h2>Each organisation in turn</h2><p>Lying: all its keys say to each node what that waits for. Silent: all its keys are down. %s</p>"
-        head = "<tr><th>Organisation</th><th>If it lies, can the network fork?</th><th>If it is silent</th></tr>"
-        why = "The keys of an organisation that lies are deleted as faulty (<code>intersect --faulty-orgs</code>); silence is asked by <code>blocks</code> and <code>available</code>."
-        return text % why + "<table>%s%s</table>" % (head, rows)
-
-    def turn(self, turn):
-        inside = len(set(turn.org.keys) & set(self.found.greatest))
-        name = '<b>%s</b><br><span class="small"><code>%s</code><br>%s, %d in the greatest quorum</span>' % (escaped(turn.org.name), escaped(turn.org.id), counted(len(turn.org.keys), "key"), inside)
-        return "<tr><td>%s</td><td>%s</td><td>%s</td></tr>" % (name, self.lying(turn.lies), self.silent(turn))
-
-    def lying(self, verdict):
-        if verdict is None:
-            return "left out"
-        if verdict.word == "too-large":
-            return "not decided: the formula would have %s variables" % escaped(verdict.number)
-        if verdict.word == "yes":
-            head = '<span class="good">No</span>: every two quorums of the others share a node'
-        elif verdict.word == "no":
-            head = '<span class="bad">Yes</span>: %s against %s' % (self.nodes(verdict.first), self.nodes(verdict.second))
-        else:
-            head = "Not decided within %s units" % escaped(verdict.number)
-        return '%s<br><span class="small">%s</span>' % (head, self.certificate(verdict.certificate))
-
-    def silent(self, turn):
-        if turn.stops:
-            return '<span class="bad">Nothing goes on</span>: it stops the network'
-        text = "%s of %d go on" % (counted(len(turn.goes_on), "node"), len(self.found.greatest))
-        lost = [key for key in turn.unmet if key in set(self.found.greatest)]
-        return text + ("; %s %s every slice" % (self.nodes(lost), "loses" if len(lost) == 1 else "lose") if lost else "")
-
-    def who_stops(self):
-        text = "<h2>Who can stop it</h2>"
-        if self.found.turns:
-            alone = [turn.org.name for turn in self.found.turns if turn.stops]
-            text += "<p>Organisations that stop every agreement alone: %s.</p>" % (escaped(", ".join(alone)) or "none")
-            text += self.stopping_pairs()
-        return text + self.blocking()
-
-    def stopping_pairs(self):
-        pairs = self.found.stopping_pairs
-        if pairs is None:
-            return "<p>Pairs of organisations were not asked about: there are too many.</p>"
-        if not pairs:
-            return "<p>No two of the others stop it together.</p>"
-        return "<p>Two of the others that stop it together:</p><ul>%s</ul>" % "".join("<li>%s and %s</li>" % (escaped(one.name), escaped(other.name)) for one, other in pairs)
-
-    def blocking(self):
-        if self.found.blocking is None:
-            return "<p>The minimal blocking sets are left out: this program has no command <code>blocking</code>.</p>"
-        sets, certificate = self.found.blocking.sets, '<p class="small">%s</p>' % self.certificate(self.found.blocking.certificate)
-        listed = "<ol>%s</ol>" % "".join("<li>%s</li>" % self.blocking_set(keys) for keys in sorted(sets, key=len)[:MOST_LISTED]) if sets else ""
-        if not self.found.blocking.is_whole():
-            head = "<p>The minimal blocking sets were not all found within %s units." % escaped(self.found.blocking.units)
-            if sets:
-                head += " %s of the %d found, the smallest, are listed; <code>blocks</code> says yes of each, and no once any one node is left out." % (len(sets), self.found.blocking.found)
-        else:
-            head = "<p>%s: each stops every agreement, and none of its nodes can be left out." % counted(len(sets), "minimal blocking set")
-            head += " The %d smallest are listed." % MOST_LISTED if len(sets) > MOST_LISTED else ""
-        return "%s</p>%s%s" % (head, certificate, listed)
-
-    def blocking_set(self, keys):
-        """A set by its nodes, and by organisations where all their keys make it up."""
-        orgs = {id(self.network.org_of[key]): self.network.org_of[key] for key in keys if key in self.network.org_of}.values()
-        text = self.nodes(keys) or "nobody: there is no quorum"
-        whole = sorted(key for org in orgs for key in org.keys) == sorted(keys)
-        return text + (" (all of %s)" % escaped(" and ".join(org.name for org in orgs)) if keys and whole else "")
-
-    def own(self):
-        own = self.found.own
-        if own is None:
-            return ""
-        inside = "It is in the greatest quorum." if own.key in self.found.greatest else '<span class="bad">It is in no quorum: it never agrees with anyone on anything.</span>'
-        text = '<h2>The node %s</h2><p class="key">%s</p><p>%s Its trust closure has %s: %s.</p>'
-        text %= (escaped(self.network.names[own.key]), escaped(own.key), inside, counted(len(own.closure), "node"), self.nodes(own.closure))
-        if not self.found.turns:
-            return text
-        head = "<tr><th>Organisation that is silent</th><th>Does the node go on?</th><th>Has it a slice left?</th><th>Does it v-block the node?</th></tr>"
-        text += "<table>%s%s</table>" % (head, "".join(self.own_turn(own, turn.org) for turn in self.found.turns))
-        if own.v_blocking_pairs is None:
-            return text
-        pairs = "; ".join("%s and %s" % (escaped(one.name), escaped(other.name)) for one, other in own.v_blocking_pairs)
-        return text + "<p>Two of the others that v-block it together (meet every slice of it): %s.</p>" % (pairs or "none")
-
-    def own_turn(self, own, org):
-        goes, unmet, blocks = org in own.goes_on_without, org in own.unmet_by, org in own.v_blocking
-        cells = ["yes" if goes else '<span class="bad">no</span>', '<span class="bad">no</span>' if unmet else "yes", '<span class="bad">yes</span>' if blocks else "no"]
-        if own.key in org.keys:
-            cells[:2] = ["it is one of its keys"] * 2
-        return "<tr><td>%s</td>%s</tr>" % (escaped(org.name), "".join("<td>%s</td>" % cell for cell in cells))
+            return "%s: %s has the threshold %s over %s entries, so no choice meets it" % (self.names.node(words[1]), where, words[3], words[4])
+        return "%s: %s names %s more than once" % (self.names.node(words[1]), where, self.names.node(words[3]))
 
     def how(self):
-        return (
-            "<h2>How far to trust this page</h2><p>The words yes and no come from the program <code>quorum_cli</code>, whose contract is proved: "
-            "a certificate is accepted only where what it says is so. Each certificate named above lies beside this page; "
-            "<code>quorum_cli check CONFIG CERTIFICATE</code> tells anyone who has the configuration the same. "
-            "The names are those that the configuration gives, which nobody checks. This page itself is not proved.</p>"
-        )
+        version, config = self.program.version(), '<code>%s</code>' % self.network.digest
+        rows = [["", "Configuration", "%s, SHA-256 %s" % (escaped(self.title), config)]]
+        rows.append(["", "Program", "<code>quorum_cli</code>%s, SHA-256 <code>%s</code>" % (" " + escaped(version) if version else "", self.program.digest())])
+        rows.append(["", "Made on", time.strftime("%Y-%m-%d %H:%M UTC", time.gmtime())])
+        text = "<p>Each yes and no comes from the program, whose contract is proved: a certificate is accepted only where what it says is so. The names are those that the configuration gives, which nobody checks; this page itself is not proved. Whoever has the configuration can ask again: fetch it yourself, compare its digest, and check each certificate with <code>quorum_cli check CONFIG CERTIFICATE</code>, which prints the kind, of whom it speaks (<code>from</code>) and who lies (<code>faulty</code>).</p>"
+        text += table([], rows, "facts")
+        certificates = [["", '<a href="%s">%s</a>' % (escaped(urllib.parse.quote("%s/%s" % (self.program.beside.name, it.name))), escaped(it.name)), "<code>%s</code>" % escaped(it.accepted), "%d" % it.size, "<code>%s</code>" % it.digest, "<code>%s</code>" % escaped(it.command)] for it in self.program.certificates]
+        text += fold("%s, with what <code>check</code> answers" % counted(len(certificates), "certificate"), table(["File", "Check", "Bytes", "SHA-256", "Made by"], certificates))
+        return text + fold("%s without a certificate" % counted(len(self.program.commands), "command"), "<pre>%s</pre>" % escaped("\n".join(self.program.commands)))
 
     def keys(self):
+        verdict = next((verdict for verdict in self.found.verdicts if verdict.word == "no"), None)
+        paint = picture.Paint(self.found.greatest, verdict, [], "", self.view.keys)
         rows = []
-        inside = set(self.found.greatest)
         for at, key in enumerate(self.network.keys):
             org = self.network.org_of.get(key)
-            cells = (at, escaped(self.network.names[key]), escaped(org.name) if org else "", "yes" if key in inside else "", escaped(key))
-            rows.append('<tr id="n%d"><td>%s<td>%s<td>%s<td class="key">%s' % cells)
-        head = "<tr><th>Name<th>Organisation<th>In the greatest quorum<th>Key"
-        return "<h2>Names and keys</h2><table>%s%s</table>" % (head, "\n".join(rows))
+            state = "in the greatest quorum" if key in paint.greatest and not paint.first else paint.kind(key)[2] if key in self.view.keys else "outside"
+            rows.append([' id="n%d"' % at, escaped(self.network.names[key]), escaped(org.name) if org else "", state, '<span class="key">%s</span>' % escaped(key)])
+        return table(["Name", "Organisation", "In the picture", "Key"], rows, "keys")
+
+    def sections(self):
+        """Each section with its mark and heading, and its text; one without a text is left out. Another question of the network is another line."""
+        return [
+            ("fork", "Can it fork?", self.fork()),
+            ("picture", "The network", self.drawing()),
+            ("turns", "Each organisation in turn", self.in_turn()),
+            ("stop", "Who can stop it?", self.who_stops()),
+            ("own", "Your node", self.own_node()),
+            ("sets", "Quorum sets", self.quorum_sets()),
+            ("file", "What the file has", self.what_it_is()),
+            ("check", "How to check this page", self.how()),
+            ("keys", "Names and keys", self.keys()),
+        ]
 
     def whole(self):
-        sections = [self.verdict(), self.drawing(), self.what_it_is(), self.in_turn(), self.who_stops(), self.own(), self.how(), self.keys()]
-        head = '<!DOCTYPE html><html lang="en"><head><meta charset="utf-8"><meta name="viewport" content="width=device-width"><title>%s</title><style>%s</style></head>'
-        return head % (escaped(self.title), STYLE) + "<body><h1>Quorums of %s</h1>%s</body></html>\n" % (escaped(self.title), "\n".join(sections))
+        sections = [it for it in self.sections() if it[2]]
+        contents = '<nav aria-label="Contents"><ul>%s</ul></nav>' % "".join('<li><a href="#%s">%s</a></li>' % it[:2] for it in sections)
+        body = "\n".join('<section aria-labelledby="%s"><h2 id="%s">%s</h2>%s</section>' % (mark, mark, head, text) for mark, head, text in sections)
+        head = '<!DOCTYPE html><html lang="en"><head><meta charset="utf-8"><meta name="viewport" content="width=device-width,initial-scale=1"><title>Quorums of %s</title><style>%s</style></head>'
+        return head % (escaped(self.title), STYLE) + "<body><main><h1>Quorums of %s</h1>%s%s\n%s</main></body></html>\n" % (escaped(self.title), self.summary(), contents, body)
 
 
-def write(title, folder, network, shown, found):
-    """The text of the page, whose certificates are in the folder of this name."""
-    return Page(title, folder, network, shown, found).whole()
+def write(title, network, shown, found, program):
+    """The text of the page."""
+    return Page(title, network, shown, found, program).whole()

@@ -8,7 +8,7 @@ import sys
 import tempfile
 
 # What a certificate of this tool is called: one that an earlier run left is stale. Other files of the folder are kept.
-MADE = re.compile(r"(intersect|blocking|faulty-[A-Za-z0-9._-]+)\.cert")
+MADE = re.compile(r"(from-)?(intersect|blocking|faulty-[A-Za-z0-9._-]+)\.cert")
 
 
 class BadPage(ValueError):
