@@ -1,0 +1,208 @@
+#!/usr/bin/env python3
+"""Opens the page of three made-up networks in Chromium: at three widths, in the dark, and printed.
+
+    tests/browser.py [FOLDER]
+
+The networks are those of tests/watchers.py, each with a hundred watchers. At each width nothing is wider than the window, no two
+labels of the picture overlap, and the picture has two columns on a phone; in the dark the text stands out from its ground; each
+page is below 400 kB and on ten printed sheets at most; and the summary says what the certified answers say. With FOLDER the
+pages, screenshots and prints are kept there. The last line is 'browser: N passed, M failed', or says why it is skipped.
+"""
+
+import base64
+import json
+import os
+import re
+import shutil
+import subprocess
+import sys
+import tempfile
+
+sys.dont_write_bytecode = True
+
+import watchers  # noqa: E402
+
+TOP = os.path.dirname(os.path.dirname(os.path.abspath(__file__)))
+PROGRAM = os.environ.get("QUORUM_CLI", os.path.join(TOP, "crates", "quorum_cli", "out", "quorum_cli"))
+TOOL = os.path.join(TOP, "tools", "network-report")
+BUDGET = os.environ.get("BUDGET", "10000")
+MOST_BYTES = 400_000
+MOST_SHEETS = 10
+WIDTHS = {"phone": 360, "tablet": 768, "desk": 1280}
+
+# What is wider than the window, which labels overlap, and in how many columns the picture stands.
+MEASURES = """(() => {
+  const out = [...document.querySelectorAll('main *')].filter(it => !it.closest('.hidden') && it.getClientRects().length && it.getBoundingClientRect().right > innerWidth + 1);
+  const labels = [...document.querySelectorAll('.org li')].map(it => it.getBoundingClientRect());
+  let over = 0;
+  for (let i = 0; i < labels.length; i++) for (let j = 0; j < i; j++) {
+    const a = labels[i], b = labels[j];
+    if (Math.min(a.right, b.right) - Math.max(a.left, b.left) > 1 && Math.min(a.bottom, b.bottom) - Math.max(a.top, b.top) > 1) over++;
+  }
+  const wide = [...document.querySelectorAll('.org li')].filter(it => it.scrollWidth > it.clientWidth + 1).length;
+  const lefts = new Set([...document.querySelectorAll('.orgs .org')].map(it => Math.round(it.getBoundingClientRect().left)));
+  return JSON.stringify({out: out.slice(0, 5).map(it => it.tagName + ' ' + it.textContent.slice(0, 40)), over, wide, columns: lefts.size, high: document.documentElement.scrollHeight});
+})()"""
+
+# The least contrast of a text with the ground below it, by the WCAG's formula.
+CONTRAST = """(() => {
+  const parts = it => it.match(/[\\d.]+/g).map(Number);
+  const light = c => { const [r, g, b] = c.slice(0, 3).map(v => { v /= 255; return v <= .03928 ? v / 12.92 : ((v + .055) / 1.055) ** 2.4; }); return .2126 * r + .7152 * g + .0722 * b; };
+  const ground = it => { for (; it; it = it.parentElement) { const c = parts(getComputedStyle(it).backgroundColor); if (c.length < 4 || c[3] > 0) return c; } return [255, 255, 255]; };
+  let least = [99, ''];
+  for (const it of document.querySelectorAll('main *')) {
+    if (!it.getClientRects().length || it.closest('.hidden') || ![...it.childNodes].some(n => n.nodeType === 3 && n.textContent.trim())) continue;
+    const a = light(parts(getComputedStyle(it).color)), b = light(ground(it));
+    const ratio = (Math.max(a, b) + .05) / (Math.min(a, b) + .05);
+    if (ratio < least[0]) least = [ratio, it.className + ': ' + it.textContent.slice(0, 40)];
+  }
+  return JSON.stringify(least);
+})()"""
+
+
+class Browser:
+    """Chromium, told over a pipe what to do."""
+
+    def __init__(self, path, folder):
+        to_read, self.to = os.pipe()
+        self.of, from_write = os.pipe()
+        words = [path, "--headless=new", "--no-sandbox", "--disable-gpu", "--disable-dev-shm-usage", "--hide-scrollbars", "--remote-debugging-pipe", "--user-data-dir=" + folder, "about:blank"]
+        opened = lambda: (os.dup2(to_read, 103), os.dup2(from_write, 104), os.dup2(103, 3), os.dup2(104, 4))  # noqa: E731
+        self.process = subprocess.Popen(words, preexec_fn=opened, close_fds=False, stdin=subprocess.DEVNULL, stdout=subprocess.DEVNULL, stderr=subprocess.DEVNULL)
+        os.close(to_read)
+        os.close(from_write)
+        self.last = 0
+        self.left = b""
+        self.session = None
+        target = self.call("Target.createTarget", url="about:blank")["targetId"]
+        self.session = self.call("Target.attachToTarget", targetId=target, flatten=True)["sessionId"]
+        self.call("Page.enable")
+
+    def heard(self):
+        """The next message."""
+        while b"\0" not in self.left:
+            more = os.read(self.of, 1 << 20)
+            if not more:
+                raise OSError("Chromium ended")
+            self.left += more
+        text, self.left = self.left.split(b"\0", 1)
+        return json.loads(text)
+
+    def call(self, method, **given):
+        self.last += 1
+        asked = {"id": self.last, "method": method, "params": given}
+        if self.session is not None:
+            asked["sessionId"] = self.session
+        os.write(self.to, json.dumps(asked).encode() + b"\0")
+        while True:
+            heard = self.heard()
+            if heard.get("id") == self.last:
+                if "error" in heard:
+                    raise OSError("%s: %s" % (method, heard["error"]))
+                return heard["result"]
+
+    def open(self, path, width, scheme):
+        self.call("Emulation.setDeviceMetricsOverride", width=width, height=900, deviceScaleFactor=1, mobile=width < 500)
+        self.call("Emulation.setEmulatedMedia", features=[{"name": "prefers-color-scheme", "value": scheme}])
+        self.call("Page.navigate", url="file://" + path)
+        while self.heard().get("method") != "Page.loadEventFired":
+            pass
+
+    def told(self, script):
+        return json.loads(self.call("Runtime.evaluate", expression=script)["result"]["value"])
+
+    def picture(self, path, high):
+        area = {"x": 0, "y": 0, "width": self.told("innerWidth.toString()"), "height": high, "scale": 1}
+        self.kept(path, self.call("Page.captureScreenshot", format="png", captureBeyondViewport=True, clip=area)["data"])
+
+    def printed(self, path):
+        """The sheets of the page on A4."""
+        data = self.call("Page.printToPDF", printBackground=False, paperWidth=8.27, paperHeight=11.69, marginTop=0.4, marginBottom=0.4, marginLeft=0.4, marginRight=0.4)["data"]
+        return len(re.findall(rb"/Type\s*/Page\b", self.kept(path, data)))
+
+    @staticmethod
+    def kept(path, data):
+        held = base64.b64decode(data)
+        with open(path, "wb") as it:
+            it.write(held)
+        return held
+
+    def end(self):
+        self.session = None
+        self.call("Browser.close")
+        self.process.wait(60)
+
+
+class Trial:
+    def __init__(self, folder, browser):
+        self.folder = folder
+        self.browser = browser
+        self.passed = 0
+        self.failed = 0
+
+    def judge(self, name, right, shown=""):
+        if right:
+            self.passed += 1
+        else:
+            self.failed += 1
+            print("browser: %s: %s" % (name, shown))
+
+    def path(self, name):
+        return os.path.join(self.folder, name)
+
+    def network(self, kind, config, orgs):
+        """The pages of a network without a node and with one, a watcher."""
+        with open(config, encoding="utf-8") as it:
+            nodes = json.load(it)
+        watcher = next(it["publicKey"] for it in nodes if not it["isValidator"] and "quorumSet" in it and len(it["quorumSet"]["validators"]) == 5)
+        for name, words in ((kind, ["--orgs", orgs]), (kind + "-node", ["--orgs", orgs, "--node", watcher])):
+            page = self.path(name + ".html")
+            ended = subprocess.run([TOOL, config, *words, "--budget", BUDGET, "-o", page, "--program", PROGRAM], stdout=subprocess.PIPE, stderr=subprocess.PIPE, timeout=3000)
+            self.judge(name, ended.returncode == 0, ended.stderr)
+            if ended.returncode == 0:
+                self.page(name, page)
+
+    def page(self, name, page):
+        self.judge(name + " is small enough", os.path.getsize(page) < MOST_BYTES, os.path.getsize(page))
+        for width, wide in WIDTHS.items():
+            self.browser.open(page, wide, "light")
+            found = self.browser.told(MEASURES)
+            columns = 2 if width == "phone" else 4
+            self.judge("%s, %s" % (name, width), not found["out"] and found["over"] == found["wide"] == 0 and found["columns"] == columns, found)
+            self.browser.picture(self.path("%s-%s.png" % (name, width)), found["high"])
+        for scheme in ("light", "dark"):
+            self.browser.open(page, WIDTHS["desk"], scheme)
+            least = self.browser.told(CONTRAST)
+            self.judge("%s, %s" % (name, scheme), least[0] >= 4.5, least)
+            self.browser.picture(self.path("%s-%s.png" % (name, scheme)), 2400)
+        sheets = self.browser.printed(self.path(name + ".pdf"))
+        self.judge(name + " printed", 1 <= sheets <= MOST_SHEETS, sheets)
+
+
+def tried(folder, chromium):
+    with tempfile.TemporaryDirectory() as profile:
+        browser = Browser(chromium, profile)
+        trial = Trial(folder, browser)
+        try:
+            for kind, (config, orgs) in watchers.write(folder).items():
+                trial.network(kind, config, orgs)
+        finally:
+            browser.end()
+    print("browser: %d passed, %d failed" % (trial.passed, trial.failed))
+    return 1 if trial.failed else 0
+
+
+def main():
+    chromium = shutil.which("chromium")
+    if chromium is None or not os.path.exists(PROGRAM):
+        print("browser: skipped, %s" % ("there is no Chromium" if chromium is None else "the program is not built"))
+        return 0
+    if len(sys.argv) == 2:
+        os.makedirs(sys.argv[1], exist_ok=True)
+        return tried(os.path.abspath(sys.argv[1]), chromium)
+    with tempfile.TemporaryDirectory() as folder:
+        return tried(folder, chromium)
+
+
+if __name__ == "__main__":
+    sys.exit(main())

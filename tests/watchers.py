@@ -1,0 +1,119 @@
+#!/usr/bin/env python3
+"""Makes networks as an operator meets them: seven organisations of three to five validators, and a hundred watchers.
+
+    tests/watchers.py FOLDER
+
+writes for each kind KIND.json and KIND-orgs.json, in the shape that stellarbeat publishes. A third of the watchers say nothing of
+whom they trust, a third have the validators' quorum set, and each of the others wants three of five validators of its own choice.
+"""
+
+import base64
+import hashlib
+import json
+import os
+import sys
+
+# Name, domain, number of validators.
+ORGANISATIONS = [
+    ("Northwind Foundation", "northwind.example", 3),
+    ("Halcyon Labs", "halcyon.example", 3),
+    ("Lobster & Sons", "lobster.example", 5),
+    ("Satoshi<Pay>", "satoshi.example", 4),
+    ("Kettle Bank", "kettle.example", 3),
+    ("Público Nœud", "publico.example", 3),
+    ("Franklin Trust", "franklin.example", 4),
+]
+WATCHERS = 100
+KINDS = ["seven", "needed", "old"]
+
+
+def chosen(text, most):
+    """A number below `most` that the text decides."""
+    return int.from_bytes(hashlib.sha256(text.encode()).digest()[:8], "big") % most
+
+
+def key(text):
+    """A key in the shape of Stellar's: 56 letters and digits."""
+    return "G" + base64.b32encode(hashlib.sha256(text.encode()).digest() * 2).decode()[:55]
+
+
+def quorum_set(threshold, validators=(), inner=()):
+    return {"threshold": threshold, "validators": list(validators), "innerQuorumSets": list(inner)}
+
+
+def majority(keys):
+    return quorum_set(len(keys) // 2 + 1, keys)
+
+
+class Made:
+    """A network of one kind: its organisations with their keys, and its nodes."""
+
+    def __init__(self, kind):
+        self.kind = kind
+        self.orgs = [(name, domain, [key("%s %s %d" % (kind, name, at)) for at in range(1, count + 1)]) for name, domain, count in ORGANISATIONS]
+        self.sets = [majority(keys) for _, _, keys in self.orgs]
+        self.nodes = [node for at in range(len(self.orgs)) for node in self.validators(at)]
+        self.nodes += [self.watcher(at) for at in range(1, WATCHERS + 1)]
+        self.nodes.sort(key=lambda node: node["publicKey"][::-1])
+
+    def usual(self):
+        """The quorum set of most: five of seven organisations, or one that all need with four of the other six."""
+        if self.kind == "needed":
+            return quorum_set(2, [], [self.sets[0], quorum_set(4, [], self.sets[1:])])
+        return quorum_set(5, [], self.sets)
+
+    def validator_set(self, org, at):
+        """Where it is old, one validator of three organisations still has the quorum set of before the last two joined."""
+        if self.kind == "old" and at == 1 and org < 3:
+            return quorum_set(4, [], self.sets[:5])
+        return self.usual()
+
+    def validators(self, org):
+        name, domain, keys = self.orgs[org]
+        for at, own in enumerate(keys, 1):
+            yield self.node(own, "%s %d" % (name, at), domain, self.validator_set(org, at))
+
+    def watcher(self, at):
+        own = key("%s watcher %d" % (self.kind, at))
+        if at % 3 == 0:
+            wanted = None
+        elif at % 3 == 1:
+            wanted = self.usual()
+        else:
+            wanted = quorum_set(3, sorted((it for _, _, keys in self.orgs for it in keys), key=lambda it: chosen(own + it, 1 << 60))[:5])
+        return self.node(own, "watcher %d" % at if at % 2 else None, None, wanted)
+
+    @staticmethod
+    def node(own, name, domain, wanted):
+        made = {"ip": "192.0.2.1", "port": 11625, "publicKey": own, "active": True, "isValidator": domain is not None, "statistics": {"active30DaysPercentage": 99.5}}
+        made.update({word: held for word, held in (("name", name), ("homeDomain", domain), ("quorumSet", wanted)) if held is not None})
+        return made
+
+    def organisations(self):
+        return [{"id": hashlib.sha256(name.encode()).hexdigest()[:32], "name": name, "homeDomain": domain, "validators": keys} for name, domain, keys in self.orgs]
+
+
+def write(folder):
+    """The paths of the files of each kind: its nodes and its organisations."""
+    paths = {}
+    for kind in KINDS:
+        made = Made(kind)
+        paths[kind] = [os.path.join(folder, kind + ".json"), os.path.join(folder, kind + "-orgs.json")]
+        for path, held in zip(paths[kind], (made.nodes, made.organisations())):
+            with open(path, "w", encoding="utf-8") as it:
+                json.dump(held, it, ensure_ascii=False, indent=1)
+                it.write("\n")
+    return paths
+
+
+def main():
+    if len(sys.argv) != 2:
+        print(__doc__.strip(), file=sys.stderr)
+        return 2
+    os.makedirs(sys.argv[1], exist_ok=True)
+    write(sys.argv[1])
+    return 0
+
+
+if __name__ == "__main__":
+    sys.exit(main())
