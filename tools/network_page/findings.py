@@ -120,8 +120,8 @@ def turn_of(program, found, org):
 
 
 def stopping(program, network, found, orgs):
-    """By the certified list of the sets of nodes, where it is whole; else by asking."""
-    if found.blocking is None or not found.blocking.is_whole():
+    """By the certified list of the sets of nodes, where it is whole and no node is in two organisations; else by asking."""
+    if found.blocking is None or not found.blocking.is_whole() or sum(len(org.keys) for org in network.orgs) > len(network.org_of):
         return together(orgs, lambda keys: program.blocks(found.views[0], keys)[0])
     called = {frozenset(network.org_of.get(key, key) for key in keys) for keys in found.blocking.sets if keys}
     return Together([some for some in called if not any(other < some for other in called)], None, found.blocking.certificate)
