@@ -10,6 +10,8 @@ pages, screenshots and prints are kept there. The last line is 'browser: N passe
 """
 
 import base64
+import html
+import itertools
 import json
 import os
 import re
@@ -161,6 +163,42 @@ class Trial:
             self.judge(name, ended.returncode == 0, ended.stderr)
             if ended.returncode == 0:
                 self.page(name, page)
+                self.summary(name, page, config, orgs, words[3] if len(words) == 4 else None)
+
+    def summary(self, name, page, config, orgs, node):
+        """The first lines say what the program answers to whoever asks it without the page."""
+        with open(page, encoding="utf-8") as it:
+            text = it.read()
+        lines = [html.unescape(re.sub(r"<[^>]*>", "", line)) for line in re.findall(r"<dd>(.*?)</dd>", text)]
+        node = node if node is not None else re.search(r"quorum_cli intersect \S+ \S+ --from=(\w+)", text).group(1)
+        with open(orgs, encoding="utf-8") as it:
+            keys = {org["name"]: org["validators"] for org in json.load(it)}
+        forks, _ = self.asked("intersect", config, self.path("asked.cert"), "--from", node)
+        lying = [org for org in keys if self.asked("intersect", config, self.path("asked.cert"), "--from", node, "--faulty", ",".join(keys[org]))[0] == 1]
+        self.judge(name + ": can it fork", lines[0].split(",")[0] == {0: "No", 1: "Yes"}.get(forks), (lines, forks))
+        said = lines[1].split("; ")[0]
+        self.judge(name + ": with one lying", said.endswith(": " + ", ".join(lying)) if lying else said == "None can fork it", (lines, lying))
+        size, least = self.least(config, node, keys)
+        first = lines[2].split("; ")[0]
+        if len(least) == 1:
+            right = first == " and ".join(sorted(least[0])) + (" alone" if size == 1 else " together")
+        else:
+            right = first.startswith("any %d of these" % size) or first.split(", or ")[0] in {" and ".join(sorted(some)) for some in least}
+        self.judge(name + ": who can stop it", right, (lines, least))
+        inside = node in self.asked("greatest", config, "--from", node)[1].split()[1:]
+        self.judge(name + ": the node", lines[3].startswith("none was given") or ("is in the greatest quorum" in lines[3]) == inside, lines)
+
+    def asked(self, *words):
+        ended = subprocess.run([PROGRAM, *words], stdout=subprocess.PIPE, timeout=3000)
+        return ended.returncode, ended.stdout.decode()
+
+    def least(self, config, node, keys):
+        """The smallest sets of organisations that stop the network, as one node sees it."""
+        for size in range(1, len(keys) + 1):
+            found = [some for some in itertools.combinations(keys, size) if self.asked("blocks", config, "--from", node, "--set", ",".join(sum((keys[org] for org in some), [])))[0] == 0]
+            if found:
+                return size, found
+        return 0, []
 
     def page(self, name, page):
         self.judge(name + " is small enough", os.path.getsize(page) < MOST_BYTES, os.path.getsize(page))

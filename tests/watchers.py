@@ -1,9 +1,9 @@
 #!/usr/bin/env python3
 """Makes networks as an operator meets them: seven organisations of three to five validators, and a hundred watchers.
 
-    tests/watchers.py FOLDER
+    tests/watchers.py FOLDER [KIND..]
 
-writes for each kind KIND.json and KIND-orgs.json, in the shape that stellarbeat publishes. A third of the watchers say nothing of
+writes for each kind (seven, needed and old, if none is given; split is one that can fork) KIND.json and KIND-orgs.json, in the shape that stellarbeat publishes. A third of the watchers say nothing of
 whom they trust, a third have the validators' quorum set, and each of the others wants three of five validators of its own choice.
 """
 
@@ -24,6 +24,7 @@ ORGANISATIONS = [
     ("Franklin Trust", "franklin.example", 4),
 ]
 WATCHERS = 100
+# One as it should be, one with an organisation that all need, one with quorum sets of before the last two organisations joined.
 KINDS = ["seven", "needed", "old"]
 
 
@@ -57,10 +58,10 @@ class Made:
         self.nodes.sort(key=lambda node: node["publicKey"][::-1])
 
     def usual(self):
-        """The quorum set of most: five of seven organisations, or one that all need with four of the other six."""
+        """The quorum set of most: five of seven organisations, or three, or one that all need with four of the other six."""
         if self.kind == "needed":
             return quorum_set(2, [], [self.sets[0], quorum_set(4, [], self.sets[1:])])
-        return quorum_set(5, [], self.sets)
+        return quorum_set(3 if self.kind == "split" else 5, [], self.sets)
 
     def validator_set(self, org, at):
         """Where it is old, one validator of three organisations still has the quorum set of before the last two joined."""
@@ -93,10 +94,10 @@ class Made:
         return [{"id": hashlib.sha256(name.encode()).hexdigest()[:32], "name": name, "homeDomain": domain, "validators": keys} for name, domain, keys in self.orgs]
 
 
-def write(folder):
+def write(folder, kinds=KINDS):
     """The paths of the files of each kind: its nodes and its organisations."""
     paths = {}
-    for kind in KINDS:
+    for kind in kinds:
         made = Made(kind)
         paths[kind] = [os.path.join(folder, kind + ".json"), os.path.join(folder, kind + "-orgs.json")]
         for path, held in zip(paths[kind], (made.nodes, made.organisations())):
@@ -107,11 +108,11 @@ def write(folder):
 
 
 def main():
-    if len(sys.argv) != 2:
+    if len(sys.argv) < 2 or not set(sys.argv[2:]) <= {*KINDS, "split"}:
         print(__doc__.strip(), file=sys.stderr)
         return 2
     os.makedirs(sys.argv[1], exist_ok=True)
-    write(sys.argv[1])
+    write(sys.argv[1], sys.argv[2:] or KINDS)
     return 0
 
 
