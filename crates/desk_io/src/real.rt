@@ -1,17 +1,14 @@
 //! The machine's files and standard output.
 ghost use Rattle.std.specs.Prelude.{◌≡◌, ◌↔◌, ◌<◌, ◌≤◌, true, IfOk, IfSome, IsNone, IsSome, Some, length, take};
 ghost use Rattle.std.specs.Io.KnownBytes.{Appends, Consumes, IsAtEnd, Keeps, ReadConsumes, WriteAppends};
-ghost use Rattle.std.specs.Fs.{new_options};
 ghost use Rattle.desk_io.specs.RealDesk.{bytes_in};
 
+use crate::beside::{Beside, Created, create_certificate};
 use crate::counts::FaultCounts;
 use crate::desk::{Desk, ReadFailed, To, Which, WriteFailed};
-use std::fs::OpenOptions;
+use crate::opening::{TRIES, open_with, reading};
 use std::io::{ErrorKind, Read, Write};
 use std::rt::Files;
-
-/// How often a call of the system is tried that says it was interrupted. The last interruption is a failure.
-const TRIES: u32 = 1_000;
 
 /// The desk of the machine: files of the file system by their paths, and standard output.
 ///
@@ -20,42 +17,19 @@ const TRIES: u32 = 1_000;
 #[derive(Drop)]
 pub struct RealDesk<'a, R: Files> {
     rt: &'a R,
+    standard: [Option<R::File>; 3],
     config: Option<R::File>,
     orgs: Option<R::File>,
     cert: Option<R::File>,
+    beside: Option<Beside<'a, R>>,
     created: Option<R::File>,
     faults: FaultCounts,
 }
 
-// The machine's own contract of opening says nothing, so neither does this: a test tells that an interruption is tried again
-// and that another error is a failure.
-fn open_with<R: Files>(rt: &R, options: &OpenOptions, name: &str) -> Option<R::File> {
-    for _ in 0..TRIES {
-        match options.open(rt, name) {
-            Ok(file) => return Some(file),
-            Err(e) if e.kind() == ErrorKind::Interrupted => {}
-            Err(_) => return None,
-        }
-    }
-    None
-}
-
-// The options of a file that is read.
-fn reading() -> OpenOptions
-    ensures { result ≡ record new_options { read = true } }
-{
-    let mut options = OpenOptions::new();
-    options.read(true);
-    options
-}
-
-// The options of a file that is made, or made empty, and written.
-fn writing() -> OpenOptions
-    ensures { result ≡ record new_options { write = true; create = true; truncate = true } }
-{
-    let mut options = OpenOptions::new();
-    options.write(true).create(true).truncate(true);
-    options
+// A new descriptor is the lowest that is free. So three of these fill each hole among the standard three, and what is opened
+// after them is none of those: no file is written for an output that is closed, and a write to that one fails.
+fn hold_open<R: Files>(rt: &R) -> Option<R::File> {
+    open_with(rt, &reading(), "/dev/null").ok()
 }
 
 /// Reads, and tries at most 1,000 times where it's interrupted: `None` where it fails. Where the bytes of the file are known, they
@@ -127,19 +101,22 @@ fn write_created<F: Write>(created: &mut Option<F>, bytes: &[u8]) -> Option<usiz
 impl<'a, R: Files + Print> RealDesk<'a, R> {
     ghost use Rattle.std.specs.Prelude.{◌≢◌, IsTrue};
     ghost use Rattle.desk_io.specs.declared.desk.Which.{Which};
-    ghost use Rattle.desk_io.specs.RealDesk.{begun_of, created_of, faults_of};
+    ghost use Rattle.desk_io.specs.RealDesk.{begun_of, beside_of, created_of, faults_of};
 
     /// A desk over this runtime, with nothing begun and nothing created.
     pub fn new(rt: &'a R) -> Self
         ensures begun { (which : Which) → IsNone (begun_of which result) }
         ensures created { IsNone (created_of result) }
+        ensures beside { IsNone (beside_of result) }
         ensures faults { faults_of result ≡ record { reads = 0; writes = 0 } }
     {
         RealDesk {
             rt,
+            standard: [hold_open(rt), hold_open(rt), hold_open(rt)],
             config: None,
             orgs: None,
             cert: None,
+            beside: None,
             created: None,
             faults: FaultCounts::new(),
         }
@@ -152,7 +129,7 @@ impl<'a, R: Files + Print> RealDesk<'a, R> {
         ensures created { created_of self.new ≡ created_of self.old }
         ensures faults { faults_of self.new ≡ faults_of self.old }
     {
-        let opened = open_with(self.rt, &reading(), name);
+        let opened = open_with(self.rt, &reading(), name).ok();
         let begun = opened.is_some();
         match which {
             Which::Config => self.config = opened,
@@ -182,11 +159,51 @@ impl<'a, R: Files + Print> RealDesk<'a, R> {
     }
 }
 
+impl<R: Files + Print> RealDesk<'_, R> {
+    ghost use Rattle.std.specs.Prelude.{IsTrue};
+    ghost use Rattle.desk_io.specs.declared.desk.Which.{Which};
+    ghost use Rattle.desk_io.specs.RealDesk.{begun_of, beside_of, created_of, faults_of};
+
+    /// Gives a certificate that stands beside its name that name.
+    fn finish(&mut self) -> bool
+        ensures finished { IsTrue result → IsNone (beside_of self.new) }
+        ensures begun { (which : Which) → begun_of which self.new ≡ begun_of which self.old }
+        ensures created { created_of self.new ≡ created_of self.old }
+        ensures faults { faults_of self.new ≡ faults_of self.old }
+    {
+        let is_finished = match (&self.beside, &self.created) {
+            (Some(beside), Some(file)) => beside.take_place(file),
+            (None, _) => true,
+            (Some(_), None) => false,
+        };
+        if is_finished {
+            self.beside = None;
+        }
+        is_finished
+    }
+
+    /// Writes to the output, once the certificate is finished.
+    fn put_out(&mut self, bytes: &[u8]) -> Option<usize>
+        ensures bound { IfSome result (λ count. count ≤ length bytes.now) }
+        ensures some { IfSome result (λ count. 0 < length bytes.now → 0 < count) }
+        ensures finished { IsSome result → IsNone (beside_of self.new) }
+        ensures begun { (which : Which) → begun_of which self.new ≡ begun_of which self.old }
+        ensures created { created_of self.new ≡ created_of self.old }
+        ensures faults { faults_of self.new ≡ faults_of self.old }
+    {
+        if self.finish() {
+            write_some(&mut std::io::writer(self.rt), bytes)
+        } else {
+            None
+        }
+    }
+}
+
 impl<R: Files + Print> Desk for RealDesk<'_, R> {
     ghost use Rattle.std.specs.Prelude.{◌≢◌, false, IsErr, IsOk, OnErr, OnOk};
     ghost use Rattle.desk_io.specs.declared.desk.Which.{Which};
     ghost use Rattle.desk_io.specs.Faults.{ReadCause, WriteCause};
-    ghost use Rattle.desk_io.specs.RealDesk.{begun_of, created_of, faults_of};
+    ghost use Rattle.desk_io.specs.RealDesk.{begun_of, beside_of, created_of, faults_of};
     ghost use Rattle.desk_io.specs.State.{nothing_told};
 
     ghost tells = { false };
@@ -229,8 +246,9 @@ impl<R: Files + Print> Desk for RealDesk<'_, R> {
         ensures begun { (which : Which) → begun_of which self.new ≡ begun_of which self.old }
         ensures cause { WriteCause (faults_of self.old) (faults_of self.new) result }
     {
-        match open_with(self.rt, &writing(), name) {
-            Some(file) => {
+        match create_certificate(self.rt, name) {
+            Some(Created { file, beside }) => {
+                self.beside = beside;
                 self.created = Some(file);
                 Ok(())
             }
@@ -245,11 +263,14 @@ impl<R: Files + Print> Desk for RealDesk<'_, R> {
         ensures created { IsSome (created_of self.new) ↔ IsSome (created_of self.old) }
         ensures taken { to ≡ To.Cert → WriteAppends (bytes_in R.File.contents (created_of self.old)) (bytes_in R.File.contents (created_of self.new)) result bytes.now }
         ensures other { to ≡ To.Out → created_of self.new ≡ created_of self.old }
+        // Nothing is out while a certificate isn't in its place.
+        ensures finished { to ≡ To.Out → IsOk result → IsNone (beside_of self.new) }
+        ensures unfinished { to ≡ To.Cert → beside_of self.new ≡ beside_of self.old }
         ensures begun { (which : Which) → begun_of which self.new ≡ begun_of which self.old }
         ensures cause { WriteCause (faults_of self.old) (faults_of self.new) result }
     {
         let written = match to {
-            To::Out => write_some(&mut std::io::writer(self.rt), bytes),
+            To::Out => self.put_out(bytes),
             To::Cert => write_created(&mut self.created, bytes),
         };
         match written {

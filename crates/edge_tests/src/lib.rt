@@ -10,7 +10,11 @@ mod desks;
 #[cfg(test)]
 mod interruptions;
 #[cfg(test)]
+mod machine;
+#[cfg(test)]
 mod openings;
+#[cfg(test)]
+mod replacing;
 #[cfg(test)]
 mod shared;
 #[cfg(test)]

@@ -1,0 +1,60 @@
+//! What a certificate may replace without a loss.
+ghost use Rattle.std.specs.Prelude.{IsTrue};
+ghost use Rattle.desk_io.specs.Spare.{IsSpare};
+
+use crate::names::kept_name;
+use crate::opening::{open_with, reading};
+use crate::real::read_some;
+use std::io::{ErrorKind, Read};
+use std::rt::Files;
+
+/// What every certificate begins with.
+const FIRST: &[u8; 10] = b"fbas-cert ";
+
+/// How many names a file may be kept under.
+const MOST_KEPT: u32 = 1_000_000;
+
+/// Whether what is left to read may be lost: it's nothing, or begins as a certificate.
+pub fn is_spare<F: Read>(file: &mut F) -> bool
+    ensures { IsTrue result → IsSpare (F.remaining file.old) }
+{
+    let mut front = [0; FIRST.len()];
+    match read_some(file, &mut front) {
+        Some(0) => true,
+        Some(count) => &front[..count] == FIRST.as_slice(),
+        None => false,
+    }
+}
+
+/// The same of the named file. One that can't be read may not be lost.
+pub fn is_spare_there<R: Files>(rt: &R, name: &str) -> bool {
+    match open_with(rt, &reading(), name) {
+        Ok(mut file) => is_spare(&mut file),
+        Err(_) => false,
+    }
+}
+
+// Gives the file the first free name of those that it may be kept under. It has both names then.
+fn keep<R: Files>(rt: &R, name: &str) -> bool {
+    for number in 1..=MOST_KEPT {
+        let Some(kept) = kept_name(name, number) else {
+            return false;
+        };
+        match rt.hard_link(name, kept.as_str()) {
+            Ok(()) => return true,
+            Err(e) if e.kind() == ErrorKind::AlreadyExists => {}
+            Err(_) => return false,
+        }
+    }
+    false
+}
+
+/// Makes sure that nothing is lost where the name is given to another file, or says that something would be.
+///
+/// Of a link only the name goes, and never what it leads to. A file that may not be lost is kept.
+pub fn spare_or_keep<R: Files>(rt: &R, name: &str) -> bool {
+    match rt.symlink_metadata(name) {
+        Ok(there) => !there.is_file() || is_spare_there(rt, name) || keep(rt, name),
+        Err(e) => e.kind() == ErrorKind::NotFound,
+    }
+}
