@@ -5,30 +5,56 @@ use std::cell::Cell;
 use std::fmt::Display;
 use std::fs::{Metadata, OpenFile, OpenOptions, Permissions};
 use std::io::{self, ErrorKind, Read, Seek, SeekFrom, Write};
-use std::os::unix::fs::PermissionsExt;
 use std::rt::Files;
 
 /// What has a name.
 #[derive(Clone, Copy, PartialEq, Eq)]
 pub enum There {
-    /// Nothing.
     Missing,
-    /// A regular file that holds this.
-    Holds(&'static [u8]),
-    /// A link to a regular file that holds this.
-    Link(&'static [u8]),
-    /// What is no regular file.
+    Empty,
+    Certificate,
+    /// A regular file that is no certificate.
+    Other,
+    /// A link to such a file.
+    Link,
+    /// No regular file.
     Device,
 }
 
-/// What the certificate's name `made` and the new file's `made.part` stand for, under how many names files are kept already, and
-/// which call fails, in what way and how often.
+/// The names: that of the certificate, of the new file beside it, of their folder, and all others.
+#[derive(Clone, Copy, PartialEq, Eq)]
+pub enum Name {
+    Made,
+    Part,
+    Folder,
+    Another,
+}
+
+/// A call of the file system, or of one of its files.
+#[derive(Clone, Copy, PartialEq, Eq)]
+pub enum Step {
+    Nothing,
+    Open(Name),
+    See(Name),
+    Stat(Name),
+    Read(Name),
+    Write(Name),
+    Sync(Name),
+    Mode,
+    Keep,
+    Rename,
+    Remove,
+    Out,
+}
+
+/// What the certificate's and the new file's name stand for, how many names that a file may be kept under are taken, and which
+/// step fails, in what way, and how often where it's an opening.
 #[derive(Clone, Copy)]
 pub struct Plan {
     pub made: There,
     pub part: There,
     pub kept: u32,
-    pub failing: u32,
+    pub failing: Step,
     pub kind: ErrorKind,
     pub times: u32,
 }
@@ -38,12 +64,12 @@ pub const PLAIN: Plan = Plan {
     made: There::Missing,
     part: There::Missing,
     kept: 0,
-    failing: 0,
-    kind: ErrorKind::PermissionDenied,
+    failing: Step::Nothing,
+    kind: ErrorKind::Other,
     times: 0,
 };
 
-/// The file system: its plan, what is left of it, and each call, where the same ones in a row are told once.
+/// The file system: its plan, what is left of it, and its calls, told once where the same ones come in a row.
 #[derive(Drop)]
 pub struct Machine {
     alloc: Global,
@@ -51,20 +77,28 @@ pub struct Machine {
     part: Cell<There>,
     kept: Cell<u32>,
     left: Cell<u32>,
+    is_replaced: Cell<bool>,
     calls: Cell<u32>,
     last: Cell<String>,
     told: Cell<String>,
 }
 
-/// The file system, as a desk has it.
-#[derive(Clone, Copy)]
-pub struct Handle<'a>(pub &'a Machine);
-
 /// A file that is open.
 #[derive(Drop)]
-pub struct Opened<'a> {
-    machine: &'a Machine,
+pub struct Opened {
+    name: Name,
     there: There,
+    failing: Step,
+    kind: ErrorKind,
+}
+
+fn name_of(path: &str) -> Name {
+    match path {
+        "made" => Name::Made,
+        "made.part" => Name::Part,
+        "." => Name::Folder,
+        _ => Name::Another,
+    }
 }
 
 impl Machine {
@@ -75,6 +109,7 @@ impl Machine {
             part: Cell::new(plan.part),
             kept: Cell::new(plan.kept),
             left: Cell::new(plan.times),
+            is_replaced: Cell::new(false),
             calls: Cell::new(0),
             last: Cell::new(String::new(alloc)),
             told: Cell::new(String::new(alloc)),
@@ -84,34 +119,65 @@ impl Machine {
     /// How many calls came, and what they asked.
     pub fn told(self) -> Result<String, AllocError> {
         let (calls, told) = (self.calls.get(), self.told.into_inner());
-        format!(in self.alloc; "{calls}:{told}")
+        format!(in self.alloc; "{calls}{told}")
     }
 
-    /// Tells of a call, and fails where the plan has it.
-    fn call(&self, call: String) -> io::Result<()> {
+    /// Whether the certificate's name is another file's now.
+    pub fn is_replaced(&self) -> bool {
+        self.is_replaced.get()
+    }
+
+    /// Whether a new file is left.
+    pub fn has_part(&self) -> bool {
+        self.part.get() != There::Missing
+    }
+
+    /// Tells of a call.
+    fn tell(&self, call: String) -> Result<(), AllocError> {
+        self.calls.set(self.calls.get().saturating_add(1));
         let last = self.last.replace(String::new(self.alloc));
         if last.as_str() != call.as_str() {
             let mut told = self.told.replace(String::new(self.alloc));
             told.push_str("; ")?;
             told.push_str(call.as_str())?;
             self.told.set(told);
-            self.calls.set(self.calls.get().saturating_add(1));
         }
         self.last.set(call);
-        if self.calls.get() != self.plan.failing || self.left.get() == 0 {
-            return Ok(());
-        }
-        self.left.set(self.left.get().saturating_sub(1));
-        Err(io::Error::from(self.plan.kind))
+        Ok(())
     }
 
-    fn there(&self, path: &str) -> There {
-        match path {
-            "made" => self.plan.made,
-            "made.part" => self.part.get(),
-            "/dev/null" => There::Device,
-            _ => There::Holds(b""),
+    /// Fails where the plan has it.
+    fn step(&self, step: Step) -> io::Result<()> {
+        match self.left.get() {
+            left if left > 0 && step == self.plan.failing => {
+                self.left.set(left - 1);
+                Err(io::Error::from(self.plan.kind))
+            }
+            _ => Ok(()),
         }
+    }
+
+    fn there(&self, name: Name) -> There {
+        match name {
+            Name::Made => self.plan.made,
+            Name::Part => self.part.get(),
+            Name::Folder | Name::Another => There::Device,
+        }
+    }
+
+    /// Opens what is there as the options say.
+    fn open(&self, how: &OpenOptions, name: Name) -> io::Result<()> {
+        let is_there = self.there(name) != There::Missing;
+        if is_there && how.asks_create_new() {
+            return Err(io::Error::from(ErrorKind::AlreadyExists));
+        }
+        if !is_there && !how.asks_create_new() && !how.asks_create() {
+            return Err(io::Error::from(ErrorKind::NotFound));
+        }
+        if name == Name::Part && how.asks_create_new() {
+            self.part.set(There::Empty);
+        }
+        Ok(())
     }
 }
 
@@ -138,34 +204,26 @@ fn unsupported() -> io::Error {
     io::Error::from(ErrorKind::Unsupported)
 }
 
-/// A call in words.
-fn words(alloc: Global, call: &str, path: &str) -> Result<String, AllocError> {
-    format!(in alloc; "{call} {path}")
-}
+impl Files for Machine {
+    type File = Opened;
 
-impl<'a> Files for Handle<'a> {
-    type File = Opened<'a>;
+    type Dir = Opened;
 
-    type Dir = Opened<'a>;
-
-    fn open_file(&self, how: &OpenOptions, path: &str) -> io::Result<Opened<'a>> {
-        let machine = self.0;
-        machine.call(asked(machine.alloc, how, path)?)?;
-        let there = machine.there(path);
-        if how.asks_create_new() {
-            machine.part.set(There::Holds(b""));
-            return match there {
-                There::Missing => Ok(Opened { machine, there }),
-                _ => Err(io::Error::from(ErrorKind::AlreadyExists)),
-            };
-        }
-        if there == There::Missing && !how.asks_create() {
-            return Err(io::Error::from(ErrorKind::NotFound));
-        }
-        Ok(Opened { machine, there })
+    fn open_file(&self, how: &OpenOptions, path: &str) -> io::Result<Opened> {
+        let name = name_of(path);
+        self.tell(asked(self.alloc, how, path)?)?;
+        self.step(Step::Open(name))?;
+        let there = self.there(name);
+        self.open(how, name)?;
+        Ok(Opened {
+            name,
+            there,
+            failing: self.plan.failing,
+            kind: self.plan.kind,
+        })
     }
 
-    fn open_dir(&self, _path: &str) -> io::Result<Opened<'a>> {
+    fn open_dir(&self, _path: &str) -> io::Result<Opened> {
         Err(unsupported())
     }
 
@@ -174,11 +232,13 @@ impl<'a> Files for Handle<'a> {
     }
 
     fn symlink_metadata(&self, path: &str) -> io::Result<Metadata> {
-        self.0.call(words(self.0.alloc, "see", path)?)?;
-        match self.0.there(path) {
+        self.tell(format!(in self.alloc; "see {path}")?)?;
+        let name = name_of(path);
+        self.step(Step::See(name))?;
+        match self.there(name) {
             There::Missing => Err(io::Error::from(ErrorKind::NotFound)),
-            There::Holds(bytes) => Ok(Metadata::of_file(bytes.len() as u64)),
-            There::Link(_) => Ok(Metadata::of_symlink(0)),
+            There::Empty | There::Certificate | There::Other => Ok(Metadata::of_file(0)),
+            There::Link => Ok(Metadata::of_symlink(0)),
             There::Device => Ok(Metadata::of_dir()),
         }
     }
@@ -188,14 +248,17 @@ impl<'a> Files for Handle<'a> {
     }
 
     fn rename(&self, from: &str, to: &str) -> io::Result<()> {
-        self.0.call(format!(in self.0.alloc; "rename {from} {to}")?)?;
-        self.0.part.set(There::Missing);
+        self.tell(format!(in self.alloc; "rename {from} {to}")?)?;
+        self.step(Step::Rename)?;
+        self.part.set(There::Missing);
+        self.is_replaced.set(true);
         Ok(())
     }
 
     fn remove_file(&self, path: &str) -> io::Result<()> {
-        self.0.call(words(self.0.alloc, "remove", path)?)?;
-        self.0.part.set(There::Missing);
+        self.tell(format!(in self.alloc; "remove {path}")?)?;
+        self.step(Step::Remove)?;
+        self.part.set(There::Missing);
         Ok(())
     }
 
@@ -212,18 +275,19 @@ impl<'a> Files for Handle<'a> {
     }
 
     fn hard_link(&self, original: &str, link: &str) -> io::Result<()> {
-        self.0.call(format!(in self.0.alloc; "link {original} {link}")?)?;
-        match self.0.kept.get() {
+        self.tell(format!(in self.alloc; "link {original} {link}")?)?;
+        self.step(Step::Keep)?;
+        match self.kept.get() {
             0 => Ok(()),
             kept => {
-                self.0.kept.set(kept - 1);
+                self.kept.set(kept - 1);
                 Err(io::Error::from(ErrorKind::AlreadyExists))
             }
         }
     }
 }
 
-impl Print for Handle<'_> {
+impl Print for Machine {
     fn print<D: Display + Drop>(&self, _value: D) -> io::Result<()> {
         Err(unsupported())
     }
@@ -233,27 +297,43 @@ impl Print for Handle<'_> {
     }
 
     fn write_all(&self, bytes: &[u8]) -> io::Result<()> {
-        self.0.call(format!(in self.0.alloc; "out {}", bytes.len())?)
+        self.tell(format!(in self.alloc; "out {}", bytes.len())?)?;
+        self.step(Step::Out)
     }
 }
 
-impl Read for Opened<'_> {
-    fn read(&mut self, buf: &mut [u8]) -> io::Result<usize> {
-        self.machine.call(String::from_str(self.machine.alloc, "read")?)?;
-        match self.there {
-            There::Holds(bytes) | There::Link(bytes) => {
-                let count = bytes.len().min(buf.len());
-                buf[..count].copy_from_slice(&bytes[..count]);
-                Ok(count)
-            }
-            There::Missing | There::Device => Ok(0),
+impl Opened {
+    /// Fails where the plan has it.
+    fn step(&self, step: Step) -> io::Result<()> {
+        if step == self.failing {
+            return Err(io::Error::from(self.kind));
         }
+        Ok(())
     }
 }
 
-impl Write for Opened<'_> {
+/// What a regular file holds.
+fn held(there: There) -> &'static [u8] {
+    match there {
+        There::Certificate => b"fbas-cert 1\n",
+        There::Other | There::Link => b"fbas-cert",
+        There::Missing | There::Empty | There::Device => b"",
+    }
+}
+
+impl Read for Opened {
+    fn read(&mut self, buf: &mut [u8]) -> io::Result<usize> {
+        self.step(Step::Read(self.name))?;
+        let held = held(self.there);
+        let count = held.len().min(buf.len());
+        buf[..count].copy_from_slice(&held[..count]);
+        Ok(count)
+    }
+}
+
+impl Write for Opened {
     fn write(&mut self, bytes: &[u8]) -> io::Result<usize> {
-        self.machine.call(format!(in self.machine.alloc; "write {}", bytes.len())?)?;
+        self.step(Step::Write(self.name))?;
         Ok(bytes.len())
     }
 
@@ -262,20 +342,19 @@ impl Write for Opened<'_> {
     }
 }
 
-impl Seek for Opened<'_> {
+impl Seek for Opened {
     fn seek(&mut self, _to: SeekFrom) -> io::Result<u64> {
         Err(unsupported())
     }
 }
 
-impl OpenFile for Opened<'_> {
+impl OpenFile for Opened {
     fn metadata(&self) -> io::Result<Metadata> {
-        self.machine.call(String::from_str(self.machine.alloc, "stat")?)?;
-        match self.there {
-            There::Missing => Ok(Metadata::of_file(0)),
-            There::Holds(bytes) | There::Link(bytes) => Ok(Metadata::of_file(bytes.len() as u64)),
-            There::Device => Ok(Metadata::of_dir()),
+        self.step(Step::Stat(self.name))?;
+        if self.there == There::Device {
+            return Ok(Metadata::of_dir());
         }
+        Ok(Metadata::of_file(0))
     }
 
     fn set_len(&self, _size: u64) -> io::Result<()> {
@@ -283,15 +362,14 @@ impl OpenFile for Opened<'_> {
     }
 
     fn sync_all(&self) -> io::Result<()> {
-        self.machine.call(String::from_str(self.machine.alloc, "sync")?)
+        self.step(Step::Sync(self.name))
     }
 
     fn sync_data(&self) -> io::Result<()> {
         Err(unsupported())
     }
 
-    fn set_permissions(&self, perm: Permissions) -> io::Result<()> {
-        let mode = perm.mode();
-        self.machine.call(format!(in self.machine.alloc; "mode {mode:o}")?)
+    fn set_permissions(&self, _perm: Permissions) -> io::Result<()> {
+        self.step(Step::Mode)
     }
 }
