@@ -3,7 +3,7 @@
 
 A small library that is loaded before the system's (LD_PRELOAD, made with cc) refuses the N-th call of malloc or realloc, or that
 and all later ones, for N from 1 until a run makes fewer. Then the status is 8, nothing is put out and the certificate's file
-is as it was; or the answer, the certificate among it, is to the byte what it is with ample memory.
+is as it was; or the answer, the certificate among it, is to the byte what it is with ample memory. No other file is left.
 Beside the gate, by hand: tests/fail_alloc.py [PROGRAM]; its last line is 'fail_alloc: N passed, M failed'.
 """
 
@@ -53,20 +53,20 @@ ORGS = b'[{"id":"A","validators":["a","zz"]}]'
 # A search over its formula is not done when that begins anew over gates written out.
 DRAWN = trials.drawn(20, 10, 6, 1).encode()
 
-# What is run over which configuration. 'cert' holds 'old' before, or what is checked.
+# What is run over which configuration. 'cert' holds an old certificate before, or what is checked.
 RUNS = [
-    ("intersect config cert", malicious.THREE, b"old\n"),
-    ("intersect config cert --faulty a", malicious.THREE, b"old\n"),
-    ("intersect config cert --budget 3", malicious.THREE, b"old\n"),
-    ("intersect config cert --orgs orgs --faulty-orgs A", malicious.THREE, b"old\n"),
-    ("intersect config cert", DRAWN, b"old\n"),
-    ("intersect config cert --budget 250", DRAWN, b"old\n"),
-    ("blocking config cert", malicious.THREE, b"old\n"),
-    ("blocking config cert --budget 3", malicious.THREE, b"old\n"),
-    ("dset config cert --set a", FOUR, b"old\n"),
-    ("splits config cert --set a", malicious.APART, b"old\n"),
-    ("trial 1 cert", malicious.EMPTY, b"old\n"),
-    ("trial 2 cert --budget 3", malicious.EMPTY, b"old\n"),
+    ("intersect config cert", malicious.THREE, malicious.OLD),
+    ("intersect config cert --faulty a", malicious.THREE, malicious.OLD),
+    ("intersect config cert --budget 3", malicious.THREE, malicious.OLD),
+    ("intersect config cert --orgs orgs --faulty-orgs A", malicious.THREE, malicious.OLD),
+    ("intersect config cert", DRAWN, malicious.OLD),
+    ("intersect config cert --budget 250", DRAWN, malicious.OLD),
+    ("blocking config cert", malicious.THREE, malicious.OLD),
+    ("blocking config cert --budget 3", malicious.THREE, malicious.OLD),
+    ("dset config cert --set a", FOUR, malicious.OLD),
+    ("splits config cert --set a", malicious.APART, malicious.OLD),
+    ("trial 1 cert", malicious.EMPTY, malicious.OLD),
+    ("trial 2 cert --budget 3", malicious.EMPTY, malicious.OLD),
     ("check config cert", malicious.THREE, malicious.PAIR),
     ("check config cert", malicious.TWO, malicious.REFUTATION),
     ("check config cert", malicious.TWO, malicious.SHARED),
@@ -77,16 +77,16 @@ RUNS = [
     ("check config cert", malicious.THREE, malicious.PAIR[:-1]),
     ("check-lrat config cert", malicious.TWO, b"c\n" + malicious.FIRST + malicious.LAST),
     ("check-lrat config cert --from a --orgs orgs --faulty-orgs A", malicious.THREE, b"9 0 1 2 3 0\n"),
-    ("show config", malicious.THREE, b"old\n"),
-    ("closure config --node a", malicious.APART, b"old\n"),
-    ("greatest config --from a --faulty b", malicious.APART, b"old\n"),
-    ("available config --set a", FOUR, b"old\n"),
-    ("blocks config --set a --orgs orgs --faulty-orgs A", FOUR, b"old\n"),
-    ("vblocks config --node a --set b,c", malicious.THREE, b"old\n"),
-    ("export config", malicious.THREE, b"old\n"),
-    ("show config", b"[1]", b"old\n"),
-    ("greatest config --faulty z", malicious.THREE, b"old\n"),
-    ("check config", malicious.THREE, b"old\n"),
+    ("show config", malicious.THREE, malicious.OLD),
+    ("closure config --node a", malicious.APART, malicious.OLD),
+    ("greatest config --from a --faulty b", malicious.APART, malicious.OLD),
+    ("available config --set a", FOUR, malicious.OLD),
+    ("blocks config --set a --orgs orgs --faulty-orgs A", FOUR, malicious.OLD),
+    ("vblocks config --node a --set b,c", malicious.THREE, malicious.OLD),
+    ("export config", malicious.THREE, malicious.OLD),
+    ("show config", b"[1]", malicious.OLD),
+    ("greatest config --faulty z", malicious.THREE, malicious.OLD),
+    ("check config", malicious.THREE, malicious.OLD),
 ]
 
 ALL = 2**63
@@ -117,7 +117,8 @@ class Trial:
             os.remove(self.told)
         limits = {"GROWTH_FIRST": str(first), "GROWTH_LAST": str(last), "GROWTH_TOLD": self.told}
         ended = subprocess.run([self.program] + line.split(), cwd=self.folder, env=dict(os.environ, LD_PRELOAD=self.library, **limits), stdin=subprocess.DEVNULL, stdout=subprocess.PIPE, stderr=subprocess.PIPE, timeout=300)
-        return (ended.returncode, ended.stdout, ended.stderr, self.held()), os.path.exists(self.told)
+        found = (ended.returncode, ended.stdout, ended.stderr, self.held(), os.path.exists(os.path.join(self.folder, "cert.part")))
+        return found, os.path.exists(self.told)
 
     def walk(self, line, config, cert):
         """Refuses each growth of a run in turn."""
@@ -130,7 +131,7 @@ class Trial:
                 found, refused = self.run(line, cert, number, last or number)
                 if not refused:
                     break
-                wants = found == (8, b"", b"", cert)
+                wants = found == (8, b"", b"", cert, False)
                 wanting += wants
                 self.judge(line, number, wants or found == ample, found)
                 number += 1

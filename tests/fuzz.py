@@ -484,7 +484,10 @@ class Program:
         wanted = self.wanted(case)
         if wanted is not None and wanted != (status, text.decode("latin-1")):
             return "found %r, wanted %r" % ((status, text[:300]), wanted)
-        changed = [name for name, data in files.items() if data != case.files.get(name)]
+        lost = [name for name, data in case.files.items() if data and not data.startswith(b"fbas-cert ") and data not in files.values()]
+        if lost:
+            return "status %d, and %s is lost" % (status, " and ".join(lost))
+        changed = [name for name, data in files.items() if data != case.files.get(name) and not (name.endswith("~") and data == case.files.get(name[:-1]))]
         if changed and (status not in (0, 1, 2) or case.words[0] not in SEARCHES + ("trial",) or len(changed) > 1):
             return "status %d, and %s changed" % (status, " and ".join(changed))
         return self.search_fault(case, status, text.decode(), files["cert"]) if case.kind == "search" else None

@@ -335,6 +335,10 @@ PROOFS = [
 ]
 
 
+# A certificate, or so it begins: what is none would be kept.
+OLD = b"fbas-cert 2\nold\n"
+
+
 class Trial:
     def __init__(self, folder, program):
         self.folder, self.program = folder, os.path.abspath(program)
@@ -371,18 +375,21 @@ class Trial:
             return it.read()
 
     def full_files(self, *words):
-        """A search whose certificate finds no room behind so many bytes, for each number below its length."""
+        """A search whose certificate finds no room behind so many bytes, for each number below its length: the file is as it was."""
         self.put("config", THREE)
-        self.put("made", b"old\n")
+        self.put("made", OLD)
         self.run(*words)
         whole = self.held("made")
+        self.put("made", OLD)
+        files = os.listdir(self.folder)
         for most in range(len(whole)):
-            self.put("made", b"old\n")
             ended = self.run(*words, most=most)
-            self.judge("room for %d bytes: %s" % (most, " ".join(words)), (ended, self.held("made")), ((7, "", ""), whole[:most]))
+            self.judge("room for %d bytes: %s" % (most, " ".join(words)), (ended, self.held("made"), os.listdir(self.folder)), ((7, "", ""), OLD, files))
             if most % 8 == 0:
                 line = 1 + whole[:most].count(b"\n")
-                self.row("%d bytes written" % most, 5, "refused truncated %d\n" % line, "check", "config", "made")
+                self.put("front", whole[:most])
+                self.row("the first %d bytes" % most, 5, "refused truncated %d\n" % line, "check", "config", "front")
+                os.remove(os.path.join(self.folder, "front"))
 
 
 def main(program=BUILT):

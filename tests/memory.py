@@ -176,14 +176,14 @@ class Trial:
             ("trial, fifty organisations", fifty, "trial 50 cert", fuzz.sizes_of_trial(plain.system_of(fifty)) + "yes\n", malicious.REFUTED),
         ]:
             self.put("config", config)
-            self.put("cert", b"old\n")
+            self.put("cert", malicious.OLD)
 
             def after(ended):
                 if ended.status == 8:
-                    whole = self.held("cert") == b"old\n"
+                    whole = self.held("cert") == malicious.OLD
                 else:
                     whole = Ended([self.program, "check", "config", "cert"], self.folder).is_right(0, said)
-                self.put("cert", b"old\n")
+                self.put("cert", malicious.OLD)
                 return whole
 
             self.limits(name, words.split(), 0, text, after=after)
