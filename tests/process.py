@@ -17,6 +17,7 @@ BUILT = os.path.join(TOP, "crates", "quorum_cli", "out", "quorum_cli")
 
 sys.path.append(os.path.join(TOP, "bench"))
 import plain_checker
+import replacing
 import trials
 
 USAGE = """usage: quorum_cli COMMAND
@@ -195,15 +196,15 @@ class Trial:
             os.setgid(65534)
             os.setuid(65534)
 
-    def run(self, words, stdin=subprocess.DEVNULL, stdout=subprocess.PIPE, before=None):
-        """The status, what was put out, and what is on standard error."""
+    def run(self, words, stdin=subprocess.DEVNULL, stdout=subprocess.PIPE, before=None, within=""):
+        """The status, what was put out, and what is on standard error, of a run in the folder or in one that is in it."""
 
         def prepare():
             self.give_up_rights()
             if before:
                 before()
 
-        ended = subprocess.run([self.program] + words.split(), cwd=self.folder, stdin=stdin, stdout=stdout, stderr=subprocess.PIPE, preexec_fn=prepare, timeout=120)
+        ended = subprocess.run([self.program] + words.split(), cwd=self.path(within), stdin=stdin, stdout=stdout, stderr=subprocess.PIPE, preexec_fn=prepare, timeout=120)
         return ended.returncode, (ended.stdout or b"").decode(), ended.stderr.decode()
 
     def judge(self, name, found, wanted):
@@ -297,6 +298,7 @@ def main():
         trial.full_after_the_certificate()
         trial.to_a_closed_output()
         trial.to_a_pipe_that_nobody_reads()
+        replacing.run(trial, THREE, FILES["one"], SPENT)
     print("process: %d passed, %d failed" % (trial.passed, trial.failed))
     return 1 if trial.failed else 0
 
