@@ -1,5 +1,5 @@
 -- What is so where a search prints its answer.
-use Rattle.std.proofs.Common.{◌≡◌, ◌⊎◌, ◌↔◌, inl, inr, IsTrue, Bool, true, false, ℕ, List, [], ◌++◌, Some, Result, Ok, refl, sym, ◌∙◌, ap, subst, codes}
+use Rattle.std.proofs.Common.{◌≡◌, ◌⊎◌, ◌↔◌, inl, inr, IsTrue, Bool, true, false, ℕ, List, [], ◌++◌, Option, Some, Result, Ok, refl, sym, ◌∙◌, ap, subst, codes}
 use Rattle.std.proofs.lemmas.List.{append_assoc, append-nil}
 use Rattle.std.proofs.lemmas.Slice.Eq.{bytes_eq-Decides}
 use Rattle.fbas_model.specs.Nodes.{Table}
@@ -8,10 +8,14 @@ use Rattle.lrat_model.specs.Steps.{ProofStep}
 use Rattle.quorum_questions.specs.declared.answers.Size.{Size}
 use Rattle.quorum_questions.specs.declared.answers.Answer.{Answer as Shown}
 use Rattle.quorum_questions.specs.declared.answers.Answer.TheVariants.{Yes as together, No as apart, Spent as spent}
+use Rattle.list_journal.specs.declared.kinds.Listed.{Listed as Kind}
+use Rattle.list_journal.specs.declared.kinds.Listed.TheVariants as listed
+use Rattle.blocking_lists.specs.declared.outcome.ListOutcome.{ListOutcome}
 use Rattle.blocking_lists.specs.declared.outcome.ListOutcome.TheVariants.{Whole as whole_list, Spent as part_of_list}
 use Rattle.desk_io.specs.State.{Files, DeskState, with_file}
 use Rattle.certificate_file.specs.Acceptance.{checked}
 use Rattle.cert_writer.specs.Finding.{Finds}
+use Rattle.cert_writer.specs.Listing.{FindsList}
 use Rattle.cli_words.specs.Words.{order_of}
 use Rattle.cli_words.specs.declared.orders.Goal.{Goal}
 use Rattle.cli_words.specs.declared.orders.Goal.TheVariants.{Intersect, Dset, Splits, Blocking, Trial}
@@ -27,7 +31,7 @@ use Rattle.order_reading.specs.declared.status.Status.{Status}
 use Rattle.order_reading.specs.declared.status.Status.TheVariants.{Yes, No, Unknown, TooLarge}
 use Rattle.quorum_run.specs.Finding.{FindsFound, accepted_as}
 use Rattle.quorum_run.specs.Putting.{PutsBoth}
-use Rattle.quorum_run.specs.Replies.{intersect_answer, splits_answer, available_lines, dset_answer, size_lines, RepliesTrial, Replies}
+use Rattle.quorum_run.specs.Replies.{intersect_answer, splits_answer, available_lines, dset_answer, size_lines, RepliesTrial, listed_by, RepliesListed, Replies}
 use Rattle.quorum_run.specs.Printing.{part, deleted, request, PrintsFound, PrintsTooLarge, PrintsSearch, Prints}
 use Rattle.quorum_run.proofs.Titles.{title_there}
 use Rattle.quorum_run.specs.Showing.{IsAccepted, WritesAccepted, ShowsPair, PrintsPair, ShowsNone, ShowsUnknown, PrintsUnknown, PrintsUnknownTrial, IsAvailable, IsNoDset, PrintsList, PrintsPartOfList}
@@ -191,34 +195,34 @@ dset_unknown s old new status (together log size) cert a true unmet is said find
 dset_unknown s old new status (apart p) cert a true unmet is said finds put at = absurd (let k : No ≡ Unknown = status_there s old new status cert a _ Unknown put said at in cc)
 dset_unknown s old new status (spent log size) cert a true unmet is said finds put at = (is.0 refl, record { shows = of_unknown s old new log size cert finds put.files; out = text_there s old new status cert a _ put said })
 
--- ---- `blocking`
+-- ---- lists
 
-list_whole : (s : Search) (old new : DeskState) (status : Status) (found : Found) (cert : Text) (a : Answer) → Replies Blocking (part s) (deleted s) s.budget found a → FindsFound (request s) found cert → PutsBoth s.path cert a old new status
-    → status ≡ Yes → PrintsList s old new
-list_whole s old new status (Shared answer) cert a is finds put at = absurd is
-list_whole s old new status (Listed (whole_list sets journal)) cert a is finds put at = record {
-  sets = sets;
-  out = text_there s old new status cert a _ put is;
-  list = finds.shows.holds.list;
-  journal = journal;
-  left = finds.shows.left;
-  lists = finds.shows.holds;
-  held = held_there s.path cert old.files new.files put.files ∙ ap Some finds.cert_is;
-  accepted = sym (ap (checked s.whole s.digest) finds.cert_is) ∙ finds.accepted;
-}
-list_whole s old new status (Listed (part_of_list journal)) cert a is finds put at = absurd (let k : Unknown ≡ Yes = status_there s old new status cert a _ Yes put is at in cc)
+list_whole : (sought kind : Kind) (s : Search) (old new : DeskState) (status : Status) (outcome : ListOutcome) (cert : Text) (a : Answer) → RepliesListed (Some sought) (part s) s.budget kind outcome a → FindsList kind (request s) outcome cert → PutsBoth s.path cert a old new status
+    → status ≡ Yes → PrintsList sought s old new
+list_whole sought kind s old new status (whole_list sets journal) cert a is finds put at =
+    let found : FindsList sought (request s) (whole_list sets journal) cert = subst (λ (k : Kind). FindsList k (request s) (whole_list sets journal) cert) is.0 finds in record {
+      sets = sets;
+      out = text_there s old new status cert a _ put is.1;
+      list = found.shows.holds.list;
+      journal = journal;
+      left = found.shows.left;
+      lists = found.shows.holds;
+      held = held_there s.path cert old.files new.files put.files ∙ ap Some found.cert_is;
+      accepted = sym (ap (checked s.whole s.digest) found.cert_is) ∙ found.accepted;
+    }
+list_whole sought kind s old new status (part_of_list journal) cert a is finds put at = absurd (let k : Unknown ≡ Yes = status_there s old new status cert a _ Yes put is.1 at in cc)
 
-list_unknown : (s : Search) (old new : DeskState) (status : Status) (found : Found) (cert : Text) (a : Answer) → Replies Blocking (part s) (deleted s) s.budget found a → FindsFound (request s) found cert → PutsBoth s.path cert a old new status
-    → status ≡ Unknown → PrintsPartOfList s old new
-list_unknown s old new status (Shared answer) cert a is finds put at = absurd is
-list_unknown s old new status (Listed (whole_list sets journal)) cert a is finds put at = absurd (let k : Yes ≡ Unknown = status_there s old new status cert a _ Unknown put is at in cc)
-list_unknown s old new status (Listed (part_of_list journal)) cert a is finds put at = record {
-  out = text_there s old new status cert a _ put is;
-  journal = journal;
-  lists = finds.shows.holds.1;
-  held = held_there s.path cert old.files new.files put.files ∙ ap Some finds.cert_is;
-  accepted = sym (ap (checked s.whole s.digest) finds.cert_is) ∙ finds.accepted;
-}
+list_unknown : (sought kind : Kind) (s : Search) (old new : DeskState) (status : Status) (outcome : ListOutcome) (cert : Text) (a : Answer) → RepliesListed (Some sought) (part s) s.budget kind outcome a → FindsList kind (request s) outcome cert → PutsBoth s.path cert a old new status
+    → status ≡ Unknown → PrintsPartOfList sought s old new
+list_unknown sought kind s old new status (whole_list sets journal) cert a is finds put at = absurd (let k : Yes ≡ Unknown = status_there s old new status cert a _ Unknown put is.1 at in cc)
+list_unknown sought kind s old new status (part_of_list journal) cert a is finds put at =
+    let found : FindsList sought (request s) (part_of_list journal) cert = subst (λ (k : Kind). FindsList k (request s) (part_of_list journal) cert) is.0 finds in record {
+      out = text_there s old new status cert a _ put is.1;
+      journal = journal;
+      lists = found.shows.holds.1;
+      held = held_there s.path cert old.files new.files put.files ∙ ap Some found.cert_is;
+      accepted = sym (ap (checked s.whole s.digest) found.cert_is) ∙ found.accepted;
+    }
 
 -- ---- by what is sought
 
@@ -228,10 +232,10 @@ found_no s old new status Splits (Shared answer) cert a is finds put = λ at. sp
 found_no s old new status Dset (Shared answer) cert a is finds put = λ at. dset_no s old new status answer cert a is.available is.unmet is.is.is is.said finds put at
 found_no s old new status Blocking found cert a is finds put = tt
 found_no s old new status Trial (Shared answer) cert a is finds put = λ at. trial_no s old new status answer cert a is put at
-found_no s old new status Intersect (Listed outcome) cert a is finds put = absurd is
-found_no s old new status Splits (Listed outcome) cert a is finds put = absurd is
-found_no s old new status Dset (Listed outcome) cert a is finds put = absurd is
-found_no s old new status Trial (Listed outcome) cert a is finds put = absurd is
+found_no s old new status Intersect (Listed kind outcome) cert a is finds put = absurd is
+found_no s old new status Splits (Listed kind outcome) cert a is finds put = absurd is
+found_no s old new status Dset (Listed kind outcome) cert a is finds put = absurd is
+found_no s old new status Trial (Listed kind outcome) cert a is finds put = absurd is
 
 found_yes : (s : Search) (old new : DeskState) (status : Status) (goal : Goal) (found : Found) (cert : Text) (a : Answer) → Replies goal (part s) (deleted s) s.budget found a → FindsFound (request s) found cert → PutsBoth s.path cert a old new status → YesShows goal s new status
 found_yes s old new status Intersect (Shared answer) cert a is finds put = λ at. intersect_yes s old new status answer cert a is finds put at
@@ -239,26 +243,33 @@ found_yes s old new status Splits (Shared answer) cert a is finds put = λ at. s
 found_yes s old new status Dset (Shared answer) cert a is finds put = λ at. dset_yes s old new status answer cert a is.available is.unmet is.is.is is.said finds put at
 found_yes s old new status Blocking found cert a is finds put = tt
 found_yes s old new status Trial (Shared answer) cert a is finds put = λ at. trial_yes s old new status answer cert a is finds put at
-found_yes s old new status Intersect (Listed outcome) cert a is finds put = absurd is
-found_yes s old new status Splits (Listed outcome) cert a is finds put = absurd is
-found_yes s old new status Dset (Listed outcome) cert a is finds put = absurd is
-found_yes s old new status Trial (Listed outcome) cert a is finds put = absurd is
+found_yes s old new status Intersect (Listed kind outcome) cert a is finds put = absurd is
+found_yes s old new status Splits (Listed kind outcome) cert a is finds put = absurd is
+found_yes s old new status Dset (Listed kind outcome) cert a is finds put = absurd is
+found_yes s old new status Trial (Listed kind outcome) cert a is finds put = absurd is
 
 found_unknown : (s : Search) (old new : DeskState) (status : Status) (goal : Goal) (found : Found) (cert : Text) (a : Answer) → Replies goal (part s) (deleted s) s.budget found a → FindsFound (request s) found cert → PutsBoth s.path cert a old new status → status ≡ Unknown
     → UnknownShows goal s old new
 found_unknown s old new status Intersect (Shared answer) cert a is finds put at = intersect_unknown s old new status answer cert a is finds put at
 found_unknown s old new status Splits (Shared answer) cert a is finds put at = splits_unknown s old new status answer cert a is finds put at
 found_unknown s old new status Dset (Shared answer) cert a is finds put at = dset_unknown s old new status answer cert a is.available is.unmet is.is.is is.said finds put at
-found_unknown s old new status Blocking found cert a is finds put at = list_unknown s old new status found cert a is finds put at
+found_unknown s old new status Blocking (Listed kind outcome) cert a is finds put at = list_unknown listed.Blocking kind s old new status outcome cert a is finds put at
+found_unknown s old new status Blocking (Shared answer) cert a is finds put at = absurd is
 found_unknown s old new status Trial (Shared answer) cert a is finds put at = trial_unknown s old new status answer cert a is finds put at
-found_unknown s old new status Intersect (Listed outcome) cert a is finds put at = absurd is
-found_unknown s old new status Splits (Listed outcome) cert a is finds put at = absurd is
-found_unknown s old new status Dset (Listed outcome) cert a is finds put at = absurd is
-found_unknown s old new status Trial (Listed outcome) cert a is finds put at = absurd is
+found_unknown s old new status Intersect (Listed kind outcome) cert a is finds put at = absurd is
+found_unknown s old new status Splits (Listed kind outcome) cert a is finds put at = absurd is
+found_unknown s old new status Dset (Listed kind outcome) cert a is finds put at = absurd is
+found_unknown s old new status Trial (Listed kind outcome) cert a is finds put at = absurd is
 
 found_list : (s : Search) (old new : DeskState) (status : Status) (goal : Goal) (found : Found) (cert : Text) (a : Answer) → Replies goal (part s) (deleted s) s.budget found a → FindsFound (request s) found cert → PutsBoth s.path cert a old new status
-    → goal ≡ Blocking → status ≡ Yes → PrintsList s old new
-found_list s old new status goal found cert a is finds put listed at = list_whole s old new status found cert a (subst (λ (g : Goal). Replies g (part s) (deleted s) s.budget found a) listed is) finds put at
+    → (sought : Kind) → listed_by goal ≡ Some sought → status ≡ Yes → PrintsList sought s old new
+found_list s old new status goal (Listed kind outcome) cert a is finds put sought lists at =
+    list_whole sought kind s old new status outcome cert a (subst (λ (o : Option Kind). RepliesListed o (part s) s.budget kind outcome a) lists is) finds put at
+found_list s old new status Intersect (Shared answer) cert a is finds put sought lists at = absurd cc
+found_list s old new status Splits (Shared answer) cert a is finds put sought lists at = absurd cc
+found_list s old new status Dset (Shared answer) cert a is finds put sought lists at = absurd cc
+found_list s old new status Blocking (Shared answer) cert a is finds put sought lists at = absurd is
+found_list s old new status Trial (Shared answer) cert a is finds put sought lists at = absurd cc
 
 -- ---- what is so of a search that was answered
 
@@ -266,7 +277,7 @@ found_list s old new status goal found cert a is finds put listed at = list_whol
 pub record SearchMeans (s : Search) (old new : DeskState) (status : Status) : Type 0 where
   pub no : NoShows s.goal s old new status
   pub yes : YesShows s.goal s new status
-  pub completed : s.goal ≡ Blocking → status ≡ Yes → PrintsList s old new
+  pub completed : (sought : Kind) → listed_by s.goal ≡ Some sought → status ≡ Yes → PrintsList sought s old new
   pub finished : (status ≡ Yes) ⊎ ((status ≡ No) ⊎ (status ≡ Unknown)) → WritesAccepted s new
   pub unknown : status ≡ Unknown → UnknownShows s.goal s old new
 
@@ -312,7 +323,7 @@ too_large_means s old new status p =
     record {
       no = no_no s old new status s.goal large;
       yes = no_yes s new status s.goal large;
-      completed = λ goal at. absurd cc;
+      completed = λ sought lists at. absurd cc;
       finished = λ at. elim at [
         | inl yes_is ↦ absurd cc
         | inr other ↦ elim other [ inl no_is ↦ absurd cc | inr unknown_is ↦ absurd cc ]
@@ -336,7 +347,7 @@ headline_of words old new status prints accepts verifies = record {
   yes = λ s seeks. (sought_means (asked_of words old.files) s old new status seeks prints).yes;
   accepts = accepts;
   verifies = verifies;
-  completed = λ s seeks. (sought_means (asked_of words old.files) s old new status seeks prints).completed;
+  completed = λ s sought seeks. (sought_means (asked_of words old.files) s old new status seeks prints).completed sought;
   finished = λ s seeks. (sought_means (asked_of words old.files) s old new status seeks prints).finished;
   unknown = λ s seeks. (sought_means (asked_of words old.files) s old new status seeks prints).unknown;
 }

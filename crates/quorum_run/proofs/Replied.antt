@@ -1,5 +1,5 @@
 -- A reply of a search has the status of an answer.
-use Rattle.std.proofs.Common.{◌≡◌, ◌<◌, ℕ, IsTrue, Bool, true, false, Contains, length, refl, sym, subst, ap, ◌∙◌}
+use Rattle.std.proofs.Common.{◌≡◌, ◌<◌, ℕ, IsTrue, Bool, true, false, Option, Some, None, Contains, length, refl, sym, subst, ap, ◌∙◌}
 use Rattle.std.proofs.lemmas.List.Elements.{All-weaker, All-contains_itself}
 use Rattle.fbas_model.specs.Fbas.{Fbas, Intersects}
 use Rattle.fbas_model.specs.Nodes.{Table, members}
@@ -22,7 +22,7 @@ use Rattle.order_reading.specs.Status.{is_answer}
 use Rattle.quorum_run.specs.declared.found.Found.{Found}
 use Rattle.quorum_run.specs.declared.found.Found.TheVariants.{Shared, Listed}
 use Rattle.order_reading.specs.declared.reply.Reply.{Reply as Answer}
-use Rattle.quorum_run.specs.Replies.{intersect_answer, splits_answer, blocking_answer, dset_status, HasSets, Replies, RepliesTooLarge}
+use Rattle.quorum_run.specs.Replies.{intersect_answer, splits_answer, list_answer, dset_status, listed_by, HasSets, RepliesListed, Replies, RepliesTooLarge}
 
 abbrev Answered : Answer → Type 0
 Answered a = IsTrue (is_answer a.status)
@@ -41,21 +41,21 @@ dset_answered : (f : System) (budget : ℕ) (available : Bool) (found : Shown) �
 dset_answered f budget false found = refl
 dset_answered f budget true found = intersect_answered f budget found
 
-blocking_answered : (f : System) (budget : ℕ) (found : ListOutcome) → Answered (blocking_answer f.names budget found)
-blocking_answered f budget (whole_list sets journal) = refl
-blocking_answered f budget (part_of_list journal) = refl
+list_answered : (sought : Kind) (f : System) (budget : ℕ) (found : ListOutcome) → Answered (list_answer sought f.names budget found)
+list_answered sought f budget (whole_list sets journal) = refl
+list_answered sought f budget (part_of_list journal) = refl
+
+listed_answered : (o : Option Kind) (f : System) (budget : ℕ) (sought : Kind) (found : ListOutcome) (a : Answer) → RepliesListed o f budget sought found a → Answered a
+listed_answered None f budget sought found a is = absurd is
+listed_answered (Some kind) f budget sought found a is = subst Answered (sym is.1) (list_answered kind f budget found)
 
 pub reply_answered : (goal : Goal) (f : System) (deleted : Table) (budget : ℕ) (found : Found) (a : Answer) → Replies goal f deleted budget found a → IsTrue (is_answer a.status)
+reply_answered goal f deleted budget (Listed sought found) a is = listed_answered (listed_by goal) f budget sought found a is
 reply_answered Intersect f deleted budget (Shared found) a is = subst Answered (sym is) (intersect_answered f budget found)
 reply_answered Splits f deleted budget (Shared found) a is = subst Answered (sym is) (splits_answered f budget found)
 reply_answered Dset f deleted budget (Shared found) a is = subst Answered (sym is.said) (dset_answered f budget is.available found)
-reply_answered Blocking f deleted budget (Listed found) a is = subst Answered (sym is) (blocking_answered f budget found)
 reply_answered Trial f deleted budget (Shared found) a is = subst Answered (sym is.said) (intersect_answered f budget found)
-reply_answered Intersect f deleted budget (Listed found) a is = absurd is
-reply_answered Splits f deleted budget (Listed found) a is = absurd is
-reply_answered Dset f deleted budget (Listed found) a is = absurd is
 reply_answered Blocking f deleted budget (Shared found) a is = absurd is
-reply_answered Trial f deleted budget (Listed found) a is = absurd is
 
 pub too_large_answered : (f : System) (deleted : Table) (a : Answer) → RepliesTooLarge f deleted a → IsTrue (is_answer a.status)
 too_large_answered f deleted a is = subst Answered (sym is.said) refl

@@ -9,7 +9,7 @@ use Rattle.quorum_questions.specs.Evidence.{Shows}
 use Rattle.quorum_questions.specs.declared.answers.Answer.{Answer as Shown}
 use Rattle.quorum_questions.specs.declared.asking.TheConstants.{MOST_UNITS}
 use Rattle.blocking_lists.specs.declared.outcome.ListOutcome.{ListOutcome}
-use Rattle.list_journal.specs.declared.kinds.Listed.TheVariants as kind
+use Rattle.list_journal.specs.declared.kinds.Listed.{Listed as Kind}
 use Rattle.cert_writer.specs.Promises.{IsHeader}
 use Rattle.cert_writer.specs.Finding.{Search, part, faulty, Finds, CanBeWritten, cert_of as cert_of_shared}
 use Rattle.cert_writer.specs.Listing.{ListShows, FindsList, CanBeListed, list_cert_of}
@@ -18,16 +18,16 @@ use Rattle.quorum_run.specs.declared.found.Found.{Found}
 use Rattle.quorum_run.specs.declared.found.Found.TheVariants.{Shared, Listed}
 
 pub written_by : ((f : System) (b : Table) (budget : ℕ) (answer : Shown) → length f.names ≡ length f.sets → Shows f.sets b budget answer → CanBeWritten (length f.names) answer)
-    → ((f : System) (b : Table) (budget : ℕ) (outcome : ListOutcome) → length f.names ≡ length f.sets → ListShows kind.Blocking f.sets b budget outcome → CanBeListed (length f.names) outcome)
+    → ((sought : Kind) (f : System) (b : Table) (budget : ℕ) (outcome : ListOutcome) → length f.names ≡ length f.sets → ListShows sought f.sets b budget outcome → CanBeListed (length f.names) outcome)
     → (f : System) (b : Table) (budget : ℕ) (found : Found) → length f.names ≡ length f.sets → FoundShows f.sets b budget found → IsWritable (length f.names) found
 written_by shared listed f b budget (Shared answer) same shows = shared f b budget answer same shows
-written_by shared listed f b budget (Listed outcome) same shows = listed f b budget outcome same shows
+written_by shared listed f b budget (Listed sought outcome) same shows = listed sought f b budget outcome same shows
 
 pub found_by : ((s : Search) (answer : Shown) → IsSystem s.whole.names s.whole.sets → IsStrictlySortedBy name_cmp s.whole.names → length s.digest ≡ 32 → IsBytes s.digest → IsHeader s.whole s.header → s.budget ≤ MOST_UNITS
     → Shows (part s).sets (faulty s) s.budget answer → Finds s answer (cert_of_shared s answer))
-    → ((s : Search) (outcome : ListOutcome) → IsSystem s.whole.names s.whole.sets → IsStrictlySortedBy name_cmp s.whole.names → length s.digest ≡ 32 → IsBytes s.digest → IsHeader s.whole s.header → s.budget ≤ MOST_UNITS
-    → ListShows kind.Blocking (part s).sets (faulty s) s.budget outcome → FindsList kind.Blocking s outcome (list_cert_of kind.Blocking s outcome))
+    → ((sought : Kind) (s : Search) (outcome : ListOutcome) → IsSystem s.whole.names s.whole.sets → IsStrictlySortedBy name_cmp s.whole.names → length s.digest ≡ 32 → IsBytes s.digest → IsHeader s.whole s.header → s.budget ≤ MOST_UNITS
+    → ListShows sought (part s).sets (faulty s) s.budget outcome → FindsList sought s outcome (list_cert_of sought s outcome))
     → (s : Search) (found : Found) → IsSystem s.whole.names s.whole.sets → IsStrictlySortedBy name_cmp s.whole.names → length s.digest ≡ 32 → IsBytes s.digest → IsHeader s.whole s.header → s.budget ≤ MOST_UNITS
     → FoundShows (part s).sets (faulty s) s.budget found → FindsFound s found (cert_of s found)
 found_by shared listed s (Shared answer) a b c d e g shows = shared s answer a b c d e g shows
-found_by shared listed s (Listed outcome) a b c d e g shows = listed s outcome a b c d e g shows
+found_by shared listed s (Listed sought outcome) a b c d e g shows = listed sought s outcome a b c d e g shows

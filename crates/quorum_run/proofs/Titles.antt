@@ -8,7 +8,6 @@ use Rattle.certificate_file.specs.declared.places.Aim.TheVariants as aim
 use Rattle.quorum_questions.specs.declared.answers.Answer.TheVariants as shared
 use Rattle.blocking_lists.specs.declared.outcome.ListOutcome.TheVariants as outcome
 use Rattle.cert_writer.specs.Promises.{part_of}
-use Rattle.list_journal.specs.declared.kinds.Listed.TheVariants as sought
 use Rattle.cert_writer.specs.Texts.{Text, joined, worded, listed, name_if_any, header_lines, pair_lines, log_lines, list_lines}
 use Rattle.order_reading.specs.declared.searches.Search.{Search}
 use Rattle.quorum_run.specs.declared.found.Found.{Found}
@@ -31,7 +30,7 @@ title_there s (Shared (shared.No pair)) cert finds =
     subst IsOfVersionTwo (sym finds.cert_is) (titled s.whole.names s.digest s.header (pair_lines (part_of s.whole s.header.from).names pair))
 title_there s (Shared (shared.Spent log size)) cert finds =
     subst IsOfVersionTwo (sym finds.cert_is) (titled s.whole.names s.digest s.header (log_lines aim.Partial size.vars size.clauses log))
-title_there s (Listed (outcome.Whole sets journal)) cert finds =
-    subst IsOfVersionTwo (sym finds.cert_is) (titled s.whole.names s.digest s.header (list_lines (part_of s.whole s.header.from).names sought.Blocking kind.Whole journal))
-title_there s (Listed (outcome.Spent journal)) cert finds =
-    subst IsOfVersionTwo (sym finds.cert_is) (titled s.whole.names s.digest s.header (list_lines (part_of s.whole s.header.from).names sought.Blocking kind.Partial journal))
+title_there s (Listed sought (outcome.Whole sets journal)) cert finds =
+    subst IsOfVersionTwo (sym finds.cert_is) (titled s.whole.names s.digest s.header (list_lines (part_of s.whole s.header.from).names sought kind.Whole journal))
+title_there s (Listed sought (outcome.Spent journal)) cert finds =
+    subst IsOfVersionTwo (sym finds.cert_is) (titled s.whole.names s.digest s.header (list_lines (part_of s.whole s.header.from).names sought kind.Partial journal))

@@ -9,19 +9,18 @@ use Rattle.quorum_questions.specs.Evidence.{Shows}
 use Rattle.cert_writer.specs.Texts.{Text}
 use Rattle.cert_writer.specs.Finding.{Search, Finds, CanBeWritten, cert_over as cert_of_shared, accepted_as as shared_as}
 use Rattle.cert_writer.specs.Listing.{ListShows, FindsList, CanBeListed, list_cert_over, list_accepted_as}
-use Rattle.list_journal.specs.declared.kinds.Listed.TheVariants as listed
 use Rattle.quorum_run.specs.declared.found.Found.{Found}
 use Rattle.quorum_run.specs.declared.found.Found.TheVariants.{Shared, Listed}
 
 -- what was found shows what is so of a system once b is deleted, where the search had these units
 abbrev pub FoundShows : Fbas → Table → ℕ → Found → Type 0
 FoundShows f b budget (Shared answer) = Shows f b budget answer
-FoundShows f b budget (Listed outcome) = ListShows listed.Blocking f b budget outcome
+FoundShows f b budget (Listed sought outcome) = ListShows sought f b budget outcome
 
 -- its certificate
 abbrev pub cert_over : System → List ℕ → Header → Found → Text
 cert_over f digest h (Shared answer) = cert_of_shared f digest h answer
-cert_over f digest h (Listed outcome) = list_cert_over listed.Blocking f digest h outcome
+cert_over f digest h (Listed sought outcome) = list_cert_over sought f digest h outcome
 
 abbrev pub cert_of : Search → Found → Text
 cert_of s found = cert_over s.whole s.digest s.header found
@@ -29,14 +28,14 @@ cert_of s found = cert_over s.whole s.digest s.header found
 -- what the check says of that
 abbrev pub accepted_as : Search → Found → Answer
 accepted_as s (Shared answer) = shared_as s answer
-accepted_as s (Listed outcome) = list_accepted_as listed.Blocking s outcome
+accepted_as s (Listed sought outcome) = list_accepted_as sought s outcome
 
 -- what was found shows what is so, and its certificate is accepted with the header that was asked for
 abbrev pub FindsFound : Search → Found → Text → Type 0
 FindsFound s (Shared answer) cert = Finds s answer cert
-FindsFound s (Listed outcome) cert = FindsList listed.Blocking s outcome cert
+FindsFound s (Listed sought outcome) cert = FindsList sought s outcome cert
 
 -- what a certificate can be written of, where the part has n nodes
 abbrev pub IsWritable : ℕ → Found → Type 0
 IsWritable n (Shared answer) = CanBeWritten n answer
-IsWritable n (Listed outcome) = CanBeListed n outcome
+IsWritable n (Listed sought outcome) = CanBeListed n outcome

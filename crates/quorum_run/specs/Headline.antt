@@ -1,10 +1,12 @@
 -- The headline: what is so where the program answers, for every configuration file, every set of faulty nodes and every budget.
-use Rattle.std.specs.Prelude.{◌≡◌, ◌⊎◌, ℕ, ◌++◌, true, List, [], Result, Ok, Err, codes}
+use Rattle.std.specs.Prelude.{◌≡◌, ◌⊎◌, ℕ, ◌++◌, true, List, [], Some, Result, Ok, Err, codes}
 use Rattle.std.specs.Str.{bytes_eq}
 use Rattle.desk_io.specs.State.{DeskState, Files}
 use Rattle.cli_words.specs.Words.{order_of}
 use Rattle.cli_words.specs.declared.orders.Goal.{Goal}
 use Rattle.cli_words.specs.declared.orders.Goal.TheVariants.{Intersect, Dset, Splits, Blocking, Trial}
+use Rattle.list_journal.specs.declared.kinds.Listed.{Listed as Kind}
+use Rattle.list_journal.specs.declared.kinds.Listed.TheVariants as listed
 use Rattle.report.specs.Lines.{counted}
 use Rattle.order_reading.specs.declared.early.Early.{Early}
 use Rattle.order_reading.specs.declared.reading.Asked.{Asked}
@@ -14,6 +16,7 @@ use Rattle.order_reading.specs.declared.status.Status.{Status}
 use Rattle.order_reading.specs.declared.status.Status.TheVariants.{Yes, No, Unknown}
 use Rattle.order_reading.specs.Answers.{asked_of}
 use Rattle.order_reading.specs.Meaning.{IsCheck, IsCheckLrat, NamesAccepted, NamesVerified}
+use Rattle.quorum_run.specs.Replies.{listed_by}
 use Rattle.quorum_run.specs.Showing.{WritesAccepted, PrintsPair, ShowsNone, PrintsUnknown, PrintsUnknownTrial, IsAvailable, IsNoDset, PrintsList, PrintsPartOfList}
 
 -- the words ask for this search over the files
@@ -41,7 +44,7 @@ abbrev pub UnknownShows : Goal → Search → DeskState → DeskState → Type 0
 UnknownShows Intersect s old new = PrintsUnknown s (counted (codes "intersects unknown") s.budget) old new
 UnknownShows Splits s old new = PrintsUnknown s (counted (codes "splits unknown") s.budget) old new
 UnknownShows Dset s old new = IsAvailable s × PrintsUnknown s (codes "available yes\n" ++ (counted (codes "intersects unknown") s.budget ++ codes "dset unknown\n")) old new
-UnknownShows Blocking s old new = PrintsPartOfList s old new
+UnknownShows Blocking s old new = PrintsPartOfList listed.Blocking s old new
 UnknownShows Trial s old new = PrintsUnknownTrial s (counted (codes "intersects unknown") s.budget) old new
 
 -- the words were answered, and the files and the output were these before and are those now
@@ -54,8 +57,8 @@ pub record Headline (words : List (List ℕ)) (old new : DeskState) (status : St
   pub accepts : IsCheck (order_of words) → status ≡ Yes → NamesAccepted words old.files
   -- a proof of another solver is verified only where every two quorums share a node
   pub verifies : IsCheckLrat (order_of words) → status ≡ Yes → NamesVerified words old.files
-  -- a completed list: the printed sets are exactly the minimal blocking sets, each once, in name order, and their number is printed
-  pub completed : (s : Search) → Seeks words old.files s → s.goal ≡ Blocking → status ≡ Yes → PrintsList s old new
+  -- a completed list: the printed sets are exactly the minimal ones of the kind, each once, in name order, and their number is printed
+  pub completed : (s : Search) (sought : Kind) → Seeks words old.files s → listed_by s.goal ≡ Some sought → status ≡ Yes → PrintsList sought s old new
   -- each finished certificate is accepted, with the node that was asked and the deleted nodes as its header
   pub finished : (s : Search) → Seeks words old.files s → (status ≡ Yes) ⊎ ((status ≡ No) ⊎ (status ≡ Unknown)) → WritesAccepted s new
   -- unknown: as many units as the budget has, each useful when it was added, whose clauses do not close

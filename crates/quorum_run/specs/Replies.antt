@@ -1,5 +1,5 @@
 -- What a search prints of what it found.
-use Rattle.std.specs.Prelude.{◌≡◌, ◌↔◌, ◌<◌, ℕ, ◌++◌, ◌/◌, Bool, true, false, IsTrue, List, All, length, codes}
+use Rattle.std.specs.Prelude.{◌≡◌, ◌↔◌, ◌<◌, ℕ, ◌++◌, ◌/◌, Bool, true, false, IsTrue, List, All, length, Option, Some, None, codes}
 use Rattle.fbas_model.specs.Names.{Name}
 use Rattle.fbas_model.specs.Nodes.{Table, members}
 use Rattle.fbas_model.specs.Fbas.{Available, AreUnmet}
@@ -8,6 +8,8 @@ use Rattle.quorum_questions.specs.Evidence.{vars_of}
 use Rattle.quorum_questions.specs.declared.answers.Size.{Size}
 use Rattle.quorum_questions.specs.declared.answers.Answer.{Answer as Shown}
 use Rattle.quorum_questions.specs.declared.answers.Answer.TheVariants.{Yes as together, No as apart, Spent as spent}
+use Rattle.list_journal.specs.declared.kinds.Listed.{Listed as Kind}
+use Rattle.list_journal.specs.declared.kinds.Listed.TheVariants as listed
 use Rattle.blocking_lists.specs.declared.outcome.ListOutcome.{ListOutcome}
 use Rattle.blocking_lists.specs.declared.outcome.ListOutcome.TheVariants.{Whole as whole, Spent as part}
 use Rattle.clause_encoder.specs.declared.limits.TheConstants.{MOST_VARS}
@@ -32,10 +34,29 @@ splits_answer names budget (together log size) = record { status = No; text = co
 splits_answer names budget (apart p) = record { status = Yes; text = with_pair (codes "splits yes\n") names p }
 splits_answer names budget (spent log size) = record { status = Unknown; text = counted (codes "splits unknown") budget }
 
--- all minimal blocking sets
-abbrev pub blocking_answer : List Name → ℕ → ListOutcome → Answer
-blocking_answer names budget (whole sets journal) = record { status = Yes; text = with_sets (codes "blocking") names sets.items }
-blocking_answer names budget (part journal) = record { status = Unknown; text = counted (codes "blocking unknown") budget }
+-- the sets that a search lists, if it lists sets
+abbrev pub listed_by : Goal → Option Kind
+listed_by Blocking = Some listed.Blocking
+listed_by goal = None
+
+-- what the line of their number begins with, and the line of a spent budget
+abbrev pub list_word : Kind → Text
+list_word listed.Quorum = codes "quorums"
+list_word listed.Blocking = codes "blocking"
+
+abbrev pub unknown_word : Kind → Text
+unknown_word listed.Quorum = codes "quorums unknown"
+unknown_word listed.Blocking = codes "blocking unknown"
+
+-- all minimal sets of a kind
+abbrev pub list_answer : Kind → List Name → ℕ → ListOutcome → Answer
+list_answer sought names budget (whole sets journal) = record { status = Yes; text = with_sets (list_word sought) names sets.items }
+list_answer sought names budget (part journal) = record { status = Unknown; text = counted (unknown_word sought) budget }
+
+-- those that were asked for are listed
+abbrev pub RepliesListed : Option Kind → System → ℕ → Kind → ListOutcome → Answer → Type 0
+RepliesListed None f budget sought found a = ⊥
+RepliesListed (Some kind) f budget sought found a = (sought ≡ kind) × (a ≡ list_answer kind f.names budget found)
 
 -- each listed set has a place for each of n nodes
 abbrev pub HasSets : ℕ → ListOutcome → Type 0
@@ -98,12 +119,12 @@ pub record RepliesTrial (f : System) (budget : ℕ) (found : Shown) (a : Answer)
 -- ---- the reply of a search over a part of the system, of which these nodes are deleted and this was found
 
 abbrev pub Replies : Goal → System → Table → ℕ → Found → Answer → Type 0
+Replies goal f deleted budget (Listed sought found) a = RepliesListed (listed_by goal) f budget sought found a
 Replies Intersect f deleted budget (Shared found) a = a ≡ intersect_answer f.names budget found
 Replies Splits f deleted budget (Shared found) a = a ≡ splits_answer f.names budget found
 Replies Dset f deleted budget (Shared found) a = RepliesDset f deleted budget found a
-Replies Blocking f deleted budget (Listed found) a = a ≡ blocking_answer f.names budget found
 Replies Trial f deleted budget (Shared found) a = RepliesTrial f budget found a
-Replies goal f deleted budget found a = ⊥
+Replies goal f deleted budget (Shared found) a = ⊥
 
 -- the formula has too many variables, which are told
 pub record RepliesTooLarge (f : System) (deleted : Table) (a : Answer) : Type 0 where

@@ -9,22 +9,22 @@ use Rattle.witness_pair.specs.declared.Pair.{Pair}
 use Rattle.lrat_model.specs.Steps.{ProofStep}
 use Rattle.list_journal.specs.Journals.{JournalLine}
 use Rattle.list_journal.specs.Lists.{IsListOf}
-use Rattle.list_journal.specs.declared.kinds.Listed.TheVariants as listed
+use Rattle.list_journal.specs.declared.kinds.Listed.{Listed as Kind}
 use Rattle.blocking_lists.specs.Outcomes.{WholeHolds, PartHolds}
 use Rattle.blocking_lists.specs.declared.outcome.ListOutcome.TheVariants.{Whole as whole_list, Spent as part_of_list}
 use Rattle.certificate_file.specs.Acceptance.{checked}
 use Rattle.certificate_file.specs.declared.places.Answer.{Answer as Shown}
 use Rattle.certificate_file.specs.declared.places.Answer.TheVariants as shown
-use Rattle.cert_writer.specs.Promises.{raised_pair, raised_sets}
+use Rattle.cert_writer.specs.Promises.{raised_pair}
 use Rattle.cert_writer.specs.Finding.{cert_of}
-use Rattle.cert_writer.specs.Listing.{list_cert_of}
+use Rattle.cert_writer.specs.Listing.{list_cert_of, list_accepted_as}
 use Rattle.quorum_questions.specs.Evidence.{IsRefutation, IsSpent}
 use Rattle.quorum_questions.specs.declared.answers.Size.{Size}
 use Rattle.quorum_questions.specs.declared.answers.Answer.TheVariants.{Yes as together, Spent as spent}
 use Rattle.report.specs.Lines.{Text, with_pair, with_sets, counted}
 use Rattle.order_reading.specs.declared.searches.Search.{Search}
 use Rattle.quorum_run.specs.Printing.{part, deleted, request}
-use Rattle.quorum_run.specs.Replies.{size_lines}
+use Rattle.quorum_run.specs.Replies.{size_lines, list_word, unknown_word}
 
 -- the certificate says this, for the asked node and the deleted nodes, and is accepted
 abbrev pub IsAccepted : Search → Text → Shown → Type 0
@@ -93,24 +93,24 @@ IsAvailable s = Available (part s).sets (members (deleted s))
 abbrev pub IsNoDset : Search → DeskState → DeskState → Type 0
 IsNoDset s old new = ((before : Text) × PrintsPair s before (codes "dset no\n") old new) ⊎ ((IsAvailable s → ⊥) × (ShowsNone s new ⊎ ShowsUnknown s new))
 
--- ---- a list of the minimal blocking sets
+-- ---- a list of all minimal sets of a kind
 
--- the list is whole: its number and its sets are on the output, they are exactly the minimal blocking sets of the part, each once and in
+-- the list is whole: its number and its sets are on the output, they are exactly the minimal sets of the kind in the part, each once and in
 -- name order, and the certificate is a list of them that is accepted, within the budget
-pub record PrintsList (s : Search) (old new : DeskState) : Type 0 where
+pub record PrintsList (sought : Kind) (s : Search) (old new : DeskState) : Type 0 where
   pub sets : Vec Table
-  pub out : new.out ≡ old.out ++ with_sets (codes "blocking") (part s).names sets.items
-  pub list : IsListOf listed.Blocking (part s).sets (members (deleted s)) sets.items
+  pub out : new.out ≡ old.out ++ with_sets (list_word sought) (part s).names sets.items
+  pub list : IsListOf sought (part s).sets (members (deleted s)) sets.items
   pub journal : List JournalLine
   pub left : ℕ
-  pub lists : WholeHolds listed.Blocking (part s).sets (deleted s) s.budget left sets.items journal
-  pub held : new.files s.path ≡ Some (list_cert_of listed.Blocking (request s) (whole_list sets journal))
-  pub accepted : IsAccepted s (list_cert_of listed.Blocking (request s) (whole_list sets journal)) (shown.Blocking (raised_sets s.whole s.header sets.items))
+  pub lists : WholeHolds sought (part s).sets (deleted s) s.budget left sets.items journal
+  pub held : new.files s.path ≡ Some (list_cert_of sought (request s) (whole_list sets journal))
+  pub accepted : IsAccepted s (list_cert_of sought (request s) (whole_list sets journal)) (list_accepted_as sought (request s) (whole_list sets journal))
 
 -- the budget is spent: so is it said, and the certificate has as many units, each useful when it was added, over clauses that do not close
-pub record PrintsPartOfList (s : Search) (old new : DeskState) : Type 0 where
-  pub out : new.out ≡ old.out ++ counted (codes "blocking unknown") s.budget
+pub record PrintsPartOfList (sought : Kind) (s : Search) (old new : DeskState) : Type 0 where
+  pub out : new.out ≡ old.out ++ counted (unknown_word sought) s.budget
   pub journal : List JournalLine
-  pub lists : PartHolds listed.Blocking (part s).sets (deleted s) s.budget journal
-  pub held : new.files s.path ≡ Some (list_cert_of listed.Blocking (request s) (part_of_list journal))
-  pub accepted : IsAccepted s (list_cert_of listed.Blocking (request s) (part_of_list journal)) (shown.PartialBlocking s.budget)
+  pub lists : PartHolds sought (part s).sets (deleted s) s.budget journal
+  pub held : new.files s.path ≡ Some (list_cert_of sought (request s) (part_of_list journal))
+  pub accepted : IsAccepted s (list_cert_of sought (request s) (part_of_list journal)) (list_accepted_as sought (request s) (part_of_list journal))

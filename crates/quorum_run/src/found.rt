@@ -27,8 +27,8 @@ use quorum_questions::Answer;
 pub enum Found {
     /// Whether every two quorums share a node.
     Shared(Answer),
-    /// The minimal blocking sets.
-    Listed(ListOutcome),
+    /// All minimal sets of a kind.
+    Listed(Listed, ListOutcome),
 }
 
 /// Writes the certificate of what was found to the created file.
@@ -51,15 +51,8 @@ pub fn write_certificate<D: Desk>(
 {
     match found {
         Found::Shared(answer) => write_found(writer, desk, digest, header, whole, kept, answer),
-        Found::Listed(outcome) => write_list(
-            writer,
-            desk,
-            digest,
-            header,
-            whole,
-            kept,
-            Listed::Blocking,
-            outcome,
+        Found::Listed(sought, outcome) => write_list(
+            writer, desk, digest, header, whole, kept, *sought, outcome,
         ),
     }
 }

@@ -4,11 +4,12 @@ ghost use Rattle.witness_pair.specs.declared.Pair.{Pair};
 ghost use Rattle.fbas_model.specs.Nodes.{members};
 ghost use Rattle.fbas_model.specs.Fbas.{Available, AreUnmet};
 ghost use Rattle.cert_writer.specs.Finding.{CanBeWritten};
-ghost use Rattle.quorum_run.specs.Replies.{intersect_answer as spec_intersect, splits_answer as spec_splits, blocking_answer as spec_blocking, HasSets, HasSize, RepliesTrial, available_lines as spec_available, dset_status as spec_dset_status, dset_line as spec_dset_line, dset_answer as spec_dset};
+ghost use Rattle.quorum_run.specs.Replies.{intersect_answer as spec_intersect, splits_answer as spec_splits, list_word as spec_list_word, unknown_word as spec_unknown_word, list_answer as spec_list, HasSets, HasSize, RepliesTrial, available_lines as spec_available, dset_status as spec_dset_status, dset_line as spec_dset_line, dset_answer as spec_dset};
 ghost use Rattle.order_reading.specs.Status.{is_answer};
 
 use blocking_lists::ListOutcome;
 use fbas_core::System;
+use list_journal::Listed;
 use name_set::NodeSet;
 use order_reading::{Reply, Status, says};
 use quorum_questions::{Answer, Size};
@@ -60,23 +61,44 @@ pub fn splits_answer(
     }
 }
 
-/// The minimal blocking sets, by what a search for them found.
-pub fn blocking_answer(
+// What the line of the number of sets begins with.
+fn list_word(sought: Listed) -> &'static str
+    ensures { result.now ≡ spec_list_word sought }
+{
+    match sought {
+        Listed::Quorum => "quorums",
+        Listed::Blocking => "blocking",
+    }
+}
+
+// And the line of a spent budget.
+fn unknown_word(sought: Listed) -> &'static str
+    ensures { result.now ≡ spec_unknown_word sought }
+{
+    match sought {
+        Listed::Quorum => "quorums unknown",
+        Listed::Blocking => "blocking unknown",
+    }
+}
+
+/// All minimal sets of a kind, by what a search for them found.
+pub fn list_answer(
     alloc: Global,
+    sought: Listed,
     part: &System,
     budget: u64,
     found: &ListOutcome,
 ) -> Result<Reply, AllocError>
     requires { HasSets (length part.now.sets) found.now }
-    ensures { IfOk result (λ a. a ≡ spec_blocking part.now.names budget found.now) }
+    ensures { IfOk result (λ a. a ≡ spec_list sought part.now.names budget found.now) }
 {
     match found {
         ListOutcome::Whole(sets, _) => {
-            let text = report::with_sets(alloc, "blocking", part, sets.as_slice())?;
+            let text = report::with_sets(alloc, list_word(sought), part, sets.as_slice())?;
             Ok(Reply::new(Status::Yes, text))
         }
         ListOutcome::Spent(_) => {
-            let text = report::counted(alloc, "blocking unknown", budget)?;
+            let text = report::counted(alloc, unknown_word(sought), budget)?;
             Ok(Reply::new(Status::Unknown, text))
         }
     }

@@ -1,5 +1,5 @@
 //! A search: its answer, its certificate, and what is put out. All memory is taken before the certificate's file is created.
-ghost use Rattle.std.specs.Prelude.{◌≡◌, ◌⊎◌, ◌≤◌, ◌<◌, [], false, length, IsTrue, IsErr, OnOk, OnErr, IfOk};
+ghost use Rattle.std.specs.Prelude.{◌≡◌, ◌⊎◌, ◌≤◌, ◌<◌, [], Some, false, length, IsTrue, IsErr, OnOk, OnErr, IfOk};
 ghost use Rattle.fbas_model.specs.Nodes.{members};
 ghost use Rattle.fbas_model.specs.Fbas.{Intersects};
 ghost use Rattle.fbas_model.specs.Restriction.{closure_of, kept, restricted};
@@ -10,19 +10,21 @@ ghost use Rattle.quorum_questions.specs.declared.asking.TheConstants.{MOST_UNITS
 ghost use Rattle.quorum_run.specs.Finding.{cert_over, IsWritable};
 ghost use Rattle.quorum_run.specs.Putting.{put_whole, PutsSome, LacksPlace};
 ghost use Rattle.quorum_run.specs.Printing.{PrintsSearch, PrintsSearchPart, LacksForSearch};
+ghost use Rattle.quorum_run.specs.Replies.{listed_by};
 ghost use Rattle.quorum_run.specs.Searching.{FitsReady, FitsHeld, IsHeld};
 ghost use Rattle.order_reading.specs.Searches.{FitsSearch};
 ghost use Rattle.order_reading.specs.Status.{is_answer};
 
 use crate::found::{Found, what_is_shown_is_accepted, write_certificate};
 use crate::printing::print;
-use crate::replies::{blocking_answer, dset_answer, intersect_answer, splits_answer, trial_answer};
-use blocking_lists::list;
+use crate::replies::{dset_answer, intersect_answer, list_answer, splits_answer, trial_answer};
+use blocking_lists::list_all;
 use cdcl_core::Budget;
 use cert_writer::{CertWriter, what_is_shown_is_found};
 use cli_words::Goal;
 use desk_io::{Desk, To, WriteFailed, put_all};
 use fbas_core::System;
+use list_journal::Listed;
 use name_set::NodeSet;
 use order_reading::{Reply, Search, Status};
 use quorum_questions::{AskError, dset, intersect};
@@ -128,21 +130,25 @@ fn dset_ready(alloc: Global, part: &System, set: &NodeSet, budget: u64) -> Resul
     }
 }
 
-fn blocking_ready(
+// The search lists the sets of this kind.
+fn list_ready(
     alloc: Global,
+    goal: Goal,
+    sought: Listed,
     part: &System,
     faulty: &NodeSet,
     budget: u64,
 ) -> Result<Ready, AllocError>
     requires same_n { length faulty.now ≡ length part.now.sets }
     requires few { budget ≤ MOST_UNITS }
-    ensures { IfOk result (FitsReady Goal.Blocking part.now faulty.now budget) }
+    requires asked { listed_by goal ≡ Some sought }
+    ensures { IfOk result (FitsReady goal part.now faulty.now budget) }
 {
     let _ = part.len();
     let mut units = Budget::of(budget);
-    let found = list(alloc, part, faulty, &mut units)?;
-    let reply = blocking_answer(alloc, part, budget, &found);
-    hold(alloc, Found::Listed(found), reply)
+    let found = list_all(alloc, sought, part, faulty, &mut units)?;
+    let reply = list_answer(alloc, sought, part, budget, &found);
+    hold(alloc, Found::Listed(sought, found), reply)
 }
 
 // Every two quorums share a node there, so no two are found apart.
@@ -186,7 +192,7 @@ fn make_ready(
         Goal::Intersect => intersect_ready(alloc, part, faulty, budget),
         Goal::Splits => splits_ready(alloc, part, faulty, budget),
         Goal::Dset => dset_ready(alloc, part, faulty, budget),
-        Goal::Blocking => blocking_ready(alloc, part, faulty, budget),
+        Goal::Blocking => list_ready(alloc, goal, Listed::Blocking, part, faulty, budget),
         Goal::Trial => trial_ready(alloc, part, faulty, budget),
     }
 }
