@@ -1,5 +1,5 @@
 -- Reading comes first: what is printed is the same beside what was there before it.
-use Rattle.std.proofs.Common.{◌≡◌, ◌⊎◌, ◌<◌, ◌++◌, ℕ, true, refl, List, length, take, Contains, Result, Ok, Err, IsTrue, inl, inr, sym, ◌∙◌, ap, subst}
+use Rattle.std.proofs.Common.{◌≡◌, ◌⊎◌, ◌<◌, ◌++◌, ℕ, true, refl, List, take, Contains, Result, Ok, Err, IsTrue, inl, inr, sym, ◌∙◌, ap, subst}
 use Rattle.std.specs.Str.{bytes_eq}
 use Rattle.std.proofs.lemmas.Bool.{cases_Bool}
 use Rattle.desk_io.specs.State.{Files, DeskState, OnlyReads, with_file}
@@ -13,8 +13,8 @@ use Rattle.order_reading.specs.declared.early.Early.{Early}
 use Rattle.order_reading.specs.declared.early.Early.TheVariants.{Told}
 use Rattle.order_reading.specs.declared.reading.Asked.{Asked}
 use Rattle.order_reading.specs.declared.reading.Asked.TheVariants as asked
-use Rattle.quorum_run.specs.Putting.{PutsBoth, CameTo, uncreated, in_cert, in_text, LacksPlace, barred, no_room, no_room_for_text}
-use Rattle.quorum_run.specs.Printing.{PrintsAnswer, PrintsAnswerPart, PrintsAsked, Prints, PrintsAskedPart, PrintsPart, LacksRoomAsked, LacksRoom}
+use Rattle.quorum_run.specs.Putting.{IsBarred, PutsBoth, CameTo, uncreated, in_cert, in_text}
+use Rattle.quorum_run.specs.Printing.{PrintsAnswer, PrintsAnswerPart, PrintsAsked, Prints, PrintsAskedPart, PrintsPart}
 
 files_kept : (old mid : DeskState) → OnlyReads old mid → mid.files ≡ old.files
 files_kept old mid only = ap (λ (s : DeskState). s.files) only
@@ -32,16 +32,20 @@ answer_after a old mid new st only p = record {
   files = p.files ∙ files_kept old mid only;
 }
 
+less_after : (n : ℕ) (old mid : DeskState) → OnlyReads old mid → mid.room < n → old.room < n
+less_after n old mid only less = subst (λ (r : ℕ). r < n) (room_kept old mid only) less
+
+plain_kept : (old mid : DeskState) → OnlyReads old mid → IsTrue old.plain → IsTrue mid.plain
+plain_kept old mid only plain = subst IsTrue (sym (ap (λ (s : DeskState). s.plain) only)) plain
+
 part_after : (a : Answer) (old mid new : DeskState) → OnlyReads old mid → PrintsAnswerPart a mid new → PrintsAnswerPart a old new
 part_after a old mid new only p = record {
   count = p.count;
   short = p.short;
   out = p.out ∙ ap (λ (o : List ℕ). o ++ take p.count a.text) (out_kept old mid only);
   files = p.files ∙ files_kept old mid only;
+  room = λ plain. less_after _ old mid only (p.room (plain_kept old mid only plain));
 }
-
-less_after : (n : ℕ) (old mid : DeskState) → OnlyReads old mid → mid.room < n → old.room < n
-less_after n old mid only less = subst (λ (r : ℕ). r < n) (room_kept old mid only) less
 
 both_after : (path : List ℕ) (cert : Text) (a : Answer) (old mid new : DeskState) (st : Status) → OnlyReads old mid → PutsBoth path cert a mid new st → PutsBoth path cert a old new st
 both_after path cert a old mid new st only p = record {
@@ -50,16 +54,19 @@ both_after path cert a old mid new st only p = record {
   files = p.files ∙ ap (with_file path cert) (files_kept old mid only);
 }
 
-came_after : (path : List ℕ) (cert text : Text) (old mid new : DeskState) → OnlyReads old mid → CameTo path cert text mid new → CameTo path cert text old new
-came_after path cert text old mid new only (uncreated f o) = uncreated (f ∙ files_kept old mid only) (o ∙ out_kept old mid only)
-came_after path cert text old mid new only (in_cert n short f o) = in_cert n short (f ∙ ap (with_file path (take n cert)) (files_kept old mid only)) (o ∙ out_kept old mid only)
-came_after path cert text old mid new only (in_text n short f o) = in_text n short (f ∙ ap (with_file path cert) (files_kept old mid only)) (o ∙ ap (λ (x : List ℕ). x ++ take n text) (out_kept old mid only))
+barred_after : (path : List ℕ) (old mid : DeskState) → OnlyReads old mid → IsBarred path mid → IsBarred path old
+barred_after path old mid only b = record {
+  missing = sym (ap (λ (f : Files). f path) (files_kept old mid only)) ∙ b.missing;
+  never = subst (λ (names : List (List ℕ)). Contains names path → ⊥) (ap (λ (s : DeskState). s.may_create) only) b.never;
+}
 
-lacks_after : (path : List ℕ) (cert text : Text) (old mid : DeskState) → OnlyReads old mid → LacksPlace path cert text mid → LacksPlace path cert text old
-lacks_after path cert text old mid only (barred none never) =
-    barred (sym (ap (λ (f : Files). f path) (files_kept old mid only)) ∙ none) (subst (λ (names : List (List ℕ)). Contains names path → ⊥) (ap (λ (s : DeskState). s.may_create) only) never)
-lacks_after path cert text old mid only (no_room n short less) = no_room n short (less_after _ old mid only less)
-lacks_after path cert text old mid only (no_room_for_text less) = no_room_for_text (less_after _ old mid only less)
+came_after : (path : List ℕ) (cert text : Text) (old mid new : DeskState) → OnlyReads old mid → CameTo path cert text mid new → CameTo path cert text old new
+came_after path cert text old mid new only (uncreated f o why) =
+    uncreated (f ∙ files_kept old mid only) (o ∙ out_kept old mid only) (λ plain. barred_after path old mid only (why (plain_kept old mid only plain)))
+came_after path cert text old mid new only (in_cert n short f o why) =
+    in_cert n short (f ∙ ap (with_file path (take n cert)) (files_kept old mid only)) (o ∙ out_kept old mid only) (λ plain. less_after _ old mid only (why (plain_kept old mid only plain)))
+came_after path cert text old mid new only (in_text n short f o why) =
+    in_text n short (f ∙ ap (with_file path cert) (files_kept old mid only)) (o ∙ ap (λ (x : List ℕ). x ++ take n text) (out_kept old mid only)) (λ plain. less_after _ old mid only (why (plain_kept old mid only plain)))
 
 -- ---- what is asked
 
@@ -72,11 +79,6 @@ asked_part_after : (a : Asked) (old mid new : DeskState) → OnlyReads old mid �
 asked_part_after (asked.Question f q) old mid new only p = record { answer = p.answer; is = p.is; printed = part_after p.answer old mid new only p.printed }
 asked_part_after (asked.Search s) old mid new only (inl p) = inl (record { reply = p.reply; came = came_after s.path p.reply.cert p.reply.answer.text old mid new only p.came })
 asked_part_after (asked.Search s) old mid new only (inr p) = inr (record { answer = p.answer; is = p.is; printed = part_after p.answer old mid new only p.printed })
-
-asked_lacks_after : (a : Asked) (old mid : DeskState) → OnlyReads old mid → LacksRoomAsked a mid → LacksRoomAsked a old
-asked_lacks_after (asked.Question f q) old mid only p = record { answer = p.answer; is = p.is; less = less_after _ old mid only p.less }
-asked_lacks_after (asked.Search s) old mid only (inl p) = inl (record { reply = p.reply; lacks = lacks_after s.path p.reply.cert p.reply.answer.text old mid only p.lacks })
-asked_lacks_after (asked.Search s) old mid only (inr p) = inr (record { answer = p.answer; is = p.is; less = less_after _ old mid only p.less })
 
 -- ---- what comes of the words
 
@@ -91,15 +93,6 @@ part_ok r a old mid new is only p = subst (λ (x : Result Asked Early). PrintsPa
 
 pub part_told : (r : Result Asked Early) (a : Answer) (old mid new : DeskState) → r ≡ Err (Told a) → OnlyReads old mid → PrintsAnswerPart a mid new → PrintsPart r old new
 part_told r a old mid new is only p = subst (λ (x : Result Asked Early). PrintsPart x old new) (sym is) (part_after a old mid new only p)
-
-pub lacks_ok : (r : Result Asked Early) (a : Asked) (old mid : DeskState) → r ≡ Ok a → OnlyReads old mid → LacksRoomAsked a mid → LacksRoom r old
-lacks_ok r a old mid is only p = subst (λ (x : Result Asked Early). LacksRoom x old) (sym is) (asked_lacks_after a old mid only p)
-
-pub lacks_told : (r : Result Asked Early) (a : Answer) (old mid : DeskState) → r ≡ Err (Told a) → OnlyReads old mid → mid.room < length a.text → LacksRoom r old
-lacks_told r a old mid is only less = subst (λ (x : Result Asked Early). LacksRoom x old) (sym is) (less_after _ old mid only less)
-
-pub plain_kept : (old mid : DeskState) → OnlyReads old mid → IsTrue old.plain → IsTrue mid.plain
-plain_kept old mid only plain = subst IsTrue (sym (ap (λ (s : DeskState). s.plain) only)) plain
 
 -- ---- no other file changes
 
@@ -118,9 +111,9 @@ printed_files (asked.Search s) old new st path other (inl p) = at_path path (wit
 printed_files (asked.Search s) old new st path other (inr p) = at_path path old.files new.files p.printed.files
 
 came_files : (name : List ℕ) (cert text : Text) (old new : DeskState) (path : List ℕ) → (bytes_eq path name ≡ true → ⊥) → CameTo name cert text old new → new.files path ≡ old.files path
-came_files name cert text old new path other (uncreated f o) = at_path path old.files new.files f
-came_files name cert text old new path other (in_cert n short f o) = at_path path (with_file name (take n cert) old.files) new.files f ∙ other_file path name (take n cert) old.files other
-came_files name cert text old new path other (in_text n short f o) = at_path path (with_file name cert old.files) new.files f ∙ other_file path name cert old.files other
+came_files name cert text old new path other (uncreated f o why) = at_path path old.files new.files f
+came_files name cert text old new path other (in_cert n short f o why) = at_path path (with_file name (take n cert) old.files) new.files f ∙ other_file path name (take n cert) old.files other
+came_files name cert text old new path other (in_text n short f o why) = at_path path (with_file name cert old.files) new.files f ∙ other_file path name cert old.files other
 
 part_files : (a : Asked) (old new : DeskState) (path : List ℕ) → (IsCertOf path a → ⊥) → PrintsAskedPart a old new → new.files path ≡ old.files path
 part_files (asked.Question f q) old new path other p = at_path path old.files new.files p.printed.files

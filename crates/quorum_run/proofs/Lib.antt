@@ -4,3 +4,4 @@ pub mod Shown
 pub mod Titles
 pub mod Headlines
 pub mod After
+pub mod Large

@@ -1,5 +1,5 @@
 -- What is on the desk after a certificate and a text were put, whole or in part.
-use Rattle.std.proofs.Common.{◌≡◌, ℕ, ◌+◌, ◌<◌, List, [], length, take, Some, Result, Ok, Err, OnErr, IsTrue, inl, inr, refl, ◌∙◌, ap, subst}
+use Rattle.std.proofs.Common.{◌≡◌, ℕ, ◌+◌, ◌<◌, arith, List, [], length, take, Some, Result, Ok, Err, OnErr, IsTrue, inl, inr, refl, ◌∙◌, ap, subst}
 use Rattle.std.specs.Str.{bytes_eq}
 use Rattle.std.proofs.lemmas.Bool.{cases_Bool}
 use mathlib.Core.Path.{fun_ext}
@@ -9,7 +9,7 @@ use Rattle.cert_writer.specs.Promises.{PutsPart}
 use Rattle.cert_writer.specs.declared.writer.TheConstants.{BUFFER}
 use Rattle.report.specs.Lines.{Text}
 use Rattle.order_reading.specs.declared.reply.Reply.{Reply as Answer}
-use Rattle.quorum_run.specs.Putting.{put_whole, PutsSome, unmade, cert_part, text_part, PutsBoth, CameTo, uncreated, in_cert, in_text, LacksPlace, no_room}
+use Rattle.quorum_run.specs.Putting.{LacksBuffer, LacksText, put_whole, PutsSome, unmade, cert_part, text_part, PutsBoth, CameTo, uncreated, in_cert, in_text}
 
 appended-created : (path bytes : List ℕ) (files : Files) → appended (Some path) bytes (with_file path [] files) ≡ with_file path bytes files
 appended-created path bytes files = fun_ext (λ (n : List ℕ). elim (cases_Bool (bytes_eq n path)) [
@@ -25,9 +25,9 @@ puts_both path cert a old new e = record {
 }
 
 pub came_to : (path : List ℕ) (cert text : Text) (old new : DeskState) → PutsSome path cert text old new → CameTo path cert text old new
-came_to path cert text old new (unmade e) = uncreated (ap (λ (s : DeskState). s.files) e) (ap (λ (s : DeskState). s.out) e)
-came_to path cert text old new (cert_part n short e) = in_cert n short (ap (λ (s : DeskState). s.files) e ∙ appended-created path (take n cert) old.files) (ap (λ (s : DeskState). s.out) e)
-came_to path cert text old new (text_part n short e) = in_text n short (ap (λ (s : DeskState). s.files) e ∙ appended-created path cert old.files) (ap (λ (s : DeskState). s.out) e)
+came_to path cert text old new (unmade e why) = uncreated (ap (λ (s : DeskState). s.files) e) (ap (λ (s : DeskState). s.out) e) why
+came_to path cert text old new (cert_part n short e why) = in_cert n short (ap (λ (s : DeskState). s.files) e ∙ appended-created path (take n cert) old.files) (ap (λ (s : DeskState). s.out) e) why
+came_to path cert text old new (text_part n short e why) = in_text n short (ap (λ (s : DeskState). s.files) e ∙ appended-created path cert old.files) (ap (λ (s : DeskState). s.out) e) why
 
 -- ---- after a write fault
 
@@ -35,21 +35,30 @@ pub any_err : {T E : Type 0} (r : Result T E) (P : Type 0) → P → OnErr r P
 any_err (Ok x) P p = tt
 any_err (Err e) P p = p
 
-pub err_more : {T E : Type 0} (r : Result T E) (P Q : Type 0) → (P → Q) → OnErr r P → OnErr r Q
-err_more (Ok x) P Q f p = tt
-err_more (Err e) P Q f p = f p
+pub err_both : {T E : Type 0} (r : Result T E) (P Q S : Type 0) → (P → Q → S) → OnErr r P → OnErr r Q → OnErr r S
+err_both (Ok x) P Q S f p q = tt
+err_both (Err e) P Q S f p q = f p q
 
-pub some_cert : (path : List ℕ) (cert text : Text) (old middle new : DeskState) → middle ≡ with_certificate path old → PutsPart cert middle new → PutsSome path cert text old new
-some_cert path cert text old middle new created p = cert_part p.count p.short (p.put ∙ ap (written Cert (take p.count cert)) created)
-
-pub lacks_cert : (path : List ℕ) (cert text : Text) (old middle new : DeskState) → middle ≡ with_certificate path old → PutsPart cert middle new → IsTrue old.plain → LacksPlace path cert text old
-lacks_cert path cert text old middle new created p plain =
-    let there = subst (λ (s : DeskState). IsTrue s.plain → CannotPut Cert (p.count + BUFFER) s) created p.lacks in
+lacks_buffer : (path : List ℕ) (old middle : DeskState) (count : ℕ) → middle ≡ with_certificate path old → (IsTrue middle.plain → CannotPut Cert (count + BUFFER) middle) → IsTrue old.plain → LacksBuffer count old
+lacks_buffer path old middle count created lacks plain =
+    let there = subst (λ (s : DeskState). IsTrue s.plain → CannotPut Cert (count + BUFFER) s) created lacks in
     elim (there plain) [
       | inl none ↦ absurd (let k = none in cc)
-      | inr small ↦ no_room p.count p.short small
+      | inr small ↦ small
     ]
 
-pub some_text : (path : List ℕ) (cert text : Text) (old middle more new : DeskState) → middle ≡ with_certificate path old → more ≡ written Cert cert middle → (n : ℕ) × (n < length text) × (new ≡ written Out (take n text) more) → PutsSome path cert text old new
-some_text path cert text old middle more new created whole n =
-    text_part n.0 n.1 (n.2 ∙ ap (written Out (take n.0 text)) (whole ∙ ap (written Cert cert) created))
+pub some_cert : (path : List ℕ) (cert text : Text) (old middle new : DeskState) → middle ≡ with_certificate path old → PutsPart cert middle new → PutsSome path cert text old new
+some_cert path cert text old middle new created p =
+    cert_part p.count p.short (p.put ∙ ap (written Cert (take p.count cert)) created) (lacks_buffer path old middle p.count created p.lacks)
+
+lacks_text : (path : List ℕ) (cert text : Text) (old more : DeskState) → more ≡ written Cert cert (with_certificate path old) → (IsTrue more.plain → CannotPut Out (length text) more) → IsTrue old.plain → LacksText cert text old
+lacks_text path cert text old more whole lacks plain =
+    let there = subst (λ (s : DeskState). IsTrue s.plain → CannotPut Out (length text) s) whole lacks in
+    let less = there plain in
+    omega arith
+
+pub some_text : (path : List ℕ) (cert text : Text) (old middle more new : DeskState) → middle ≡ with_certificate path old → more ≡ written Cert cert middle → (n : ℕ) × (n < length text) × (new ≡ written Out (take n text) more)
+    → (IsTrue more.plain → CannotPut Out (length text) more) → PutsSome path cert text old new
+some_text path cert text old middle more new created whole n lacks =
+    let both = whole ∙ ap (written Cert cert) created in
+    text_part n.0 n.1 (n.2 ∙ ap (written Out (take n.0 text)) both) (lacks_text path cert text old more both lacks)

@@ -1,5 +1,5 @@
 -- A reply of a search has the status of an answer.
-use Rattle.std.proofs.Common.{◌≡◌, ◌<◌, ℕ, IsTrue, Bool, true, false, Option, Some, None, Contains, length, refl, sym, subst, ap, ◌∙◌}
+use Rattle.std.proofs.Common.{◌≡◌, ◌<◌, ◌≤◌, ℕ, arith, IsTrue, Bool, true, false, Option, Some, None, Contains, length, refl, sym, subst, ap, ◌∙◌}
 use Rattle.std.proofs.lemmas.List.Elements.{All-weaker, All-contains_itself}
 use Rattle.fbas_model.specs.Fbas.{Fbas, Intersects}
 use Rattle.fbas_model.specs.Nodes.{Table, members}
@@ -22,7 +22,7 @@ use Rattle.order_reading.specs.Status.{is_answer}
 use Rattle.quorum_run.specs.declared.found.Found.{Found}
 use Rattle.quorum_run.specs.declared.found.Found.TheVariants.{Shared, Listed}
 use Rattle.order_reading.specs.declared.reply.Reply.{Reply as Answer}
-use Rattle.quorum_run.specs.Replies.{intersect_answer, splits_answer, list_answer, dset_status, listed_by, HasSets, RepliesListed, Replies, RepliesTooLarge}
+use Rattle.quorum_run.specs.Replies.{intersect_answer, splits_answer, list_answer, dset_status, listed_by, HasSets, RepliesListed, Encodes, IsLarge, Replies, RepliesTooLarge}
 
 abbrev Answered : Answer → Type 0
 Answered a = IsTrue (is_answer a.status)
@@ -57,14 +57,19 @@ reply_answered Dset f deleted budget (Shared found) a is = subst Answered (sym i
 reply_answered Trial f deleted budget (Shared found) a is = subst Answered (sym is.said) (intersect_answered f budget found)
 reply_answered Blocking f deleted budget (Shared found) a is = absurd is
 
-pub too_large_answered : (f : System) (deleted : Table) (a : Answer) → RepliesTooLarge f deleted a → IsTrue (is_answer a.status)
-too_large_answered f deleted a is = subst Answered (sym is.said) refl
+pub too_large_answered : (goal : Goal) (f : System) (deleted : Table) (a : Answer) → RepliesTooLarge goal f deleted a → IsTrue (is_answer a.status)
+too_large_answered goal f deleted a is = subst Answered (sym is.said) refl
 
-pub too_large_fits : (f : System) (deleted : Table) (vars : ℕ) (a : Answer) → vars ≡ vars_of f.sets deleted → MOST_VARS < vars → a ≡ record { status = TooLarge; text = too_large vars } → RepliesTooLarge f deleted a
-too_large_fits f deleted vars a same large said = record {
+pub too_large_fits : (goal : Goal) (f : System) (deleted : Table) (vars : ℕ) (a : Answer) → Encodes goal → vars ≡ vars_of f.sets deleted → MOST_VARS < vars → a ≡ record { status = TooLarge; text = too_large vars } → RepliesTooLarge goal f deleted a
+too_large_fits goal f deleted vars a encodes same large said = record {
+  encodes = encodes;
   large = subst (λ (n : ℕ). MOST_VARS < n) same large;
   said = said ∙ ap (λ (n : ℕ). record { status = TooLarge; text = too_large n }) same;
 }
+
+-- a formula that is small enough is not too large
+pub not_large : (f : System) (deleted : Table) → vars_of f.sets deleted ≤ MOST_VARS → IsLarge f deleted → ⊥
+not_large f deleted small large = omega arith
 
 -- what is found can be written, by the number of quorum sets
 pub written_there : (n m : ℕ) (found : Shown) → n ≡ m → CanBeWritten n found → CanBeWritten m found

@@ -1,5 +1,5 @@
 -- What is out at the end.
-use Rattle.std.specs.Prelude.{◌≡◌, ◌⊎◌, ℕ, ◌<◌, ◌++◌, length, take, Result, Ok, Err}
+use Rattle.std.specs.Prelude.{◌≡◌, ◌⊎◌, ℕ, ◌<◌, ◌++◌, IsTrue, length, take, Result, Ok, Err}
 use Rattle.desk_io.specs.State.{DeskState}
 use Rattle.fbas_model.specs.Systems.{System}
 use Rattle.fbas_model.specs.Nodes.{Table}
@@ -9,13 +9,15 @@ use Rattle.report.specs.Lines.{Text}
 use Rattle.order_reading.specs.declared.searches.Search.{Search}
 use Rattle.quorum_run.specs.declared.found.Found.{Found}
 use Rattle.quorum_run.specs.Finding.{FindsFound}
-use Rattle.quorum_run.specs.Replies.{Replies, RepliesTooLarge}
-use Rattle.quorum_run.specs.Putting.{PutsBoth, CameTo, LacksPlace}
+use Rattle.quorum_run.specs.Replies.{Encodes, IsLarge, Replies, RepliesTooLarge}
+use Rattle.quorum_run.specs.Putting.{PutsBoth, CameTo}
 use Rattle.order_reading.specs.declared.status.Status.{Status}
+use Rattle.order_reading.specs.declared.status.Status.TheVariants.{TooLarge}
 use Rattle.order_reading.specs.declared.reply.Reply.{Reply as Answer}
 use Rattle.order_reading.specs.declared.early.Early.{Early}
 use Rattle.order_reading.specs.declared.early.Early.TheVariants.{Told, Read, Memory}
 use Rattle.order_reading.specs.declared.question.Question.{Question}
+use Rattle.order_reading.specs.declared.question.Question.TheVariants.{Export}
 use Rattle.order_reading.specs.declared.reading.Asked.{Asked}
 use Rattle.order_reading.specs.declared.reading.Asked.TheVariants as asked
 use Rattle.quorum_run.specs.QuestionAnswers.{Answers}
@@ -28,12 +30,13 @@ pub record PrintsAnswer (a : Answer) (old new : DeskState) (status : Status) : T
   pub out : new.out ≡ old.out ++ a.text
   pub files : new.files ≡ old.files
 
--- a proper prefix of the text of the answer is out, and no file has changed
+-- a proper prefix of the text of the answer is out, and no file has changed; on a plain desk the text is longer than the room
 pub record PrintsAnswerPart (a : Answer) (old new : DeskState) : Type 0 where
   pub count : ℕ
   pub short : count < length a.text
   pub out : new.out ≡ old.out ++ take count a.text
   pub files : new.files ≡ old.files
+  pub room : IsTrue old.plain → old.room < length a.text
 
 -- ---- what answers a question
 
@@ -46,12 +49,6 @@ pub record PrintsAnswerToPart (f : System) (q : Question) (old new : DeskState) 
   pub answer : Answer
   pub is : Answers f q answer
   pub printed : PrintsAnswerPart answer old new
-
--- the text of the answer is longer than the room
-pub record LacksRoomForAnswer (f : System) (q : Question) (old : DeskState) : Type 0 where
-  pub answer : Answer
-  pub is : Answers f q answer
-  pub less : old.room < length answer.text
 
 -- ---- what a search prints and writes
 
@@ -66,8 +63,9 @@ deleted s = faulty_in s.whole s.header
 abbrev pub request : Search → Request
 request s = record { whole = s.whole; digest = s.digest; header = s.header; budget = s.budget }
 
--- what the search found: it shows the answer, its certificate is accepted, and this is the reply
+-- what the search found, where the formula is not too large: it shows the answer, its certificate is accepted, and this is the reply
 pub record FindsReply (s : Search) : Type 0 where
+  pub small : Encodes s.goal → IsLarge (part s) (deleted s) → ⊥
   pub found : Found
   pub cert : Text
   pub finds : FindsFound (request s) found cert
@@ -82,7 +80,7 @@ pub record PrintsFound (s : Search) (old new : DeskState) (status : Status) : Ty
 -- the formula is too large, which is told
 pub record PrintsTooLarge (s : Search) (old new : DeskState) (status : Status) : Type 0 where
   pub answer : Answer
-  pub is : RepliesTooLarge (part s) (deleted s) answer
+  pub is : RepliesTooLarge s.goal (part s) (deleted s) answer
   pub printed : PrintsAnswer answer old new status
 
 pub record PrintsFoundPart (s : Search) (old new : DeskState) : Type 0 where
@@ -91,26 +89,14 @@ pub record PrintsFoundPart (s : Search) (old new : DeskState) : Type 0 where
 
 pub record PrintsTooLargePart (s : Search) (old new : DeskState) : Type 0 where
   pub answer : Answer
-  pub is : RepliesTooLarge (part s) (deleted s) answer
+  pub is : RepliesTooLarge s.goal (part s) (deleted s) answer
   pub printed : PrintsAnswerPart answer old new
-
-pub record LacksPlaceForFound (s : Search) (old : DeskState) : Type 0 where
-  pub reply : FindsReply s
-  pub lacks : LacksPlace s.path reply.cert reply.answer.text old
-
-pub record LacksRoomForTooLarge (s : Search) (old : DeskState) : Type 0 where
-  pub answer : Answer
-  pub is : RepliesTooLarge (part s) (deleted s) answer
-  pub less : old.room < length answer.text
 
 abbrev pub PrintsSearch : Search → DeskState → DeskState → Status → Type 0
 PrintsSearch s old new status = PrintsFound s old new status ⊎ PrintsTooLarge s old new status
 
 abbrev pub PrintsSearchPart : Search → DeskState → DeskState → Type 0
 PrintsSearchPart s old new = PrintsFoundPart s old new ⊎ PrintsTooLargePart s old new
-
-abbrev pub LacksForSearch : Search → DeskState → Type 0
-LacksForSearch s old = LacksPlaceForFound s old ⊎ LacksRoomForTooLarge s old
 
 -- ---- what answers the words
 
@@ -142,16 +128,22 @@ abbrev pub PrintsPart : Result Asked Early → DeskState → DeskState → Type 
 PrintsPart (Ok a) old new = PrintsAskedPart a old new
 PrintsPart (Err early) old new = PrintsEarlyPart early old new
 
-abbrev pub LacksRoomAsked : Asked → DeskState → Type 0
-LacksRoomAsked (asked.Question f question) old = LacksRoomForAnswer f question old
-LacksRoomAsked (asked.Search s) old = LacksForSearch s old
+-- ---- a formula that is too large
 
-abbrev pub LacksRoomEarly : Early → DeskState → Type 0
-LacksRoomEarly (Told answer) old = old.room < length answer.text
-LacksRoomEarly Read old = ⊥
-LacksRoomEarly Memory old = ⊥
+abbrev pub IsLargeQuestion : System → Question → Type 0
+IsLargeQuestion f (Export origin b) = IsLarge f b
+IsLargeQuestion f question = ⊥
 
--- why a write must fail
-abbrev pub LacksRoom : Result Asked Early → DeskState → Type 0
-LacksRoom (Ok a) old = LacksRoomAsked a old
-LacksRoom (Err early) old = LacksRoomEarly early old
+abbrev pub IsLargeAsked : Asked → Type 0
+IsLargeAsked (asked.Question f question) = IsLargeQuestion f question
+IsLargeAsked (asked.Search s) = Encodes s.goal × IsLarge (part s) (deleted s)
+
+abbrev pub IsLargeEarly : Early → Type 0
+IsLargeEarly (Told answer) = answer.status ≡ TooLarge
+IsLargeEarly Read = ⊥
+IsLargeEarly Memory = ⊥
+
+-- what is asked encodes a formula that has too many variables, or such a one stands in the certificate that is checked
+abbrev pub IsTooLarge : Result Asked Early → Type 0
+IsTooLarge (Ok a) = IsLargeAsked a
+IsTooLarge (Err early) = IsLargeEarly early

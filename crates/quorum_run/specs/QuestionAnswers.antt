@@ -4,6 +4,7 @@ use Rattle.fbas_model.specs.Nodes.{Table, members}
 use Rattle.fbas_model.specs.Systems.{System}
 use Rattle.fbas_model.specs.Fbas.{all_nodes, IsClosure, IsGreatestQuorum, Available, AreUnmet, MeetsQuorums, BlocksNode}
 use Rattle.fbas_model.specs.Nodes.{◌∖◌}
+use Rattle.greatest_quorum.specs.Greatest.{greatest_of}
 use Rattle.clause_encoder.specs.Formula.{formula_vars, formula_clauses}
 use Rattle.clause_encoder.specs.declared.version.Version.TheVariants.{Two}
 use Rattle.clause_encoder.specs.Dimacs.{dimacs}
@@ -77,6 +78,7 @@ pub record AnswersExport (f : System) (origin : Origin) (b : Table) (a : Answer)
   pub greatest : Table
   pub places : length greatest ≡ length f.sets
   pub is : IsGreatestQuorum f.sets (members b) (all_nodes f.sets) (members greatest)
+  pub counted : greatest ≡ greatest_of f.sets b
   pub said : a ≡ export_answer f origin b greatest
 
 -- the answer to a question about a system

@@ -126,7 +126,22 @@ Replies Dset f deleted budget (Shared found) a = RepliesDset f deleted budget fo
 Replies Trial f deleted budget (Shared found) a = RepliesTrial f budget found a
 Replies goal f deleted budget (Shared found) a = ⊥
 
--- the formula has too many variables, which are told
-pub record RepliesTooLarge (f : System) (deleted : Table) (a : Answer) : Type 0 where
-  pub large : MOST_VARS < vars_of f.sets deleted
+-- ---- a formula that is too large
+
+-- a search with this goal encodes the intersection formula: all but one for a list of sets
+abbrev pub ListsNone : Option Kind → Type 0
+ListsNone None = Unit {0}
+ListsNone (Some kind) = ⊥
+
+abbrev pub Encodes : Goal → Type 0
+Encodes goal = ListsNone (listed_by goal)
+
+-- the formula has too many variables
+abbrev pub IsLarge : System → Table → Type 0
+IsLarge f deleted = MOST_VARS < vars_of f.sets deleted
+
+-- the formula is encoded, and has too many variables, which are told
+pub record RepliesTooLarge (goal : Goal) (f : System) (deleted : Table) (a : Answer) : Type 0 where
+  pub encodes : Encodes goal
+  pub large : IsLarge f deleted
   pub said : a ≡ record { status = TooLarge; text = too_large (vars_of f.sets deleted) }

@@ -1,14 +1,14 @@
 //! The program, over the words and a desk.
 #![tactic(auto)]
 
-ghost use Rattle.std.specs.Prelude.{◌≡◌, ◌⊎◌, ◌<◌, ℕ, List, Ok, Err, IsTrue, IsOk, IsErr, IfErr, length, take};
+ghost use Rattle.std.specs.Prelude.{◌≡◌, ◌⊎◌, ◌↔◌, ◌<◌, ℕ, List, Ok, Err, IsTrue, IsOk, IsErr, IfErr, length, take};
 ghost use Rattle.desk_io.specs.State.{OnlyReads, written};
 ghost use Rattle.desk_io.specs.Faults.{Rose, WriteFails, CountedWhere};
 ghost use Rattle.cli_words.specs.Words.{order_of};
 ghost use Rattle.order_reading.specs.Status.{is_answer};
 ghost use Rattle.order_reading.specs.Answers.{words_of, asked_of, FitsAsked};
 ghost use Rattle.quorum_run.specs.Headline.{Headline, MayChange};
-ghost use Rattle.quorum_run.specs.Printing.{PrintsAnswer, PrintsAnswerPart, PrintsAsked, PrintsAskedPart, LacksRoomAsked, Prints, PrintsPart, LacksRoom};
+ghost use Rattle.quorum_run.specs.Printing.{PrintsAnswer, PrintsAnswerPart, PrintsAsked, PrintsAskedPart, Prints, PrintsPart, IsTooLarge};
 
 mod found;
 mod printing;
@@ -31,7 +31,6 @@ fn answer<D: Desk>(alloc: Global, desk: &mut D, asked: &Asked) -> Status
     ensures part { IsTrue D.tells → result ≡ Status.WriteFault → PrintsAskedPart asked.now (D.state desk.old) (D.state desk.new) }
     ensures silent { IsTrue D.tells → result ≡ Status.Memory → D.state desk.new ≡ D.state desk.old }
     ensures ends { IsTrue (is_answer result) ⊎ (result ≡ Status.WriteFault) ⊎ (result ≡ Status.Memory) }
-    ensures room { IsTrue D.tells → IsTrue (D.state desk.old).plain → result ≡ Status.WriteFault → LacksRoomAsked asked.now (D.state desk.old) }
     ensures faults { WriteFails (D.faults desk.old) (D.faults desk.new) (result ≡ Status.WriteFault) }
 {
     match asked {
@@ -54,7 +53,11 @@ pub fn run<D: Desk>(alloc: Global, words: &[String], desk: &mut D) -> Status
     // or an unknown is printed, that each finished certificate is accepted, and that only what is so is accepted.
     ensures headline { IsTrue D.tells → IsTrue (is_answer result) →
         Headline (words_of words.now) (D.state desk.old) (D.state desk.new) result }
-    // After a write fault a proper prefix of it is out, and after a read fault or for want of memory nothing.
+    // The status is 9 exactly where what is asked encodes a formula of more than 4,000,000 variables, or a certificate has one.
+    ensures too_large { IsTrue D.tells → IsTrue (is_answer result) →
+        (result ≡ Status.TooLarge) ↔ IsTooLarge (asked_of (words_of words.now) (D.state desk.old).files) }
+    // After a write fault a proper prefix of it is out, and where only too little room makes one, so much was wanting. After a read
+    // fault or for want of memory nothing is out.
     ensures part { IsTrue D.tells → result ≡ Status.WriteFault →
         PrintsPart (asked_of (words_of words.now) (D.state desk.old).files) (D.state desk.old) (D.state desk.new) }
     ensures silent { IsTrue D.tells → (result ≡ Status.ReadFault) ⊎ (result ≡ Status.Memory) →
@@ -79,11 +82,9 @@ pub fn run<D: Desk>(alloc: Global, words: &[String], desk: &mut D) -> Status
         → (Rose (D.faults desk.old).writes (D.faults desk.new).writes → ⊥)
         → IsTrue (is_answer result) ⊎ (result ≡ Status.Memory) }
 
-    // On a plain desk only a missing file makes a read fault, and only too little room a write fault.
+    // On a plain desk only a missing file makes a read fault.
     ensures plain_read { IsTrue D.tells → IsTrue (D.state desk.old).plain → result ≡ Status.ReadFault →
         asked_of (words_of words.now) (D.state desk.old).files ≡ Err Early.Read }
-    ensures plain_write { IsTrue D.tells → IsTrue (D.state desk.old).plain → result ≡ Status.WriteFault →
-        LacksRoom (asked_of (words_of words.now) (D.state desk.old).files) (D.state desk.old) }
 {
     match ask_by_words(alloc, words, desk) {
         Ok(asked) => answer(alloc, desk, &asked),

@@ -1,5 +1,5 @@
 //! The text of an answer, put out.
-ghost use Rattle.std.specs.Prelude.{◌≡◌, ◌⊎◌, ◌<◌, IsTrue, length};
+ghost use Rattle.std.specs.Prelude.{◌≡◌, ◌⊎◌, IsTrue};
 ghost use Rattle.desk_io.specs.Faults.{WriteFails};
 ghost use Rattle.order_reading.specs.Status.{is_answer};
 ghost use Rattle.quorum_run.specs.Printing.{PrintsAnswer, PrintsAnswerPart};
@@ -13,7 +13,6 @@ pub fn print<D: Desk>(desk: &mut D, reply: &Reply) -> Status
     ensures printed { IsTrue D.tells → IsTrue (is_answer result) → PrintsAnswer reply.now (D.state desk.old) (D.state desk.new) result }
     ensures part { IsTrue D.tells → result ≡ Status.WriteFault → PrintsAnswerPart reply.now (D.state desk.old) (D.state desk.new) }
     ensures status { (result ≡ reply.now.status) ⊎ (result ≡ Status.WriteFault) }
-    ensures room { IsTrue D.tells → IsTrue (D.state desk.old).plain → result ≡ Status.WriteFault → (D.state desk.old).room < length reply.now.text }
     ensures left { IsTrue D.tells → (D.state desk.new).left ≡ (D.state desk.old).left }
     ensures faults { WriteFails (D.faults desk.old) (D.faults desk.new) (result ≡ Status.WriteFault) }
 {

@@ -8,8 +8,8 @@ ghost use Rattle.desk_io.specs.Faults.{WriteFails};
 ghost use Rattle.cert_writer.specs.Promises.{IsHeader, part_of, faulty_in};
 ghost use Rattle.quorum_questions.specs.declared.asking.TheConstants.{MOST_UNITS};
 ghost use Rattle.quorum_run.specs.Finding.{cert_over, IsWritable};
-ghost use Rattle.quorum_run.specs.Putting.{put_whole, PutsSome, LacksPlace};
-ghost use Rattle.quorum_run.specs.Printing.{PrintsSearch, PrintsSearchPart, LacksForSearch};
+ghost use Rattle.quorum_run.specs.Putting.{put_whole, PutsSome};
+ghost use Rattle.quorum_run.specs.Printing.{PrintsSearch, PrintsSearchPart};
 ghost use Rattle.quorum_run.specs.Replies.{listed_by};
 ghost use Rattle.quorum_run.specs.Searching.{FitsReady, FitsHeld, IsHeld};
 ghost use Rattle.order_reading.specs.Searches.{FitsSearch};
@@ -213,7 +213,6 @@ fn put_both<D: Desk>(
     requires found { IsWritable (length part.now.names) found.now }
     ensures all { OnOk result (IsTrue D.tells → D.state desk.new ≡ put_whole path.now (cert_over search.now.whole search.now.digest search.now.header found.now) text.now (D.state desk.old)) }
     ensures part { OnErr result (IsTrue D.tells → PutsSome path.now (cert_over search.now.whole search.now.digest search.now.header found.now) text.now (D.state desk.old) (D.state desk.new)) }
-    ensures plain { OnErr result (IsTrue D.tells → IsTrue (D.state desk.old).plain → LacksPlace path.now (cert_over search.now.whole search.now.digest search.now.header found.now) text.now (D.state desk.old)) }
     ensures faults { WriteFails (D.faults desk.old) (D.faults desk.new) (IsErr result) }
 {
     desk.create(path)?;
@@ -237,7 +236,6 @@ fn put_found<D: Desk>(desk: &mut D, search: &Search, part: &System, held: Held) 
     ensures answered { IsTrue D.tells → IsTrue (is_answer result) → PrintsSearch search.now (D.state desk.old) (D.state desk.new) result }
     ensures part { IsTrue D.tells → result ≡ Status.WriteFault → PrintsSearchPart search.now (D.state desk.old) (D.state desk.new) }
     ensures ends { IsTrue (is_answer result) ⊎ (result ≡ Status.WriteFault) }
-    ensures plain { IsTrue D.tells → IsTrue (D.state desk.old).plain → result ≡ Status.WriteFault → LacksForSearch search.now (D.state desk.old) }
     ensures faults { WriteFails (D.faults desk.old) (D.faults desk.new) (result ≡ Status.WriteFault) }
 {
     let _ = search.whole.len();
@@ -278,7 +276,6 @@ fn search_in<D: Desk>(
     ensures part { IsTrue D.tells → result ≡ Status.WriteFault → PrintsSearchPart search.now (D.state desk.old) (D.state desk.new) }
     ensures silent { IsTrue D.tells → result ≡ Status.Memory → D.state desk.new ≡ D.state desk.old }
     ensures ends { IsTrue (is_answer result) ⊎ (result ≡ Status.WriteFault) ⊎ (result ≡ Status.Memory) }
-    ensures plain { IsTrue D.tells → IsTrue (D.state desk.old).plain → result ≡ Status.WriteFault → LacksForSearch search.now (D.state desk.old) }
     ensures faults { WriteFails (D.faults desk.old) (D.faults desk.new) (result ≡ Status.WriteFault) }
 {
     match make_ready(alloc, search.goal, part, faulty, search.budget) {
@@ -309,7 +306,6 @@ pub fn search<D: Desk>(alloc: Global, desk: &mut D, search: &Search) -> Status
     ensures part { IsTrue D.tells → result ≡ Status.WriteFault → PrintsSearchPart search.now (D.state desk.old) (D.state desk.new) }
     ensures silent { IsTrue D.tells → result ≡ Status.Memory → D.state desk.new ≡ D.state desk.old }
     ensures ends { IsTrue (is_answer result) ⊎ (result ≡ Status.WriteFault) ⊎ (result ≡ Status.Memory) }
-    ensures plain { IsTrue D.tells → IsTrue (D.state desk.old).plain → result ≡ Status.WriteFault → LacksForSearch search.now (D.state desk.old) }
     ensures faults { WriteFails (D.faults desk.old) (D.faults desk.new) (result ≡ Status.WriteFault) }
 {
     let _ = search.whole.len();

@@ -6,8 +6,9 @@ use Rattle.order_reading.specs.Reading.{FailsReading}
 use Rattle.quorum_run.specs.Printing.{PrintsAnswer}
 use Rattle.order_reading.specs.declared.early.Early.{Early}
 use Rattle.order_reading.specs.declared.reading.Asked.{Asked}
-use Rattle.quorum_run.proofs.After.{prints_ok, prints_told, part_ok, lacks_ok, plain_kept, files_ok}
+use Rattle.quorum_run.proofs.After.{prints_ok, prints_told, part_ok, files_ok}
 use Rattle.quorum_run.proofs.Headlines.{headline_of}
+use Rattle.quorum_run.proofs.Large.{too_large_of}
 use Rattle.order_reading.proofs.Told.{WordsMean, check_is_told, check_lrat_is_told, accepted_by, verified_by}
 use Rattle.quorum_run.proofs.run.Goals as goal
 
@@ -37,6 +38,22 @@ returns-in-Err-Told-clause-headline g c = λ tell is.
     (λ check yes. accepted_by words old.files check (shows (sym printed.status_is ∙ yes)))
     (λ check yes. verified_by words old.files check (shows (sym printed.status_is ∙ yes)))
 
+pub returns-in-Ok-clause-too_large : goal.returns-in-Ok-clause-too_large
+returns-in-Ok-clause-too_large g c = λ tell is.
+    let old = g.D.Desk.state c.args.desk.now in
+    let new = g.D.Desk.state c.answer.new.desk in
+    too_large_of (asked_of (words_of c.args.words.now) old.files) old new _ (prints_ok _ c.in-Ok.asked old (g.D.Desk.state c.ask_by_words.new.desk) new _ (c.in-Ok.ensures.gives tell) (c.in-Ok.ensures.reads tell) (c.answer.ensures.answered tell is))
+
+pub returns-in-Err-Told-clause-too_large : goal.returns-in-Err-Told-clause-too_large
+returns-in-Err-Told-clause-too_large g c = λ tell is.
+    let old = g.D.Desk.state c.args.desk.now in
+    let new = g.D.Desk.state c.print.new.desk in
+    let middle = g.D.Desk.state c.ask_by_words.new.desk in
+    let asked : Result Asked Early = asked_of (words_of c.args.words.now) old.files in
+    let printed : PrintsAnswer c.in-Err-Told.reply middle new c.print.result = rw c.in-Err-Told.field-0-is at (c.print.ensures.printed tell is) in
+    let gives = subst (λ (e : Early). FailsReading old.plain e asked) c.in-Err-Told.field-0-is (c.in-Err-Told.ensures.gives tell) in
+    too_large_of asked old new c.print.result (prints_told asked c.in-Err-Told.reply old middle new c.print.result gives (c.in-Err-Told.ensures.reads tell) printed)
+
 pub returns-in-Ok-clause-part : goal.returns-in-Ok-clause-part
 returns-in-Ok-clause-part g c = λ tell failed.
     part_ok _ c.in-Ok.asked (g.D.Desk.state c.args.desk.now) (g.D.Desk.state c.ask_by_words.new.desk) (g.D.Desk.state c.answer.new.desk) (c.in-Ok.ensures.gives tell) (c.in-Ok.ensures.reads tell) (c.answer.ensures.part tell failed)
@@ -49,7 +66,3 @@ returns-in-Ok-clause-files g c = λ tell path other.
       silent = c.answer.ensures.silent tell;
       ends = c.answer.ensures.ends;
     })
-
-pub returns-in-Ok-clause-plain_write : goal.returns-in-Ok-clause-plain_write
-returns-in-Ok-clause-plain_write g c = λ tell plain failed.
-    lacks_ok _ c.in-Ok.asked (g.D.Desk.state c.args.desk.now) (g.D.Desk.state c.ask_by_words.new.desk) (c.in-Ok.ensures.gives tell) (c.in-Ok.ensures.reads tell) (c.answer.ensures.room tell (plain_kept (g.D.Desk.state c.args.desk.now) (g.D.Desk.state c.ask_by_words.new.desk) (c.in-Ok.ensures.reads tell) plain) failed)

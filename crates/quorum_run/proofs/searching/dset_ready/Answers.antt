@@ -6,7 +6,7 @@ use Rattle.order_reading.specs.declared.reply.Reply.{Reply}
 use Rattle.quorum_run.specs.declared.searching.Ready.{Ready}
 use Rattle.quorum_run.specs.Searching.{FitsReady}
 use Rattle.quorum_run.specs.Replies.{dset_answer, intersect_answer}
-use Rattle.quorum_run.proofs.Replied.{written_there}
+use Rattle.quorum_run.proofs.Replied.{not_large, written_there}
 use Rattle.quorum_run.proofs.searching.dset_ready.Goals as goal
 
 pub dset_answer-reply-requires-clause-written : goal.dset_answer-reply-requires-clause-written
@@ -16,6 +16,7 @@ dset_answer-reply-requires-clause-written c =
 
 pub returns-in-Ok : goal.returns-in-Ok
 returns-in-Ok c = IfOk-weaker c.hold.result _ _ (λ ready held. subst (λ (r : Ready). FitsReady Dset c.args.part.now c.args.set.now c.args.budget r) (sym held.is) (record {
+  small = λ encodes. not_large c.args.part.now c.args.set.now c.in-Ok.ensures.small;
   shows = c.in-Ok.ensures.shows;
   replies = record {
     available = c.in-Ok.is_available;

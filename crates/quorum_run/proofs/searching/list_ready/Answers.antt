@@ -1,10 +1,10 @@
-use Rattle.std.proofs.Common.{◌≡◌, ℕ, Option, Result, IfOk, refl, sym, subst}
+use Rattle.std.proofs.Common.{◌≡◌, ℕ, Option, Result, IfOk, refl, sym, subst, absurd}
 use Rattle.std.proofs.lemmas.Result.{IfOk-weaker}
 use Rattle.list_journal.specs.declared.kinds.Listed.{Listed as Kind}
 use Rattle.blocking_lists.specs.Outcomes.{OutcomeHolds}
 use Rattle.std.specs.declared.alloc.AllocError.{AllocError}
 use Rattle.order_reading.specs.declared.reply.Reply.{Reply}
-use Rattle.quorum_run.specs.Replies.{list_answer, RepliesListed}
+use Rattle.quorum_run.specs.Replies.{list_answer, ListsNone, RepliesListed}
 use Rattle.quorum_run.specs.declared.searching.Ready.{Ready}
 use Rattle.quorum_run.specs.Searching.{FitsReady}
 use Rattle.quorum_run.proofs.Replied.{list_sized}
@@ -15,6 +15,7 @@ list_answer-reply-requires c = list_sized c.args.sought c.args.part.now.sets c.a
 
 pub returns : goal.returns
 returns c = IfOk-weaker c.hold.result _ _ (λ ready held. subst (λ (r : Ready). FitsReady c.args.goal c.args.part.now c.args.faulty.now c.args.budget r) (sym held.is) (record {
+  small = λ encodes. absurd (subst ListsNone c.requires.asked encodes);
   shows = record {
     left = c.list_all.new.budget;
     holds = subst (λ (units : ℕ). OutcomeHolds c.args.sought c.args.part.now.sets c.args.faulty.now units c.list_all.new.budget c.in_ok-found.found) c.of-units.ensures c.in_ok-found.ensures.outcome;

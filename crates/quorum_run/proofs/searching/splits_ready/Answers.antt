@@ -6,7 +6,7 @@ use Rattle.order_reading.specs.declared.reply.Reply.{Reply}
 use Rattle.quorum_run.specs.Replies.{splits_answer}
 use Rattle.quorum_run.specs.declared.searching.Ready.{Ready}
 use Rattle.quorum_run.specs.Searching.{FitsReady}
-use Rattle.quorum_run.proofs.Replied.{too_large_fits, written_there}
+use Rattle.quorum_run.proofs.Replied.{not_large, too_large_fits, written_there}
 use Rattle.quorum_run.proofs.searching.splits_ready.Goals as goal
 
 pub splits_answer-reply-requires : goal.splits_answer-reply-requires
@@ -16,6 +16,7 @@ splits_answer-reply-requires c =
 
 pub returns-in-Ok : goal.returns-in-Ok
 returns-in-Ok c = IfOk-weaker c.hold.result _ _ (λ ready held. subst (λ (r : Ready). FitsReady Splits c.args.part.now c.args.faulty.now c.args.budget r) (sym held.is) (record {
+  small = λ encodes. not_large c.args.part.now c.args.faulty.now c.in-Ok.ensures.small;
   shows = c.in-Ok.ensures.shows;
   replies = subst (λ (r : Result Reply AllocError). IfOk r (λ (a : Reply). a ≡ splits_answer c.args.part.now.names c.args.budget c.in-Ok.found)) held.replied c.splits_answer-reply.ensures;
   fresh = refl;
@@ -25,4 +26,4 @@ pub returns-in-Err-TooLarge : goal.returns-in-Err-TooLarge
 returns-in-Err-TooLarge c =
     let vars = c.in-Err-TooLarge.vars in
     let too = c.intersect.ensures.too_large vars (c.in-Err-TooLarge.is ∙ ap Err c.in-Err-TooLarge.field-0-is) in
-    IfOk-weaker c.too_large.result _ _ (λ ready is. subst (λ (r : Ready). FitsReady Splits c.args.part.now c.args.faulty.now c.args.budget r) (sym is) (too_large_fits c.args.part.now c.args.faulty.now vars _ too.0 too.1 refl)) c.too_large.ensures
+    IfOk-weaker c.too_large.result _ _ (λ ready is. subst (λ (r : Ready). FitsReady Splits c.args.part.now c.args.faulty.now c.args.budget r) (sym is) (too_large_fits Splits c.args.part.now c.args.faulty.now vars _ tt too.0 too.1 refl)) c.too_large.ensures

@@ -6,7 +6,7 @@ use Rattle.order_reading.specs.declared.reply.Reply.{Reply}
 use Rattle.quorum_run.specs.Replies.{RepliesTrial}
 use Rattle.quorum_run.specs.declared.searching.Ready.{Ready}
 use Rattle.quorum_run.specs.Searching.{FitsReady}
-use Rattle.quorum_run.proofs.Replied.{too_large_fits, written_there, found_together}
+use Rattle.quorum_run.proofs.Replied.{not_large, too_large_fits, written_there, found_together}
 use Rattle.quorum_run.proofs.searching.trial_ready.Goals as goal
 
 pub trial_answer-reply-requires-clause-written : goal.trial_answer-reply-requires-clause-written
@@ -19,6 +19,7 @@ trial_answer-reply-requires-clause-together c = found_together c.args.part.now.s
 
 pub returns-in-Ok : goal.returns-in-Ok
 returns-in-Ok c = IfOk-weaker c.hold.result _ _ (λ ready held. subst (λ (r : Ready). FitsReady Trial c.args.part.now c.args.faulty.now c.args.budget r) (sym held.is) (record {
+  small = λ encodes. not_large c.args.part.now c.args.faulty.now c.in-Ok.ensures.small;
   shows = c.in-Ok.ensures.shows;
   replies = subst (λ (r : Result Reply AllocError). IfOk r (RepliesTrial c.args.part.now c.args.budget c.in-Ok.found)) held.replied c.trial_answer-reply.ensures;
   fresh = refl;
@@ -28,4 +29,4 @@ pub returns-in-Err-TooLarge : goal.returns-in-Err-TooLarge
 returns-in-Err-TooLarge c =
     let vars = c.in-Err-TooLarge.vars in
     let too = c.intersect.ensures.too_large vars (c.in-Err-TooLarge.is ∙ ap Err c.in-Err-TooLarge.field-0-is) in
-    IfOk-weaker c.too_large.result _ _ (λ ready is. subst (λ (r : Ready). FitsReady Trial c.args.part.now c.args.faulty.now c.args.budget r) (sym is) (too_large_fits c.args.part.now c.args.faulty.now vars _ too.0 too.1 refl)) c.too_large.ensures
+    IfOk-weaker c.too_large.result _ _ (λ ready is. subst (λ (r : Ready). FitsReady Trial c.args.part.now c.args.faulty.now c.args.budget r) (sym is) (too_large_fits Trial c.args.part.now c.args.faulty.now vars _ tt too.0 too.1 refl)) c.too_large.ensures

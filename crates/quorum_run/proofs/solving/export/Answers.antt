@@ -10,5 +10,6 @@ returns c = IfOk-weaker c.formula.result _ _ (λ a said. record {
   greatest = c.greatest-quorum.result;
   places = c.greatest-quorum.ensures.same_n;
   is = c.greatest-quorum.ensures.greatest;
+  counted = c.greatest-quorum.ensures.counted;
   said = said;
 }) c.formula.ensures
