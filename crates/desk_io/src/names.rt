@@ -1,5 +1,5 @@
 //! The names of files beside another one.
-ghost use Rattle.std.specs.Prelude.{◌≡◌, ◌++◌, IfSome, codes};
+ghost use Rattle.std.specs.Prelude.{◌≡◌, ◌≤◌, ◌++◌, IfSome, codes};
 
 use arrayvec::ArrayString;
 use std::fmt::Write;
@@ -20,7 +20,9 @@ pub fn with_end(name: &str, end: &str) -> Option<Path>
 }
 
 /// A name that a file which is no certificate is kept under: `CERT~`, `CERT~2`, ..
-pub fn kept_name(name: &str, number: u32) -> Option<Path> {
+pub fn kept_name(name: &str, number: u32) -> Option<Path>
+    ensures first { IfSome result (λ kept. number ≤ 1 → kept.bytes ≡ name.now ++ codes "~") }
+{
     let mut kept = with_end(name, "~")?;
     if number > 1 {
         write!(kept, "{number}").ok()?;

@@ -1,4 +1,4 @@
-use Rattle.std.proofs.Common.{◌≡◌, ℕ, Option, Result, IfOk, refl, sym, subst, absurd}
+use Rattle.std.proofs.Common.{◌≡◌, ℕ, Option, Result, IfOk, refl, sym, subst}
 use Rattle.std.proofs.lemmas.Result.{IfOk-weaker}
 use Rattle.list_journal.specs.declared.kinds.Listed.{Listed as Kind}
 use Rattle.blocking_lists.specs.Outcomes.{OutcomeHolds}
