@@ -405,7 +405,7 @@ class Page:
         text = "<p>Each yes and no comes from the program, whose contract is proved: a certificate is accepted only where what it says is so. The names are those that the configuration gives, which nobody checks; this page itself is not proved. Whoever has the configuration can ask again: fetch it yourself, compare its digest, and check each certificate with <code>quorum_cli check CONFIG CERTIFICATE</code>, which prints the kind, of whom it speaks (<code>from</code>) and who lies (<code>faulty</code>).</p>"
         text += table([], rows, "facts")
         certificates = [["", '<a href="%s">%s</a>' % (escaped(urllib.parse.quote("%s/%s" % (self.program.beside.name, it.name))), escaped(it.name)), "<code>%s</code>" % escaped(it.accepted), "%d" % it.size, "<code>%s</code>" % it.digest, "<code>%s</code>" % escaped(it.command)] for it in self.program.certificates]
-        text += fold("%s, with what <code>check</code> answers" % counted(len(certificates), "certificate"), table(["File", "Check", "Bytes", "SHA-256", "Made by"], certificates))
+        text += fold("%s, with what <code>check</code> answers" % counted(len(certificates), "certificate"), table(["File", "Check", "Bytes", "SHA-256", "Made by"], certificates, "loose"))
         return text + fold("%s without a certificate" % counted(len(self.program.commands), "command"), "<pre>%s</pre>" % escaped("\n".join(self.program.commands)))
 
     def keys(self):

@@ -13,7 +13,7 @@ nav ul{list-style:none;padding:0;display:flex;flex-wrap:wrap;gap:.2em 1.2em}
 table{border-collapse:collapse;width:100%;margin:.6em 0}th,td{text-align:left;vertical-align:top;padding:.3em .7em .3em 0;border-bottom:1px solid var(--line);overflow-wrap:break-word}thead th,.facts th,b{font-weight:600}tbody th{font-weight:inherit}
 code,pre,.key{font:12px/1.45 ui-monospace,"DejaVu Sans Mono",monospace;overflow-wrap:anywhere}pre{white-space:pre-wrap;margin:.4em 0}
 .small{color:var(--soft);font-size:.88em}.bad{color:var(--bad);font-weight:600}.good{color:var(--good);font-weight:600}.warn{color:var(--warn)}
-a{color:inherit;text-decoration-color:var(--soft)}summary{cursor:pointer}.keys td{padding-top:.1em;padding-bottom:.1em}.keys .key{white-space:nowrap;font-size:11px}
+a{color:inherit;text-decoration-color:var(--soft)}summary{cursor:pointer}.loose th,.loose td{overflow-wrap:anywhere}.keys td{padding-top:.1em;padding-bottom:.1em}.keys .key{white-space:nowrap;font-size:11px}
 .orgs{display:grid;grid-template-columns:repeat(4,1fr);gap:10px;margin:1em 0 10px}.org{border:1px solid var(--line);border-radius:8px;background:var(--box);padding:.4em .6em .6em;min-width:0}
 .org h3{font-size:.87em;margin:0 0 .4em;overflow-wrap:anywhere}.org ul{list-style:none;margin:0;padding:0;display:flex;flex-wrap:wrap;gap:.45em .3em}
 .org li{width:62px;text-align:center;font-size:.72em;line-height:1.25;overflow-wrap:anywhere}.rest li{width:auto}.rest li .dot{width:14px;height:14px;margin:0;line-height:11px;font-size:9px}
@@ -21,8 +21,8 @@ a{color:inherit;text-decoration-color:var(--soft)}summary{cursor:pointer}.keys t
 .q{background:var(--q)}.one{background:var(--one)}.two{background:var(--two)}.x{border-style:dashed;opacity:.75}.ring{box-shadow:0 0 0 2px var(--box),0 0 0 4.5px var(--ring)}
 .legend{list-style:none;padding:0;display:flex;flex-wrap:wrap;gap:.3em 1.4em;font-size:.85em}.legend .dot{display:inline-block;vertical-align:middle;width:15px;height:15px;margin:0 .7em 0 5px;line-height:13px;font-size:9px}
 .hidden{position:absolute;width:1px;height:1px;overflow:hidden;clip-path:inset(50%);white-space:nowrap}
-@media (max-width:700px){.orgs{grid-template-columns:repeat(2,1fr)}.summary{grid-template-columns:1fr}.summary dd{margin-bottom:.4em}th,td{padding-right:.4em}.facts th{width:32%}main{padding:0 .7em}.keys .key{font-size:9.5px;white-space:normal}}
+@media (max-width:700px){.orgs{grid-template-columns:repeat(2,1fr)}.summary{grid-template-columns:1fr}.summary dd{margin-bottom:.4em}th,td{padding-right:.4em}.facts th{width:32%}main{padding:0 .7em}.keys{table-layout:fixed}.keys th,.keys td{overflow-wrap:anywhere}.keys .key{font-size:9.5px;white-space:normal}}
 @media print{:root{color-scheme:light}body{font-size:10px}main{max-width:none;margin:0;padding:0}nav,details:not([open]){display:none}.orgs{grid-template-columns:repeat(4,1fr)}.summary{grid-template-columns:max-content 1fr}
-h1,h2,h3,h2+p{break-after:avoid}tr,li,.verdict,.summary,.org{break-inside:avoid}thead{display:table-header-group}a{text-decoration:none}code,pre,.key{font-size:8px}.keys td{padding:0 .5em 0 0;line-height:1.35}
+h1,h2,h3,h2+p{break-after:avoid}tr,li,.verdict,.summary,.org{break-inside:avoid}thead{display:table-header-group}a{text-decoration:none}code,pre,.key,.keys .key{font-size:8px}.keys td{padding:0 .5em 0 0;line-height:1.35}
 .verdict,.summary,.org{-webkit-print-color-adjust:exact;print-color-adjust:exact}}
 """
