@@ -221,7 +221,8 @@ class Page:
         text = "%s is in the greatest quorum; " % self.names.node(own.key)
         if not others:
             return text + "no organisations are known"
-        return text + ('<span class="bad">it stops where %s is silent</span>' % " or ".join(stopped) if stopped else '<span class="good">it goes on whichever other organisation is silent</span>')
+        text += '<span class="bad">it stops where %s is silent</span>' % " or ".join(stopped) if stopped else '<span class="good">it goes on whichever other organisation is silent</span>'
+        return text + ("; v-blocking are %s" % self.sets_in_short(own.v_blocking) if own.v_blocking.sets else "")
 
     # The sections.
 
