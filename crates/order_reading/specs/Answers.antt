@@ -34,6 +34,7 @@ use Rattle.order_reading.specs.declared.status.Status.{Status}
 use Rattle.order_reading.specs.declared.reply.Reply.{Reply as Answer}
 use Rattle.order_reading.specs.declared.early.Early.{Early}
 use Rattle.order_reading.specs.declared.early.Early.TheVariants.{Told, Read, Memory}
+use Rattle.order_reading.specs.declared.files.TheConstants.{MAX_FILE}
 use Rattle.order_reading.specs.declared.reading.Asked.{Asked}
 use Rattle.order_reading.specs.declared.reading.Asked.TheVariants as asked
 use Rattle.order_reading.specs.declared.question.Inquiry.{Inquiry}
@@ -44,14 +45,10 @@ use Rattle.order_reading.specs.Searches.{header_named, search_of, trial_of, Fits
 abbrev pub words_of : List (String Global) → List (List ℕ)
 words_of words = map string_bytes words
 
--- the most bytes of a configuration, or of organisations, that are read
-abbrev pub max_file : ℕ
-max_file = 16777216
-
 -- the bytes of a file, which is refused with this text where they are too many
 abbrev pub file_in : Text → Option (List ℕ) → Result (List ℕ) Early
 file_in too_long None = Err Read
-file_in too_long (Some bytes) = if nat_le (length bytes) max_file then Ok bytes else Err (Told (record { status = ConfigRefused; text = too_long }))
+file_in too_long (Some bytes) = if nat_le (length bytes) MAX_FILE then Ok bytes else Err (Told (record { status = ConfigRefused; text = too_long }))
 
 abbrev pub or_config_refused : Result System ConfigFault → Result System Early
 or_config_refused (Ok f) = Ok f
