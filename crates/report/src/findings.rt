@@ -1,6 +1,7 @@
 //! What is odd in the quorum sets of a system.
 ghost use Rattle.std.specs.Prelude.{◌≡◌, ◌≤◌, ◌<◌, ◌++◌, ◌∷◌, ℕ, length, decimal, OnOk, IfOk, IfSome};
 ghost use Rattle.fbas_model.specs.QuorumSets.{all_entries};
+ghost use Rattle.fbas_model.specs.declared.TheConstants.{MOST_ENTRIES};
 ghost use Rattle.quorum_set.specs.Findings.{found, found_all, findings_of};
 ghost use Rattle.report.specs.Lines.{dotted, path_of, finding_head as head, finding_line, finding_lines, found_lines, shown as spec_shown};
 
@@ -100,7 +101,7 @@ fn push_found(
     node: u32,
     set: &QuorumSet,
 ) -> Result<(), AllocError>
-    requires { all_entries set.now ≤ 1000000 }
+    requires { all_entries set.now ≤ MOST_ENTRIES }
     ensures { OnOk result (text.new.items ≡ text.old.items ++ finding_lines names.now node (findings_of set.now)) }
 {
     let mut findings = Vec::new(alloc);
