@@ -25,7 +25,9 @@ use Rattle.lrat_text.proofs.BackLaws.{step_back}
 use Rattle.cdcl_core.specs.Log.{AreLemmas, AreBounded, IsBoundedLog, live_after, units}
 use Rattle.certificate_file.specs.Formulas.{formula_of}
 use Rattle.cert_lines.specs.Saying.{number_in, counts_in}
-use Rattle.certificate_file.specs.Acceptance.{take_line, checked, steps_from}
+use Rattle.certificate_file.specs.Acceptance.{list_kind, kind_begins, take_line, checked, steps_from}
+use Rattle.clause_encoder.specs.declared.version.Version.{Version}
+use Rattle.clause_encoder.specs.declared.version.Version.TheVariants.{One, Two}
 use Rattle.certificate_file.specs.declared.places.Aim.{Aim}
 use Rattle.certificate_file.specs.declared.places.Aim.TheVariants as aim
 use Rattle.certificate_file.specs.declared.places.Answer.TheVariants.{Refutation, Partial}
@@ -108,10 +110,17 @@ line_formula vars clauses small is =
       short = omega (arith, length-append (codes "formula") (spaced (decimal vars ∷ decimal clauses ∷ [])), length-append (decimal vars) (spaced (decimal clauses ∷ [])), length-append (decimal clauses) (spaced []));
     }
 
+-- their kinds are no lists, in either version
+no_list : (version : Version) (to : Aim) → list_kind version (kind_of to) ≡ None
+no_list One aim.Refutation = refl
+no_list One aim.Partial = refl
+no_list Two aim.Refutation = refl
+no_list Two aim.Partial = refl
+
 kind_taken : (f : System) (d : List ℕ) (s : Subject) (to : Aim) → take_line f d (AtKind s) 5 (kind_of to) ≡ Ok (Going (AtFormula to s))
 unfolding take_line
-kind_taken f d s aim.Refutation = refl
-kind_taken f d s aim.Partial = refl
+kind_taken f d s aim.Refutation = ap (kind_begins f s 5 (kind_of aim.Refutation)) (no_list s.version aim.Refutation)
+kind_taken f d s aim.Partial = ap (kind_begins f s 5 (kind_of aim.Partial)) (no_list s.version aim.Partial)
 
 line_kind : (to : Aim) → IsLine (kind_of to)
 line_kind aim.Refutation = record { plain = is_plain (codes "kind refutation") refl; short = omega arith }
