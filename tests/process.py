@@ -35,6 +35,7 @@ check CONFIG CERT
 export CONFIG [COMMON]
 trial N CERT [--budget UNITS]
 check-lrat CONFIG LRAT [COMMON]
+quorums CONFIG CERT [COMMON] [--budget UNITS]
 COMMON: --from NAME --faulty NAMES --orgs ORGS --faulty-orgs IDS
 """
 

@@ -3,7 +3,7 @@ use Rattle.std.specs.Prelude.{ℕ, List, [], ◌∷◌, Bool, true, false, Optio
 use Rattle.std.specs.List.{list_any}
 use Rattle.cli_words.specs.declared.orders.Command.{Command}
 use Rattle.cli_words.specs.declared.orders.Command.TheVariants.{Query, Search, Check, CheckLrat}
-use Rattle.cli_words.specs.declared.orders.Goal.TheVariants.{Intersect, Dset, Splits, Blocking, Trial}
+use Rattle.cli_words.specs.declared.orders.Goal.TheVariants.{Intersect, Dset, Splits, Blocking, Trial, Quorums}
 use Rattle.cli_words.specs.declared.orders.Query.TheVariants.{Show, Closure, Greatest, Available, Blocks, Vblocks, Export}
 use Rattle.cli_words.specs.declared.table.Subject.{Subject}
 use Rattle.cli_words.specs.declared.table.Subject.TheVariants.{Config, Organisations}
@@ -46,12 +46,13 @@ row_of (Search Dset) = row (codes "dset") Config (Some Certificate) (Needs Set �
 row_of (Search Splits) = row (codes "splits") Config (Some Certificate) (Needs Set ∷ Common ∷ Takes Budget ∷ [])
 row_of (Search Blocking) = row (codes "blocking") Config (Some Certificate) (Common ∷ Takes Budget ∷ [])
 row_of (Search Trial) = row (codes "trial") Organisations (Some Certificate) (Takes Budget ∷ [])
+row_of (Search Quorums) = row (codes "quorums") Config (Some Certificate) (Common ∷ Takes Budget ∷ [])
 row_of Check = row (codes "check") Config (Some Certificate) []
 row_of CheckLrat = row (codes "check-lrat") Config (Some Proof) (Common ∷ [])
 
 -- the commands in the order of the usage text
 abbrev pub commands : List Command
-commands = Query Show ∷ Query Closure ∷ Query Greatest ∷ Search Intersect ∷ Query Available ∷ Search Dset ∷ Query Blocks ∷ Query Vblocks ∷ Search Splits ∷ Search Blocking ∷ Check ∷ Query Export ∷ Search Trial ∷ CheckLrat ∷ []
+commands = Query Show ∷ Query Closure ∷ Query Greatest ∷ Search Intersect ∷ Query Available ∷ Search Dset ∷ Query Blocks ∷ Query Vblocks ∷ Search Splits ∷ Search Blocking ∷ Check ∷ Query Export ∷ Search Trial ∷ CheckLrat ∷ Search Quorums ∷ []
 
 -- ---- the names that clap knows the arguments by, and what stands for them in the usage text
 

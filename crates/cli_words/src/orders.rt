@@ -39,6 +39,8 @@ pub enum Goal {
     Blocking,
     /// Whether every two quorums of a trial configuration share a node.
     Trial,
+    /// All minimal quorums.
+    Quorums,
 }
 
 /// What the program is to do, by the command's word. The table of the commands has what each is about, and its options.

@@ -203,6 +203,12 @@ pub fn row_of<'a>(command: Command) -> Row<'a>
             Some(Certificate),
             &[Takes(Budget)],
         ),
+        Command::Search(Goal::Quorums) => Row::of(
+            "quorums",
+            Config,
+            Some(Certificate),
+            &[Common, Takes(Budget)],
+        ),
         Command::Check => Row::of("check", Config, Some(Certificate), &[]),
         Command::CheckLrat => Row::of("check-lrat", Config, Some(Proof), &[Common]),
     }
@@ -227,6 +233,7 @@ pub fn all_commands<'a>() -> &'a [Command]
         Command::Query(Query::Export),
         Command::Search(Goal::Trial),
         Command::CheckLrat,
+        Command::Search(Goal::Quorums),
     ]
 }
 

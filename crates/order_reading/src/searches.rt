@@ -64,7 +64,9 @@ fn deleted(
     ensures fits { IfOk result (λ s. length s ≡ length system.now.sets) }
 {
     match goal {
-        Goal::Intersect | Goal::Blocking => faulty_named(alloc, system, orgs, order),
+        Goal::Intersect | Goal::Blocking | Goal::Quorums => {
+            faulty_named(alloc, system, orgs, order)
+        }
         Goal::Dset => set_named(alloc, system, "--set", &order.set),
         Goal::Splits => both_named(alloc, system, orgs, order),
         Goal::Trial => Ok(nobody(system)),

@@ -18,7 +18,7 @@ use Rattle.cert_writer.specs.Finding.{Finds}
 use Rattle.cert_writer.specs.Listing.{FindsList}
 use Rattle.cli_words.specs.Words.{order_of}
 use Rattle.cli_words.specs.declared.orders.Goal.{Goal}
-use Rattle.cli_words.specs.declared.orders.Goal.TheVariants.{Intersect, Dset, Splits, Blocking, Trial}
+use Rattle.cli_words.specs.declared.orders.Goal.TheVariants.{Intersect, Dset, Splits, Blocking, Trial, Quorums}
 use Rattle.report.specs.Lines.{Text, with_pair, counted}
 use Rattle.order_reading.specs.declared.early.Early.{Early}
 use Rattle.order_reading.specs.declared.reading.Asked.{Asked}
@@ -231,6 +231,7 @@ found_no s old new status Intersect (Shared answer) cert a is finds put = λ at.
 found_no s old new status Splits (Shared answer) cert a is finds put = λ at. splits_yes s old new status answer cert a is finds put at
 found_no s old new status Dset (Shared answer) cert a is finds put = λ at. dset_no s old new status answer cert a is.available is.unmet is.is.is is.said finds put at
 found_no s old new status Blocking found cert a is finds put = tt
+found_no s old new status Quorums found cert a is finds put = tt
 found_no s old new status Trial (Shared answer) cert a is finds put = λ at. trial_no s old new status answer cert a is put at
 found_no s old new status Intersect (Listed kind outcome) cert a is finds put = absurd is
 found_no s old new status Splits (Listed kind outcome) cert a is finds put = absurd is
@@ -242,6 +243,7 @@ found_yes s old new status Intersect (Shared answer) cert a is finds put = λ at
 found_yes s old new status Splits (Shared answer) cert a is finds put = λ at. splits_no s old new status answer cert a is finds put at
 found_yes s old new status Dset (Shared answer) cert a is finds put = λ at. dset_yes s old new status answer cert a is.available is.unmet is.is.is is.said finds put at
 found_yes s old new status Blocking found cert a is finds put = tt
+found_yes s old new status Quorums found cert a is finds put = tt
 found_yes s old new status Trial (Shared answer) cert a is finds put = λ at. trial_yes s old new status answer cert a is finds put at
 found_yes s old new status Intersect (Listed kind outcome) cert a is finds put = absurd is
 found_yes s old new status Splits (Listed kind outcome) cert a is finds put = absurd is
@@ -255,6 +257,8 @@ found_unknown s old new status Splits (Shared answer) cert a is finds put at = s
 found_unknown s old new status Dset (Shared answer) cert a is finds put at = dset_unknown s old new status answer cert a is.available is.unmet is.is.is is.said finds put at
 found_unknown s old new status Blocking (Listed kind outcome) cert a is finds put at = list_unknown listed.Blocking kind s old new status outcome cert a is finds put at
 found_unknown s old new status Blocking (Shared answer) cert a is finds put at = absurd is
+found_unknown s old new status Quorums (Listed kind outcome) cert a is finds put at = list_unknown listed.Quorum kind s old new status outcome cert a is finds put at
+found_unknown s old new status Quorums (Shared answer) cert a is finds put at = absurd is
 found_unknown s old new status Trial (Shared answer) cert a is finds put at = trial_unknown s old new status answer cert a is finds put at
 found_unknown s old new status Intersect (Listed kind outcome) cert a is finds put at = absurd is
 found_unknown s old new status Splits (Listed kind outcome) cert a is finds put at = absurd is
@@ -269,6 +273,7 @@ found_list s old new status Intersect (Shared answer) cert a is finds put sought
 found_list s old new status Splits (Shared answer) cert a is finds put sought lists at = absurd cc
 found_list s old new status Dset (Shared answer) cert a is finds put sought lists at = absurd cc
 found_list s old new status Blocking (Shared answer) cert a is finds put sought lists at = absurd is
+found_list s old new status Quorums (Shared answer) cert a is finds put sought lists at = absurd is
 found_list s old new status Trial (Shared answer) cert a is finds put sought lists at = absurd cc
 
 -- ---- what is so of a search that was answered
@@ -308,6 +313,7 @@ no_no s old new status Intersect large = λ at. absurd cc
 no_no s old new status Splits large = λ at. absurd cc
 no_no s old new status Dset large = λ at. absurd cc
 no_no s old new status Blocking large = tt
+no_no s old new status Quorums large = tt
 no_no s old new status Trial large = λ at. absurd cc
 
 no_yes : (s : Search) (new : DeskState) (status : Status) (goal : Goal) → status ≡ TooLarge → YesShows goal s new status
@@ -315,6 +321,7 @@ no_yes s new status Intersect large = λ at. absurd cc
 no_yes s new status Splits large = λ at. absurd cc
 no_yes s new status Dset large = λ at. absurd cc
 no_yes s new status Blocking large = tt
+no_yes s new status Quorums large = tt
 no_yes s new status Trial large = λ at. absurd cc
 
 too_large_means : (s : Search) (old new : DeskState) (status : Status) → PrintsTooLarge s old new status → SearchMeans s old new status

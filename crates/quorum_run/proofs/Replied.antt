@@ -13,7 +13,7 @@ use Rattle.order_reading.specs.declared.status.Status.TheVariants.{TooLarge}
 use Rattle.quorum_questions.specs.declared.answers.Answer.{Answer as Shown}
 use Rattle.quorum_questions.specs.declared.answers.Answer.TheVariants.{Yes as together, No as apart, Spent as spent}
 use Rattle.cli_words.specs.declared.orders.Goal.{Goal}
-use Rattle.cli_words.specs.declared.orders.Goal.TheVariants.{Intersect, Dset, Splits, Blocking, Trial}
+use Rattle.cli_words.specs.declared.orders.Goal.TheVariants.{Intersect, Dset, Splits, Blocking, Trial, Quorums}
 use Rattle.list_journal.specs.declared.kinds.Listed.{Listed as Kind}
 use Rattle.blocking_lists.specs.Outcomes.{OutcomeHolds}
 use Rattle.blocking_lists.specs.declared.outcome.ListOutcome.{ListOutcome}
@@ -56,6 +56,7 @@ reply_answered Splits f deleted budget (Shared found) a is = subst Answered (sym
 reply_answered Dset f deleted budget (Shared found) a is = subst Answered (sym is.said) (dset_answered f budget is.available found)
 reply_answered Trial f deleted budget (Shared found) a is = subst Answered (sym is.said) (intersect_answered f budget found)
 reply_answered Blocking f deleted budget (Shared found) a is = absurd is
+reply_answered Quorums f deleted budget (Shared found) a is = absurd is
 
 pub too_large_answered : (goal : Goal) (f : System) (deleted : Table) (a : Answer) → RepliesTooLarge goal f deleted a → IsTrue (is_answer a.status)
 too_large_answered goal f deleted a is = subst Answered (sym is.said) refl

@@ -4,7 +4,7 @@ use Rattle.std.specs.Str.{bytes_eq}
 use Rattle.desk_io.specs.State.{DeskState, Files}
 use Rattle.cli_words.specs.Words.{order_of}
 use Rattle.cli_words.specs.declared.orders.Goal.{Goal}
-use Rattle.cli_words.specs.declared.orders.Goal.TheVariants.{Intersect, Dset, Splits, Blocking, Trial}
+use Rattle.cli_words.specs.declared.orders.Goal.TheVariants.{Intersect, Dset, Splits, Blocking, Trial, Quorums}
 use Rattle.list_journal.specs.declared.kinds.Listed.{Listed as Kind}
 use Rattle.list_journal.specs.declared.kinds.Listed.TheVariants as listed
 use Rattle.report.specs.Lines.{counted}
@@ -29,6 +29,7 @@ NoShows Intersect s old new status = status ≡ No → PrintsPair s (codes "inte
 NoShows Splits s old new status = status ≡ Yes → PrintsPair s (codes "splits yes\n") [] old new
 NoShows Dset s old new status = status ≡ No → IsNoDset s old new
 NoShows Blocking s old new status = Unit {0}
+NoShows Quorums s old new status = Unit {0}
 NoShows Trial s old new status = status ≡ No → ⊥
 
 -- every two quorums share a node
@@ -37,6 +38,7 @@ YesShows Intersect s new status = status ≡ Yes → ShowsNone s new
 YesShows Splits s new status = status ≡ No → ShowsNone s new
 YesShows Dset s new status = status ≡ Yes → IsAvailable s × ShowsNone s new
 YesShows Blocking s new status = Unit {0}
+YesShows Quorums s new status = Unit {0}
 YesShows Trial s new status = status ≡ Yes → ShowsNone s new
 
 -- the budget is spent
@@ -45,6 +47,7 @@ UnknownShows Intersect s old new = PrintsUnknown s (counted (codes "intersects u
 UnknownShows Splits s old new = PrintsUnknown s (counted (codes "splits unknown") s.budget) old new
 UnknownShows Dset s old new = IsAvailable s × PrintsUnknown s (codes "available yes\n" ++ (counted (codes "intersects unknown") s.budget ++ codes "dset unknown\n")) old new
 UnknownShows Blocking s old new = PrintsPartOfList listed.Blocking s old new
+UnknownShows Quorums s old new = PrintsPartOfList listed.Quorum s old new
 UnknownShows Trial s old new = PrintsUnknownTrial s (counted (codes "intersects unknown") s.budget) old new
 
 -- the words were answered, and the files and the output were these before and are those now

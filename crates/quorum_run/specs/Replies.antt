@@ -14,7 +14,7 @@ use Rattle.blocking_lists.specs.declared.outcome.ListOutcome.{ListOutcome}
 use Rattle.blocking_lists.specs.declared.outcome.ListOutcome.TheVariants.{Whole as whole, Spent as part}
 use Rattle.clause_encoder.specs.declared.limits.TheConstants.{MOST_VARS}
 use Rattle.cli_words.specs.declared.orders.Goal.{Goal}
-use Rattle.cli_words.specs.declared.orders.Goal.TheVariants.{Intersect, Dset, Splits, Blocking, Trial}
+use Rattle.cli_words.specs.declared.orders.Goal.TheVariants.{Intersect, Dset, Splits, Blocking, Trial, Quorums}
 use Rattle.report.specs.Lines.{Text, with_pair, with_sets, trial_size, counted, unavailable, too_large}
 use Rattle.order_reading.specs.declared.status.Status.{Status}
 use Rattle.order_reading.specs.declared.status.Status.TheVariants.{Yes, No, Unknown, TooLarge}
@@ -37,6 +37,7 @@ splits_answer names budget (spent log size) = record { status = Unknown; text = 
 -- the sets that a search lists, if it lists sets
 abbrev pub listed_by : Goal → Option Kind
 listed_by Blocking = Some listed.Blocking
+listed_by Quorums = Some listed.Quorum
 listed_by goal = None
 
 -- what the line of their number begins with, and the line of a spent budget

@@ -193,6 +193,7 @@ fn make_ready(
         Goal::Splits => splits_ready(alloc, part, faulty, budget),
         Goal::Dset => dset_ready(alloc, part, faulty, budget),
         Goal::Blocking => list_ready(alloc, goal, Listed::Blocking, part, faulty, budget),
+        Goal::Quorums => list_ready(alloc, goal, Listed::Quorum, part, faulty, budget),
         Goal::Trial => trial_ready(alloc, part, faulty, budget),
     }
 }
