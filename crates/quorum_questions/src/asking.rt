@@ -9,18 +9,20 @@ ghost use Rattle.quorum_questions.specs.Searching.{IsFormula, IsStarted};
 
 use crate::answers::{Answer, AskError};
 use crate::gates::by_gates;
-use crate::searching::{End, Formula, Search, end_of, formula_of, start};
+use crate::searching::{End, Formula, Search, end_of, formula_of, start, with_plan};
+use cdcl_core::Plan;
+use counter_pairs::{has_rivals, plan_of};
 use fbas_core::System;
 use gate_search::has_gates;
 use greatest_quorum::available;
 use name_set::NodeSet;
-use std::alloc::Global;
+use std::alloc::{AllocError, Global};
 
 /// The most units that a question may have.
 pub const MOST_UNITS: u64 = 4_000_000_000;
 
-/// Where gates are worth writing out, at least so many lemmas with a literal a search over the formula itself learns before: a
-/// system that fewer decide needs no writing, and each of them costs as much as five over gates written out.
+/// Where there is another way, at least so many lemmas with a literal a search over the formula itself learns before: a system
+/// that fewer decide needs neither plan nor writing, and each of them costs as much as five over gates written out.
 const FEWEST_UNITS: u64 = 64;
 
 /// So many it learns at most: what writing out costs goes by the formula.
@@ -33,9 +35,10 @@ const CLAUSES_PER_UNIT: u64 = 200;
 /// refutes the intersection formula, or two quorums that share none, or the log of a search that spent the budget.
 ///
 /// The formula is that of version 2. Of the budget each lemma with a literal takes a unit. `TooLarge` comes exactly where the
-/// formula has more than 4,000,000 variables. Where writing the formula's gates out takes many of its variables away, the search
-/// goes over them once 64 to 200 lemmas over the formula, as it is small or large, decided nothing; what these took counts
-/// nothing. Else, and where that led nowhere, it goes over the formula. The cost is that of the greatest quorum, of `encode` and of the searches.
+/// formula has more than 4,000,000 variables. Where there is a plan that counts both sides, or writing the formula's gates out
+/// takes many of its variables away, the search begins anew that way once 64 to 200 lemmas over the formula, as it is small or
+/// large, decided nothing; what these took counts nothing. Else, and where gates written out led nowhere, it goes over the
+/// formula. The cost is that of the greatest quorum, of `encode` and of the searches.
 pub fn intersect(
     alloc: Global,
     system: &System,
@@ -54,7 +57,7 @@ pub fn intersect(
     }
 }
 
-/// What is found within the budget: over the formula itself, unless its gates are worth writing out.
+/// What is found within the budget: over the formula itself, unless it has gates that are worth another way.
 fn by_formula(
     alloc: Global,
     system: &System,
@@ -72,19 +75,27 @@ fn by_formula(
     if budget <= first {
         return search_on(alloc, system, faulty, formula, budget);
     }
-    match has_gates(alloc, &formula.store, formula.size.vars) {
+    match has_other_way(alloc, &formula) {
         Ok(true) => in_turn(alloc, system, faulty, formula, first, budget),
         Ok(false) => search_on(alloc, system, faulty, formula, budget),
         Err(_) => Err(AskError::Memory),
     }
 }
 
-/// How many lemmas over a formula of so many clauses are learnt before its gates are written out.
+/// Whether the formula has gates that are worth writing out, or gates of members that exclude each other.
+fn has_other_way(alloc: Global, formula: &Formula) -> Result<bool, AllocError> {
+    if has_gates(alloc, &formula.store, formula.size.vars)? {
+        return Ok(true);
+    }
+    has_rivals(alloc, &formula.store, formula.size.vars)
+}
+
+/// How many lemmas over a formula of so many clauses are learnt before it is searched another way.
 fn first_units(clauses: u64) -> u64 {
     (clauses / CLAUSES_PER_UNIT).clamp(FEWEST_UNITS, FEW_UNITS)
 }
 
-/// What few lemmas over the formula show, or else the whole budget, with its gates written out.
+/// What few lemmas over the formula show, or else the whole budget, another way.
 fn in_turn(
     alloc: Global,
     system: &System,
@@ -131,7 +142,7 @@ fn at_once(
     }
 }
 
-/// What the whole budget shows: with the formula's gates written out, and where that led nowhere over the formula itself.
+/// What the whole budget shows: by a plan, if there is one, or with the formula's gates written out.
 fn at_length(
     alloc: Global,
     system: &System,
@@ -144,8 +155,50 @@ fn at_length(
     ensures too_large { (vars : ℕ) → result ≡ Err (AskError.TooLarge vars) → (vars ≡ vars_of system.now.sets faulty.now) × (MOST_VARS < vars) }
 {
     match formula_of(alloc, system, faulty) {
-        Ok(formula) => answer(alloc, system, faulty, formula, budget),
+        Ok(formula) => by_gates_or_plan(alloc, system, faulty, formula, budget),
         Err(error) => Err(error),
+    }
+}
+
+/// What is found within the budget: by a plan that counts both sides, if it is worth following, or with gates written out.
+fn by_gates_or_plan(
+    alloc: Global,
+    system: &System,
+    faulty: &NodeSet,
+    formula: Formula,
+    budget: u64,
+) -> Result<Answer, AskError>
+    requires same_n { length faulty.now ≡ length system.now.sets }
+    requires few { budget ≤ MOST_UNITS }
+    requires formula { IsFormula system.now.sets faulty.now formula }
+    ensures shows { IfOk result (Shows system.now.sets faulty.now budget) }
+    ensures memory { IfErr result (λ error. error ≡ AskError.Memory) }
+{
+    match plan_of(alloc, &formula.store, formula.size.vars) {
+        Ok(Some(plan)) => by_plan(alloc, system, faulty, formula, plan, budget),
+        Ok(None) => answer(alloc, system, faulty, formula, budget),
+        Err(_) => Err(AskError::Memory),
+    }
+}
+
+/// What a search over this formula finds within the budget, where a plan decides first.
+fn by_plan(
+    alloc: Global,
+    system: &System,
+    faulty: &NodeSet,
+    formula: Formula,
+    plan: Plan,
+    budget: u64,
+) -> Result<Answer, AskError>
+    requires same_n { length faulty.now ≡ length system.now.sets }
+    requires few { budget ≤ MOST_UNITS }
+    requires formula { IsFormula system.now.sets faulty.now formula }
+    ensures shows { IfOk result (Shows system.now.sets faulty.now budget) }
+    ensures memory { IfErr result (λ error. error ≡ AskError.Memory) }
+{
+    match start(alloc, formula) {
+        Ok(search) => search_from(alloc, system, faulty, with_plan(search, plan), budget),
+        Err(_) => Err(AskError::Memory),
     }
 }
 

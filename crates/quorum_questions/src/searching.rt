@@ -13,7 +13,7 @@ ghost use Rattle.quorum_questions.specs.Searching.{IsFormula, IsStarted, Ends};
 ghost use Rattle.quorum_questions.specs.declared.asking.TheConstants.{MOST_UNITS};
 
 use crate::answers::{AskError, Size, no_formula};
-use cdcl_core::{Budget, Solver, Verdict};
+use cdcl_core::{Budget, Plan, Solver, Verdict};
 use clause_encoder::{VarMap, Version, encode};
 use clause_store::Store;
 use fbas_core::System;
@@ -70,6 +70,19 @@ pub fn start(alloc: Global, formula: Formula) -> Result<Search, AllocError>
         map: formula.map,
         size: formula.size,
     })
+}
+
+/// A search whose variables are decided by a plan first. Nothing that is known of it changes.
+pub fn with_plan(search: Search, plan: Plan) -> Search
+    ensures { result ≡ search }
+{
+    let Search {
+        mut solver,
+        map,
+        size,
+    } = search;
+    solver.plan(plan);
+    Search { solver, map, size }
 }
 
 /// How a search within a budget ended.
