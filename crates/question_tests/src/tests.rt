@@ -6,6 +6,7 @@ use node_json::read_config;
 use quorum_questions::{Answer, MOST_UNITS, dset, intersect, splits};
 use std::alloc::{AllocError, Global};
 use std::process::Abort;
+use trial_network::Trial;
 
 const TWO_OF_TWO: &str =
     r#"[{"publicKey":"p","quorumSet":{"threshold":2,"validators":["p","q"]}},{"publicKey":"q","quorumSet":{"threshold":2,"validators":["p","q"]}}]"#;
@@ -147,4 +148,15 @@ fn one_of_four_is_dispensable_and_two_are_not(rt: HostRuntime) {
     begins(&rt, found, "true None 0 yes ");
     let found = asked(alloc, THREE_OF_FOUR, Question::Dset("a,b"));
     same(&rt, found, "false Some(2) 2 no Some(2) 1 Some(3) 1");
+}
+
+/// What `intersect` answers about the trial configuration of fifty organisations.
+fn tried(alloc: Global, budget: u64) -> Option<String> {
+    let made = Trial::of(alloc, 50).ok()?;
+    intersected(alloc, &made.system, "", budget)
+}
+
+#[test]
+fn both_sides_of_fifty_organisations_are_counted_by_six_hundred_lemmas(rt: HostRuntime) {
+    same(&rt, tried(rt.alloc(), 600), "yes 3078 5608");
 }
