@@ -7,4 +7,6 @@ pub mod GroupLaws
 pub mod TrailLaws
 pub mod AddingLaws
 pub mod CourseLaws
+pub mod SignatureLaws
+pub mod PathLaws
 pub mod SubsetLaws

@@ -6,4 +6,5 @@ pub mod Covers
 pub mod Checking
 pub mod Courses
 pub mod State
+pub mod Keys
 pub mod Subsets

@@ -127,13 +127,13 @@ impl Checker {
         ensures closed { self.new.open_addition ≡ None }
     {
         self.clauses.push(id, lits)?;
-        put_clause(&mut self.subsets, id, lits);
+        put_clause(&mut self.subsets, self.clauses.store(), id, lits);
         Ok(())
     }
 
-    /// Makes ready for many `covers`: from now on each clause stands in an index, under one of its literals, and a `covers`
-    /// looks at few of them. O(literals held), and O(literals) for each later clause. Where memory for the index runs out,
-    /// now or later, or a clause without a literal comes, there is none any more, and a `covers` looks at all clauses.
+    /// Makes ready for many `covers`: from now on each clause stands in an index, at the end of a path of its literals, and a
+    /// `covers` goes the paths of the asked literals. O(literals held), and O(literals) for each later clause, amortised. Where
+    /// memory for the index runs out, now or later, there is none any more, and a `covers` looks at all clauses.
     pub fn expect_covers(&mut self, alloc: Global)
         ensures { self.new ≡ self.old }
     {

@@ -4,6 +4,7 @@
 mod checker;
 mod hint;
 mod idle;
+mod keys;
 mod opened;
 mod rat;
 mod status;

@@ -182,7 +182,12 @@ impl Checker {
         if self.clauses.push(opened.id, &self.lits).is_err() {
             return Err(StepFault::Memory);
         }
-        put_clause(&mut self.subsets, opened.id, &self.lits);
+        put_clause(
+            &mut self.subsets,
+            self.clauses.store(),
+            opened.id,
+            &self.lits,
+        );
         Ok(progress_at(&self.lits))
     }
 }

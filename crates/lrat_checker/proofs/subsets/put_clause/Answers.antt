@@ -6,8 +6,9 @@ use Rattle.lrat_checker.proofs.SubsetLaws.{found_with}
 use Rattle.lrat_checker.proofs.subsets.put_clause.Goals as goal
 
 pub returns-else-is_err : goal.returns-else-is_err
-returns-else-is_err c = λ held all.
-    let was : c.args.index.now ≡ Some c.in-Some.lists = cc c.in-Some.is in
+returns-else-is_err c = λ held store all.
+    let was : c.args.index.now ≡ Some c.in-Some.paths = cc c.in-Some.is in
     let ok = sym c.is_err.ensures.value ∙ c.if-is_err.false in
-    found_with held c.in-Some.lists c.put.new.self c.args.id c.args.lits.now (subst (λ o. IfSome o (AreFound held)) was all)
-    (where_ok c.put.result _ ok c.put.ensures.found) (where_ok c.put.result _ ok c.put.ensures.kept)
+    subst (λ h. AreFound h c.put.new.self) (sym store)
+    (found_with held c.in-Some.paths c.put.new.self c.args.id c.args.lits.now (subst (λ o. IfSome o (AreFound held)) was all)
+    (where_ok c.put.result _ ok c.put.ensures.found) (where_ok c.put.result _ ok c.put.ensures.kept))

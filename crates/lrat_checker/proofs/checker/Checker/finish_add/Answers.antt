@@ -71,9 +71,9 @@ invariant_of-self-2 c =
       literals = tt;
       suits = tt;
       in_range = subst (λ (n : ℕ). AreInRange n c.push.new.self.held) (sym c.clear.ensures.vars) (subst (λ (h : Held). AreInRange vars h) (sym held) (range-with_clause vars inside.clauses.held o.id lits c.self.invariant.in_range within));
-      found = subst (λ (h : Held). IfSome c.put_clause.new.index (AreFound h)) (sym held)
-          (subst (λ (ls : List Literal). IfSome c.put_clause.new.index (AreFound (with_clause inside.clauses.held o.id ls))) c.deref-4.ensures.value
-          (c.put_clause.ensures inside.clauses.held c.self.invariant.found));
+      found = subst (λ (d : Database). IfSome c.put_clause.new.index (AreFound d.held)) c.store.ensures
+          (c.put_clause.ensures inside.clauses.held
+          (ap (λ (d : Database). d.held) c.store.ensures ∙ held ∙ ap (λ (ls : List Literal). with_clause inside.clauses.held o.id ls) (sym c.deref-4.ensures.value)) c.self.invariant.found);
     }
 
 pub invariant_of-self : goal.invariant_of-self

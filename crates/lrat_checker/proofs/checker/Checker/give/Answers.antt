@@ -1,6 +1,7 @@
 use Rattle.std.proofs.Common.{◌≡◌, ◌<◌, sym, ap, ◌∙◌, subst, Option, None}
 use Rattle.std.specs.Prelude.{IfSome}
 use Rattle.lrat_model.specs.Clauses.{Held, with_clause}
+use Rattle.lrat_model.specs.Steps.{Database}
 use Rattle.lrat_model.specs.Ranges.{IsInRange, AreInRange}
 use Rattle.lrat_checker.specs.declared.opened.Opened.{Opened}
 use Rattle.lrat_checker.specs.Checking.{Stepping}
@@ -23,5 +24,5 @@ invariant_of-self-2 c =
       literals = c.self.invariant.literals;
       suits = c.self.invariant.suits;
       in_range = subst (λ (h : Held). AreInRange vars h) (sym held) (range-with_clause vars inside.clauses.held c.args.id lits c.self.invariant.in_range within);
-      found = subst (λ (h : Held). IfSome c.put_clause.new.index (AreFound h)) (sym held) (c.put_clause.ensures inside.clauses.held c.self.invariant.found);
+      found = subst (λ (d : Database). IfSome c.put_clause.new.index (AreFound d.held)) c.store.ensures (c.put_clause.ensures inside.clauses.held (ap (λ (d : Database). d.held) c.store.ensures ∙ held) c.self.invariant.found);
     }
