@@ -146,7 +146,7 @@ class Trial:
         self.judge("the verdict in both views, each organisation, the list", self.certificates(NETWORK, page) == 6)
         lines = ["No", "Each organisation can fork it: Alder, Beech, Cedar", "any 2 of these 3 organisations together: Alder, Beech, Cedar; of single nodes, 4 are enough", "gaaa1 is in the greatest quorum; it goes on whichever other organisation is silent; v-blocking are Beech and Cedar together"]
         self.judge("the summary", self.summary(page) == lines, self.summary(page))
-        wanted = ["As your node sees it the network cannot fork.", "In the whole file the network cannot fork.", "10, of which 1 without a quorum set; 1 are watchers", "9 of the 10 nodes", "it is one of its keys", "<li>Beech and Cedar</li>", "1 quorum set for the nodes", "Alder (2 of 3)"]
+        wanted = ["As your node sees it the network cannot fork.", "In the whole file the network cannot fork.", "10, of which 1 without a quorum set; 1 are watchers", "9 of the 10 nodes", "whose contract is proved", "it is one of its keys", "<li>Beech and Cedar</li>", "1 quorum set for the nodes", "Alder (2 of 3)"]
         self.judge("what the page says", all(text in page for text in wanted), [text for text in wanted if text not in page])
         self.judge("each organisation that lies lets it fork", page.count('<span class="bad">Yes</span>: ') == 3)
         self.judge("progress on standard error", "organisation 3 of 3: Cedar" in error, error)
@@ -223,6 +223,13 @@ class Trial:
             self.judge("every circle is explained", {word for it in circles for word in it.split()} == {word for it in explained for word in it.split()} - {"q"}, (circles, explained))
             self.judge("it forks, and lies are not asked about", self.summary(page)[0] == "Yes, though no node lies" and "it forks without that" == self.summary(page)[1], self.summary(page))
 
+    def unproved(self):
+        """A page of the program that is compiled without proofs says so, and does not say that anything is proved."""
+        os.environ["QUORUM_CLI_UNPROVED"] = "1"
+        status, error, page = self.run(NETWORK)
+        del os.environ["QUORUM_CLI_UNPROVED"]
+        self.judge("what is not proved", status == 0 and "Nothing on this page is proved" in page and "contract is proved" not in page, error)
+
     def nothing_unchecked(self):
         for name, text in (("refusing", REFUSING % PROGRAM), ("about-others", ABOUT_OTHERS % (PROGRAM, PROGRAM))):
             status, error, page = self.run(NETWORK, "--orgs", ORGS, program=self.written(name, text, 0o755))
@@ -297,6 +304,7 @@ def main():
         trial.spent()
         trial.odd_names()
         trial.two_apart()
+        trial.unproved()
         trial.nothing_unchecked()
         trial.refusals()
     print("network-report: %d passed, %d failed" % (trial.passed, trial.failed))

@@ -197,9 +197,14 @@ class Program:
         self.certificates.append(Certificate(path, lines[0], self.shown(words)))
         return self.certificates[-1]
 
+    def is_proved(self):
+        """Whether the script of this repository was not told to take the program that is compiled without proofs."""
+        return os.environ.get("QUORUM_CLI_UNPROVED") != "1"
+
     def digest(self):
         """The SHA-256 of the program: of what the script of this repository runs, where it is that script."""
-        built = os.path.join(os.path.dirname(os.path.realpath(self.path)), "crates", "quorum_cli", "out", "quorum_cli")
+        room = os.path.join("crates", "quorum_cli", "out") if self.is_proved() else os.path.join("out", "unproved")
+        built = os.path.join(os.path.dirname(os.path.realpath(self.path)), room, "quorum_cli")
         with open(built if os.path.exists(built) else self.path, "rb") as it:
             return hashlib.sha256(it.read()).hexdigest()
 

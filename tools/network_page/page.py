@@ -151,7 +151,8 @@ class Page:
 
     def summary(self):
         rows = [("Can it fork?", self.short_fork()), ("If one organisation lies?", self.short_lies()), ("Who can stop it?", self.short_stop()), ("Your node", self.short_own())]
-        return '<dl class="summary">%s</dl><p>%s</p>' % ("".join("<dt>%s</dt><dd>%s</dd>" % row for row in rows), self.about())
+        unproved = "" if self.program.is_proved() else '<p class="bad">Nothing on this page is proved: it was made with a program compiled without its proofs. Check its certificates with the proved one.</p>'
+        return '%s<dl class="summary">%s</dl><p>%s</p>' % (unproved, "".join("<dt>%s</dt><dd>%s</dd>" % row for row in rows), self.about())
 
     def short_fork(self):
         if not self.found.verdicts:
@@ -403,8 +404,8 @@ class Page:
         rows = [["", "Configuration", "%s, SHA-256 %s" % (escaped(self.title), config)]]
         rows.append(["", "Program", "<code>quorum_cli</code>%s, SHA-256 <code>%s</code>" % (" " + escaped(version) if version else "", self.program.digest())])
         rows.append(["", "Made on", time.strftime("%Y-%m-%d %H:%M UTC", time.gmtime())])
-        text = "<p>Each yes and no comes from the program, whose contract is proved: a certificate is accepted only where what it says is so. The names are those that the configuration gives, which nobody checks; this page itself is not proved. Whoever has the configuration can ask again: fetch it yourself, compare its digest, and check each certificate with <code>quorum_cli check CONFIG CERTIFICATE</code>, which prints the kind, of whom it speaks (<code>from</code>) and who lies (<code>faulty</code>).</p>"
-        text += table([], rows, "facts")
+        text = "<p>Each yes and no comes from the program%s. The names are those that the configuration gives, which nobody checks; this page itself is not proved. Whoever has the configuration can ask again: fetch it yourself, compare its digest, and check each certificate with <code>quorum_cli check CONFIG CERTIFICATE</code>, which prints the kind, of whom it speaks (<code>from</code>) and who lies (<code>faulty</code>).</p>"
+        text = text % (", whose contract is proved: a certificate is accepted only where what it says is so" if self.program.is_proved() else "") + table([], rows, "facts")
         certificates = [["", '<a href="%s">%s</a>' % (escaped(urllib.parse.quote("%s/%s" % (self.program.beside.name, it.name))), escaped(it.name)), "<code>%s</code>" % escaped(it.accepted), "%d" % it.size, "<code>%s</code>" % it.digest, "<code>%s</code>" % escaped(it.command)] for it in self.program.certificates]
         text += fold("%s, with what <code>check</code> answers" % counted(len(certificates), "certificate"), table(["File", "Check", "Bytes", "SHA-256", "Made by"], certificates, "loose"))
         return text + fold("%s without a certificate" % counted(len(self.program.commands), "command"), "<pre>%s</pre>" % escaped("\n".join(self.program.commands)))
