@@ -1,3 +1,4 @@
+mod LimitSamples
 pub mod Fronts
 pub mod PieceCuts
 pub mod PartRuns

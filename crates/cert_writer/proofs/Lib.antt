@@ -1,3 +1,4 @@
+mod LimitSamples
 pub mod Joined
 pub mod Words
 pub mod Names
