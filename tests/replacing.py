@@ -218,29 +218,30 @@ class Replacing:
             subprocess.run(["umount", mounted])
 
     def killed(self, what, files, words, texts, kept=(), config="three"):
-        """A kill before and after each call of the system from the first one for the certificate's file on."""
+        """A kill before and after each call of the system from the making of the certificate's file on."""
         place = self.place(**files)
-        moment, kills, began = 1, 0, None
-        while True:
+        moment, kills, ended = 0, 0, False
+        while not ended:
             for name in place.files():
                 if name in ("t", "t.part", "t~"):
                     os.remove(place.path(name))
             for name, text in files.items():
                 place.put(name, text)
             run = Traced(place, words)
-            ended = run.go(moment)
+            run.go(moment)
+            while not kills and run.status is None and "t.part" not in place.files():
+                run.go(1)
+                moment += 1
+            ended = run.status is not None
             run.kill()
-            if ended:
-                break
-            held = place.held("t")
-            began = began or ("t.part" in place.files() and moment) or None
-            if began:
-                kills += 1
+            if not ended:
+                held = place.held("t")
                 right = held in texts and all(any(place.held(name) == text for name in place.files()) for text in kept)
                 place.judge("%s, killed at moment %d: held" % (what, moment), right, True)
                 if held and held.startswith("fbas-cert "):
                     place.judge("%s, killed at moment %d: check" % (what, moment), place.check("t", config), texts[held])
-            moment += 1
+                kills += 1
+                moment += 1
         place.judge(what + ", not killed", place.held("t"), list(texts)[-1])
         return kills
 
