@@ -144,7 +144,7 @@ class Trial:
             return
         self.loads_nothing(page)
         self.judge("the verdict in both views, each organisation, the list", self.certificates(NETWORK, page) == 6)
-        lines = ["No", "Each organisation can fork it: Alder, Beech, Cedar", "any 2 of these 3 organisations together: Alder, Beech, Cedar; of single nodes, 4 are enough", "gaaa1 is in the greatest quorum; it goes on whichever other organisation is silent; v-blocking are Beech and Cedar together"]
+        lines = ["No", "Each organisation can fork it: Alder, Beech, Cedar", "any 2 of these 3 organisations together: Alder, Beech, Cedar; of single nodes, 4 are enough", "gaaa1 is in the greatest quorum; it goes on whichever other organisation is silent, and is stopped by Beech and Cedar together"]
         self.judge("the summary", self.summary(page) == lines, self.summary(page))
         wanted = ["As your node sees it the network cannot fork.", "In the whole file the network cannot fork.", "10, of which 1 without a quorum set; 1 are watchers", "9 of the 10 nodes", "whose contract is proved", "it is one of its keys", "<li>Beech and Cedar</li>", "1 quorum set for the nodes", "Alder (2 of 3)"]
         self.judge("what the page says", all(text in page for text in wanted), [text for text in wanted if text not in page])

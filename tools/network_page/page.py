@@ -223,7 +223,7 @@ class Page:
         if not others:
             return text + "no organisations are known"
         text += '<span class="bad">it stops where %s is silent</span>' % " or ".join(stopped) if stopped else '<span class="good">it goes on whichever other organisation is silent</span>'
-        return text + ("; v-blocking are %s" % self.sets_in_short(own.v_blocking) if own.v_blocking.sets else "")
+        return text + (", and is stopped by %s" % self.sets_in_short(own.v_blocking) if own.v_blocking.sets and not stopped else "")
 
     # The sections.
 
