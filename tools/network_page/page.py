@@ -416,9 +416,10 @@ class Page:
         rows = []
         for at, key in enumerate(self.network.keys):
             org = self.network.org_of.get(key)
-            state = "in the greatest quorum" if key in paint.greatest and not paint.first else paint.kind(key)[2] if key in self.view.keys else "outside"
+            side = ", quorum 1" if key in paint.first else ", quorum 2" if key in paint.second else ""
+            state = ("yes" if key in paint.greatest else "no" if key in self.view.keys else "outside") + side
             rows.append([' id="n%d"' % at, escaped(self.network.names[key]), escaped(org.name) if org else "", state, '<span class="key">%s</span>' % escaped(key)])
-        return table(["Name", "Organisation", "In the picture", "Key"], rows, "keys")
+        return table(["Name", "Organisation", "In the greatest quorum", "Key"], rows, "keys")
 
     def sections(self):
         """Each section with its mark and heading, and its text; one without a text is left out. Another question of the network is another line."""
