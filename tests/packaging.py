@@ -1,0 +1,89 @@
+#!/usr/bin/env python3
+"""The man page and the completions are those of the usage text, render and complete; an installed tree works from another folder.
+
+A shell or man that is not there counts as skipped, and so does the installed program where none is built. The last line is
+'packaging: N passed, M failed, K skipped'.
+"""
+
+import os
+import shutil
+import subprocess
+import sys
+import tempfile
+
+TOP = os.path.dirname(os.path.dirname(os.path.abspath(__file__)))
+PROGRAM = os.path.join(TOP, "crates", "quorum_cli", "out", "quorum_cli")
+# What is typed, and one of the words that have to be offered.
+TYPED = [(["bl"], "blocking"), (["quo"], "quorums"), (["intersect", "--f"], "--faulty-orgs"), (["vblocks", "--"], "--node")]
+BASH = """source "$1"; shift; COMP_WORDS=(quorum_cli "$@"); COMP_CWORD=$#; _quorum_cli; printf '%s\\n' "${COMPREPLY[@]}" """
+ZSH = "fpath=($1 $fpath); autoload -Uz _quorum_cli; autoload +X _quorum_cli && whence -w _quorum_cli"
+COUNTS = {"passed": 0, "failed": 0, "skipped": 0}
+
+
+def run(words, **more):
+    ended = subprocess.run(words, stdout=subprocess.PIPE, stderr=subprocess.PIPE, timeout=120, **more)
+    return ended.returncode, ended.stdout.decode(errors="replace"), ended.stderr.decode(errors="replace")
+
+
+def judge(right, what):
+    COUNTS["passed" if right else "failed"] += 1
+    if not right:
+        print("packaging: " + what)
+
+
+def share(name):
+    return os.path.join(TOP, "share", name)
+
+
+def pages():
+    status, said, _ = run([os.path.join(TOP, "tools", "packaging"), "--check"])
+    judge(status == 0, said.strip())
+    if shutil.which("man") and shutil.which("groff"):
+        status, _, said = run(["man", "-l", "--warnings", share("quorum_cli.1")], env={**os.environ, "MANPAGER": "cat", "PAGER": "cat", "LC_ALL": "C.UTF-8"})
+        judge(status == 0 and said == "", "man warns: " + said)
+    else:
+        COUNTS["skipped"] += 1
+
+
+def completions():
+    for typed, wanted in TYPED:
+        offered = run(["bash", "-c", BASH, "bash", share("quorum_cli.bash"), *typed])[1].split()
+        judge(wanted in offered, "bash does not offer %s after %s" % (wanted, typed))
+        if shutil.which("fish"):
+            line = "complete -C 'quorum_cli %s'" % " ".join(typed)
+            offered = run(["fish", "--no-config", "-c", "source %s; %s" % (share("quorum_cli.fish"), line)])[1].split()
+            judge(wanted in offered, "fish does not offer %s after %s" % (wanted, typed))
+        else:
+            COUNTS["skipped"] += 1
+    if shutil.which("zsh"):
+        said = run(["zsh", "-f", "-c", ZSH, "zsh", os.path.join(TOP, "share")])
+        judge(said[0] == 0 and "function" in said[1], "zsh does not take the completion: %r" % (said,))
+    else:
+        COUNTS["skipped"] += 1
+
+
+def installed(folder):
+    """What `make install` puts there answers from another folder."""
+    if not (os.access(PROGRAM, os.X_OK) and shutil.which("make")):
+        COUNTS["skipped"] += 1
+        return
+    status, _, said = run(["make", "-s", "-C", TOP, "-o", "all", "install", "PREFIX=" + os.path.join(folder, "a b")])
+    judge(status == 0, "make install: " + said)
+    config = os.path.join(TOP, "examples", "three.json")
+    ended = run([os.path.join(folder, "a b", "bin", "quorum_cli"), "greatest", config, "--faulty", "a"], cwd=folder)
+    judge(ended == (0, "greatest b c\n", ""), "the installed program: %r" % (ended,))
+    for name in ("man/man1/quorum_cli.1", "bash-completion/completions/quorum_cli", "zsh/site-functions/_quorum_cli", "fish/vendor_completions.d/quorum_cli.fish"):
+        judge(os.path.isfile(os.path.join(folder, "a b", "share", name)), name + " is not installed")
+
+
+def main():
+    pages()
+    completions()
+    with tempfile.TemporaryDirectory() as folder:
+        installed(folder)
+    print("packaging: %(passed)d passed, %(failed)d failed, %(skipped)d skipped" % COUNTS)
+    return 1 if COUNTS["failed"] else 0
+
+
+if __name__ == "__main__":
+    sys.exit(main())
