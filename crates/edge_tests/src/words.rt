@@ -1,7 +1,7 @@
 //! Which orders the words give.
 
 use crate::shared::same;
-use cli_words::{Command, Goal, Order, Query, order};
+use cli_words::{Command, Goal, Order, Query, order, usage};
 use std::alloc::{AllocError, Global};
 use std::process::Abort;
 
