@@ -8,8 +8,8 @@ use Rattle.clap.specs.Kinds.{Kinds, HasKind}
 use Rattle.clap.specs.declared.error.Error.{Error}
 use Rattle.clap.specs.declared.error.kind.ErrorKind.TheVariants.{OutOfMemory}
 use Rattle.cli_words.specs.Order.{Ordered, has_same_path}
-use Rattle.cli_words.specs.Table.{Row, file_id, flag_id, row_of, subject_id}
-use Rattle.cli_words.specs.declared.table.Subject.TheVariants.{Config}
+use Rattle.cli_words.specs.Table.{Row, file_id, flag_id, row_of, target_id}
+use Rattle.cli_words.specs.declared.table.Target.TheVariants.{Config}
 use Rattle.cli_words.specs.declared.table.SecondFile.TheVariants.{Certificate}
 use Rattle.cli_words.specs.declared.table.Flag.TheVariants.{From, Faulty, Orgs, FaultyOrgs, Node, Set}
 use Rattle.cli_words.specs.Words.{all_option_rules, app_for, app_with, file_rules, is_taken, named_among, order_in, text_of, order_by, order_among, path_checked, positional, rules_of_row, with_rules}
@@ -83,14 +83,14 @@ with_rules-append app [] second = refl
 with_rules-append app (rule ∷ first) second = with_rules-append (with_rule app rule) first second
 
 -- the app of a row, added to part by part
-pub app_by_parts : (row : Row) → with_rules (with_rules (with_rule (app_with row.word []) (positional (subject_id row.subject))) (file_rules row.second)) (all_option_rules row.options) ≡ app_with row.word (rules_of_row row)
+pub app_by_parts : (row : Row) → with_rules (with_rules (with_rule (app_with row.word []) (positional (target_id row.target))) (file_rules row.second)) (all_option_rules row.options) ≡ app_with row.word (rules_of_row row)
 app_by_parts row =
-    let about : Rule = positional (subject_id row.subject) in
+    let about : Rule = positional (target_id row.target) in
     ap (λ (x : App). with_rules x (all_option_rules row.options)) (rules_behind row.word (about ∷ []) (file_rules row.second))
     ∙ rules_behind row.word (about ∷ file_rules row.second) (all_option_rules row.options)
 
 -- an order by its texts
-pub order_by_texts : (k : Command) (budget trial : ℕ) (rows : List Matched) {config cert : Text} {orgs node from faulty faulty_orgs set : Option Text} → config ≡ text_of (subject_id Config) rows → cert ≡ text_of (file_id Certificate) rows
+pub order_by_texts : (k : Command) (budget trial : ℕ) (rows : List Matched) {config cert : Text} {orgs node from faulty faulty_orgs set : Option Text} → config ≡ text_of (target_id Config) rows → cert ≡ text_of (file_id Certificate) rows
     → orgs ≡ first_of (flag_id Orgs) rows → node ≡ first_of (flag_id Node) rows → from ≡ first_of (flag_id From) rows → faulty ≡ first_of (flag_id Faulty) rows → faulty_orgs ≡ first_of (flag_id FaultyOrgs) rows → set ≡ first_of (flag_id Set) rows
     → record { command = k; config = config; cert = cert; orgs = orgs; node = node; from = from; faulty = faulty; faulty_orgs = faulty_orgs; set = set; budget = budget; trial = trial } ≡ order_in k budget trial rows
 order_by_texts k budget trial rows a b c d e f g h = rw (a, b, c, d, e, f, g, h) refl

@@ -1,12 +1,13 @@
 -- The table of the commands: a row for each, from which all that depends on the command follows.
-use Rattle.std.specs.Prelude.{ℕ, List, [], ◌∷◌, Bool, true, false, Option, Some, None, codes}
+use Rattle.std.specs.Prelude.{List, [], ◌∷◌, Bool, true, false, Option, Some, None, codes}
 use Rattle.std.specs.List.{list_any}
+use Rattle.clap.specs.Words.{Text}
 use Rattle.cli_words.specs.declared.orders.Command.{Command}
 use Rattle.cli_words.specs.declared.orders.Command.TheVariants.{Query, Search, Check, CheckLrat}
 use Rattle.cli_words.specs.declared.orders.Goal.TheVariants.{Intersect, Dset, Splits, Blocking, Trial, Quorums}
 use Rattle.cli_words.specs.declared.orders.Query.TheVariants.{Show, Closure, Greatest, Available, Blocks, Vblocks, Export}
-use Rattle.cli_words.specs.declared.table.Subject.{Subject}
-use Rattle.cli_words.specs.declared.table.Subject.TheVariants.{Config, Organisations}
+use Rattle.cli_words.specs.declared.table.Target.{Target}
+use Rattle.cli_words.specs.declared.table.Target.TheVariants.{Config, Organisations}
 use Rattle.cli_words.specs.declared.table.SecondFile.{SecondFile}
 use Rattle.cli_words.specs.declared.table.SecondFile.TheVariants.{Certificate, Proof}
 use Rattle.cli_words.specs.declared.table.Flag.{Flag}
@@ -15,22 +16,19 @@ use Rattle.cli_words.specs.declared.table.Parameter.{Parameter}
 use Rattle.cli_words.specs.declared.table.Parameter.TheVariants.{Needs, Takes, Common}
 use Rattle.cli_words.specs.declared.table.Row.{Row as RowValue}
 
-abbrev pub Text : Type 0
-Text = List ℕ
-
 -- a command's own word, what it is about, its second file, and its options
 pub record Row : Type 0 where
   pub word : Text
-  pub subject : Subject
+  pub target : Target
   pub second : Option SecondFile
   pub options : List Parameter
 
 -- the row that a Rust value is
 abbrev pub row_view : RowValue → Row
-row_view r = record { word = r.word.now; subject = r.subject; second = r.second; options = r.options.now }
+row_view r = record { word = r.word.now; target = r.target; second = r.second; options = r.options.now }
 
-abbrev pub row : Text → Subject → Option SecondFile → List Parameter → Row
-row word subject second options = record { word = word; subject = subject; second = second; options = options }
+abbrev pub row : Text → Target → Option SecondFile → List Parameter → Row
+row word target second options = record { word = word; target = target; second = second; options = options }
 
 -- the table
 unfoldable pub row_of : Command → Row
@@ -56,13 +54,13 @@ commands = Query Show ∷ Query Closure ∷ Query Greatest ∷ Search Intersect 
 
 -- ---- the names that clap knows the arguments by, and what stands for them in the usage text
 
-abbrev pub subject_id : Subject → Text
-subject_id Config = codes "config"
-subject_id Organisations = codes "organisations"
+abbrev pub target_id : Target → Text
+target_id Config = codes "config"
+target_id Organisations = codes "organisations"
 
-abbrev pub subject_place : Subject → Text
-subject_place Config = codes "CONFIG"
-subject_place Organisations = codes "N"
+abbrev pub target_place : Target → Text
+target_place Config = codes "CONFIG"
+target_place Organisations = codes "N"
 
 abbrev pub file_id : SecondFile → Text
 file_id Certificate = codes "cert"
@@ -96,13 +94,13 @@ common = From ∷ Faulty ∷ Orgs ∷ FaultyOrgs ∷ []
 
 -- ---- what a row says of its command
 
-abbrev pub is_config : Subject → Bool
+abbrev pub is_config : Target → Bool
 is_config Config = true
 is_config Organisations = false
 
 -- the commands with a configuration: a trial makes its own
 abbrev pub has_configuration : Command → Bool
-has_configuration command = is_config (row_of command).subject
+has_configuration command = is_config (row_of command).target
 
 abbrev pub is_evidence : Option SecondFile → Bool
 is_evidence None = false

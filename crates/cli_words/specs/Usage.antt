@@ -1,6 +1,7 @@
 -- The usage text: a line for each command, which follows from its row.
 use Rattle.std.specs.Prelude.{List, [], ◌∷◌, ◌++◌, Option, Some, None, codes}
-use Rattle.cli_words.specs.Table.{Row, Text, commands, common, file_place, flag_id, flag_place, row_of, subject_place}
+use Rattle.clap.specs.Words.{Text}
+use Rattle.cli_words.specs.Table.{Row, commands, common, file_place, flag_id, flag_place, row_of, target_place}
 use Rattle.cli_words.specs.declared.orders.Command.{Command}
 use Rattle.cli_words.specs.declared.table.SecondFile.{SecondFile}
 use Rattle.cli_words.specs.declared.table.Flag.{Flag}
@@ -32,7 +33,7 @@ file_text (Some file) = 32 ∷ file_place file
 
 -- the line of a row: the command's word, its arguments, its options
 abbrev pub row_line : Row → Text
-row_line row = row.word ++ ((32 ∷ subject_place row.subject) ++ (file_text row.second ++ (parameter_texts row.options ++ codes "\n")))
+row_line row = row.word ++ ((32 ∷ target_place row.target) ++ (file_text row.second ++ (parameter_texts row.options ++ codes "\n")))
 
 abbrev pub command_lines : List Command → Text
 command_lines [] = []

@@ -7,8 +7,8 @@ use Rattle.clap.specs.Simple.{new_shape}
 use Rattle.cli_words.specs.Budget.{budget_of}
 use Rattle.cli_words.specs.Order.{Ordered, has_same_path}
 use Rattle.cli_words.specs.Organisations.{organisations_of}
-use Rattle.cli_words.specs.Table.{Row, commands, common, file_id, flag_id, row_of, subject_id}
-use Rattle.cli_words.specs.declared.table.Subject.TheVariants.{Config, Organisations}
+use Rattle.cli_words.specs.Table.{Row, commands, common, file_id, flag_id, row_of, target_id}
+use Rattle.cli_words.specs.declared.table.Target.TheVariants.{Config, Organisations}
 use Rattle.cli_words.specs.declared.table.SecondFile.{SecondFile}
 use Rattle.cli_words.specs.declared.table.SecondFile.TheVariants.{Certificate}
 use Rattle.cli_words.specs.declared.table.Flag.{Flag}
@@ -61,7 +61,7 @@ file_rules (Some file) = positional (file_id file) ∷ []
 
 -- the arguments of a row: what the command is about, its second file, and its options
 abbrev pub rules_of_row : Row → List Rule
-rules_of_row row = positional (subject_id row.subject) ∷ (file_rules row.second ++ all_option_rules row.options)
+rules_of_row row = positional (target_id row.target) ∷ (file_rules row.second ++ all_option_rules row.options)
 
 -- the arguments of a command, as clap reads them
 unfoldable pub app_for : Command → App
@@ -81,7 +81,7 @@ text_of id rows = unwrap_or (first_of id rows) []
 abbrev pub order_in : Command → ℕ → ℕ → List Matched → Ordered
 order_in command budget trial rows = record {
   command = command;
-  config = text_of (subject_id Config) rows;
+  config = text_of (target_id Config) rows;
   cert = text_of (file_id Certificate) rows;
   orgs = first_of (flag_id Orgs) rows;
   node = first_of (flag_id Node) rows;
@@ -105,7 +105,7 @@ order_with command rows (Some budget) (Some trial) = path_checked (order_in comm
 
 -- the order of a command's texts
 abbrev pub order_among : Command → List Matched → Result Ordered OrderFault
-order_among command rows = order_with command rows (budget_of command (first_of (flag_id Budget) rows)) (organisations_of command (first_of (subject_id Organisations) rows))
+order_among command rows = order_with command rows (budget_of command (first_of (flag_id Budget) rows)) (organisations_of command (first_of (target_id Organisations) rows))
 
 -- the order that a command's own words give, which begin with its name
 unfoldable pub order_by : Command → List Text → Result Ordered OrderFault

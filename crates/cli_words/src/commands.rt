@@ -6,7 +6,7 @@ ghost use Rattle.cli_words.specs.Words.{all_option_rules, app_for, file_rules, i
 ghost use Rattle.cli_words.specs.Order.{order_view};
 
 use crate::orders::{Command, Order, OrderFault};
-use crate::table::{Flag, Parameter, SecondFile, Subject, row_of};
+use crate::table::{Flag, Parameter, SecondFile, Target, row_of};
 use clap::error::ErrorKind;
 use clap::{Arg, ArgMatches};
 use std::alloc::{AllocError, Global};
@@ -94,7 +94,7 @@ fn arguments_of<'a>(alloc: Global, command: Command) -> Result<clap::Command<'a>
     ensures { IfOk result (λ c. app_of c ≡ app_for command) }
 {
     let row = row_of(command);
-    let command = clap::Command::new(alloc, row.word).arg(positional(alloc, row.subject.id()))?;
+    let command = clap::Command::new(alloc, row.word).arg(positional(alloc, row.target.id()))?;
     let command = with_file(alloc, command, row.second)?;
     with_options(alloc, command, row.options)
 }
@@ -180,7 +180,7 @@ fn put_texts(alloc: Global, order: &mut Order, matches: &ArgMatches<'_>) -> Resu
     ensures { OnOk result (order_view order.new
         ≡ order_in order.old.command order.old.budget order.old.trial (rows_of (found_of matches.now))) }
 {
-    put_text(alloc, &mut order.config, matches, Subject::Config.id())?;
+    put_text(alloc, &mut order.config, matches, Target::Config.id())?;
     put_text(
         alloc,
         &mut order.cert,

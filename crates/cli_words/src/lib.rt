@@ -26,7 +26,7 @@ pub use orders::{Command, Goal, Order, OrderFault, Query};
 pub use organisations::MOST_ORGANISATIONS;
 use organisations::organisations_of;
 use std::alloc::Global;
-use table::{Flag, SecondFile, Subject, all_commands, has_certificate, row_of};
+use table::{Flag, SecondFile, Target, all_commands, has_certificate, row_of};
 pub use usage_text::usage;
 
 /// The order that the words give, or why they give none. The words begin with the program's name, and a
@@ -101,7 +101,7 @@ fn numbers_of(command: Command, matches: &ArgMatches<'_>) -> Option<(u64, u32)>
     ensures organisations { IfSome result (λ n. has_configuration command ≡ false → (1 ≤ n.1) × (n.1 ≤ MOST_ORGANISATIONS)) }
 {
     let budget = budget_of(command, text_at(matches, Flag::Budget.id()));
-    budget.zip(organisations_of(command, text_at(matches, Subject::Organisations.id())))
+    budget.zip(organisations_of(command, text_at(matches, Target::Organisations.id())))
 }
 
 fn has_same_path(command: Command, matches: &ArgMatches<'_>) -> bool
@@ -110,7 +110,7 @@ fn has_same_path(command: Command, matches: &ArgMatches<'_>) -> bool
     let cert = text_or_empty(matches, SecondFile::Certificate.id());
     has_certificate(command)
         && command.has_configuration()
-        && (text_or_empty(matches, Subject::Config.id()) == cert
+        && (text_or_empty(matches, Target::Config.id()) == cert
             || is_path(text_at(matches, Flag::Orgs.id()), cert))
 }
 

@@ -3,7 +3,7 @@ ghost use Rattle.std.specs.Prelude.{◌≡◌};
 ghost use Rattle.cli_words.specs.Table.{has_configuration};
 ghost use Rattle.cli_words.specs.declared.orders.OrderFault.TheVariants.{Memory};
 
-use crate::table::{Subject, row_of};
+use crate::table::{Target, row_of};
 use std::alloc::AllocError;
 use thiserror::Error;
 
@@ -61,7 +61,7 @@ impl Command {
     pub fn has_configuration(self) -> bool
         ensures { result ≡ has_configuration self }
     {
-        matches!(row_of(self).subject, Subject::Config)
+        matches!(row_of(self).target, Target::Config)
     }
 }
 

@@ -1,16 +1,16 @@
 //! The table of the commands: a row for each, from which all that depends on the command follows.
 ghost use Rattle.std.specs.Prelude.{◌≡◌};
-ghost use Rattle.cli_words.specs.Table.{commands, file_id, file_place, flag_id, flag_place, has_budget as spec_has_budget, has_certificate as spec_has_certificate, row_of as spec_row_of, row_view, subject_id, subject_place};
+ghost use Rattle.cli_words.specs.Table.{commands, file_id, file_place, flag_id, flag_place, has_budget as spec_has_budget, has_certificate as spec_has_certificate, row_of as spec_row_of, row_view, target_id, target_place};
 
 use crate::orders::{Command, Goal, Query};
 use crate::table::Flag::{Budget, From, Node, Set};
 use crate::table::Parameter::{Common, Needs, Takes};
 use crate::table::SecondFile::{Certificate, Proof};
-use crate::table::Subject::{Config, Organisations};
+use crate::table::Target::{Config, Organisations};
 
 /// What a command is about: the word that comes first after the command's own.
 #[derive(Clone, Copy)]
-pub enum Subject {
+pub enum Target {
     /// A configuration, by its path.
     Config,
     /// A trial, by how many organisations it has.
@@ -54,29 +54,29 @@ pub enum Parameter {
 pub struct Row<'a> {
     /// The command's word.
     pub word: &'a str,
-    pub subject: Subject,
+    pub target: Target,
     pub second: Option<SecondFile>,
     pub options: &'a [Parameter],
 }
 
-impl Subject {
+impl Target {
     /// By which name clap knows it.
     pub fn id<'a>(self) -> &'a str
-        ensures { result.now ≡ subject_id self }
+        ensures { result.now ≡ target_id self }
     {
         match self {
-            Subject::Config => "config",
-            Subject::Organisations => "organisations",
+            Target::Config => "config",
+            Target::Organisations => "organisations",
         }
     }
 
     /// What stands for it in the usage text.
     pub fn place<'a>(self) -> &'a str
-        ensures { result.now ≡ subject_place self }
+        ensures { result.now ≡ target_place self }
     {
         match self {
-            Subject::Config => "CONFIG",
-            Subject::Organisations => "N",
+            Target::Config => "CONFIG",
+            Target::Organisations => "N",
         }
     }
 }
@@ -135,15 +135,15 @@ impl Flag {
 impl<'a> Row<'a> {
     fn of(
         word: &'a str,
-        subject: Subject,
+        target: Target,
         second: Option<SecondFile>,
         options: &'a [Parameter],
     ) -> Row<'a>
-        ensures { row_view result ≡ record { word = word.entry.now; subject = subject; second = second; options = options.entry.now } }
+        ensures { row_view result ≡ record { word = word.entry.now; target = target; second = second; options = options.entry.now } }
     {
         Row {
             word,
-            subject,
+            target,
             second,
             options,
         }

@@ -78,7 +78,7 @@ fn push_row(text: &mut Vec<u8>, row: &Row<'_>) -> Result<(), AllocError>
     ensures { OnOk result (text.new.items ≡ text.old.items ++ row_line (row_view row.now)) }
 {
     push_word(text, row.word)?;
-    push_next(text, row.subject.place())?;
+    push_next(text, row.target.place())?;
     push_file(text, row.second)?;
     push_parameters(text, row.options)?;
     push_word(text, "\n")
