@@ -74,7 +74,7 @@ of_unknown s old new log size cert finds files = record {
 -- whatever was found, its certificate is accepted
 accepted_there : (s : Search) (found : Found) (cert : Text) → FindsFound (request s) found cert → IsAccepted s cert (accepted_as (request s) found)
 accepted_there s (Shared answer) cert finds = finds.accepted
-accepted_there s (Listed outcome) cert finds = finds.accepted
+accepted_there s (Listed kind outcome) cert finds = finds.accepted
 
 -- ---- the reply that was put
 

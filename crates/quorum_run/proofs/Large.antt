@@ -1,5 +1,5 @@
 -- The answer is that a formula is too large exactly where there is one.
-use Rattle.std.proofs.Common.{◌≡◌, ◌↔◌, ◌<◌, ◌≤◌, ℕ, inl, inr, Bool, true, false, nat_le, if◌then◌else◌, arith, Result, Ok, Err, refl, sym, ◌∙◌, ap}
+use Rattle.std.proofs.Common.{◌≡◌, ◌↔◌, ◌<◌, ◌≤◌, ℕ, inl, inr, Bool, true, false, nat_le, if◌then◌else◌, arith, Option, Some, None, Result, Ok, Err, refl, sym, ◌∙◌, ap}
 use Rattle.std.proofs.lemmas.Bool.{cases_Bool, leb-true, leb-false}
 use Rattle.fbas_model.specs.Nodes.{Table}
 use Rattle.fbas_model.specs.Systems.{System}
@@ -7,10 +7,11 @@ use Rattle.desk_io.specs.State.{DeskState}
 use Rattle.clause_encoder.specs.declared.limits.TheConstants.{MOST_VARS}
 use Rattle.quorum_questions.specs.declared.answers.Answer.{Answer as Shown}
 use Rattle.quorum_questions.specs.declared.answers.Answer.TheVariants.{Yes as together, No as apart, Spent as spent}
+use Rattle.list_journal.specs.declared.kinds.Listed.{Listed as Kind}
 use Rattle.blocking_lists.specs.declared.outcome.ListOutcome.{ListOutcome}
 use Rattle.blocking_lists.specs.declared.outcome.ListOutcome.TheVariants.{Whole as whole_list, Spent as part_of_list}
 use Rattle.cli_words.specs.declared.orders.Goal.{Goal}
-use Rattle.cli_words.specs.declared.orders.Goal.TheVariants.{Intersect, Dset, Splits, Blocking, Trial}
+use Rattle.cli_words.specs.declared.orders.Goal.TheVariants.{Intersect, Dset, Splits, Blocking, Quorums, Trial}
 use Rattle.report.specs.Lines.{Text}
 use Rattle.order_reading.specs.declared.status.Status.{Status}
 use Rattle.order_reading.specs.declared.status.Status.TheVariants.{Yes, No, Unknown, TooLarge}
@@ -26,7 +27,7 @@ use Rattle.order_reading.specs.declared.searches.Search.{Search}
 use Rattle.quorum_run.specs.declared.found.Found.{Found}
 use Rattle.quorum_run.specs.declared.found.Found.TheVariants.{Shared, Listed}
 use Rattle.quorum_run.specs.QuestionAnswers.{Answers, AnswersExport, export_answer}
-use Rattle.quorum_run.specs.Replies.{intersect_answer, splits_answer, blocking_answer, dset_status, IsLarge, Replies}
+use Rattle.quorum_run.specs.Replies.{intersect_answer, splits_answer, list_answer, listed_by, dset_status, RepliesListed, IsLarge, Replies}
 use Rattle.quorum_run.specs.Printing.{PrintsSearch, Prints, PrintsAsked, IsLargeQuestion, IsLargeAsked, IsTooLarge}
 
 abbrev IsSmall : Status → Type 0
@@ -48,24 +49,25 @@ dset_small : (f : System) (budget : ℕ) (available : Bool) (found : Shown) → 
 dset_small f budget false found e = let k : No ≡ TooLarge = e in cc
 dset_small f budget true found e = intersect_small f budget found e
 
-blocking_small : (f : System) (budget : ℕ) (found : ListOutcome) → IsSmall (blocking_answer f.names budget found).status
-blocking_small f budget (whole_list sets journal) e = let k : Yes ≡ TooLarge = e in cc
-blocking_small f budget (part_of_list journal) e = let k : Unknown ≡ TooLarge = e in cc
+list_small : (sought : Kind) (f : System) (budget : ℕ) (found : ListOutcome) → IsSmall (list_answer sought f.names budget found).status
+list_small sought f budget (whole_list sets journal) e = let k : Yes ≡ TooLarge = e in cc
+list_small sought f budget (part_of_list journal) e = let k : Unknown ≡ TooLarge = e in cc
 
 small_as : (a b : Answer) → a ≡ b → IsSmall b.status → IsSmall a.status
 small_as a b is small e = small (sym (ap (λ (x : Answer). x.status) is) ∙ e)
 
+listed_small : (o : Option Kind) (f : System) (budget : ℕ) (sought : Kind) (found : ListOutcome) (a : Answer) → RepliesListed o f budget sought found a → IsSmall a.status
+listed_small None f budget sought found a is = absurd is
+listed_small (Some kind) f budget sought found a is = small_as a _ is.1 (list_small kind f budget found)
+
 reply_small : (goal : Goal) (f : System) (deleted : Table) (budget : ℕ) (found : Found) (a : Answer) → Replies goal f deleted budget found a → IsSmall a.status
+reply_small goal f deleted budget (Listed sought found) a is = listed_small (listed_by goal) f budget sought found a is
 reply_small Intersect f deleted budget (Shared found) a is = small_as a _ is (intersect_small f budget found)
 reply_small Splits f deleted budget (Shared found) a is = small_as a _ is (splits_small f budget found)
 reply_small Dset f deleted budget (Shared found) a is = small_as a _ is.said (dset_small f budget is.available found)
-reply_small Blocking f deleted budget (Listed found) a is = small_as a _ is (blocking_small f budget found)
 reply_small Trial f deleted budget (Shared found) a is = small_as a _ is.said (intersect_small f budget found)
-reply_small Intersect f deleted budget (Listed found) a is = absurd is
-reply_small Splits f deleted budget (Listed found) a is = absurd is
-reply_small Dset f deleted budget (Listed found) a is = absurd is
 reply_small Blocking f deleted budget (Shared found) a is = absurd is
-reply_small Trial f deleted budget (Listed found) a is = absurd is
+reply_small Quorums f deleted budget (Shared found) a is = absurd is
 
 -- ---- the answer to a question
 
