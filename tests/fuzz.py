@@ -37,7 +37,9 @@ REFUSALS = {
     9: rb"too-large [0-9]+\n",
 }
 ANSWERS = rb"(?!usage|config|orgs|refused|too-large)(.+\n)+"
-SEARCHES = ("intersect", "splits", "dset", "blocking")
+SEARCHES = ("intersect", "splits", "dset", "blocking", "quorums")
+# What lists minimal sets.
+LISTS = ("blocking", "quorums")
 
 # Numbers at the edges of what the formats allow, and texts that are no numbers.
 EDGES = "0 1 2 3 -1 -2 -0 +1 01 00 32 33 127 128 16384 2147483647 -2147483647 2147483648 -2147483648 4294967296 9223372036854775807 -9223372036854775807 9223372036854775808 18446744073709551615 18446744073709551616 1.0 1e0 x d".split()
@@ -247,7 +249,8 @@ def is_useful(held, clause):
 
 def fault_of_units(subject, cert):
     """What is wrong with the units of a partial certificate that a search wrote: one is not useful, or the clauses close at its end."""
-    lines = cert.decode().split("\n")[5:-2]
+    lines = cert.decode().split("\n")[4:-2]
+    sought = "q" if lines.pop(0).endswith("quorums") else "b"
     order = sorted(subject.shrunk(set(subject.system)))
     held = {}
     if lines and lines[0].startswith("formula"):
@@ -256,7 +259,7 @@ def fault_of_units(subject, cert):
     for line in lines:
         words = line.split(" ")
         if words[0] in ("q", "b"):
-            number, sign = int(words[1]), 1 if words[0] == "q" else -1
+            number, sign = int(words[1]), -1 if words[0] == sought else 1
             clause = frozenset(sign * (order.index(it) + 1) for it in words[2:])
         elif words[1] == "d":
             for it in words[2:-1]:
@@ -427,7 +430,7 @@ def mutated_words(rng, words):
         elif kind == 1:
             words.insert(at, rng.choice(["--set", "--set=", "--set=a,b", "--faulty", "--faulty=a", "--from=a", "--from", "--node=a", "--orgs=orgs", "--faulty-orgs=A", "--budget=0", "--budget=4000000000", "--budget=4000000001", "--budget=-1", "--budget=01", "--budget=+1", "--budget=", "--", "-", "-x", "--help", "-h", "--version", "help", "", "config", "cert", "=", "--=", "a", "--budget=18446744073709551616"]))
         elif kind == 2 and words:
-            words[at % len(words)] = rng.choice(["show", "closure", "greatest", "intersect", "available", "dset", "blocks", "vblocks", "splits", "blocking", "check", "check-lrat", "export", "trial", "missing", "config", "cert"])
+            words[at % len(words)] = rng.choice(["show", "closure", "greatest", "intersect", "available", "dset", "blocks", "vblocks", "splits", "blocking", "quorums", "check", "check-lrat", "export", "trial", "missing", "config", "cert"])
         elif kind == 3 and words:
             other = rng.randrange(len(words))
             at %= len(words)
@@ -518,11 +521,11 @@ class Program:
             return "the certificate is of another question, or not accepted: %r" % said
         kind = said.split("\n")[0].split(" ")[1]
         every = quorums(subject, 8)
-        if command == "blocking":
-            wanted = None if every is None else minimal_blocks(subject)
-            if kind == "blocking" and status == 0 and text == said.split("\n", 3)[3].join(["blocking %s\n" % said.split("\n")[0].split(" ")[2], ""]):
+        if command in LISTS:
+            wanted = None if every is None else minimal_sets(command, subject, every)
+            if kind == command and status == 0 and text == said.split("\n", 3)[3].join(["%s %s\n" % (command, said.split("\n")[0].split(" ")[2]), ""]):
                 return None if wanted is None or text == wanted else "found %r, wanted %r" % (text, wanted)
-            if said.startswith("accepted partial-blocking %d\n" % budget) and (status, text) == (2, "blocking unknown %d\n" % budget):
+            if said.startswith("accepted partial-%s %d\n" % (command, budget)) and (status, text) == (2, "%s unknown %d\n" % (command, budget)):
                 return fault_of_units(subject, cert)
             return "found %r with %r" % ((status, text), said)
         if command == "trial" and not text.startswith(sizes_of_trial(subject.system)):
@@ -553,16 +556,17 @@ class Program:
         return "\nintersects %s%s\n" % (answer, units) in text and text.endswith("dset %s\n" % whole) and status == {"yes": 0, "no": 1, "unknown": 2}[whole]
 
 
-def minimal_blocks(subject):
-    """What 'blocking' lists, by trying all sets of nodes."""
+def minimal_sets(command, subject, every):
+    """What 'blocking' and 'quorums' list, by trying all sets of nodes."""
     names = sorted(set(subject.system) - subject.faulty)
     found = []
     for size in range(len(names) + 1):
         for nodes in map(set, itertools.combinations(names, size)):
-            if not any(it <= nodes for it in found) and plain.blocks(subject.system, subject.faulty, nodes):
+            is_one = nodes in every if command == "quorums" else plain.blocks(subject.system, subject.faulty, nodes)
+            if is_one and not any(it <= nodes for it in found):
                 found.append(nodes)
     lines = sorted(tuple(sorted(it)) for it in found)
-    return "blocking %d\n" % len(lines) + "".join("set%s\n" % plain.spelled(it) for it in lines)
+    return "%s %d\n" % (command, len(lines)) + "".join("set%s\n" % plain.spelled(it) for it in lines)
 
 
 def wanted_of_orgs(case):
@@ -765,6 +769,7 @@ class Maker:
                 ["vblocks", "config", "--node", "a", "--set", names],
                 ["splits", "config", "cert", "--set", names],
                 ["blocking", "config", "cert"],
+                ["quorums", "config", "cert", "--budget", "9"],
                 ["check", "config", "cert"],
                 ["check-lrat", "config", "cert", "--faulty", names],
                 ["export", "config", "--faulty", names],

@@ -413,6 +413,7 @@ def main(program=BUILT):
         trial.full_files("intersect", "config", "made")
         trial.full_files("intersect", "config", "made", "--faulty", "a")
         trial.full_files("blocking", "config", "made")
+        trial.full_files("quorums", "config", "made")
     print("malicious: %d passed, %d failed" % (trial.passed, trial.failed))
     return 1 if trial.failed else 0
 

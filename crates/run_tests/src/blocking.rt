@@ -1,15 +1,16 @@
-//! Lists of minimal blocking sets: what `blocking` prints, that `check` accepts what it wrote, and what `check` says of others.
+//! Lists of minimal sets: what `blocking` and `quorums` print, that `check` accepts what they wrote, and what it says of other lists
+//! of blocking sets.
 use crate::certificates::{DIGEST_OF_THREE, shared_of_kind};
 use crate::desks::{
     Files, Left, run_over, same, text_of, wants_checked, wants_left, wants_of_kind,
 };
-use crate::systems::{TWO_OF_THREE, TWO_PAIRS};
+use crate::systems::{REPEATED, TWO_OF_THREE, TWO_PAIRS};
 use quorum_run::Status;
 use std::alloc::{AllocError, Global};
 use std::process::Abort;
 
 // A configuration, a line, how it ends and what is out, and the same of `check` of the certificate.
-static LISTS: [(&str, &str, Status, &str, &str); 7] = [
+static LISTS: [(&str, &str, Status, &str, &str); 13] = [
     (
         TWO_OF_THREE,
         "blocking config cert",
@@ -58,6 +59,48 @@ static LISTS: [(&str, &str, Status, &str, &str); 7] = [
         Status::Unknown,
         "blocking unknown 0\n",
         "accepted partial-blocking 0\nfrom\nfaulty\n",
+    ),
+    (
+        TWO_OF_THREE,
+        "quorums config cert",
+        Status::Yes,
+        "quorums 3\nset a b\nset a c\nset b c\n",
+        "accepted quorums 3\nfrom\nfaulty\nset a b\nset a c\nset b c\n",
+    ),
+    (
+        TWO_OF_THREE,
+        "quorums config cert --faulty a",
+        Status::Yes,
+        "quorums 2\nset b\nset c\n",
+        "accepted quorums 2\nfrom\nfaulty a\nset b\nset c\n",
+    ),
+    (
+        REPEATED,
+        "quorums config cert",
+        Status::Yes,
+        "quorums 1\nset b\n",
+        "accepted quorums 1\nfrom\nfaulty\nset b\n",
+    ),
+    (
+        "[]",
+        "quorums config cert",
+        Status::Yes,
+        "quorums 0\n",
+        "accepted quorums 0\nfrom\nfaulty\n",
+    ),
+    (
+        TWO_PAIRS,
+        "quorums config cert",
+        Status::Yes,
+        "quorums 2\nset a b\nset c d\n",
+        "accepted quorums 2\nfrom\nfaulty\nset a b\nset c d\n",
+    ),
+    (
+        TWO_OF_THREE,
+        "quorums config cert --budget 0",
+        Status::Unknown,
+        "quorums unknown 0\n",
+        "accepted partial-quorums 0\nfrom\nfaulty\n",
     ),
 ];
 

@@ -26,7 +26,7 @@ struct Run {
     written: Option<(Status, &'static str)>,
 }
 
-static RUNS: [Run; 10] = [
+static RUNS: [Run; 12] = [
     Run {
         line: "intersect config cert",
         config: TWO_OF_THREE,
@@ -87,6 +87,26 @@ static RUNS: [Run; 10] = [
         written: Some((
             Status::Unknown,
             "accepted partial-blocking 3\nfrom\nfaulty\n",
+        )),
+    },
+    Run {
+        line: "quorums config cert",
+        config: TWO_OF_THREE,
+        cert: "old",
+        reads: &[Which::Config],
+        written: Some((
+            Status::Yes,
+            "accepted quorums 3\nfrom\nfaulty\nset a b\nset a c\nset b c\n",
+        )),
+    },
+    Run {
+        line: "quorums config cert --budget 3",
+        config: TWO_OF_THREE,
+        cert: "old",
+        reads: &[Which::Config],
+        written: Some((
+            Status::Unknown,
+            "accepted partial-quorums 3\nfrom\nfaulty\n",
         )),
     },
     Run {
