@@ -2,8 +2,8 @@
 """Runs every example of the documents and compares what it prints.
 
 An example is a line `$ COMMAND` of a code block, and the lines up to the next one are what it prints: `..` alone stands for
-any lines, and at the end of a line for the rest of it. In a table of commands an example is a row whose second cell is the words, and
-whose third cell begins with the first line and ends with the status. The examples of a document run in order in one new folder, with the program, the examples and the tools in it.
+any lines, and at the end of a line for the rest of it. In a table of examples each row has the words in its first cell, and its second
+begins with the first line and has the status after a comma. The examples of a document run in order in one new folder, with the program, the examples and the tools in it.
 What needs a tool that is missing is skipped with a word. The last line is 'examples: N passed, M failed'.
 """
 
@@ -40,8 +40,9 @@ def commands(lines):
 
 
 def rows(text):
-    """The rows of a table of commands: the words, the first line that is printed, and the status."""
-    return re.findall(r"^\| `[^|]*` \| `([^|`]*)` \| `([^|`]*)`[^|]*?, (\d)\b[^|]*\|", text, re.M)
+    """The rows of a table of examples: the words, the first line that is printed, and the status."""
+    tables = re.findall(r"^\| Example \|.*\n\|[-|]+\n((?:\|.*\n)*)", text, re.M)
+    return re.findall(r"^\| `([^|`]*)` \| `([^|`]*)`[^|]*?, (\d)\b[^|]*\|", "".join(tables), re.M)
 
 
 def matches(wanted, found):
