@@ -1,6 +1,6 @@
 -- Who mentions whom, gathered node by node.
 use Rattle.std.proofs.Common.{◌≡◌, ℕ, ◌+◌, ◌<◌, ◌&&◌, ◌||◌, ◌==◌, nat_lt, Bool, true, false, List, [], ◌∷◌, ◌++◌, length, zero, suc, refl, sym, ◌∙◌, ap, arith, inl, inr, Some, None, slice_index_or}
-use Rattle.std.specs.Prelude.{All, set}
+use Rattle.std.specs.Prelude.{All, Result, Ok, Err, OnErr, set, not, cond}
 use Rattle.std.proofs.Math.Bool.{or-false, and-true, and-false}
 use Rattle.std.proofs.lemmas.Bool.{cases_Bool, false_from_ne_true, cases_lt, lt-ltb, ltb-true, eqb-true, eq-eqb, and_parts, or_right}
 use Rattle.std.proofs.lemmas.List.{get_or_past, get_or-set_same, get_or-set_other, length-set}
@@ -11,7 +11,7 @@ use Rattle.fbas_model.specs.QuorumSets.{mentioned}
 use Rattle.fbas_model.specs.Fbas.{Fbas}
 use Rattle.fbas_model.specs.Lists.{among}
 use Rattle.fbas_model.proofs.Listed.{among_more, iterated_all}
-use Rattle.fbas_core.specs.Mentioning.{AreMentioning, IsAdded, list_at, mentioning, stands_in}
+use Rattle.fbas_core.specs.Mentioning.{AreMentioning, IsAdded, IsForgotten, IsExchanged, list_at, mentioning, stands_in, without}
 
 -- the numbers below i + 1 in a set are those below i, and i
 one_more : (m : Nodes) (w i : ℕ) → (nat_lt w (i + 1) && m w) ≡ ((nat_lt w i && m w) || (m i && (w == i)))
@@ -125,3 +125,144 @@ module _ (lists : List (List ℕ)) (v w : ℕ) (low : v < length lists) where
 
 pub added_last : (w : ℕ) (start now : List (List ℕ)) (ws : List ℕ) (places : Table) → ws ≡ listed_from 0 places → IsAdded w (among ws) start now → IsAdded w (members places) start now
 added_last w start now ws places all a = record { many = a.many; same = λ v x. a.same v x ∙ ap (λ (b : Bool). among (list_at start v) x || (b && (x == w))) (iterated_all places ws all v) }
+
+-- ---- one node is taken out of several lists
+
+pub among_without : (w : ℕ) (ws : List ℕ) (x : ℕ) → among (without w ws) x ≡ (among ws x && not (x == w))
+among_without w [] x = refl
+among_without w (y ∷ ws) x = elim (cases_Bool (y == w)) [
+  | inl e ↦
+      let same : y ≡ w = eqb-true y w e in
+      let out : among (without w (y ∷ ws)) x ≡ among (without w ws) x = ap (λ (b : Bool). among (cond (not b) (y ∷ without w ws) (without w ws)) x) e in
+      out ∙ among_without w ws x ∙ ap (λ (k : ℕ). among ws x && not (x == k)) (sym same) ∙ absorbed (x == y) (among ws x) ∙ ap (λ (k : ℕ). ((x == y) || among ws x) && not (x == k)) same
+  | inr e ↦
+      let kept : among (without w (y ∷ ws)) x ≡ ((x == y) || among (without w ws) x) = ap (λ (b : Bool). among (cond (not b) (y ∷ without w ws) (without w ws)) x) e in
+      kept ∙ ap (λ (b : Bool). (x == y) || b) (among_without w ws x) ∙ apart e
+]
+  where
+    absorbed : (a b : Bool) → (b && not a) ≡ ((a || b) && not a)
+    absorbed true true = refl
+    absorbed true false = refl
+    absorbed false true = refl
+    absorbed false false = refl
+
+    apart : (y == w) ≡ false → ((x == y) || (among ws x && not (x == w))) ≡ (((x == y) || among ws x) && not (x == w))
+    apart e = elim (cases_Bool (x == y)) [
+      | inl here ↦
+          let other : (x == w) ≡ false = ap (λ (k : ℕ). k == w) (eqb-true x y here) ∙ e in
+          rw (here, other) refl
+      | inr there ↦ rw there refl
+    ]
+
+shrunk : (a b c e : Bool) → ((a && not (b && c)) && not (e && c)) ≡ (a && not ((b || e) && c))
+shrunk false b c e = refl
+shrunk true true true true = refl
+shrunk true true true false = refl
+shrunk true true false true = refl
+shrunk true true false false = refl
+shrunk true false true true = refl
+shrunk true false true false = refl
+shrunk true false false true = refl
+shrunk true false false false = refl
+
+pub forgot_first : (w : ℕ) (lists : List (List ℕ)) → IsForgotten w (among []) lists lists
+forgot_first w lists = record { many = refl; same = λ v x. sym (and-true (among (list_at lists v) x)) }
+
+-- the list at one place loses the node
+module _ (lists : List (List ℕ)) (v w : ℕ) (low : v < length lists) where
+  abbrev lost : List (List ℕ)
+  lost = set lists v (without w (list_at lists v))
+
+  lessened : (y x : ℕ) → among (list_at lost y) x ≡ (among (list_at lists y) x && not ((y == v) && (x == w)))
+  lessened y x = elim (cases_Bool (y == v)) [
+    | inl e ↦
+        let same : y ≡ v = eqb-true y v e in
+        let now : list_at lost y ≡ without w (list_at lists v) = ap (list_at lost) same ∙ get_or-set_same lists v (without w (list_at lists v)) [] low in
+        ap (λ (ws : List ℕ). among ws x) now
+        ∙ among_without w (list_at lists v) x
+        ∙ ap (λ (k : ℕ). among (list_at lists k) x && not (x == w)) (sym same)
+        ∙ sym (ap (λ (b : Bool). among (list_at lists y) x && not (b && (x == w))) e)
+    | inr e ↦
+        let now : list_at lost y ≡ list_at lists y = get_or-set_other lists v y (without w (list_at lists v)) [] (λ same. let yes = eq-eqb y v same in absurd cc) in
+        ap (λ (ws : List ℕ). among ws x) now ∙ sym (ap (λ (b : Bool). among (list_at lists y) x && not (b && (x == w))) e ∙ and-true (among (list_at lists y) x))
+  ]
+
+  pub forgot_more : (start : List (List ℕ)) (ws : List ℕ) → IsForgotten w (among ws) start lists → IsForgotten w (among (ws ++ v ∷ [])) start lost
+  forgot_more start ws a = record {
+    many = length-set lists v (without w (list_at lists v)) ∙ a.many;
+    same = λ y x.
+        lessened y x
+        ∙ ap (λ (b : Bool). b && not ((y == v) && (x == w))) (a.same y x)
+        ∙ shrunk (among (list_at start y) x) (among ws y) (x == w) (y == v)
+        ∙ sym (ap (λ (b : Bool). among (list_at start y) x && not (b && (x == w))) (among_more ws v y));
+  }
+
+pub forgot_last : (w : ℕ) (start now : List (List ℕ)) (ws : List ℕ) (places : Table) → ws ≡ listed_from 0 places → IsForgotten w (among ws) start now → IsForgotten w (members places) start now
+forgot_last w start now ws places all a = record { many = a.many; same = λ v x. a.same v x ∙ ap (λ (b : Bool). among (list_at start v) x && not (b && (x == w))) (iterated_all places ws all v) }
+
+-- ---- one node is exchanged
+
+turned : (o s : Bool) → ((o || ((s && not o) && true)) && not ((o && not s) && true)) ≡ s
+turned true true = refl
+turned true false = refl
+turned false true = refl
+turned false false = refl
+
+untouched : (a c g : Bool) → ((a || (c && false)) && not (g && false)) ≡ a
+untouched true c g = ap (λ (b : Bool). not b) (and-false g)
+untouched false c g = ap (λ (b : Bool). b && not (g && false)) (and-false c)
+
+undone : (o s p : Bool) → (p ≡ true → (s && not o) ≡ true) → ((o || (p && true)) && not ((s && not o) && true)) ≡ o
+undone true true p h = refl
+undone true false p h = refl
+undone false true true h = refl
+undone false true false h = refl
+undone false false true h = absurd (let e = h refl in cc)
+undone false false false h = refl
+
+module _ (w : ℕ) (before after come : Nodes) (old middle : List (List ℕ)) (was : (v : ℕ) → among (list_at old v) w ≡ before v) (come_is : come ≡ (λ v. after v && not (before v))) where
+  pub exchanged : (gone : Nodes) (new : List (List ℕ)) → gone ≡ (λ v. before v && not (after v)) → IsAdded w come old middle → IsForgotten w gone middle new → IsExchanged w after old new
+  exchanged gone new gone_is added forgot = record {
+    many = forgot.many ∙ added.many;
+    same = λ v x.
+        forgot.same v x
+        ∙ ap (λ (b : Bool). b && not (gone v && (x == w))) (added.same v x)
+        ∙ ap (λ (c : Nodes). (among (list_at old v) x || (c v && (x == w))) && not (gone v && (x == w))) come_is
+        ∙ ap (λ (g : Nodes). (among (list_at old v) x || ((after v && not (before v)) && (x == w))) && not (g v && (x == w))) gone_is
+        ∙ elim (cases_Bool (x == w)) [
+          | inl e ↦
+              let o : among (list_at old v) x ≡ before v = ap (λ (k : ℕ). among (list_at old v) k) (eqb-true x w e) ∙ was v in
+              rw (e, o) (turned (before v) (after v))
+          | inr e ↦ rw e (untouched (among (list_at old v) x) (after v && not (before v)) (before v && not (after v)))
+        ];
+  }
+
+  pub taken_back : (part : Nodes) (new : List (List ℕ)) → ((v : ℕ) → part v ≡ true → come v ≡ true) → IsAdded w part old middle → IsForgotten w come middle new → IsExchanged w before old new
+  taken_back part new inside added forgot = record {
+    many = forgot.many ∙ added.many;
+    same = λ v x.
+        forgot.same v x
+        ∙ ap (λ (b : Bool). b && not (come v && (x == w))) (added.same v x)
+        ∙ ap (λ (c : Nodes). (among (list_at old v) x || (part v && (x == w))) && not (c v && (x == w))) come_is
+        ∙ elim (cases_Bool (x == w)) [
+          | inl e ↦
+              let o : among (list_at old v) x ≡ before v = ap (λ (k : ℕ). among (list_at old v) k) (eqb-true x w e) ∙ was v in
+              rw (e, o) (undone (before v) (after v) (part v) (λ p. sym (ap (λ (c : Nodes). c v) come_is) ∙ inside v p))
+          | inr e ↦ rw e (untouched (among (list_at old v) x) (part v) (after v && not (before v)))
+        ];
+  }
+
+pub on_err : {A E : Type 0} (r : Result A E) (P : Type 0) → P → OnErr r P
+on_err (Ok a) P h = tt
+on_err (Err e) P h = h
+
+-- the numbers that a list of numbers begins with are members
+pub begun_inside : (places : Table) (ws rest : List ℕ) → ws ++ rest ≡ listed_from 0 places → (v : ℕ) → among ws v ≡ true → members places v ≡ true
+begun_inside places ws rest whole v here = sym (iterated_all places (ws ++ rest) whole v) ∙ among_front ws rest v here
+  where
+    among_front : (ws rest : List ℕ) (v : ℕ) → among ws v ≡ true → among (ws ++ rest) v ≡ true
+    among_front [] rest v here = absurd (cc)
+    among_front (w ∷ ws) rest v here = elim (cases_Bool (v == w)) [
+      | inl e ↦ rw e refl
+      | inr e ↦ or_right (v == w) (among (ws ++ rest) v) (among_front ws rest v (sym (ap (λ (b : Bool). b || among ws v) e) ∙ here))
+    ]
