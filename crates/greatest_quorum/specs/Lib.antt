@@ -1,2 +1,4 @@
 pub mod Looks
 pub mod Greatest
+pub mod Changes
+pub mod Unmet

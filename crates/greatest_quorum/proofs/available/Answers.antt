@@ -1,7 +1,8 @@
 use Rattle.std.proofs.Common.{◌<◌, length, sym, ◌∙◌, arith}
 use Rattle.std.proofs.lemmas.Bool.{both_ways}
 use Rattle.fbas_model.specs.Nodes.{members}
-use Rattle.greatest_quorum.proofs.Availability.{gathered_none, gathered_put, gathered_pass, unmet_node, available_iff, outside_b}
+use Rattle.greatest_quorum.proofs.Availability.{gathered_none, gathered_put, gathered_pass, gathered_all, unmet_node, available_iff, outside_b}
+use Rattle.greatest_quorum.proofs.UnmetLaws.{unmet_only, same_answer}
 use Rattle.greatest_quorum.proofs.available.Goals as goal
 use Rattle.greatest_quorum.proofs.available.Goals.{then-not-has+then-not-slice_outside, else-not-has, else-not-has-via-then-not-has+else-not-slice_outside, else-not-has-via-else-not-has}
 
@@ -29,3 +30,10 @@ pub returns-clause-available : goal.returns-clause-available
 returns-clause-available c =
     let f = c.args.system.now.sets in
     available_iff f (members c.args.b.now) c.clear.new.self c.loop-v.scratch c.loop-v.v c.is_empty.result (omega (arith, c.len-v-end.ensures.sets)) c.loop-v.invariant c.is_empty.ensures
+
+pub returns-clause-counted : goal.returns-clause-counted
+returns-clause-counted c =
+    unmet_only c.args.system.now.sets c.args.b.now c.loop-v.scratch (c.loop-v.invariant.same_n ∙ c.clear.ensures.size ∙ c.requires.same_scratch) (gathered_all c.args.system.now.sets (members c.args.b.now) c.clear.new.self c.loop-v.scratch c.loop-v.v (omega (arith, c.len-v-end.ensures.sets)) c.loop-v.invariant)
+
+pub returns-clause-answer : goal.returns-clause-answer
+returns-clause-answer c = same_answer c.args.system.now.sets c.args.b.now c.is_empty.result (returns-clause-available c)
