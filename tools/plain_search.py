@@ -1,7 +1,7 @@
 #!/usr/bin/env python3
 """The search as plain Rust, to be profiled and tuned: its sources with all contracts taken off, built by `rustc`.
 
-usage: bench/plain_search.py FOLDER
+usage: tools/plain_search.py FOLDER
 
 Writes `gate_search` and the crates below it to FOLDER/src, a few lines of Rust in place of the toolchain's `Vec` and of what
 the searches do not use, and builds FOLDER/search, which takes a formula in DIMACS form and a number of units:

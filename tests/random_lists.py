@@ -1,0 +1,117 @@
+#!/usr/bin/env python3
+"""Compares `blocking` and `quorums` with trying all sets of nodes, on small random systems.
+
+Makes COUNT systems of up to 12 nodes; the listed sets have to be the minimal ones in name order, and `check` has to accept each
+list. Beside the gate, by hand: tests/random_lists.py [COUNT [SEED]]; needs the built program. The last line is
+'random_lists: N passed, M failed', or says why it is skipped.
+"""
+import json
+import os
+import random
+import subprocess
+import sys
+import tempfile
+
+TOP = os.path.dirname(os.path.dirname(os.path.abspath(__file__)))
+PROGRAM = os.environ.get("QUORUM_CLI", os.path.join(TOP, "crates", "quorum_cli", "out", "quorum_cli"))
+COUNT = 500
+
+
+# ---- systems: for each node a quorum set (threshold, nodes, inner sets) or None
+
+def random_set(n, depth):
+    validators = random.sample(range(n), random.randint(0, min(n, 6)))
+    inner = [random_set(n, depth - 1) for _ in range(random.randint(0, 2))] if depth else []
+    if not validators and not inner:
+        validators = [random.randrange(n)]
+    return random.randint(1, len(validators) + len(inner)), validators, inner
+
+
+def random_system():
+    n = random.randint(1, 12)
+    if random.random() < 0.5:
+        shared = [random_set(n, 1) for _ in range(2)]
+        return [random.choice(shared) if random.random() < 0.9 else None for _ in range(n)]
+    return [None if random.random() < 0.1 else random_set(n, 1) for _ in range(n)]
+
+
+def named(v):
+    return "n%03d" % v
+
+
+def as_json(system):
+    def of(quorum_set):
+        threshold, validators, inner = quorum_set
+        return {"threshold": threshold, "validators": [named(v) for v in validators], "innerQuorumSets": [of(it) for it in inner]}
+
+    return json.dumps([{"publicKey": named(v), "quorumSet": it and of(it)} for v, it in enumerate(system)])
+
+
+# ---- all sets of nodes, each as the bits of a number
+
+def satisfied(quorum_set, nodes):
+    threshold, validators, inner = quorum_set
+    return sum(nodes >> v & 1 for v in validators) + sum(satisfied(it, nodes) for it in inner) >= threshold
+
+
+def is_quorum(system, nodes):
+    return nodes != 0 and all(system[v] is not None and satisfied(system[v], nodes) for v in range(len(system)) if nodes >> v & 1)
+
+
+def minimal(sets):
+    found = []
+    for nodes in sorted(sets, key=lambda it: bin(it).count("1")):
+        if not any(nodes & it == it for it in found):
+            found.append(nodes)
+    return found
+
+
+def minimal_quorums(system):
+    return minimal(it for it in range(1 << len(system)) if is_quorum(system, it))
+
+
+def minimal_blocks(system):
+    quorums = minimal_quorums(system)
+    return minimal(it for it in range(1 << len(system)) if all(it & quorum for quorum in quorums))
+
+
+def lines(word, sets, n):
+    """What the program prints of these sets."""
+    members = sorted([v for v in range(n) if it >> v & 1] for it in sets)
+    return ["%s %d" % (word, len(members))] + ["set" + "".join(" " + named(v) for v in it) for it in members]
+
+
+def said(*words):
+    return subprocess.run([PROGRAM, *words], stdout=subprocess.PIPE).stdout.decode().splitlines()
+
+
+def agrees(folder, system, word, sets):
+    """Whether the list, and what `check` says of its certificate, are the sets."""
+    config, cert = os.path.join(folder, "config"), os.path.join(folder, "cert")
+    with open(config, "w") as it:
+        it.write(as_json(system))
+    wanted = lines(word, sets, len(system))
+    return said(word, config, cert) == wanted and said("check", config, cert) == ["accepted " + wanted[0], "from", "faulty", *wanted[1:]]
+
+
+def main(count=COUNT, seed=1):
+    if not os.access(PROGRAM, os.X_OK):
+        print("random_lists: skipped, the program is not built")
+        return 0
+    random.seed(int(seed))
+    passed = failed = 0
+    with tempfile.TemporaryDirectory() as folder:
+        for _ in range(int(count)):
+            system = random_system()
+            for word, sets in (("blocking", minimal_blocks(system)), ("quorums", minimal_quorums(system))):
+                if agrees(folder, system, word, sets):
+                    passed += 1
+                else:
+                    failed += 1
+                    print("random_lists: %s differs: %s" % (word, as_json(system)))
+    print("random_lists: %d passed, %d failed" % (passed, failed))
+    return 1 if failed else 0
+
+
+if __name__ == "__main__":
+    sys.exit(main(*sys.argv[1:]))
