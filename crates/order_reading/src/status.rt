@@ -1,4 +1,6 @@
 //! How the program ends.
+ghost use Rattle.std.specs.Prelude.{◌≡◌};
+ghost use Rattle.order_reading.specs.Status.{code_of};
 
 /// How the program ends: with an answer, or with a failing of the outside or of the memory.
 #[derive(Clone, Copy, Debug, PartialEq, Eq)]
@@ -23,4 +25,24 @@ pub enum Status {
     Memory,
     /// The formula has too many variables.
     TooLarge,
+}
+
+impl Status {
+    /// The number that the process ends with.
+    pub fn code(self) -> u8
+        ensures { result ≡ code_of self }
+    {
+        match self {
+            Status::Yes => 0,
+            Status::No => 1,
+            Status::Unknown => 2,
+            Status::Usage => 3,
+            Status::ConfigRefused => 4,
+            Status::CertRefused => 5,
+            Status::ReadFault => 6,
+            Status::WriteFault => 7,
+            Status::Memory => 8,
+            Status::TooLarge => 9,
+        }
+    }
 }
