@@ -6,3 +6,4 @@ pub mod Putting
 pub mod Printing
 pub mod Showing
 pub mod Headline
+pub mod Running
