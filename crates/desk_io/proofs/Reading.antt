@@ -1,12 +1,13 @@
 -- What is known of a file that is read piece by piece.
 use Rattle.std.proofs.Common.{◌≡◌, ◌<◌, ◌≤◌, ℕ, ◌+◌, List, ◌++◌, length, refl, sym, ap, subst, ◌∙◌, arith, append_assoc, length-append}
 use Rattle.desk_io.specs.declared.desk.Which.{Which}
-use Rattle.desk_io.specs.declared.desk.Which.TheVariants.{Config, Orgs, Cert}
+use Rattle.desk_io.specs.declared.desk.Which.TheVariants.{Config, Orgs, Script, Cert}
 use Rattle.desk_io.specs.State.{DeskState, left_of, with_left}
 
 left_twice : (which : Which) (a b : List ℕ) (s : DeskState) → with_left which a (with_left which b s) ≡ with_left which a s
 left_twice Config a b s = refl
 left_twice Orgs a b s = refl
+left_twice Script a b s = refl
 left_twice Cert a b s = refl
 
 -- nothing but what is left changed, and then nothing but what is left

@@ -1,7 +1,7 @@
 -- The calls that a desk in memory is told to fail.
 use Rattle.std.specs.Prelude.{ℕ, ◌-◌, Bool, true, false, List, map, Contains, if◌then◌else◌}
 use Rattle.desk_io.specs.declared.desk.Which.{Which}
-use Rattle.desk_io.specs.declared.desk.Which.TheVariants.{Config, Orgs, Cert}
+use Rattle.desk_io.specs.declared.desk.Which.TheVariants.{Config, Orgs, Script, Cert}
 use Rattle.desk_io.specs.declared.desk.To.{To}
 use Rattle.desk_io.specs.declared.desk.To.TheVariants.{Out, Cert as Certificate}
 use Rattle.desk_io.specs.declared.memory.failing.Call.{Call}
@@ -11,6 +11,7 @@ use Rattle.desk_io.specs.declared.memory.failing.Call.TheVariants.{Begin, Next, 
 abbrev pub same_which : Which → Which → Bool
 same_which Config Config = true
 same_which Orgs Orgs = true
+same_which Script Script = true
 same_which Cert Cert = true
 same_which a b = false
 

@@ -1,7 +1,7 @@
 -- What the machine's desk has begun and created.
 use Rattle.std.specs.Prelude.{ℕ, List, [], Option, Some, None}
 use Rattle.desk_io.specs.declared.desk.Which.{Which}
-use Rattle.desk_io.specs.declared.desk.Which.TheVariants.{Config, Orgs, Cert}
+use Rattle.desk_io.specs.declared.desk.Which.TheVariants.{Config, Orgs, Script, Cert}
 use Rattle.desk_io.specs.declared.real.RealDesk.{RealDesk}
 use Rattle.desk_io.specs.declared.beside.Beside.{Beside}
 use Rattle.desk_io.specs.Faults.{Faults}
@@ -10,6 +10,7 @@ use Rattle.desk_io.specs.Faults.{Faults}
 abbrev pub begun_of : {R File Dir : Type 0} → Which → RealDesk R File Dir → Option File
 begun_of Config d = d.config
 begun_of Orgs d = d.orgs
+begun_of Script d = d.script
 begun_of Cert d = d.cert
 
 -- the certificate file, if one is created

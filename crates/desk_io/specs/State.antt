@@ -3,7 +3,7 @@ use Rattle.std.specs.Prelude.{◌≡◌, ◌⊎◌, ℕ, ◌-◌, ◌<◌, Bool,
 use Rattle.std.specs.Str.{bytes_eq}
 use Rattle.std.specs.Option.{option_map}
 use Rattle.desk_io.specs.declared.desk.Which.{Which}
-use Rattle.desk_io.specs.declared.desk.Which.TheVariants.{Config, Orgs, Cert}
+use Rattle.desk_io.specs.declared.desk.Which.TheVariants.{Config, Orgs, Script, Cert}
 use Rattle.desk_io.specs.declared.desk.To.{To}
 use Rattle.desk_io.specs.declared.desk.To.TheVariants.{Out, Cert as Certificate}
 
@@ -15,6 +15,7 @@ Files = List ℕ → Option (List ℕ)
 pub record Left : Type 0 where
   pub config : List ℕ
   pub orgs : List ℕ
+  pub script : List ℕ
   pub cert : List ℕ
 
 -- all that a desk holds
@@ -36,6 +37,7 @@ pub record DeskState : Type 0 where
 abbrev pub left_at : Which → Left → List ℕ
 left_at Config left = left.config
 left_at Orgs left = left.orgs
+left_at Script left = left.script
 left_at Cert left = left.cert
 
 -- what is left there on the desk
@@ -46,6 +48,7 @@ left_of which s = left_at which s.left
 abbrev pub set_left : Which → List ℕ → Left → Left
 set_left Config bytes left = record left { config = bytes }
 set_left Orgs bytes left = record left { orgs = bytes }
+set_left Script bytes left = record left { script = bytes }
 set_left Cert bytes left = record left { cert = bytes }
 
 -- with these bytes left there, and all else as it was
@@ -107,7 +110,7 @@ abbrev pub nothing_told : DeskState
 nothing_told = record {
   files = λ n. None;
   may_create = [];
-  left = record { config = []; orgs = []; cert = [] };
+  left = record { config = []; orgs = []; script = []; cert = [] };
   out = [];
   created = None;
   room = 0;

@@ -12,6 +12,8 @@ pub enum Which {
     Config,
     /// The table of organisations.
     Orgs,
+    /// The script of edits.
+    Script,
     /// The certificate, or another file in its place.
     Cert,
 }

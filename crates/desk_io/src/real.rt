@@ -20,6 +20,7 @@ pub struct RealDesk<'a, R: Files> {
     standard: [Option<R::File>; 3],
     config: Option<R::File>,
     orgs: Option<R::File>,
+    script: Option<R::File>,
     cert: Option<R::File>,
     beside: Option<Beside<'a, R>>,
     created: Option<R::File>,
@@ -115,6 +116,7 @@ impl<'a, R: Files + Print> RealDesk<'a, R> {
             standard: [hold_open(rt), hold_open(rt), hold_open(rt)],
             config: None,
             orgs: None,
+            script: None,
             cert: None,
             beside: None,
             created: None,
@@ -134,6 +136,7 @@ impl<'a, R: Files + Print> RealDesk<'a, R> {
         match which {
             Which::Config => self.config = opened,
             Which::Orgs => self.orgs = opened,
+            Which::Script => self.script = opened,
             Which::Cert => self.cert = opened,
         }
         begun
@@ -154,6 +157,7 @@ impl<'a, R: Files + Print> RealDesk<'a, R> {
         match which {
             Which::Config => read_begun(&mut self.config, buf),
             Which::Orgs => read_begun(&mut self.orgs, buf),
+            Which::Script => read_begun(&mut self.script, buf),
             Which::Cert => read_begun(&mut self.cert, buf),
         }
     }

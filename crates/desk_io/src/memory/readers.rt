@@ -7,11 +7,12 @@ use crate::memory::reader::Reader;
 use std::alloc::{AllocError, Global};
 use std::marker::Model;
 
-/// The three readers, each with room for a file of the same length.
+/// The four readers, each with room for a file of the same length.
 #[derive(Drop)]
 pub struct Readers {
     config: Reader,
     orgs: Reader,
+    script: Reader,
     cert: Reader,
 }
 
@@ -23,21 +24,22 @@ impl Model for Readers {
 
     ghost view = { λ r. record {
       size = r.config.size;
-      left = record { config = r.config.left; orgs = r.orgs.left; cert = r.cert.left };
+      left = record { config = r.config.left; orgs = r.orgs.left; script = r.script.left; cert = r.cert.left };
     } };
 
-    ghost invariant = { λ r. (r.orgs.size ≡ r.config.size) × (r.cert.size ≡ r.config.size) };
+    ghost invariant = { λ r. (r.orgs.size ≡ r.config.size) × (r.script.size ≡ r.config.size) × (r.cert.size ≡ r.config.size) };
 }
 
 impl Readers {
     /// With nothing left anywhere, and room for files of that many bytes.
     pub fn new(alloc: Global, size: usize) -> Result<Readers, AllocError>
         ensures { IfOk result (λ r. r
-            ≡ record { size = size; left = record { config = []; orgs = []; cert = [] } }) }
+            ≡ record { size = size; left = record { config = []; orgs = []; script = []; cert = [] } }) }
     {
         Ok(Readers {
             config: Reader::new(alloc, size)?,
             orgs: Reader::new(alloc, size)?,
+            script: Reader::new(alloc, size)?,
             cert: Reader::new(alloc, size)?,
         })
     }
@@ -50,6 +52,7 @@ impl Readers {
         match which {
             Which::Config => self.config.begin(file),
             Which::Orgs => self.orgs.begin(file),
+            Which::Script => self.script.begin(file),
             Which::Cert => self.cert.begin(file),
         }
     }
@@ -61,6 +64,7 @@ impl Readers {
         match which {
             Which::Config => self.config.stop(),
             Which::Orgs => self.orgs.stop(),
+            Which::Script => self.script.stop(),
             Which::Cert => self.cert.stop(),
         }
     }
@@ -76,6 +80,7 @@ impl Readers {
         match which {
             Which::Config => self.config.take(buf, most),
             Which::Orgs => self.orgs.take(buf, most),
+            Which::Script => self.script.take(buf, most),
             Which::Cert => self.cert.take(buf, most),
         }
     }
