@@ -1,24 +1,24 @@
 #!/usr/bin/env python3
-"""Times `check` on long refutations: bench/certificates.py [FOLDER] [LEMMAS] [PROGRAM]. Needs the program, built by
-./quorum_cli.
+"""The table of checking: `check` on long certificates, beside `sha256sum` of the same bytes.
 
-All are refutations of examples/two.json. Two begin with the first lemma that is known of it so many times, under rising ids;
-in the second of them each lemma is deleted, by a line of its own, when the next one has come, so that few are held at a time.
-In the third that lemma stands once, and behind its conflict come 130,000,000 bytes of hints on the same line. Prints the least
-processor time of three runs and the largest memory of a run.
+The first is the log of a search. The others are refutations of examples/two.json: two begin with the first lemma that is known of
+it ten million times, under rising ids, in the second of them each deleted, by a line of its own, when the next one has come, so
+that few are held at a time. In the last that lemma stands once, and after its conflict come 130,000,000 bytes of hints on the same
+line. Each figure is of the least of three runs.
 """
 import hashlib
 import os
-import subprocess
-import sys
+import tempfile
 
-TOP = os.path.dirname(os.path.dirname(os.path.abspath(__file__)))
-PROGRAM = os.path.join(TOP, "crates", "quorum_cli", "out", "quorum_cli")
-CONFIG = os.path.join(TOP, "examples", "two.json")
+import runs
+import trials
+
+CONFIG = os.path.join(runs.TOP, "examples", "two.json")
 CLAUSES = 16
-
-
+LEMMAS = 10_000_000
 LINE_BYTES = 130_000_000
+# the search, and a quick one
+SEARCHED, SHORT = "random:80:8:5:1", "random:40:10:6:1"
 
 
 def write_head(cert):
@@ -27,18 +27,18 @@ def write_head(cert):
     cert.write("fbas-cert 1\nconfig %s\nfrom\nfaulty\nkind refutation\nformula 8 %d\n" % (digest, CLAUSES))
 
 
-def write_line(path):
-    """One lemma with hints behind its conflict, all on one line."""
+def write_line(path, size):
+    """One lemma with hints after its conflict, all on one line."""
     hints = " 7 6 3 4 2" * 1000
     with open(path, "w") as cert:
         write_head(cert)
         cert.write("17 -1 0 7 6 3 4 2")
-        for _ in range(LINE_BYTES // len(hints)):
+        for _ in range(size // len(hints)):
             cert.write(hints)
         cert.write(" 0\n18 0 17 1 10 8 0\nend\n")
 
 
-def write(path, lemmas, deletes):
+def write_lemmas(path, lemmas, deletes):
     with open(path, "w") as cert:
         write_head(cert)
         last = CLAUSES
@@ -50,39 +50,33 @@ def write(path, lemmas, deletes):
         cert.write("%d 0 %d 1 10 8 0\nend\n" % (last + 1, last))
 
 
-def run(program, path):
-    """The least processor time of three runs, and the largest memory in MB."""
-    best, most = None, 0
-    for _ in range(3):
-        child = subprocess.Popen([program, "check", CONFIG, path], stdout=subprocess.PIPE)
-        text = child.stdout.read()
-        _, status, usage = os.wait4(child.pid, 0)
-        if status != 0 or text != b"accepted refutation\nfrom\nfaulty\n":
-            sys.exit("%s: the program ended with %d and %r" % (path, status, text))
-        took = usage.ru_utime + usage.ru_stime
-        best = took if best is None else min(best, took)
-        most = max(most, usage.ru_maxrss // 1024)
-    return best, most
+def write_log(program, config, cert, system):
+    with open(config, "w", encoding="utf-8") as it:
+        it.write(trials.configuration(system))
+    runs.run([program, "intersect", config, cert])
 
 
-def main():
-    folder = sys.argv[1] if len(sys.argv) > 1 else "/tmp/gemzulat-bench"
-    lemmas = int(sys.argv[2]) if len(sys.argv) > 2 else 10_000_000
-    program = sys.argv[3] if len(sys.argv) > 3 else PROGRAM
-    os.makedirs(folder, exist_ok=True)
-    print("| certificate | bytes | lines | time | bytes a second | largest memory |")
-    print("|---|---|---|---|---|---|")
-    files = [
-        ("lemmas", 8 + lemmas, lambda path: write(path, lemmas, False)),
-        ("lemmas and deletions", 7 + 2 * lemmas, lambda path: write(path, lemmas, True)),
-        ("one line of hints", 9, write_line),
-    ]
-    for name, lines, write_file in files:
-        path = os.path.join(folder, name.replace(" ", "-") + ".cert")
-        write_file(path)
-        size = os.path.getsize(path)
-        took, memory = run(program, path)
-        print("| %s | %d | %d | %.2f s | %d | %d MB |" % (name, size, lines, took, size / took, memory))
+def row(program, name, config, cert):
+    checked = runs.least([program, "check", config, cert], 3)
+    if not checked.text.startswith("accepted refutation"):
+        raise SystemExit("%s: %r" % (name, checked.text))
+    return runs.row([name, runs.megabytes(os.path.getsize(cert)), runs.seconds(checked), checked.memory, runs.beside(checked, runs.least(["sha256sum", cert], 3))])
 
 
-main()
+def made(program, quick):
+    """The lines of the table, one by one."""
+    yield from runs.head(["certificate", "MB", "`check`, s", "memory, MB", "`sha256sum`, s"])
+    share = 100 if quick else 1
+    searched = SHORT if quick else SEARCHED
+    files = {
+        "ten million lemmas": lambda path: write_lemmas(path, LEMMAS // share, False),
+        "ten million lemmas, each deleted after the next": lambda path: write_lemmas(path, LEMMAS // share, True),
+        "one line of hints": lambda path: write_line(path, LINE_BYTES // share),
+    }
+    with tempfile.TemporaryDirectory(dir=runs.MEMORY) as folder:
+        config, cert = os.path.join(folder, "config"), os.path.join(folder, "cert")
+        write_log(program, config, cert, searched)
+        yield row(program, "the search of " + searched, config, cert)
+        for name, write in files.items():
+            write(cert)
+            yield row(program, name + (" (a hundredth)" if quick else ""), CONFIG, cert)

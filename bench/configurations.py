@@ -1,5 +1,5 @@
 #!/usr/bin/env python3
-"""Writes configurations in stellarbeat's shape: configurations.py FOLDER makes the files that the benchmarks read."""
+"""Configurations in stellarbeat's shape that are slow to read or to answer: bench/configurations.py FOLDER writes them."""
 import json
 import os
 import sys
@@ -30,7 +30,7 @@ def short_key(number):
 
 
 def dense(nodes, entries, name):
-    """Each node lists so many others that there are this many entries in all, in inner quorum sets of 50.
+    """Each node lists as many others as make this many entries in all, in inner quorum sets of 50.
 
     Each lists those after it, round and round, so that the trust closure of each is all.
     """
@@ -84,7 +84,7 @@ def zigzag(nodes, entries):
 
 
 def behind(nodes, share):
-    """Each node needs one of so many that come after it by name, and the last has no quorum set.
+    """Each node needs one of the next `share` nodes by name, and the last has no quorum set.
 
     So the nodes fall from the last to the first, each when all that it names have fallen, and those that name one that falls
     are looked at again from the first of them on: all in vain but the last.
@@ -101,23 +101,29 @@ def write(path, nodes):
         json.dump(nodes, file, separators=(",", ":"))
 
 
-def main():
-    folder = sys.argv[1]
+# The last node of zigzag-large has almost all of a million entries, each of zigzag-even has its share of them. Those that begin
+# with `most` have as many nodes as there may be: with ten entries each, with a million in all, in a chain, and looked at again in vain.
+FILES = {
+    "half": lambda: dense(4096, 500_000, short_key),
+    "whole": lambda: dense(4096, 1_000_000, short_key),
+    "long-keys": lambda: dense(4096, 250_000, key),
+    "chain-up": lambda: chain(4096, ordered_key, 1),
+    "chain-down": lambda: chain(4096, ordered_key, -1),
+    "zigzag-large": lambda: zigzag(4096, lambda i: 995_900 if i == 4095 else 1),
+    "zigzag-even": lambda: zigzag(4096, lambda i: 244),
+    "behind": lambda: behind(4096, 244),
+    "most-few": lambda: dense(16384, 163_840, short_key),
+    "most-whole": lambda: dense(16384, 1_000_000, short_key),
+    "most-chain": lambda: chain(16384, ordered_key, 1),
+    "most-behind": lambda: behind(16384, 61),
+}
+
+
+def write_all(folder, names=FILES):
     os.makedirs(folder, exist_ok=True)
-    write(os.path.join(folder, "half.json"), dense(4096, 500_000, short_key))
-    write(os.path.join(folder, "whole.json"), dense(4096, 1_000_000, short_key))
-    write(os.path.join(folder, "long-keys.json"), dense(4096, 250_000, key))
-    write(os.path.join(folder, "chain-up.json"), chain(4096, ordered_key, 1))
-    write(os.path.join(folder, "chain-down.json"), chain(4096, ordered_key, -1))
-    # The last node has almost all of a million entries; each has its share of them.
-    write(os.path.join(folder, "zigzag-large.json"), zigzag(4096, lambda i: 995_900 if i == 4095 else 1))
-    write(os.path.join(folder, "zigzag-even.json"), zigzag(4096, lambda i: 244))
-    write(os.path.join(folder, "behind.json"), behind(4096, 244))
-    # As many nodes as there may be: with ten entries each, with a million in all, in a chain, and looked at again in vain.
-    write(os.path.join(folder, "most-few.json"), dense(16384, 163_840, short_key))
-    write(os.path.join(folder, "most-whole.json"), dense(16384, 1_000_000, short_key))
-    write(os.path.join(folder, "most-chain.json"), chain(16384, ordered_key, 1))
-    write(os.path.join(folder, "most-behind.json"), behind(16384, 61))
+    for name in names:
+        write(os.path.join(folder, name + ".json"), FILES[name]())
 
 
-main()
+if __name__ == "__main__":
+    write_all(sys.argv[1])

@@ -1,69 +1,74 @@
 #!/usr/bin/env python3
-"""Draws docs/growth.svg from the table of networks of organisations in docs/PERFORMANCE.md: time by organisations, both by their logarithms.
-
-usage: bench/growth.py [--print]
-"""
+"""Pictures of how times grow: a line a program, both axes by their logarithms, as SVG."""
 import math
-import os
-import re
-import sys
 
-TOP = os.path.dirname(os.path.dirname(os.path.abspath(__file__)))
-WIDTH, HEIGHT, LEFT, RIGHT, HIGH, LOW = 560, 320, 60, 110, 20, 40
-COUNTS, SECONDS = (50, 250), (0.01, 10)
-LINES = {"quorum_cli": ("#1f6f43", 2), "minisat": ("#b3541e", 5), "cadical": ("#2b6cb0", 6)}
+WIDTH, HEIGHT, LEFT, RIGHT, HIGH, LOW = 560, 320, 60, 130, 20, 40
+COLOURS = ["#1f6f43", "#b3541e", "#2b6cb0", "#7b4397"]
 
 
-def rows():
-    """The number of organisations and the cells of each row that begins with one."""
-    with open(os.path.join(TOP, "docs", "PERFORMANCE.md"), encoding="utf-8") as it:
-        text = it.read().split("## Networks of organisations")[1].split("\n## ")[0]
-    for line in text.splitlines():
-        found = re.match(r"\| (\d+)(?: organisations)? \|", line)
-        if found:
-            yield int(found[1]), [cell.strip() for cell in line.split("|")]
+class Axes:
+    """Where a size and a time stand in the picture."""
+
+    def __init__(self, sizes, times):
+        self.sizes = math.log(min(sizes)), math.log(max(sizes))
+        self.times = math.floor(math.log10(min(times))), math.ceil(math.log10(max(times)))
+
+    def across(self, size):
+        low, high = self.sizes
+        return LEFT + (math.log(size) - low) / (high - low) * (WIDTH - LEFT - RIGHT)
+
+    def up(self, seconds):
+        low, high = self.times
+        return HEIGHT - LOW - (math.log10(seconds) - low) / (high - low) * (HEIGHT - LOW - HIGH)
 
 
-def at(count, seconds):
-    across = (math.log(count) - math.log(COUNTS[0])) / (math.log(COUNTS[1]) - math.log(COUNTS[0]))
-    up = (math.log(seconds) - math.log(SECONDS[0])) / (math.log(SECONDS[1]) - math.log(SECONDS[0]))
-    return LEFT + across * (WIDTH - LEFT - RIGHT), HEIGHT - LOW - up * (HEIGHT - LOW - HIGH)
+def grid(axes, sizes, label):
+    """The lines of the times, and the sizes below."""
+    for power in range(axes.times[0], axes.times[1] + 1):
+        y = axes.up(10**power)
+        yield f'<path d="M{LEFT} {y:.0f}H{WIDTH - RIGHT}" stroke="#ddd"/><text x="{LEFT - 8}" y="{y + 4:.0f}" text-anchor="end">{10.0**power:g} s</text>'
+    for size in sizes:
+        yield f'<text x="{axes.across(size):.0f}" y="{HEIGHT - LOW + 18}" text-anchor="middle">{size}</text>'
+    yield f'<text x="{(LEFT + WIDTH - RIGHT) / 2:.0f}" y="{HEIGHT - 4}" text-anchor="middle">{label}</text>'
 
 
-def drawn():
+def line(axes, name, colour, points, y):
+    """A program's times up to the first that did not end, which is drawn at its limit, by a broken line; its name at a height."""
+    places = [(axes.across(size), axes.up(seconds)) for size, seconds, _ in points]
+    whole = sum(1 for _, _, ended in points if ended)
+    joined = " ".join("%.1f,%.1f" % it for it in places[:whole])
+    yield f'<polyline fill="none" stroke="{colour}" stroke-width="2" points="{joined}"/>'
+    yield from (f'<circle cx="{x:.1f}" cy="{height:.1f}" r="3" fill="{colour}"/>' for x, height in places[:whole])
+    if 0 < whole < len(places):
+        (a, b), (c, d) = places[whole - 1 : whole + 1]
+        yield f'<path d="M{a:.1f} {b:.1f}L{c:.1f} {d:.1f}" stroke="{colour}" stroke-dasharray="4 4" stroke-width="2"/>'
+    said = name if whole == len(points) else name + ", not ended"
+    yield f'<text x="{WIDTH - RIGHT + 8}" y="{y:.1f}" fill="{colour}">{said}</text>'
+
+
+def picture(title, label, lines):
+    """The picture of some programs' times: for each name the sizes, the seconds and whether the run ended, in order of size."""
+    cut = {}
+    for name, points in lines.items():
+        first = next((at for at, point in enumerate(points) if not point[2]), len(points))
+        cut[name] = [(size, max(seconds, 0.001), ended) for size, seconds, ended in points[: first + 1]]
+    sizes = sorted({size for points in lines.values() for size, _, _ in points})
+    axes = Axes(sizes, [seconds for points in cut.values() for _, seconds, _ in points])
+    heights, last = {}, -100.0
+    for name in sorted(cut, key=lambda it: axes.up(cut[it][-1][1])):
+        heights[name] = last = max(axes.up(cut[name][-1][1]) + 4, last + 15)
     out = [
         f'<svg xmlns="http://www.w3.org/2000/svg" viewBox="0 0 {WIDTH} {HEIGHT}" font-family="sans-serif" font-size="12">',
-        "<title>Time of a search by the number of organisations</title>",
+        f"<title>{title}</title>",
         f'<rect width="{WIDTH}" height="{HEIGHT}" fill="#fff"/>',
+        *grid(axes, sizes, label),
     ]
-    for seconds in (0.01, 0.1, 1, 10):
-        x, y = at(COUNTS[0], seconds)
-        out.append(f'<path d="M{x:.0f} {y:.0f}H{WIDTH - RIGHT}" stroke="#ddd"/><text x="{x - 8:.0f}" y="{y + 4:.0f}" text-anchor="end">{seconds:g} s</text>')
-    table = list(rows())
-    for count, _ in table:
-        x, y = at(count, SECONDS[0])
-        out.append(f'<text x="{x:.0f}" y="{y + 18:.0f}" text-anchor="middle">{count}</text>')
-    out.append(f'<text x="{(LEFT + WIDTH - RIGHT) / 2:.0f}" y="{HEIGHT - 4}" text-anchor="middle">organisations of three nodes</text>')
-    for name, (colour, column) in LINES.items():
-        cells = [(count, cells[3 if column == 2 else column + 1]) for count, cells in table]
-        ended = [(count, float(cell.split()[0])) for count, cell in cells if not cell.startswith("over")]
-        places = [at(count, max(seconds, SECONDS[0])) for count, seconds in ended]
-        out.append(f'<polyline fill="none" stroke="{colour}" stroke-width="2" points="{" ".join(f"{x:.1f},{y:.1f}" for x, y in places)}"/>')
-        out += [f'<circle cx="{x:.1f}" cy="{y:.1f}" r="3" fill="{colour}"/>' for x, y in places]
-        later = [(count, float(cell.split()[1])) for count, cell in cells if cell.startswith("over")][:1]
-        for count, seconds in later:
-            x, y = at(count, seconds)
-            (a, b) = places[-1]
-            out.append(f'<path d="M{a:.1f} {b:.1f}L{x:.1f} {y:.1f}" stroke="{colour}" stroke-dasharray="4 4" stroke-width="2"/>')
-            places.append((x, y))
-        x, y = places[-1]
-        side = 'x="%.1f" text-anchor="end"' % (x - 8) if name == "minisat" else 'x="%.1f"' % (x + 8)
-        out.append(f'<text {side} y="{y + (14 if later else 4):.1f}" fill="{colour}">{name}{", not ended" if later else ""}</text>')
+    for (name, points), colour in zip(cut.items(), COLOURS):
+        out += line(axes, name, colour, points, heights[name])
     return "\n".join([*out, "</svg>"]) + "\n"
 
 
-if "--print" in sys.argv[1:]:
-    print(drawn(), end="")
-else:
-    with open(os.path.join(TOP, "docs", "growth.svg"), "w", encoding="utf-8") as it:
-        it.write(drawn())
+def power(points):
+    """The exponent by which a quantity grows from the first size to the last."""
+    (small, little), (large, much) = points[0], points[-1]
+    return math.log(much / little) / math.log(large / small)

@@ -1,40 +1,47 @@
 #!/usr/bin/env python3
-"""Times searches beside other solvers on the same formulas: bench/trials.py PROGRAM [--limit SECONDS] [SYSTEM ..].
+"""The tables of searches: `intersect` beside SAT solvers on the same formulas.
 
-PROGRAM is the built program. A SYSTEM is a number of organisations, whose configuration is the one that `trial` speaks of, or as
-a file above 100; a kind of bench/organisations.py with its arguments, as rotated:30; the path of a configuration; or
-random:NODES:SIZE:THRESHOLD:SEED, in which each node wants so many of SIZE nodes, itself and others drawn at random (16, 24, 50, 75
-and 100 organisations where none is given). `networks` stands for the networks of NETWORKS, with the growth from 50 to 250
-organisations. For each it prints the answer, the lemmas learnt, the processor time and the greatest memory of one run each: of the
-search (`trial`, or `intersect`) with its certificate on a file in memory, and of `check` of the certificate; then the conflicts,
-time and memory of minisat, of minisat without its preprocessing, which eliminates variables, and of cadical, cryptominisat and
-clasp (Debian's packages, else with their own settings) on the formula that `export` writes. A run ends after so many seconds of
-processor time, 900 where nothing is said. Answers that differ end the script with status 1.
+usage: bench/trials.py [--limit SECONDS] [SYSTEM ..]      prints the table of these systems
+
+A SYSTEM is a number of organisations, whose configuration is the one that `trial` speaks of, or as a file above 100; a kind of
+bench/organisations.py with its arguments, as rotated:30; a network of tests/watchers.py, as watchers:seven; the path of a
+configuration; or random:NODES:SIZE:THRESHOLD:SEED, in which each node wants `threshold` of itself and `size - 1` others, drawn at
+random. A row has the lemmas learnt, the processor time and the largest memory of one run of the search with its certificate on a
+file in memory, and of `check`; then the time of each other solver (Debian's packages, their own settings) on the formula that
+`export` writes. A run ends after SECONDS of processor time. Answers that differ end the script with status 1.
 """
 import json
+import math
 import os
 import random
 import re
-import resource
-import subprocess
 import sys
 import tempfile
 
+TOP = os.path.dirname(os.path.dirname(os.path.abspath(__file__)))
+sys.path[:0] = [os.path.join(TOP, "tests"), os.path.join(TOP, "bench")]
+import growth
 import organisations
+import runs
+import watchers
 
-NETWORKS = (
-    "50 75 100 150 200 250 apart:30 beside:30 rotated:30 apart:60 beside:60 tiers:10:20 tiers:50:50 mixed:40:5:1 sizes:60:2 "
-    "flat:50:34 flat:100:67 flat:100:51 flat:300:201"
+SEARCHES = (
+    "16 50 100 watchers:seven watchers:needed watchers:old watchers:split random:40:10:6:1 random:40:12:7:1 random:50:10:6:1 "
+    "random:40:8:5:1 random:50:8:5:1 random:60:8:5:1 random:70:8:5:1 random:80:8:5:1"
 ).split()
-MEMORY = "/dev/shm"
-OTHERS = {
-    "minisat": (["minisat", "{}", "/dev/null"], r"conflicts +: (\d+)"),
-    "minisat -no-pre": (["minisat", "-no-pre", "{}", "/dev/null"], r"conflicts +: (\d+)"),
-    "cadical": (["cadical", "{}"], r"conflicts: +(\d+)"),
-    "cryptominisat": (["cryptominisat5", "--verb", "1", "{}"], r"c conflicts *: (\d+)"),
-    "clasp": (["clasp", "--stats", "{}"], r"Conflicts *: +(\d+)"),
+# what the mean of the ratios to minisat is taken over
+RANDOM = ["random:%s:%d" % (form, seed) for form in ("40:10:6", "40:12:7", "50:10:6", "60:8:5", "70:8:5", "80:8:5") for seed in range(1, 5)]
+NETWORKS = (
+    "50 75 100 150 200 250 apart:30 beside:30 rotated:30 apart:60 tiers:50:50 mixed:40:5:1 sizes:60:2 flat:50:34 flat:100:67 "
+    "flat:300:201 shuffled:16:16:1"
+).split()
+SOLVERS = {
+    "minisat": ["minisat", "{}", os.devnull],
+    "cadical": ["cadical", "{}"],
+    "cryptominisat": ["cryptominisat5", "--verb", "1", "{}"],
+    "clasp": ["clasp", "{}"],
 }
-limit = 900
+LIMIT = 20
 
 
 def is_trial(system):
@@ -43,7 +50,7 @@ def is_trial(system):
 
 
 def trial(count):
-    """The trial configuration of so many organisations of three nodes, as the program's text."""
+    """The trial configuration of `count` organisations of three nodes, as the program's text."""
     names = ["t%03d" % i for i in range(3 * count)]
     inner = [{"innerQuorumSets": [], "threshold": 2, "validators": names[i : i + 3]} for i in range(0, 3 * count, 3)]
     common = {"innerQuorumSets": inner, "threshold": count - (count - 1) // 3, "validators": []}
@@ -64,81 +71,131 @@ def configuration(system):
     kind, *arguments = system.split(":")
     if kind == "random":
         return drawn(*map(int, arguments))
+    if kind == "watchers":
+        return json.dumps(watchers.Made(*arguments).nodes)
     if kind in organisations.KINDS:
         return organisations.text(kind, *arguments)
     with open(system, encoding="utf-8") as it:
         return it.read()
 
 
-def timed(words, out=subprocess.PIPE):
-    """The text that a run puts out, its processor time and its greatest memory in MB; no text where it was cut off."""
-    done = subprocess.Popen(words, stdout=out, stderr=subprocess.DEVNULL, preexec_fn=lambda: resource.setrlimit(resource.RLIMIT_CPU, (limit, limit)))
-    text = done.stdout.read().decode() if done.stdout is not None else ""
-    _, status, used = os.wait4(done.pid, 0)
-    return "" if os.WIFSIGNALED(status) else text, used.ru_utime + used.ru_stime, used.ru_maxrss // 1024
+class Asked:
+    """A system with what the program and the solvers made of it: runs, the lemmas and the bytes of the certificate."""
+
+    def __init__(self, program, system, solvers, limit, folder):
+        config, cnf, self.cert = (os.path.join(folder, name) for name in ("config", "cnf", "cert"))
+        with open(config, "w", encoding="utf-8") as it:
+            it.write(configuration(system))
+        self.system = system
+        self.search = runs.run([program, "trial", system, self.cert] if is_trial(system) else [program, "intersect", config, self.cert], limit)
+        self.check = runs.run([program, "check", config, self.cert], limit) if self.search.ended else self.search
+        if self.search.ended and not self.check.text.startswith("accepted"):
+            raise SystemExit("%s: the certificate is not accepted: %r" % (system, self.check.text))
+        self.lemmas, self.size = self.counted()
+        with open(cnf, "wb") as it:
+            runs.run([program, "export", config], limit, out=it)
+        self.others = {name: self.asked(name, cnf, limit) if runs.has(SOLVERS[name][0]) else None for name in solvers}
+
+    def counted(self):
+        if not self.search.ended:
+            return "-", 0
+        with open(self.cert, "rb") as it:
+            lemmas = sum(1 for line in it if line[:1].isdigit() and b" d " not in line and line.split(b" ", 2)[1] != b"0")
+        return lemmas, os.path.getsize(self.cert)
+
+    def asked(self, name, cnf, limit):
+        """Another solver's run, whose answer is ours."""
+        made = runs.run([it.format(cnf) for it in SOLVERS[name]], limit)
+        verdict = re.search(r"\b(UN)?SATISFIABLE\b", made.text)
+        ours = re.search(r"^intersects (yes|no)$", self.search.text, re.M)
+        if made.ended and verdict and ours and bool(verdict.group(1)) != (ours.group(1) == "yes"):
+            raise SystemExit("%s: %s answers otherwise" % (self.system, name))
+        made.ended = made.ended and verdict is not None
+        return made
+
+    def row(self):
+        answer = re.search(r"^intersects (\w+)", self.search.text, re.M)
+        name = os.path.basename(self.system) + (" (no)" if answer and answer.group(1) == "no" else "")
+        cells = [name, self.lemmas, runs.seconds(self.search), self.search.memory, runs.megabytes(self.size), runs.seconds(self.check)]
+        return runs.row(cells + [runs.beside(self.search, it) for it in self.others.values()])
 
 
-def told(seconds, memory):
-    return ["%.2f s" % seconds, "%d MB" % memory]
+def asked(program, system, solvers=SOLVERS, limit=LIMIT):
+    with tempfile.TemporaryDirectory(dir=runs.MEMORY) as folder:
+        return Asked(program, system, solvers, limit, folder)
 
 
-def ours(program, system, config, cert):
-    """The answer, the lemmas, time and memory of the search, the bytes of its certificate, time and memory of its check."""
-    said, *searched = timed([program, "trial", system, cert] if is_trial(system) else [program, "intersect", config, cert])
-    answer = re.search(r"^intersects (\w+)", said, re.M)
-    if not answer:
-        return "did not end", ["-", *told(*searched), "-", "-", "-"]
-    with open(cert, "rb") as it:
-        lemmas = sum(1 for line in it if line[:1].isdigit() and b" d " not in line and line.split(b" ", 2)[1] != b"0")
-    said, *checked = timed([program, "check", config, cert])
-    if not said.startswith("accepted"):
-        raise SystemExit("%s: the certificate is not accepted: %r" % (system, said))
-    return answer.group(1), [str(lemmas), *told(*searched), str(os.path.getsize(cert)), *told(*checked)]
+def head():
+    return runs.head(["system", "lemmas", "s", "MB", "certificate, MB", "`check`, s", *(name + ", s" for name in SOLVERS)])
 
 
-def other(name, cnf, answer, system):
-    """The conflicts, time and memory of another solver."""
-    words, pattern = OTHERS[name]
-    said, *spent = timed([it.format(cnf) for it in words])
-    verdict = re.search(r"\b(UN)?SATISFIABLE\b", said)
-    if verdict and answer in ("yes", "no") and bool(verdict.group(1)) != (answer == "yes"):
-        raise SystemExit("%s: %s answers otherwise" % (system, name))
-    found = re.search(pattern, said)
-    return ["-" if not verdict else found.group(1) if found else "0", *told(*spent)]
+def point(size, it):
+    return size, it.seconds if it.ended else it.limit, it.ended
 
 
-def row(program, system, folder):
-    config, cnf, cert = (os.path.join(folder, name) for name in ("config", "cnf", "cert"))
-    with open(config, "w", encoding="utf-8") as it:
-        it.write(configuration(system))
-    answer, cells = ours(program, system, config, cert)
-    with open(cnf, "w", encoding="utf-8") as it:
-        timed([program, "export", config], it)
-    for name in OTHERS:
-        cells += other(name, cnf, answer, system)
-    return [os.path.basename(system), answer, *cells]
+def lines(found):
+    """For the pictures: of each program its times by the size, which is the first number in a system's name."""
+    sized = sorted((int(re.search(r"\d+", it.system).group()), it) for it in found)
+    out = {"quorum_cli": [point(size, it.search) for size, it in sized]}
+    for name in [it for it in SOLVERS if it != "clasp" and runs.has(SOLVERS[it][0])]:
+        out[name] = [point(size, it.others[name]) for size, it in sized]
+    return out
 
 
-def systems(words):
-    """The systems that words name."""
-    for word in words or ["16", "24", "50", "75", "100"]:
-        yield from NETWORKS if word == "networks" else [word]
+def mean_line(program, systems):
+    """The geometric mean of our time to minisat's over random systems."""
+    ratios = []
+    for system in systems:
+        found = asked(program, system, ["minisat"])
+        its = found.others["minisat"]
+        if its is not None and its.ended and found.search.ended:
+            ratios.append(math.log(found.search.seconds / max(its.seconds, 0.001)))
+    if not ratios:
+        return "Of the random systems none ended."
+    mean, least, most = math.exp(sum(ratios) / len(ratios)), math.exp(min(ratios)), math.exp(max(ratios))
+    return "Over %d random systems of 40 to 80 nodes the geometric mean of our time to minisat's is %.2f (%.2f to %.2f)." % (len(ratios), mean, least, most)
 
 
-def main():
-    global limit
-    if len(sys.argv) < 2:
-        raise SystemExit(__doc__.strip())
-    words = sys.argv[2:]
+def searches(program, quick):
+    """The lines of the table of searches; and the picture of random systems by nodes."""
+    yield from head()
+    found = []
+    for system in SEARCHES[:2] + SEARCHES[3:4] + SEARCHES[7:8] if quick else SEARCHES:
+        found.append(asked(program, system))
+        yield found[-1].row()
+    yield ""
+    yield mean_line(program, RANDOM[:2] if quick else RANDOM)
+    random_ones = [it for it in found if re.fullmatch(r"random:\d+:8:5:1", it.system)]
+    if len(random_ones) > 1:
+        yield "growth-random.svg", growth.picture("Time of a search of random systems by their nodes", "nodes, each of which wants 5 of 8", lines(random_ones))
+
+
+def networks(program, quick):
+    """The lines of the table of networks of organisations, how they grow, and the picture of that."""
+    yield from head()
+    found = []
+    for system in NETWORKS[:2] if quick else NETWORKS:
+        found.append(asked(program, system, limit=8))
+        yield found[-1].row()
+    trials = [it for it in found if it.system.isdigit()]
+    grown = [it for it in trials if int(it.system) >= (50 if quick else 100)]
+    counts = [int(it.system) for it in grown]
+    powers = [growth.power(list(zip(counts, values))) for values in ([it.lemmas for it in grown], [it.size for it in grown], [it.search.seconds for it in grown])]
+    yield ""
+    yield "From %d to %d organisations lemmas grow as n^%.1f, bytes as n^%.1f, time as n^%.1f." % (counts[0], counts[-1], *powers)
+    yield "growth.svg", growth.picture("Time of a search by the number of organisations", "organisations of three nodes", lines(trials))
+
+
+def main(words):
+    limit = runs.MOST_SECONDS
     if words[:1] == ["--limit"]:
         limit, words = int(words[1]), words[2:]
-    heads = ["system", "intersects", "lemmas", "time", "memory", "bytes of the certificate", "`check`", "memory"]
-    heads += [it for name in OTHERS for it in ("%s: conflicts" % name, "time", "memory")]
-    print("| " + " | ".join(heads) + " |\n" + "|---" * len(heads) + "|")
-    for system in systems(words):
-        with tempfile.TemporaryDirectory(dir=MEMORY if os.path.isdir(MEMORY) else None) as folder:
-            print("| " + " | ".join(row(sys.argv[1], system, folder)) + " |", flush=True)
+    if not words or words[0].startswith("-"):
+        raise SystemExit(__doc__.strip())
+    print("\n".join(head()))
+    for system in words:
+        print(asked(runs.PROGRAM, system, limit=limit).row(), flush=True)
 
 
 if __name__ == "__main__":
-    main()
+    main(sys.argv[1:])

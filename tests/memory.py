@@ -20,6 +20,7 @@ import plain_checker as plain
 MB = 1 << 20
 MOST_BYTES = 16777216
 GREAT = 1000000000
+STACKS = [8192, 1024, 512, 256, 192, 128, 96, 64, 48, 32, 16]
 LIMITS = [16, 24, 32, 48, 64, 96, 128, 192, 256, 384, 512, 768, 1024, 1536, 2048]
 
 
@@ -188,8 +189,8 @@ class Trial:
 
             self.limits(name, words.split(), 0, text, after=after)
 
-    def stack(self):
-        """The least stack under which the deepest files are answered."""
+    def stack_rows(self):
+        """Runs over the deepest files, with their statuses and texts."""
         deep = b"[" * 127 + b"]" * 127
         skipped = b'[{"publicKey":"a","x":' + b"[" * 125 + b"]" * 125 + b"}]"
         sets = b"[" + b",".join(b'{"publicKey":"%s","quorumSet":%s}' % (it, malicious.nested(32)) for it in (b"a", b"b")) + b"]"
@@ -197,7 +198,7 @@ class Trial:
         self.put("skipped", skipped)
         self.put("sets", sets)
         self.put("cert", malicious.head(sets, "pair") + b"first a\nsecond b\nend\n")
-        rows = [
+        return [
             (["show", "deep"], 4, "config not-node 0\n"),
             (["show", "skipped"], 0, malicious.shown(1, 0, 1)),
             (["show", "sets"], 0, malicious.shown(2, 64, 0)),
@@ -208,16 +209,24 @@ class Trial:
             (["trial", "4", "made"], 0, "trial 4\nnodes 12\nvariables 82\nclauses 122\nintersects yes\n"),
             (["intersect"], 3, None),
         ]
-        for size in (8192, 1024, 512, 256, 192, 128, 96, 64, 48, 32, 16):
-            bad = []
-            for words, status, text in rows:
-                ended = Ended([self.program] + words, self.folder, stack=size * 1024)
-                if not (ended.status == status and ended.err == "" and text in (None, ended.text)):
-                    bad.append("%s: %d" % (" ".join(words), ended.status))
-            print("stack of %5d kB: %s" % (size, "; ".join(bad) or "all answered"))
-            if size == 8192:
-                self.judge("stack of 8 MB", not bad, ended)
 
+    def fails_under(self, size, rows):
+        """The runs that are not answered under a stack of this many kB."""
+        bad = []
+        for words, status, text in rows:
+            ended = Ended([self.program] + words, self.folder, stack=size * 1024)
+            if not (ended.status == status and ended.err == "" and text in (None, ended.text)):
+                bad.append((words, ended))
+        return bad
+
+    def stack(self):
+        """The least stack under which the deepest files are answered."""
+        rows = self.stack_rows()
+        for size in STACKS:
+            bad = self.fails_under(size, rows)
+            print("stack of %5d kB: %s" % (size, "; ".join("%s: %d" % (" ".join(words), ended.status) for words, ended in bad) or "all answered"))
+            if size == STACKS[0]:
+                self.judge("stack of 8 MB", not bad, bad[0][1] if bad else None)
 
     def configurations(self):
         for name, data, text in configurations():

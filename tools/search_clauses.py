@@ -1,7 +1,7 @@
 #!/usr/bin/env python3
 """Writes the clauses that a search could go over in place of the formula's: tools/search_clauses.py SYSTEM FOLDER [GROWTH].
 
-SYSTEM is as for bench/trials.py. Writes three formulas in DIMACS form to FOLDER, for `tools/plain_search.py` and other solvers, and
+SYSTEM is as for `bench/trials.py`. Writes three formulas in DIMACS form to FOLDER, for `tools/plain_search.py` and other solvers, and
 prints the variables and clauses of each:
 
     exported.cnf     the intersection formula, as `export` writes it

@@ -1,0 +1,54 @@
+#!/usr/bin/env python3
+"""The table of memory: the program on the files of tests/memory.py without a limit, `show` beside `jq -c length`; and its stack."""
+import os
+import sys
+import tempfile
+
+TOP = os.path.dirname(os.path.dirname(os.path.abspath(__file__)))
+sys.path[:0] = [os.path.join(TOP, "tests"), os.path.join(TOP, "bench")]
+import malicious
+import memory
+import runs
+
+
+def right(ended, answer, name):
+    if (ended.status, ended.text) != answer:
+        raise SystemExit("%s: status %d, %r" % (name, ended.status, ended.text[:100]))
+
+
+def show(trial, name, data, text):
+    trial.put("config", data)
+    ended = memory.Ended([trial.program, "show", "config"], trial.folder)
+    right(ended, (0, text), name)
+    its = runs.run(["jq", "-c", "length", os.path.join(trial.folder, "config")])
+    return runs.row(["`show`, " + name, "%.0f" % ended.memory, "%.2f" % ended.time, its.memory, "%.2f" % its.seconds])
+
+
+def check(trial, name, pieces, answer):
+    trial.put("config", malicious.TWO)
+    ended = memory.Ended([trial.program, "check", "config", "/dev/stdin"], trial.folder, pieces=pieces)
+    right(ended, answer, name)
+    return runs.row(["`check`, " + name, "%.0f" % ended.memory, "%.2f" % ended.time, "-", "-"])
+
+
+def stack_line(trial):
+    rows = trial.stack_rows()
+    for size, less in zip(memory.STACKS, memory.STACKS[1:]):
+        bad = trial.fails_under(less, rows)
+        if bad:
+            return "Under a stack of %d kB every file is answered; under %d kB the system ends `%s`." % (size, less, " ".join(bad[0][0]))
+    return "Under a stack of %d kB every file is answered." % memory.STACKS[-1]
+
+
+def made(program, quick):
+    """The lines of the table, one by one."""
+    yield from runs.head(["run", "memory, MB", "s", "`jq`: MB", "s"])
+    with tempfile.TemporaryDirectory() as folder:
+        trial = memory.Trial(folder, program)
+        configurations = list(memory.configurations())
+        for name, data, text in configurations[-1:] if quick else configurations:
+            yield show(trial, name, data, text)
+        for name, pieces, answer in [] if quick else memory.certificates():
+            yield check(trial, name, pieces, answer)
+        yield ""
+        yield stack_line(trial)
