@@ -31,4 +31,4 @@ def made(program, quick):
             path = os.path.join(folder, name + ".json")
             ours, its = (runs.least(words) for words in ([program, "show", path], ["jq", "-c", "length", path]))
             sizes = ["{:,}".format(it) for it in counted(path)]
-            yield runs.row([name, *sizes, runs.megabytes(os.path.getsize(path)), runs.seconds(ours), ours.memory, runs.beside(ours, its), its.memory])
+            yield runs.row(["`%s`" % name, *sizes, runs.megabytes(os.path.getsize(path)), runs.seconds(ours), ours.memory, runs.beside(ours, its), its.memory])

@@ -1,5 +1,5 @@
 #!/usr/bin/env python3
-"""Checks what the documents name: files and words of the sources, links, the crates and their picture.
+"""Checks the documents: the files, words and links that they name, the crates and their picture, their length and their sentences.
 
 A definition is named as `crate/specs/File.antt`: `word`, `word`; the file lies in crates/, and each word stands in it. Any other
 name in backquotes that is written as names of the code are (`is_rising`, `TheConstants`, `File.antt`) stands somewhere in the repository.
@@ -18,6 +18,10 @@ NAMED = re.compile(r"`([a-z_0-9]+/(?:src|specs|proofs|must-fail)/[\w./]+)`((?:: 
 CODED = re.compile(r"`((?:[A-Za-z]\w*::)*[A-Za-z]\w*(?:\.antt|\.rt|\.py|\.edit)?)`")
 # The most words of a document, so that it stays one that is read.
 BUDGETS = {"README.md": 900, "CHANGELOG.md": 300, "CONTRIBUTING.md": 1200, "docs/DECISIONS.md": 4500, "docs/DEFINITIONS.md": 3200, "docs/FORMATS.md": 6500, "docs/GLOSSARY.md": 300, "docs/GUIDE.md": 1800, "docs/MAP.md": 1800, "docs/PERFORMANCE.md": 2000, "docs/PROVED.md": 2500, "docs/PROVING.md": 1200}
+# A sentence has fewer words than this.
+MOST_WORDS = 40
+# Words for which the documents have plainer ones: after, given, borrowed, the number of.
+UNUSUAL = re.compile(r"\b(behind|told|lent|so many)\b", re.I)
 # Names of the toolchain that the documents cite.
 FOREIGN = {"TheConstants"}
 PATH = re.compile(r"`((?:crates|docs|tools|tests|bench|examples|\.ci)/[\w./-]+)`")
@@ -55,6 +59,25 @@ def is_coded(name):
     return bool(re.search(r"_|::|\.|[a-z][A-Z]", name)) and not name.isupper()
 
 
+def paragraphs(text):
+    """The texts without code: paragraphs, items of lists, cells of tables and headings, each without what stands in backquotes."""
+    text = re.sub(r"^```.*?^```|<!--.*?-->", "", text, flags=re.S | re.M)
+    found = [""]
+    for line in text.split("\n"):
+        line = line.lstrip("> ")
+        if line.startswith("|"):
+            found += [*line.strip("|").split("|"), ""]
+        elif not line or re.match(r"(-|\d+\.|#+) ", line):
+            found.append(re.sub(r"^(-|\d+\.|#+) ", "", line))
+        else:
+            found[-1] += " " + line
+    return [re.sub(r"\]\([^)\s]*\)", "]", re.sub(r"`[^`]*`", "x", it)) for it in found]
+
+
+def words_in(text):
+    return sum(1 for word in text.split() if re.search(r"\w", word))
+
+
 class Trial:
     def __init__(self):
         self.passed = 0
@@ -88,10 +111,17 @@ class Trial:
                 self.judge(all(part in self.words for part in parts), "%s names %s, which stands nowhere" % (name, cited))
 
     def budget(self, name, text):
-        """A document has no more words than it is given."""
+        """A document has no more words than its budget."""
         if name in BUDGETS:
-            count = sum(1 for word in text.split() if re.search(r"\w", word))
+            count = words_in(text)
             self.judge(count <= BUDGETS[name], "%s has %d words, and %d are its budget" % (name, count, BUDGETS[name]))
+
+    def sentences(self, name, text):
+        """No sentence is long, and no word is used for which there is a plainer one."""
+        for paragraph in paragraphs(text):
+            for sentence in re.split(r"(?<=[.?!])[)*]*\s+", paragraph):
+                self.judge(words_in(sentence) < MOST_WORDS, "%s has a sentence of %d words: %s" % (name, words_in(sentence), sentence.strip()[:80]))
+            self.judge(not UNUSUAL.search(paragraph), "%s has an unusual word: %s" % (name, paragraph.strip()[:80]))
 
     def links(self, name, text):
         for link in re.findall(r"\]\(([^)\s]+)\)", text):
@@ -140,6 +170,7 @@ def main():
         trial.names(name, text)
         trial.links(name, text)
         trial.budget(name, text)
+        trial.sentences(name, text)
     trial.crates()
     print("documents: %d passed, %d failed" % (trial.passed, trial.failed))
     return 1 if trial.failed else 0
