@@ -6,17 +6,24 @@ A shell or man that is not there counts as skipped, and so does the installed pr
 """
 
 import os
+import pty
+import re
+import select
 import shutil
+import signal
 import subprocess
 import sys
 import tempfile
+import time
 
 TOP = os.path.dirname(os.path.dirname(os.path.abspath(__file__)))
 PROGRAM = os.path.join(TOP, "crates", "quorum_cli", "out", "quorum_cli")
 # What is typed, and one of the words that have to be offered.
 TYPED = [(["bl"], "blocking"), (["quo"], "quorums"), (["intersect", "--f"], "--faulty-orgs"), (["vblocks", "--"], "--node")]
 BASH = """source "$1"; shift; COMP_WORDS=(quorum_cli "$@"); COMP_CWORD=$#; _quorum_cli; printf '%s\\n' "${COMPREPLY[@]}" """
-ZSH = "fpath=($1 $fpath); autoload -Uz _quorum_cli; autoload +X _quorum_cli && whence -w _quorum_cli"
+# What is typed in zsh, and what stands there after a tab.
+ZSH_TYPED = {"quorum_cli quo": "quorum_cli quorums", "quorum_cli vblocks --n": "quorum_cli vblocks --node"}
+ZSH = "PROMPT= RPROMPT=; unsetopt zle_bracketed_paste; fpath=(%s $fpath); autoload -Uz compinit; compinit -u -D; print re''ady\n"
 COUNTS = {"passed": 0, "failed": 0, "skipped": 0}
 
 
@@ -45,6 +52,32 @@ def pages():
         COUNTS["skipped"] += 1
 
 
+def shown(terminal, wanted, seconds=30):
+    """Whether the text comes on a terminal in time, whatever moves of the cursor stand in it."""
+    text, until = "", time.monotonic() + seconds
+    while wanted not in re.sub(r"\x1b\[[0-9;?]*[A-Za-z]|[\r\x07]", "", text):
+        if time.monotonic() > until:
+            return False
+        if select.select([terminal], [], [], 1)[0]:
+            text += os.read(terminal, 4096).decode(errors="replace")
+    return True
+
+
+def zsh_completes(typed, wanted):
+    """Whether an interactive zsh makes the one of the other, at a tab."""
+    child, terminal = pty.fork()
+    if not child:
+        os.execvpe("zsh", ["zsh", "-f", "-i"], {**os.environ, "TERM": "vt100"})
+    os.write(terminal, (ZSH % os.path.join(TOP, "share")).encode())
+    found = shown(terminal, "ready")
+    os.write(terminal, (typed + "\t").encode())
+    found = found and shown(terminal, wanted)
+    os.kill(child, signal.SIGKILL)
+    os.waitpid(child, 0)
+    os.close(terminal)
+    return found
+
+
 def completions():
     for typed, wanted in TYPED:
         offered = run(["bash", "-c", BASH, "bash", share("quorum_cli.bash"), *typed])[1].split()
@@ -56,8 +89,8 @@ def completions():
         else:
             COUNTS["skipped"] += 1
     if shutil.which("zsh"):
-        said = run(["zsh", "-f", "-c", ZSH, "zsh", os.path.join(TOP, "share")])
-        judge(said[0] == 0 and "function" in said[1], "zsh does not take the completion: %r" % (said,))
+        for typed, wanted in ZSH_TYPED.items():
+            judge(zsh_completes(typed, wanted), "zsh does not complete %r" % typed)
     else:
         COUNTS["skipped"] += 1
 
