@@ -170,6 +170,15 @@ def searches(program, quick):
         yield "growth-random.svg", growth.picture("Time of a search of random systems by their nodes", "nodes, each of which wants 5 of 8", lines(random_ones))
 
 
+def growth_line(found):
+    """How lemmas, bytes and time grow from the first of these trials to the last."""
+    if len(found) < 2:
+        return "Of the trials fewer than two ended."
+    counts = [int(it.system) for it in found]
+    powers = [growth.power(list(zip(counts, values))) for values in zip(*((it.lemmas, it.size, it.search.seconds) for it in found))]
+    return "From %d to %d organisations lemmas grow as n^%.1f, bytes as n^%.1f, time as n^%.1f." % (counts[0], counts[-1], *powers)
+
+
 def networks(program, quick):
     """The lines of the table of networks of organisations, how they grow, and the picture of that."""
     yield from head()
@@ -178,11 +187,8 @@ def networks(program, quick):
         found.append(asked(program, system, limit=8))
         yield found[-1].row()
     trials = [it for it in found if it.system.isdigit()]
-    grown = [it for it in trials if int(it.system) >= (50 if quick else 100)]
-    counts = [int(it.system) for it in grown]
-    powers = [growth.power(list(zip(counts, values))) for values in ([it.lemmas for it in grown], [it.size for it in grown], [it.search.seconds for it in grown])]
     yield ""
-    yield "From %d to %d organisations lemmas grow as n^%.1f, bytes as n^%.1f, time as n^%.1f." % (counts[0], counts[-1], *powers)
+    yield growth_line([it for it in trials if it.search.ended and int(it.system) >= (50 if quick else 100)])
     yield "growth.svg", growth.picture("Time of a search by the number of organisations", "organisations of three nodes", lines(trials))
 
 
