@@ -3,3 +3,4 @@ pub mod MissingLaws
 pub mod CountLaws
 pub mod CountingLaws
 pub mod NamedLaws
+pub mod KeptLaws

@@ -3,3 +3,4 @@ pub mod Occurrences
 pub mod Rising
 pub mod Counted
 pub mod Named
+pub mod Kept

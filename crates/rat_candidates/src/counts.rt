@@ -93,3 +93,14 @@ pub fn count_all(store: &Store, counts: &mut Vec<u32>)
         above = next;
     }
 }
+
+/// Counts all clauses of a store, in the room of the counts that are there. O(counts, and literals of the clauses).
+pub fn count_anew(store: &Store, counts: &mut Vec<u32>)
+    ensures { (k : Literal) → IsOver counts.new.items k (occurrences k store.now.held) }
+{
+    let places = counts.len();
+    counts.clear();
+    if places > 0 && counts.resize(places, 0).is_ok() {
+        count_all(store, counts);
+    }
+}

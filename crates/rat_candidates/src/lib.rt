@@ -4,10 +4,12 @@
 
 mod counts;
 mod hints;
+mod kept;
 mod scan;
 mod store;
 
 pub use clause_store::Store;
 pub use hints::group_id;
+pub use kept::KeptHints;
 pub use lrat_model::Lit;
 pub use store::CountedStore;
