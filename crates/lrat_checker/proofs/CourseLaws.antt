@@ -1,10 +1,11 @@
 -- An open addition, one hint later.
-use Rattle.std.proofs.Common.{◌≡◌, ℕ, suc, ◌+◌, ◌≤◌, true, false, List, [], ◌∷◌, ◌++◌, length, take, refl, sym, ap, ◌∙◌, subst, arith, ⊎_elim, Option, Some, None, ℤ, pos, negsuc, Ok, Err, append_assoc}
+use Rattle.std.proofs.Common.{◌≡◌, ℕ, suc, ◌+◌, ◌≤◌, true, false, List, [], ◌∷◌, ◌++◌, length, take, refl, sym, ap, ◌∙◌, subst, arith, ⊎_elim, Option, Some, None, ℤ, pos, negsuc, Ok, Err, cond}
 use Rattle.std.specs.Option.{option_or}
-use Rattle.std.specs.Prelude.{slice_get, is_some}
+use Rattle.std.specs.Prelude.{slice_get, is_some, ◌==◌, ◌||◌, ◌&&◌, not}
 use Rattle.std.proofs.lemmas.List.{append-nil, take-append-le}
-use Rattle.lrat_model.specs.Literal.{Literal, negated}
-use Rattle.lrat_model.specs.Clauses.{Held}
+use Rattle.std.proofs.Math.Bool as bool
+use Rattle.lrat_model.specs.Literal.{Literal, negated, has}
+use Rattle.lrat_model.specs.Clauses.{Held, has_id}
 use Rattle.lrat_model.specs.Propagation.{Outcome, Conflict, Stops, Leaves, take_hint, and_then, propagate}
 use Rattle.lrat_model.specs.Steps.{outcome_fault}
 use Rattle.lrat_model.specs.Rat.{Group, first_hints, groups_of, take_group, groups_fault, ids_of, first_without, missing_fault, pivot_fault, rest_fault}
@@ -13,6 +14,7 @@ use Rattle.lrat_model.specs.declared.step.Rule.TheVariants.{Rup, Rat}
 use Rattle.lrat_model.specs.declared.step.StepFault.{StepFault}
 use Rattle.lrat_model.specs.declared.step.StepFault.TheVariants.{NoConflict, RatStep}
 use Rattle.rat_candidates.specs.Groups.{group_id, ids_in}
+use Rattle.rat_candidates.specs.Kept.{NamesToo}
 use Rattle.lrat_checker.specs.declared.hint.Hinting.{Hinting}
 use Rattle.lrat_checker.specs.declared.hint.Hinting.TheVariants as hinting
 use Rattle.lrat_checker.specs.declared.opened.Opened.{Opened}
@@ -21,10 +23,9 @@ use Rattle.lrat_checker.specs.declared.opened.Course.TheVariants as course
 use Rattle.lrat_checker.specs.Hints.{Took}
 use Rattle.lrat_checker.specs.Extends.{Extends}
 use Rattle.lrat_checker.specs.Groups.{Opens}
-use Rattle.lrat_checker.specs.Adding.{group_rest, left_out, more_groups, unit_fault, fault_from, fault_after, has_met, GoesOn, StopsAt}
+use Rattle.lrat_checker.specs.Adding.{group_rest, left_out, more_groups, unit_fault, fault_from, fault_after, has_met, HasPlace, GoesOn, StopsAt}
 use Rattle.lrat_checker.specs.Courses.{unless_done, led, adding_of, Suits, IsUnitHint, onward, is_over, Ends, IsUndone, missing_of}
 use Rattle.lrat_checker.proofs.AddingLaws.{alike_fault, unit_alike}
-use Rattle.lrat_checker.proofs.GroupLaws.{ids_in-append}
 
 -- what was true first stays so where literals are made true behind it
 pub taken_grown : (old new : List Literal) (n : ℕ) → n ≤ length old → Extends old new → take n new ≡ take n old
@@ -135,6 +136,22 @@ suits_onward rule trues new groups (course.InGroup before is_done) hinting.Confl
 
 -- ---- a hint that begins a group
 
+-- an id counts as named however often it was
+pub without_alike : (held : Held) (l : Literal) (xs ys : List ℕ) → ((k : ℕ) → has_id xs k ≡ has_id ys k) → first_without held l xs ≡ first_without held l ys
+without_alike [] l xs ys alike = refl
+without_alike (e ∷ held) l xs ys alike =
+    ap (λ b. cond (has e.1 l && not b) (Some e.0) (first_without held l xs)) (alike e.0)
+    ∙ ap (λ o. cond (has e.1 l && not (has_id ys e.0)) (Some e.0) o) (without_alike held l xs ys alike)
+
+has_id-append : (xs ys : List ℕ) (k : ℕ) → has_id (xs ++ ys) k ≡ (has_id xs k || has_id ys k)
+has_id-append [] ys k = refl
+has_id-append (x ∷ xs) ys k = ap (λ b. (x == k) || b) (has_id-append xs ys k) ∙ sym (bool.or_assoc (x == k) (has_id xs k) (has_id ys k))
+
+ids_alike : (groups later : List ℤ) (id : ℕ) (more : List ℕ) → NamesToo groups id later → (k : ℕ) → has_id (ids_in groups ++ (id ∷ more)) k ≡ has_id (ids_in later ++ more) k
+ids_alike groups later id more named k =
+    has_id-append (ids_in groups) (id ∷ more) k ∙ sym (bool.or_assoc (has_id (ids_in groups) k) (id == k) (has_id more k))
+    ∙ ap (λ b. b || has_id more k) (sym (named k)) ∙ sym (has_id-append (ids_in later) more k)
+
 missing_left : (g : Group) (groups : List Group) (o : Option ℕ) → missing_fault (g ∷ groups) o ≡ left_out o
 missing_left g groups None = refl
 missing_left g groups (Some id) = refl
@@ -166,16 +183,16 @@ module _ (held : Held) (before new rest : List Literal) (pivot : Literal) (group
   group_rest_so hinting.More opens hints = ap outcome_fault (opens.2 hints) ∙ alike_fault held opens.0 new (place + 1) hints opens.1
   group_rest_so hinting.Conflict opens hints = ap outcome_fault (opens hints)
 
-  pub group_opens : (h : Hinting) (count : ℕ) → Opens held before pivot place (suc n) (Ok h) new → Extends before new → count ≡ length before
-      → (hints : List ℤ) → more_groups held before (pivot ∷ rest) (ids_in groups) (groups_of place (negsuc n ∷ hints)) ≡ fault_from Rat held (pivot ∷ rest) (place + 1) (led new (groups ++ negsuc n ∷ []) (course.InGroup count (has_met h))) hints
-  group_opens h count opens grows is hints =
+  pub group_opens : (later : List ℤ) (h : Hinting) (count : ℕ) → NamesToo groups (suc n) later → Opens held before pivot place (suc n) (Ok h) new → Extends before new → count ≡ length before
+      → (hints : List ℤ) → more_groups held before (pivot ∷ rest) (ids_in groups) (groups_of place (negsuc n ∷ hints)) ≡ fault_from Rat held (pivot ∷ rest) (place + 1) (led new later (course.InGroup count (has_met h))) hints
+  group_opens later h count named opens grows is hints =
       let gs = groups_of (place + 1) hints in
-      let ids : ids_in groups ++ (suc n ∷ ids_of gs) ≡ ids_in (groups ++ negsuc n ∷ []) ++ ids_of gs =
-      sym (append_assoc (ids_in groups) (suc n ∷ []) (ids_of gs)) ∙ ap (λ xs. xs ++ ids_of gs) (sym (ids_in-append groups (negsuc n ∷ []))) in
+      let same_ids : first_without held (negated pivot) (ids_in groups ++ (suc n ∷ ids_of gs)) ≡ first_without held (negated pivot) (ids_in later ++ ids_of gs) =
+      without_alike held (negated pivot) (ids_in groups ++ (suc n ∷ ids_of gs)) (ids_in later ++ ids_of gs) (ids_alike groups later (suc n) (ids_of gs) named) in
       or_assoc (outcome_fault (take_group held before pivot (record { place = place; id = suc n; hints = first_hints hints }))) (groups_fault held before pivot gs) (left_out (first_without held (negated pivot) (ids_in groups ++ (suc n ∷ ids_of gs))))
       ∙ ap (λ o. option_or o (option_or (groups_fault held before pivot gs) (left_out (first_without held (negated pivot) (ids_in groups ++ (suc n ∷ ids_of gs)))))) (group_rest_so h opens (first_hints hints))
-      ∙ ap (λ xs. option_or (outcome_fault (group_rest held (unless_done (has_met h) new) (place + 1) (first_hints hints))) (option_or (groups_fault held before pivot gs) (left_out (first_without held (negated pivot) xs)))) ids
-      ∙ ap (λ base. option_or (outcome_fault (group_rest held (unless_done (has_met h) new) (place + 1) (first_hints hints))) (more_groups held base (pivot ∷ rest) (ids_in (groups ++ negsuc n ∷ [])) gs)) (sym (taken_whole before new count is grows))
+      ∙ ap (λ o. option_or (outcome_fault (group_rest held (unless_done (has_met h) new) (place + 1) (first_hints hints))) (option_or (groups_fault held before pivot gs) (left_out o))) same_ids
+      ∙ ap (λ base. option_or (outcome_fault (group_rest held (unless_done (has_met h) new) (place + 1) (first_hints hints))) (more_groups held base (pivot ∷ rest) (ids_in later) gs)) (sym (taken_whole before new count is grows))
 
 -- ---- the end
 
@@ -185,19 +202,25 @@ none_left_out held before (pivot ∷ rest) ids = ap (λ xs. left_out (first_with
 
 -- ---- the addition
 
-module _ (held : Held) (lits trues new : List Literal) (groups : List ℤ) (o next : Opened) (hint : ℤ) (same_id : next.id ≡ o.id) (count : next.hints ≡ o.hints + 1) where
+module _ (held : Held) (lits trues new : List Literal) (groups : List ℤ) (o next : Opened) (hint : ℤ) (same_id : next.id ≡ o.id) (up : next.hints ≤ o.hints + 1) (count : HasPlace o.hints → next.hints ≡ o.hints + 1) where
   pub passes_over : (rule : Rule) → is_over o.course ≡ true → next.course ≡ o.course → IsUnitHint rule hint → Suits rule trues groups o.course → GoesOn rule held hint (Some (adding_of lits trues groups o)) (Some (adding_of lits trues groups next))
   passes_over rule over course_is unit suits =
-      (same_id, refl, omega (arith, count), λ hints. rw (count, course_is) (over_goes_on rule held lits trues groups o.course (o.hints + 1) hint over unit suits hints))
+      (same_id, refl, up, λ small hints. rw (count small, course_is) (over_goes_on rule held lits trues groups o.course (o.hints + 1) hint over unit suits hints))
 
-  pub goes_on : (rule : Rule) (h : Hinting) → is_over o.course ≡ false → next.course ≡ onward o.course h → Took (take_hint held trues (o.hints + 1) hint) (Ok h) new → Extends trues new → IsUnitHint rule hint → Suits rule trues groups o.course
+  pub goes_on : (rule : Rule) (h : Hinting) → is_over o.course ≡ false → next.course ≡ onward o.course h → Took (take_hint held trues next.hints hint) (Ok h) new → Extends trues new → IsUnitHint rule hint → Suits rule trues groups o.course
       → GoesOn rule held hint (Some (adding_of lits trues groups o)) (Some (adding_of lits new groups next))
-  goes_on rule h over course_is took grows unit suits =
-      (same_id, refl, omega (arith, count), λ hints. rw (count, course_is) (unit_goes_on rule held lits trues new groups (o.hints + 1) hint unit o.course h over suits took grows hints))
+  goes_on rule h over course_is took grows unit suits = (
+    same_id,
+    refl,
+    up,
+    λ small hints. rw (count small, course_is)
+        (unit_goes_on rule held lits trues new groups (o.hints + 1) hint unit o.course h over suits (subst (λ (k : ℕ). Took (take_hint held trues k hint) (Ok h) new) (count small) took) grows hints),
+  )
 
-pub halts : (rule : Rule) (held : Held) (lits trues : List Literal) (groups : List ℤ) (o : Opened) (hint : ℤ) (fault : StepFault) → is_over o.course ≡ false → take_hint held trues (o.hints + 1) hint ≡ Stops fault → IsUnitHint rule hint → Suits rule trues groups o.course
+pub halts : (rule : Rule) (held : Held) (lits trues : List Literal) (groups : List ℤ) (o : Opened) (hint : ℤ) (fault : StepFault) (place : ℕ) → (HasPlace o.hints → place ≡ o.hints + 1) → is_over o.course ≡ false → take_hint held trues place hint ≡ Stops fault → IsUnitHint rule hint → Suits rule trues groups o.course
     → StopsAt rule held hint (Some (adding_of lits trues groups o)) fault
-halts rule held lits trues groups o hint fault over took unit suits hints = unit_stops rule held lits trues trues groups (o.hints + 1) hint unit o.course fault over suits took hints
+halts rule held lits trues groups o hint fault place count over took unit suits small hints =
+    unit_stops rule held lits trues trues groups (o.hints + 1) hint unit o.course fault over suits (subst (λ (k : ℕ). take_hint held trues k hint ≡ Stops fault) (count small) took) hints
 
 -- a RAT hint is a negative one
 pub as_group : (hint : ℤ) (id : ℕ) → Some id ≡ group_id hint → (n : ℕ) × (hint ≡ negsuc n) × (id ≡ suc n)
@@ -206,32 +229,38 @@ as_group (negsuc n) id is = (n, refl, cc)
 
 module _ (held : Held) (trues before : List Literal) (groups : List ℤ) (o : Opened) (hint : ℤ) (id : ℕ) (names : Some id ≡ group_id hint) where
   pub undone_halts : (lits : List Literal) (fault : StepFault) → IsUndone trues groups o.course fault → StopsAt Rat held hint (Some (adding_of lits trues groups o)) fault
-  undone_halts lits fault undone hints =
+  undone_halts lits fault undone small hints =
       let is = as_group hint id names in
       subst (λ (h : ℤ). fault_from Rat held lits (o.hints + 1) (led trues groups o.course) (h ∷ hints) ≡ Some fault) (sym is.1) (undone held lits (o.hints + 1) is.0 hints)
 
-  module _ (ends : Ends trues groups o.course before) where
-    pub empty_halts : StopsAt Rat held hint (Some (adding_of [] trues groups o)) (RatStep (o.hints + 1))
-    empty_halts hints =
+  module _ (ends : Ends trues groups o.course before) (place : ℕ) (count : HasPlace o.hints → place ≡ o.hints + 1) where
+    pub empty_halts : StopsAt Rat held hint (Some (adding_of [] trues groups o)) (RatStep place)
+    empty_halts small hints =
         let is = as_group hint id names in
-        subst (λ (h : ℤ). fault_from Rat held [] (o.hints + 1) (led trues groups o.course) (h ∷ hints) ≡ Some (RatStep (o.hints + 1))) (sym is.1) (ends held [] (o.hints + 1) is.0 hints)
+        subst (λ (h : ℤ). fault_from Rat held [] (o.hints + 1) (led trues groups o.course) (h ∷ hints) ≡ Some (RatStep place)) (sym is.1)
+        (ends held [] (o.hints + 1) is.0 hints ∙ ap (λ k. Some (RatStep k)) (sym (count small)))
 
-    pub group_halts : (pivot : Literal) (rest new : List Literal) (fault : StepFault) → Opens held before pivot (o.hints + 1) id (Err fault) new → StopsAt Rat held hint (Some (adding_of (pivot ∷ rest) trues groups o)) fault
-    group_halts pivot rest new fault opens hints =
+    pub group_halts : (pivot : Literal) (rest new : List Literal) (fault : StepFault) → Opens held before pivot place id (Err fault) new → StopsAt Rat held hint (Some (adding_of (pivot ∷ rest) trues groups o)) fault
+    group_halts pivot rest new fault opens small hints =
         let is = as_group hint id names in
-        let so : Opens held before pivot (o.hints + 1) (suc is.0) (Err fault) new = subst (λ (k : ℕ). Opens held before pivot (o.hints + 1) k (Err fault) new) is.2 opens in
+        let so : Opens held before pivot (o.hints + 1) (suc is.0) (Err fault) new =
+        subst (λ (k : ℕ). Opens held before pivot k (suc is.0) (Err fault) new) (count small) (subst (λ (k : ℕ). Opens held before pivot place k (Err fault) new) is.2 opens) in
         subst (λ (h : ℤ). fault_from Rat held (pivot ∷ rest) (o.hints + 1) (led trues groups o.course) (h ∷ hints) ≡ Some fault) (sym is.1)
         (ends held (pivot ∷ rest) (o.hints + 1) is.0 hints ∙ group_stops_at held before new rest pivot groups (o.hints + 1) is.0 fault so hints)
 
-    pub group_goes : (pivot : Literal) (rest new : List Literal) (next : Opened) (h : Hinting) (count : ℕ) → next.id ≡ o.id → next.hints ≡ o.hints + 1 → next.course ≡ course.InGroup count (has_met h) → count ≡ length before
-        → Opens held before pivot (o.hints + 1) id (Ok h) new → Extends before new → GoesOn Rat held hint (Some (adding_of (pivot ∷ rest) trues groups o)) (Some (adding_of (pivot ∷ rest) new (groups ++ hint ∷ []) next))
-    group_goes pivot rest new next h count same_id hints_is course_is count_is opens grows =
+    pub group_goes : (pivot : Literal) (rest new : List Literal) (later : List ℤ) (h : Hinting) (held_before : ℕ) → place ≤ o.hints + 1 → held_before ≡ length before → NamesToo groups id later
+        → Opens held before pivot place id (Ok h) new → Extends before new
+        → GoesOn Rat held hint (Some (adding_of (pivot ∷ rest) trues groups o)) (Some (adding_of (pivot ∷ rest) new later (record { id = o.id; hints = place; course = course.InGroup held_before (has_met h) })))
+    group_goes pivot rest new later h held_before up count_is named opens grows =
         let is = as_group hint id names in
-        let so : Opens held before pivot (o.hints + 1) (suc is.0) (Ok h) new = subst (λ (k : ℕ). Opens held before pivot (o.hints + 1) k (Ok h) new) is.2 opens in (
-          same_id,
+        let too : NamesToo groups (suc is.0) later = subst (λ (k : ℕ). NamesToo groups k later) is.2 named in (
           refl,
-          omega (arith, hints_is),
-          λ hints. rw (hints_is, course_is, is.1) (ends held (pivot ∷ rest) (o.hints + 1) is.0 hints ∙ group_opens held before new rest pivot groups (o.hints + 1) is.0 h count so grows count_is hints),
+          refl,
+          up,
+          λ small hints.
+              let so : Opens held before pivot (o.hints + 1) (suc is.0) (Ok h) new =
+              subst (λ (k : ℕ). Opens held before pivot k (suc is.0) (Ok h) new) (count small) (subst (λ (k : ℕ). Opens held before pivot place k (Ok h) new) is.2 opens) in
+              rw (count small, is.1) (ends held (pivot ∷ rest) (o.hints + 1) is.0 hints ∙ group_opens held before new rest pivot groups (o.hints + 1) is.0 later h held_before too so grows count_is hints),
         )
 
 -- the first literal, if there is one

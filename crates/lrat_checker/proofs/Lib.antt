@@ -8,5 +8,4 @@ pub mod TrailLaws
 pub mod AddingLaws
 pub mod CourseLaws
 pub mod SignatureLaws
-pub mod PathLaws
 pub mod SubsetLaws

@@ -1,15 +1,14 @@
 -- The bits of the literals of a list: those of a subset are among them.
-use Rattle.std.proofs.Common.{◌≡◌, ℕ, true, ◌&&◌, List, [], ◌∷◌, ⊎_elim, refl, sym, ap, ◌∙◌, arith, bit_or, ◌<◌, ◌%◌}
+use Rattle.std.proofs.Common.{◌≡◌, ℕ, true, ◌&&◌, List, [], ◌∷◌, ⊎_elim, refl, sym, ap, ◌∙◌, arith, bit_or}
 use Rattle.std.specs.Prelude.{◌==◌, false}
 use Rattle.std.specs.List.{list_all, fold}
 use Rattle.std.proofs.lemmas.Bool.{eqb-true, and_parts}
 use Rattle.std.proofs.lemmas.Nat.{or_comm}
-use Rattle.std.proofs.lemmas.Nat.{pow_pos}
 use Rattle.std.specs.Int.Bits.{or_self, or_zero_r}
 use Rattle.std.proofs.lemmas.Nat.Bits.{same_from_bits, bit_at_or}
 use Rattle.lrat_model.specs.Literal.{Literal, has, IsSubset}
 use Rattle.lrat_model.proofs.Literals.{has-cons}
-use Rattle.lrat_checker.specs.Keys.{code_of, bit_of, signature_of}
+use Rattle.lrat_checker.specs.Keys.{bit_of, signature_of}
 use Rattle.lrat_checker.specs.Subsets.{is_watch_of}
 use Rattle.lrat_checker.specs.declared.subsets.Watch.{Watch}
 
@@ -22,9 +21,6 @@ still_there a b c there = bits_assoc a b c ∙ ap (bit_or a) (or_comm b c) ∙ s
 
 pub just_put : (a b : ℕ) → bit_or (bit_or a b) b ≡ bit_or a b
 just_put a b = bits_assoc a b b ∙ ap (bit_or a) (or_self b)
-
-pub bit_of-pos : (l : Literal) → 0 < bit_of l
-bit_of-pos l = pow_pos (code_of l % 64)
 
 fold_keeps : (ls : List Literal) (bits : ℕ) (l : Literal) → bit_or bits (bit_of l) ≡ bits → bit_or (fold (λ bits l. bit_or bits (bit_of l)) bits ls) (bit_of l) ≡ fold (λ bits l. bit_or bits (bit_of l)) bits ls
 fold_keeps [] bits l there = there

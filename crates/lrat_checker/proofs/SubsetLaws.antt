@@ -1,20 +1,20 @@
 -- Where a clause stands among the lists, and which watches cannot be those of a subset.
-use Rattle.std.proofs.Common.{◌≡◌, ℕ, zero, suc, ◌<◌, ◌≤◌, true, false, ◌&&◌, List, [], ◌∷◌, ◌++◌, length, get_or, set, ⊎_elim, inl, inr, refl, sym, ap, ◌∙◌, subst, arith, cond, Option, Some, None, Result, Ok, Err, OnOk}
-use Rattle.std.specs.Prelude.{◌==◌, ◌⊎◌, IfSome}
+use Rattle.std.proofs.Common.{◌≡◌, ℕ, zero, suc, ◌<◌, ◌≤◌, ◌+◌, true, false, ◌&&◌, List, [], ◌∷◌, ◌++◌, length, take, get_or, set, ⊎_elim, inl, inr, refl, sym, ap, ◌∙◌, subst, arith, cond, Option, Some, None, Result, Ok, Err, OnOk}
+use Rattle.std.specs.Prelude.{◌==◌, ◌⊎◌, ◌||◌, Bool, IfSome}
 use Rattle.std.specs.List.{list_any}
 use Rattle.std.proofs.lemmas.Bool.{cases_eq, eq-eqb, eqb-true, ne_eqb, or_left, or_right, and_from, false≢true}
 use Rattle.std.proofs.lemmas.List.{get_or-set_same, get_or-set_other, length-set}
-use Rattle.std.proofs.lemmas.List.Folds.{list_any-append, list_any_at}
-use Rattle.lrat_model.specs.Literal.{Literal, same, has}
+use Rattle.std.proofs.lemmas.List.Folds.{list_any-append, list_any_at, list_any_more}
+use Rattle.lrat_model.specs.Literal.{Literal, same, has, IsSubset}
 use Rattle.lrat_model.specs.Clauses.{Held, clause_at, with_clause, without}
 use Rattle.lrat_model.proofs.Runs.{clause_at-without}
-use Rattle.lrat_model.proofs.Literals.{has-cons, same-itself}
+use Rattle.lrat_model.proofs.Literals.{has-cons, same-itself, list_all-has}
 use Rattle.lrat_checker.specs.declared.subsets.Watch.{Watch}
-use Rattle.lrat_checker.specs.Keys.{slot_of, signature_of}
-use Rattle.lrat_checker.specs.Subsets.{Paths, list_at, is_watch_of, Leads, IsFound, AreFound}
-use Rattle.lrat_checker.proofs.PathLaws.{path_kept}
+use Rattle.lrat_checker.specs.Covers.{Covers}
+use Rattle.lrat_checker.specs.Keys.{code_of, slot_of, signature_of}
+use Rattle.lrat_checker.specs.Subsets.{list_at, is_watch_of, IsFound, AreFound, NoneIn}
 
--- one watch more at a key
+-- one watch more in the list of a code
 module _ (lists : List (List Watch)) (key : ℕ) (now : Watch) (inside : slot_of (length lists) key < length lists) where
   abbrev pub pushed : List (List Watch)
   pushed = set lists (slot_of (length lists) key) (list_at lists key ++ now ∷ [])
@@ -40,12 +40,10 @@ module _ (lists : List (List Watch)) (key : ℕ) (now : Watch) (inside : slot_of
       ∙ or_right (list_any (is_watch_of now.id clause) (list_at lists key)) (list_any (is_watch_of now.id clause) (now ∷ []))
       (or_left (is_watch_of now.id clause now) false (and_from (now.id == now.id) (now.signature == signature_of clause) (eq-eqb now.id now.id refl) (eq-eqb now.signature (signature_of clause) signed)))
 
--- once paths go on as they did and one watch came, what was found is found
-pub found_kept : (old new : Paths) (key : ℕ) (now : Watch) (inside : slot_of (length old.lists) key < length old.lists) → ((k : ℕ) (m : Literal) → Leads old.nodes k m → Leads new.nodes k m) → new.lists ≡ pushed old.lists key now inside → (id : ℕ) (clause : List Literal) → IsFound old id clause → IsFound new id clause
-found_kept old new key now inside kept lists id clause found =
-    let path = found.0 in
-    let k = found.1 in
-    (path, k, found.2, path_kept old.nodes new.nodes clause path k kept found.3, ap (λ ls. list_any (is_watch_of id clause) (list_at ls k)) lists ∙ listed_kept old.lists key now inside id clause k found.4)
+-- once one watch came, what was found is found
+pub found_kept : (old new : List (List Watch)) (code : ℕ) (now : Watch) (inside : slot_of (length old) code < length old) → new ≡ pushed old code now inside → (id : ℕ) (clause : List Literal) → IsFound old id clause → IsFound new id clause
+found_kept old new code now inside is id clause found =
+    (found.0, found.1, ap (λ ls. list_any (is_watch_of id clause) (list_at ls found.0)) is ∙ listed_kept old code now inside id clause found.0 found.2)
 
 -- the watch of a clause under no smaller id
 pub late_watch : (id k : ℕ) (clause : List Literal) (w : Watch) → id ≤ w.id → k < id → is_watch_of k clause w ≡ false
@@ -80,11 +78,32 @@ clause_at-pushed (e ∷ held) id lits k clause there =
     ] there
 
 -- an index of what is held has one clause more once that is put in
-pub found_with : (held : Held) (old new : Paths) (id : ℕ) (lits : List Literal) → AreFound held old → IsFound new id lits → ((k : ℕ) (clause : List Literal) → IsFound old k clause → IsFound new k clause) → AreFound (with_clause held id lits) new
+pub found_with : (held : Held) (old new : List (List Watch)) (id : ℕ) (lits : List Literal) → AreFound held old → IsFound new id lits → ((k : ℕ) (clause : List Literal) → IsFound old k clause → IsFound new k clause) → AreFound (with_clause held id lits) new
 found_with held old new id lits all now kept k clause there =
     ⊎_elim (λ before. kept k clause (all k clause before)) (λ last. subst (IsFound new k) last.1 (subst (λ i. IsFound new i lits) last.0 now)) (clause_at-pushed held id lits k clause there)
 
 -- an index has what is left where clauses are taken out
-pub found_without : (index : Option Paths) (held : Held) (ids : List ℕ) → IfSome index (AreFound held) → IfSome index (AreFound (without held ids))
+pub found_without : (index : Option (List (List Watch))) (held : Held) (ids : List ℕ) → IfSome index (AreFound held) → IfSome index (AreFound (without held ids))
 found_without None held ids all = tt
 found_without (Some lists) held ids all = λ k clause there. all k clause (clause_at-without held ids k clause there)
+
+-- one element more that does not pass
+pub none_more : {X : Type 0} (p : X → Bool) (xs : List X) (i : ℕ) (d : X) → i < length xs → list_any p (take i xs) ≡ false → p (get_or xs i d) ≡ false → list_any p (take (i + 1) xs) ≡ false
+none_more p xs i d within before now = list_any_more p xs i d within ∙ ap (λ b. b || p (get_or xs i d)) before ∙ now
+
+-- no clause covers the literals if none stands in the lists of their codes
+pub none_covers : (lists : List (List Watch)) (held : Held) (id : ℕ) (lits : List Literal) → AreFound held lists → NoneIn lists held id lits 0 → ((i : ℕ) (m : Literal) → i < length lits → NoneIn lists held id lits (code_of (get_or lits i m))) → Covers held id lits → ⊥
+none_covers lists held id lits all no_literal none covers =
+    let k = covers.0 in
+    let clause = covers.1 in
+    let subset : IsSubset clause lits = covers.4 in
+    let found : IsFound lists k clause = all k clause covers.3 in
+    let at = found.0 in
+    ⊎_elim
+    (λ zero_is. false≢true (sym (no_literal k clause covers.2 covers.3 subset) ∙ ap (λ c. list_any (is_watch_of k clause) (list_at lists c)) (sym zero_is) ∙ found.2))
+    (λ its.
+    let l = its.0 in
+    let place = has-place lits l (list_all-has (has lits) clause subset l its.1) in
+    let gone : list_any (is_watch_of k clause) (list_at lists (code_of (get_or lits place.0 l))) ≡ false = none place.0 l place.1 k clause covers.2 covers.3 subset in
+    false≢true (sym gone ∙ ap (λ c. list_any (is_watch_of k clause) (list_at lists c)) (ap code_of place.2 ∙ its.2) ∙ found.2))
+    found.1

@@ -1,5 +1,5 @@
 -- An addition whose hints come one after another.
-use Rattle.std.specs.Prelude.{◌≡◌, ℕ, ◌+◌, ◌≤◌, Bool, true, false, List, [], ◌∷◌, ◌++◌, ℤ, Option, None, Some, IfSome}
+use Rattle.std.specs.Prelude.{◌≡◌, ℕ, ◌+◌, ◌^◌, ◌≤◌, ◌<◌, Bool, true, false, List, [], ◌∷◌, ◌++◌, ℤ, Option, None, Some, IfSome}
 use Rattle.std.specs.Option.{option_or}
 use Rattle.lrat_model.specs.Literal.{Literal, negated}
 use Rattle.lrat_model.specs.Clauses.{Held}
@@ -65,16 +65,20 @@ IsBegun rule vars database id lits None = ⊥
 IsBegun rule vars database id lits (Some a) =
     (a.id ≡ id) × (a.lits ≡ lits) × (a.hints ≡ 0) × ((hints : List ℤ) → fault_after rule database.held a hints ≡ addition_fault_by rule vars database id lits hints)
 
--- one hint later: whatever hints come then, the fault is that of this hint and them
+-- the place of the hint that comes after so many is a number of 64 bits
+abbrev pub HasPlace : ℕ → Type 0
+HasPlace hints = hints + 1 < 2 ^ 64
+
+-- one hint later: whatever hints come then, the fault is that of this hint and them, if its place can be told
 abbrev pub GoesOn : Rule → Held → ℤ → Option Adding → Option Adding → Type 0
 GoesOn rule held hint (Some a) (Some b) =
-    (b.id ≡ a.id) × (b.lits ≡ a.lits) × (b.hints ≤ a.hints + 1) × ((hints : List ℤ) → fault_after rule held a (hint ∷ hints) ≡ fault_after rule held b hints)
+    (b.id ≡ a.id) × (b.lits ≡ a.lits) × (b.hints ≤ a.hints + 1) × (HasPlace a.hints → (hints : List ℤ) → fault_after rule held a (hint ∷ hints) ≡ fault_after rule held b hints)
 GoesOn rule held hint (Some a) None = ⊥
 GoesOn rule held hint None o = ⊥
 
--- whatever hints come behind this one, this is the fault
+-- whatever hints come behind this one, this is the fault, if its place can be told
 abbrev pub StopsAt : Rule → Held → ℤ → Option Adding → StepFault → Type 0
-StopsAt rule held hint adding fault = IfSome adding (λ a. (hints : List ℤ) → fault_after rule held a (hint ∷ hints) ≡ Some fault)
+StopsAt rule held hint adding fault = IfSome adding (λ a. HasPlace a.hints → (hints : List ℤ) → fault_after rule held a (hint ∷ hints) ≡ Some fault)
 
 -- whether a hint's clause was false
 abbrev pub has_met : Hinting → Bool

@@ -7,6 +7,7 @@ use Rattle.lrat_model.specs.declared.step.Rule.{Rule}
 use Rattle.lrat_model.specs.declared.step.Rule.TheVariants.{Rup, Rat}
 use Rattle.lrat_model.specs.declared.step.StepFault.{StepFault}
 use Rattle.rat_candidates.specs.Groups.{group_id, ids_in}
+use Rattle.rat_candidates.specs.Kept.{Kept, IsCandidate, HasRoom}
 use Rattle.lrat_checker.specs.declared.hint.Hinting.{Hinting}
 use Rattle.lrat_checker.specs.declared.hint.Hinting.TheVariants as hinting
 use Rattle.lrat_checker.specs.declared.opened.Opened.{Opened}
@@ -66,6 +67,17 @@ Ends trues groups c before =
 -- whatever hints follow a RAT hint, this is the first fault
 abbrev pub IsUndone : List Literal → List ℤ → Course → StepFault → Type 0
 IsUndone trues groups c fault = (held : Held) (lits : List Literal) (place n : ℕ) (hints : List ℤ) → fault_from Rat held lits place (led trues groups c) (negsuc n ∷ hints) ≡ Some fault
+
+-- a clause with the negation of the first literal is held under the id
+abbrev pub IsNamed : Held → List Literal → ℕ → Type 0
+IsNamed held [] id = ⊥
+IsNamed held (pivot ∷ rest) id = IsCandidate held (negated pivot) id
+
+-- there is room for the groups that may come
+abbrev pub HasGroupRoom : Rule → Held → List Literal → Kept → Type 0
+HasGroupRoom Rup held lits kept = Unit {0}
+HasGroupRoom Rat held [] kept = Unit {0}
+HasGroupRoom Rat held (pivot ∷ rest) kept = HasRoom held (negated pivot) kept
 
 -- the first id of a clause that has the negation of the first literal, but for these ids
 abbrev pub missing_of : Held → List ℕ → List Literal → Option ℕ

@@ -17,7 +17,7 @@ use crate::subsets::{SubsetIndex, forget, put_clause, scan};
 use clause_store::Store;
 use lrat_model::{Lit, Progress, Rule, Step, StepFault};
 use partial_assignment::Assignment;
-use rat_candidates::CountedStore;
+use rat_candidates::{CountedStore, KeptHints};
 use std::alloc::{AllocError, Global};
 use std::marker::Model;
 
@@ -30,9 +30,9 @@ pub struct Checker {
     assignment: Assignment,
     subsets: Option<SubsetIndex>,
     opened: Option<Opened>,
-    // The literals and the RAT hints of the addition that is open, or of one before it: their room is kept.
+    // The literals and the RAT hints of the addition that is open, or of one before it: their room stays.
     lits: Vec<Lit>,
-    groups: Vec<i64>,
+    groups: KeptHints,
 }
 
 impl Model for Checker {
@@ -48,9 +48,9 @@ impl Model for Checker {
 }
 
 impl Checker {
-    /// A checker that holds the clauses of a store, among this many variables. Takes all the memory that
-    /// it ever needs, other than for the clauses that it adds, for the literals and RAT hints of an addition whose hints come
-    /// one after another, and for counts of literals from the first lemma on that no conflict shows: O(vars).
+    /// A checker that holds the clauses of a store, among this many variables. Takes all the memory that it ever needs, O(vars),
+    /// other than for the clauses that it adds, and for the literals and RAT hints of an addition whose hints come one after
+    /// another. Under `Rat` it is counted how often each literal stands in the clauses: O(literals of the store).
     ///
     /// There are fewer than 2^31 variables since a literal is a signed number of 32 bits, so no clause has a greater one.
     pub fn start(alloc: Global, store: Store, vars: u64, rule: Rule) -> Result<Checker, AllocError>
@@ -62,14 +62,15 @@ impl Checker {
         ensures closed { IfOk result (λ c. c.open_addition ≡ None) }
     {
         let assignment = Assignment::new(alloc, vars)?;
+        let clauses = clauses_for(alloc, store, vars, rule)?;
         Ok(Checker {
             rule,
-            clauses: CountedStore::new(alloc, store, vars),
+            clauses,
             assignment,
             subsets: None,
             opened: None,
             lits: Vec::new(alloc),
-            groups: Vec::new(alloc),
+            groups: KeptHints::new(alloc),
         })
     }
 
@@ -90,11 +91,11 @@ impl Checker {
 
     /// Takes a step, or answers its first fault: of an addition its id, then its literals in order, then
     /// its hints in order; of a deletion its ids in order. A checker that answered a fault is as it was.
-    /// Only an addition that has no fault takes memory, but for the counts that a RAT step makes if it can.
+    /// Only an addition that has no fault takes memory.
     ///
     /// O(literals of the step and of the clauses that its hints name), and O(log n) for each id. A lemma that no conflict shows
-    /// costs more where the ids of its groups do not rise or a clause has none, and where it is the first: O(literals of all
-    /// clauses), and O(hints) for each clause that has the negation of its first literal.
+    /// costs more where the ids of its groups do not rise or a clause has none: O(literals of all clauses), and O(hints) for
+    /// each clause that has the negation of its first literal. A deletion that has a fault costs that too, under `Rat`.
     pub fn step(&mut self, step: &Step) -> Result<Progress, StepFault>
         requires { self.old.open_addition ≡ None }
         ensures taken { OnOk result (step_fault_by self.old.rule self.old.vars self.old.database (step_of step.now) ≡ None) }
@@ -169,7 +170,7 @@ impl Checker {
             return Err(StepFault::IdOrder(last, id));
         }
         if let Some(fault) = lemma_fault(
-            &mut self.clauses,
+            &self.clauses,
             &mut self.assignment,
             self.rule,
             lits,
@@ -205,6 +206,21 @@ impl Checker {
             }
             Err(id) => Err(StepFault::NoSuchClause(id)),
         }
+    }
+}
+
+/// The clauses of a store, counted where RAT steps may come.
+fn clauses_for(
+    alloc: Global,
+    store: Store,
+    vars: u64,
+    rule: Rule,
+) -> Result<CountedStore, AllocError>
+    ensures { IfOk result (λ clauses. clauses ≡ store) }
+{
+    match rule {
+        Rule::Rup => Ok(CountedStore::new(alloc, store)),
+        Rule::Rat => CountedStore::counted(alloc, store, vars),
     }
 }
 

@@ -139,17 +139,16 @@ pub fn assume_negations(assignment: &mut Assignment, lits: &[Lit]) -> Option<Ste
 
 /// The first fault of a lemma's literals, and then of its hints. Leaves literals true.
 fn first_fault(
-    clauses: &mut CountedStore,
+    clauses: &CountedStore,
     assignment: &mut Assignment,
     rule: Rule,
     lits: &[Lit],
     hints: &[i64],
 ) -> Option<StepFault>
     requires trues { assignment.old.trues ≡ [] }
-    requires range { AreInRange assignment.old.vars clauses.old.held }
-    ensures fault { result ≡ option_or (literal_fault assignment.old.vars [] lits.now) (hints_fault rule clauses.old.held lits.now hints.now) }
+    requires range { AreInRange assignment.old.vars clauses.now.held }
+    ensures fault { result ≡ option_or (literal_fault assignment.old.vars [] lits.now) (hints_fault rule clauses.now.held lits.now hints.now) }
     ensures vars { assignment.new.vars ≡ assignment.old.vars }
-    ensures unchanged { clauses.new ≡ clauses.old }
 {
     if let Some(fault) = assume_negations(assignment, lits) {
         return Some(fault);
@@ -163,17 +162,16 @@ fn first_fault(
 /// The first fault of a lemma's literals, and then of its hints.
 /// O(its literals, and those of the clauses that the hints name), and O(log n) for each hint.
 pub fn lemma_fault(
-    clauses: &mut CountedStore,
+    clauses: &CountedStore,
     assignment: &mut Assignment,
     rule: Rule,
     lits: &[Lit],
     hints: &[i64],
 ) -> Option<StepFault>
     requires trues { assignment.old.trues ≡ [] }
-    requires range { AreInRange assignment.old.vars clauses.old.held }
-    ensures fault { result ≡ option_or (literal_fault assignment.old.vars [] lits.now) (hints_fault rule clauses.old.held lits.now hints.now) }
+    requires range { AreInRange assignment.old.vars clauses.now.held }
+    ensures fault { result ≡ option_or (literal_fault assignment.old.vars [] lits.now) (hints_fault rule clauses.now.held lits.now hints.now) }
     ensures unchanged { assignment.new ≡ assignment.old }
-    ensures clauses { clauses.new ≡ clauses.old }
 {
     let fault = first_fault(clauses, assignment, rule, lits, hints);
     assignment.clear();

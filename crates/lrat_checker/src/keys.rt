@@ -1,10 +1,10 @@
-//! Numbers for literals, for lists of them, and for paths: what the index of subsets goes by.
+//! Numbers for literals and for lists of them: what the index of subsets goes by.
 ghost use Rattle.std.specs.Prelude.{◌≡◌, ◌<◌, length};
-ghost use Rattle.lrat_checker.specs.Keys.{code_of, bit_of, signature_of, next_key, slot_of};
+ghost use Rattle.lrat_checker.specs.Keys.{code_of, bit_of, signature_of, slot_of};
 
 use lrat_model::Lit;
 
-/// An odd number that spreads keys.
+/// An odd number that spreads codes.
 const SPREAD: u64 = 11_400_714_819_323_198_485;
 
 /// A literal as a number.
@@ -19,7 +19,7 @@ pub fn code_of(l: Lit) -> u64
 pub fn bit_of(l: Lit) -> u64
     ensures { result ≡ bit_of l }
 {
-    1 << (code_of(l) % 64)
+    1 << (code_of(l).wrapping_mul(SPREAD) >> 58)
 }
 
 /// The bits of the literals.
@@ -29,18 +29,11 @@ pub fn signature_of(lits: &[Lit]) -> u64
     lits.iter().fold(0, |bits, l| bits | bit_of(*l))
 }
 
-/// The key of a path that goes on by a literal.
-pub fn next_key(key: u64, l: Lit) -> u64
-    ensures { result ≡ next_key key l }
-{
-    key.wrapping_add(code_of(l)).wrapping_mul(SPREAD)
-}
-
-/// The slot of a key.
-pub fn slot_of(slots: usize, key: u64) -> usize
+/// The slot of a code.
+pub fn slot_of(slots: usize, code: u64) -> usize
     requires { 0 < slots }
-    ensures value { result ≡ slot_of slots key }
+    ensures value { result ≡ slot_of slots code }
     ensures within { result < slots }
 {
-    (key >> 32) as usize % slots
+    code as usize % slots
 }

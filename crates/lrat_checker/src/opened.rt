@@ -1,13 +1,14 @@
 //! The addition that is open, one hint after another.
-ghost use Rattle.std.specs.Prelude.{◌≡◌, ◌≢◌, ℕ, ◌+◌, ◌<◌, ◌≤◌, ◌^◌, List, [], ◌∷◌, ◌++◌, ℤ, length, take, Some, None, Err, IfOk, IfErr, OnOk};
+ghost use Rattle.std.specs.Prelude.{◌≡◌, ◌≢◌, ℕ, ◌+◌, ◌≤◌, List, [], ℤ, length, take, Some, None, Err, IfOk, IfErr, OnOk};
 ghost use Rattle.lrat_model.specs.Literal.{Literal};
 ghost use Rattle.lrat_model.specs.Ranges.{AreInRange};
 ghost use Rattle.lrat_model.specs.Rat.{pivot_fault};
 ghost use Rattle.lrat_model.specs.declared.step.Rule.TheVariants.{Rat};
 ghost use Rattle.lrat_model.specs.declared.step.StepFault.TheVariants.{Memory, NoConflict};
 ghost use Rattle.rat_candidates.specs.Groups.{group_id, ids_in};
-ghost use Rattle.lrat_checker.specs.Adding.{fault_from, GoesOn, StopsAt, has_met, is_met};
-ghost use Rattle.lrat_checker.specs.Courses.{led, adding_of, Suits, IsUnitHint, is_over, onward, Ends, IsUndone, missing_of};
+ghost use Rattle.rat_candidates.specs.Kept.{NamesToo};
+ghost use Rattle.lrat_checker.specs.Adding.{fault_from, HasPlace, GoesOn, StopsAt, has_met, is_met};
+ghost use Rattle.lrat_checker.specs.Courses.{led, adding_of, Suits, IsUnitHint, is_over, onward, Ends, IsUndone, IsNamed, missing_of};
 
 use crate::hint::{Hinting, take_hint, undo_to};
 use crate::rat::open_group;
@@ -63,18 +64,12 @@ pub struct Opened {
 }
 
 impl Opened {
-    /// One hint later.
-    fn after(self, course: Course) -> Opened
-        requires { self.hints < 2 ^ 63 }
-        ensures id { result.id ≡ self.id }
-        ensures hints { result.hints ≡ self.hints + 1 }
-        ensures course { result.course ≡ course }
+    /// The place of the next hint.
+    fn place(&self) -> u64
+        ensures place { HasPlace self.now.hints → result ≡ self.now.hints + 1 }
+        ensures next { result ≤ self.now.hints + 1 }
     {
-        Opened {
-            id: self.id,
-            hints: self.hints + 1,
-            course,
-        }
+        self.hints.saturating_add(1)
     }
 
     /// Where a hint leads that was taken by unit propagation, from here.
@@ -113,7 +108,6 @@ pub fn after_unit(
     hint: i64,
 ) -> Result<(), StepFault>
     requires range { AreInRange assignment.old.vars store.now.held }
-    requires few { opened.old.hints < 2 ^ 63 }
     ensures taken { OnOk result ((rule : Rule) (lits : List Literal) (groups : List ℤ) → IsUnitHint rule hint → Suits rule assignment.old.trues groups opened.old.course
         → GoesOn rule store.now.held hint (Some (adding_of lits assignment.old.trues groups opened.old)) (Some (adding_of lits assignment.new.trues groups opened.new))) }
     ensures suits { OnOk result ((rule : Rule) (groups : List ℤ) → Suits rule assignment.old.trues groups opened.old.course → Suits rule assignment.new.trues groups opened.new.course) }
@@ -123,7 +117,7 @@ pub fn after_unit(
     ensures id { opened.new.id ≡ opened.old.id }
     ensures vars { assignment.new.vars ≡ assignment.old.vars }
 {
-    opened.hints += 1;
+    opened.hints = opened.place();
     if opened.course.is_over() {
         return Ok(());
     }
@@ -173,11 +167,11 @@ pub fn after_group(
     id: u64,
 ) -> Result<Opened, StepFault>
     requires range { AreInRange assignment.old.vars store.now.held }
-    requires few { opened.hints < 2 ^ 63 }
     requires unmet { opened.course ≢ Course.Met }
     requires suits { (groups : List ℤ) × Suits Rat assignment.old.trues groups opened.course }
-    ensures taken { IfOk result (λ next. (hint : ℤ) (groups : List ℤ) → Some id ≡ group_id hint → Suits Rat assignment.old.trues groups opened.course
-        → GoesOn Rat store.now.held hint (Some (adding_of lits.now assignment.old.trues groups opened)) (Some (adding_of lits.now assignment.new.trues (groups ++ hint ∷ []) next))) }
+    ensures taken { IfOk result (λ next. (hint : ℤ) (groups later : List ℤ) → Some id ≡ group_id hint → NamesToo groups id later → Suits Rat assignment.old.trues groups opened.course
+        → GoesOn Rat store.now.held hint (Some (adding_of lits.now assignment.old.trues groups opened)) (Some (adding_of lits.now assignment.new.trues later next))) }
+    ensures candidate { OnOk result (IsNamed store.now.held lits.now id) }
     ensures suits { IfOk result (λ next. (groups : List ℤ) → Suits Rat assignment.new.trues groups next.course) }
     ensures refused { IfErr result (λ fault. (hint : ℤ) (groups : List ℤ) → Some id ≡ group_id hint → Suits Rat assignment.old.trues groups opened.course
         → StopsAt Rat store.now.held hint (Some (adding_of lits.now assignment.old.trues groups opened)) fault) }
@@ -185,28 +179,31 @@ pub fn after_group(
     ensures id { IfOk result (λ next. next.id ≡ opened.id) }
     ensures vars { assignment.new.vars ≡ assignment.old.vars }
 {
-    let place = opened.hints + 1;
+    let place = opened.place();
     let before = end_group(assignment, opened.course)?;
     let Some(pivot) = lits.first() else {
         return Err(StepFault::RatStep(place));
     };
     let end = open_group(store, assignment, *pivot, place, id)?;
-    Ok(opened.after(Course::InGroup {
-        before,
-        is_done: has_met(end),
-    }))
+    Ok(Opened {
+        id: opened.id,
+        hints: place,
+        course: Course::InGroup {
+            before,
+            is_done: has_met(end),
+        },
+    })
 }
 
 /// The first fault of a lemma whose hints ended here, where these RAT hints came.
 pub fn end_fault(
-    clauses: &mut CountedStore,
+    clauses: &CountedStore,
     rule: Rule,
     lits: &[Lit],
     groups: &[i64],
     course: Course,
 ) -> Option<StepFault>
-    ensures fault { (trues : List Literal) (place : ℕ) → Suits rule trues groups.now course → result ≡ fault_from rule clauses.old.held lits.now place (led trues groups.now course) [] }
-    ensures unchanged { clauses.new ≡ clauses.old }
+    ensures fault { (trues : List Literal) (place : ℕ) → Suits rule trues groups.now course → result ≡ fault_from rule clauses.now.held lits.now place (led trues groups.now course) [] }
     ensures no_memory { result ≢ Some Memory }
 {
     match course {
@@ -227,18 +224,16 @@ pub fn end_fault(
 }
 
 /// The least id of a clause that has the negation of the first literal and is named by no RAT hint, if there is a literal.
-fn first_missing(clauses: &mut CountedStore, lits: &[Lit], groups: &[i64]) -> Option<u64>
-    ensures missing { result ≡ missing_of clauses.old.held (ids_in groups.now) lits.now }
-    ensures unchanged { clauses.new ≡ clauses.old }
+fn first_missing(clauses: &CountedStore, lits: &[Lit], groups: &[i64]) -> Option<u64>
+    ensures { result ≡ missing_of clauses.now.held (ids_in groups.now) lits.now }
 {
     let pivot = lits.first()?;
     clauses.first_missing(pivot.negated(), groups)
 }
 
 /// The fault of a lemma without groups that no conflict shows.
-fn unnamed_fault(clauses: &mut CountedStore, lits: &[Lit]) -> Option<StepFault>
-    ensures fault { (trues : List Literal) → result ≡ pivot_fault clauses.old.held trues lits.now [] }
-    ensures unchanged { clauses.new ≡ clauses.old }
+fn unnamed_fault(clauses: &CountedStore, lits: &[Lit]) -> Option<StepFault>
+    ensures fault { (trues : List Literal) → result ≡ pivot_fault clauses.now.held trues lits.now [] }
     ensures no_memory { result ≢ Some Memory }
 {
     if lits.is_empty() {

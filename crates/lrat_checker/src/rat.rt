@@ -1,12 +1,13 @@
 //! RAT hints: groups of them, one for each clause that has the negation of the lemma's first literal, its pivot (Cruz-Filipe
 //! et al. 2017, Efficient Certified RAT Verification).
-ghost use Rattle.std.specs.Prelude.{◌≡◌, ◌≢◌, ℕ, ◌+◌, ◌≤◌, ◌<◌, ◌^◌, length, take, List, [], map, Some, None, Err};
+ghost use Rattle.std.specs.Prelude.{◌≡◌, ◌≢◌, ℕ, ◌+◌, ◌≤◌, ◌<◌, ◌^◌, length, take, List, [], map, Some, None, Err, OnOk};
 ghost use Rattle.lrat_model.specs.Literal.{Literal, negated};
 ghost use Rattle.lrat_model.specs.Steps.{outcome_fault};
 ghost use Rattle.lrat_model.specs.Ranges.{IsInRange, AreInRange};
 ghost use Rattle.lrat_model.specs.Alike.{Alike};
 ghost use Rattle.lrat_model.specs.Rat.{first_hints, groups_of, made_false, take_group, groups_fault, ids_of, first_without, pivot_fault, rat_fault};
 ghost use Rattle.lrat_model.specs.declared.step.StepFault.TheVariants.{Memory};
+ghost use Rattle.rat_candidates.specs.Kept.{IsCandidate};
 ghost use Rattle.lrat_checker.specs.Extends.{Extends};
 ghost use Rattle.lrat_checker.specs.Groups.{first_place, MadeFalse, Opens};
 
@@ -72,6 +73,7 @@ pub fn open_group(
 ) -> Result<Hinting, StepFault>
     requires { AreInRange assignment.old.vars store.now.held }
     ensures opens { (trues : List Literal) → Alike trues assignment.old.trues → Opens store.now.held trues pivot place id result assignment.new.trues }
+    ensures candidate { OnOk result (IsCandidate store.now.held (negated pivot) id) }
     ensures no_memory { result ≢ Err Memory }
     ensures vars { assignment.new.vars ≡ assignment.old.vars }
     ensures grows { Extends assignment.old.trues assignment.new.trues }
@@ -160,24 +162,22 @@ fn groups_fault(
 }
 
 /// The least id of a clause that has the literal and no group.
-fn without_group(clauses: &mut CountedStore, l: Lit, hints: &[i64]) -> Option<u64>
-    ensures missing { result ≡ first_without clauses.old.held l (ids_of (groups_of 1 hints.now)) }
-    ensures unchanged { clauses.new ≡ clauses.old }
+fn without_group(clauses: &CountedStore, l: Lit, hints: &[i64]) -> Option<u64>
+    ensures { result ≡ first_without clauses.now.held l (ids_of (groups_of 1 hints.now)) }
 {
     clauses.first_missing(l, hints)
 }
 
 /// Why the groups of a lemma do not show that it may be added, if they do not. What is true stays as it was.
 fn pivot_fault(
-    clauses: &mut CountedStore,
+    clauses: &CountedStore,
     assignment: &mut Assignment,
     lits: &[Lit],
     hints: &[i64],
 ) -> Option<StepFault>
-    requires { AreInRange assignment.old.vars clauses.old.held }
-    ensures fault { (trues : List Literal) → Alike trues assignment.old.trues → result ≡ pivot_fault clauses.old.held trues lits.now (groups_of 1 hints.now) }
+    requires { AreInRange assignment.old.vars clauses.now.held }
+    ensures fault { (trues : List Literal) → Alike trues assignment.old.trues → result ≡ pivot_fault clauses.now.held trues lits.now (groups_of 1 hints.now) }
     ensures unchanged { assignment.new ≡ assignment.old }
-    ensures clauses { clauses.new ≡ clauses.old }
 {
     let place = first_place(hints);
     let Some(pivot) = lits.first() else {
@@ -203,16 +203,15 @@ fn pivot_fault(
 /// Why hints do not show that a lemma may be added, if they do not, where the negations of its literals are true.
 /// Leaves literals true.
 pub fn rat_fault(
-    clauses: &mut CountedStore,
+    clauses: &CountedStore,
     assignment: &mut Assignment,
     lits: &[Lit],
     hints: &[i64],
 ) -> Option<StepFault>
-    requires range { AreInRange assignment.old.vars clauses.old.held }
+    requires range { AreInRange assignment.old.vars clauses.now.held }
     requires negated { Alike (map negated lits.now) assignment.old.trues }
-    ensures fault { result ≡ rat_fault clauses.old.held lits.now hints.now }
+    ensures fault { result ≡ rat_fault clauses.now.held lits.now hints.now }
     ensures vars { assignment.new.vars ≡ assignment.old.vars }
-    ensures unchanged { clauses.new ≡ clauses.old }
 {
     let first = &hints[..first_count(hints)];
     match propagate(clauses.store(), assignment, 1, first) {

@@ -1,16 +1,15 @@
-//! Whether a held clause is a subset of a list: each clause stands at the end of a path of its literals, the rarest first, so
-//! that only the paths of asked literals are gone (set tries: Hoffmann and Koehler 1999, A New Method to Index and Query
-//! Sets).
-ghost use Rattle.std.specs.Prelude.{◌≡◌, ℕ, ◌<◌, ◌≤◌, ◌++◌, List, [], ◌∷◌, None, length, true, false, Some, IfOk, IfSome, OnOk, MatchBool, slice_set};
+//! Whether a held clause is a subset of a list: each clause stands in the list of one of its literals, a rare one, so that only
+//! the lists of asked literals are looked at (Zhang 2005, On Subsumption Removal and On-the-Fly CNF Simplification).
+ghost use Rattle.std.specs.Prelude.{◌≡◌, ℕ, ◌<◌, ◌++◌, List, [], ◌∷◌, None, length, true, false, Some, IfOk, IfSome, OnOk, MatchBool, slice_set};
 ghost use Rattle.std.specs.Bool.{OnTrue};
 ghost use Rattle.std.specs.List.{list_all, list_any};
 ghost use Rattle.lrat_model.specs.Literal.{Literal, has, IsSubset};
 ghost use Rattle.lrat_model.specs.Clauses.{Held, clause_at, with_clause};
 ghost use Rattle.lrat_checker.specs.Covers.{Covers};
 ghost use Rattle.lrat_checker.specs.Keys.{slot_of, signature_of};
-ghost use Rattle.lrat_checker.specs.Subsets.{ways_at, list_at, Leads, is_watch_of, IsPath, IsFound, AreFound, AreMissing};
+ghost use Rattle.lrat_checker.specs.Subsets.{list_at, IsCode, is_watch_of, IsFound, AreFound};
 
-use crate::keys::{bit_of, code_of, next_key, signature_of, slot_of};
+use crate::keys::{code_of, signature_of, slot_of};
 use clause_store::Store;
 use lrat_model::Lit;
 use std::alloc::{AllocError, Global};
@@ -23,35 +22,20 @@ pub struct Watch {
     pub signature: u64,
 }
 
-/// How the paths of a key go on: the bits of the next literals.
-#[derive(Clone, Copy)]
-pub struct Node {
-    pub key: u64,
-    pub ways: u64,
-}
+/// The code of no literal: here the clauses without one stand.
+const NO_LITERAL: u64 = 0;
 
-/// The key of the path without a literal.
-const START: u64 = 1;
-
-/// The most literals of a path.
-const LONGEST: usize = 16;
-
-/// A path that so many clauses end at goes on, for later ones.
-const FEW: usize = 16;
-
-/// The fewest slots.
-const SLOTS: usize = 1024;
+/// The fewest lists.
+const LISTS: usize = 1024;
 
 /// How many counts of literals there are.
 const COUNTS: usize = 65_536;
 
-/// Clauses, each at the end of a path of its literals. Paths whose keys meet in a slot share its list; the first of them alone
-/// goes on. Seen as the nodes and lists.
+/// Clauses, each in the list of one of its literals. Literals whose codes meet in a slot share its list. Seen as the lists.
 #[derive(Drop)]
 pub struct SubsetIndex {
-    nodes: Vec<Node>,
     lists: Vec<Vec<Watch>>,
-    // How often each literal stood in the clauses when the index was made, by which paths are chosen.
+    // How often each literal stood in clauses, by which lists are chosen.
     counts: Vec<u32>,
     // How many watches there are, and how many of them may be of clauses that are held no more.
     watches: usize,
@@ -59,14 +43,14 @@ pub struct SubsetIndex {
 }
 
 impl Model for SubsetIndex {
-    ghost use Rattle.std.specs.Prelude.{◌≡◌, ◌<◌, map, length};
-    ghost use Rattle.lrat_checker.specs.Subsets.{Paths};
+    ghost use Rattle.std.specs.Prelude.{◌<◌, List, map, length};
+    ghost use Rattle.lrat_checker.specs.declared.subsets.Watch.{Watch};
 
-    ghost Value = { Paths };
+    ghost Value = { List (List Watch) };
 
-    ghost view = { λ s. record { nodes = s.nodes.items; lists = map (λ v. v.items) s.lists.items } };
+    ghost view = { λ s. map (λ v. v.items) s.lists.items };
 
-    ghost invariant = { λ s. (length s.lists.items ≡ length s.nodes.items) × (0 < length s.nodes.items) };
+    ghost invariant = { λ s. 0 < length s.lists.items };
 }
 
 /// What is asked: whether a clause held under a smaller id is a subset of the literals.
@@ -91,17 +75,22 @@ fn empty_lists(alloc: Global, slots: usize) -> Result<Vec<Vec<Watch>>, AllocErro
     Ok(lists)
 }
 
-/// How many clauses the store holds, and how often each literal stands in them, as far as the counts go.
-fn count_literals(store: &Store, counts: &mut [u32]) -> usize {
+/// Counts the literals of a clause, as far as the counts go.
+fn count_literals(counts: &mut [u32], lits: &[Lit]) {
+    for l in lits {
+        if let Some(count) = counts.get_mut(code_of(*l) as usize % COUNTS) {
+            *count = count.saturating_add(1);
+        }
+    }
+}
+
+/// How many clauses the store holds. Counts their literals.
+fn count_all(store: &Store, counts: &mut [u32]) -> usize {
     let last = store.last();
     let mut above = 0;
     let mut held = 0usize;
     while let Some((id, lits)) = store.first_above(above) {
-        for l in lits {
-            if let Some(count) = counts.get_mut(code_of(*l) as usize % COUNTS) {
-                *count = count.saturating_add(1);
-            }
-        }
+        count_literals(counts, lits);
         held = held.saturating_add(1);
         if id >= last {
             break;
@@ -112,16 +101,13 @@ fn count_literals(store: &Store, counts: &mut [u32]) -> usize {
 }
 
 impl SubsetIndex {
-    /// No clause, with room for those of a store. O(literals held).
+    /// No clause, with lists for those of a store, and counts of their literals. O(literals held).
     fn new(alloc: Global, store: &Store) -> Result<SubsetIndex, AllocError> {
         let mut counts = Vec::new(alloc);
         counts.resize(COUNTS, 0)?;
-        let held = count_literals(store, &mut counts);
-        let slots = held.clamp(SLOTS, 1 << 40).next_power_of_two();
-        let mut nodes = Vec::new(alloc);
-        nodes.resize(slots, Node { key: 0, ways: 0 })?;
+        let held = count_all(store, &mut counts);
+        let slots = (held / 2).clamp(LISTS, 1 << 40).next_power_of_two();
         Ok(SubsetIndex {
-            nodes,
             lists: empty_lists(alloc, slots)?,
             counts,
             watches: 0,
@@ -145,70 +131,50 @@ impl SubsetIndex {
         Some(index)
     }
 
-    /// The list of a key.
-    fn list(&self, key: u64) -> &[Watch]
-        ensures { result.now ≡ list_at self.now.lists key }
+    /// The list of a literal's code.
+    fn list(&self, code: u64) -> &[Watch]
+        ensures { result.now ≡ list_at self.now code }
     {
-        &self.lists[slot_of(self.lists.len(), key)]
+        &self.lists[slot_of(self.lists.len(), code)]
     }
 
-    /// Where paths of a key go on.
-    fn ways(&self, key: u64) -> u64
-        ensures { result ≡ ways_at self.now.nodes key }
+    /// One watch more in the list of a code.
+    fn push(&mut self, code: u64, watch: Watch) -> Result<(), AllocError>
+        ensures pushed { OnOk result (self.new ≡ slice_set self.old (slot_of (length self.old) code) (list_at self.old code ++ watch ∷ [])) }
+        ensures within { slot_of (length self.old) code < length self.old }
     {
-        let node = self.nodes[slot_of(self.nodes.len(), key)];
-        if node.key == key { node.ways } else { 0 }
-    }
-
-    /// Lets paths of a key go on by a literal, if no other key's do from its slot.
-    fn lead(&mut self, key: u64, l: Lit) -> bool
-        ensures leads { OnTrue result (Leads self.new.nodes key l) }
-        ensures kept { (k : ℕ) (m : Literal) → Leads self.old.nodes k m → Leads self.new.nodes k m }
-        ensures lists { self.new.lists ≡ self.old.lists }
-    {
-        let slot = slot_of(self.nodes.len(), key);
-        let node = self.nodes[slot];
-        if node.ways != 0 && node.key != key {
-            return false;
-        }
-        let ways = node.ways | bit_of(l);
-        self.nodes[slot] = Node { key, ways };
-        true
-    }
-
-    /// One watch more at a key.
-    fn push(&mut self, key: u64, watch: Watch) -> Result<(), AllocError>
-        ensures pushed { OnOk result (self.new.lists ≡ slice_set self.old.lists (slot_of (length self.old.lists) key) (list_at self.old.lists key ++ watch ∷ [])) }
-        ensures within { slot_of (length self.old.lists) key < length self.old.lists }
-        ensures nodes { self.new.nodes ≡ self.old.nodes }
-    {
-        let slot = slot_of(self.lists.len(), key);
+        let slot = slot_of(self.lists.len(), code);
         self.lists[slot].push(watch)?;
         self.watches = self.watches.saturating_add(1);
         Ok(())
     }
 
-    /// How late a literal comes in paths: no two that have different codes below 2^32 come alike.
-    fn rank(&self, l: Lit) -> u64 {
-        let code = code_of(l);
-        let count = match self.counts.get(code as usize % COUNTS) {
-            Some(count) => *count,
-            None => 0,
-        };
-        (u64::from(count) << 32) | code
+    /// Counts the literals of a clause.
+    fn count(&mut self, lits: &[Lit])
+        ensures { self.new ≡ self.old }
+    {
+        count_literals(&mut self.counts, lits);
     }
 
-    /// The literal that comes first in paths among those that come after this rank.
-    fn next_rarest(&self, lits: &[Lit], after: u64) -> Option<Lit>
+    /// How often a literal was counted, or one that shares its count.
+    fn times(&self, l: Lit) -> u32 {
+        match self.counts.get(code_of(l) as usize % COUNTS) {
+            Some(count) => *count,
+            None => 0,
+        }
+    }
+
+    /// The rarest literal of a clause, if it has one.
+    fn rarest(&self, lits: &[Lit]) -> Option<Lit>
         ensures { IfSome result (λ l. has lits.now l ≡ true) }
     {
         let mut best = lits.len();
-        let mut least = u64::MAX;
+        let mut fewest = u32::MAX;
         for place in 0..lits.len() {
-            let rank = self.rank(lits[place]);
-            if after < rank && rank < least {
+            let times = self.times(lits[place]);
+            if times < fewest {
                 best = place;
-                least = rank;
+                fewest = times;
             }
         }
         if best < lits.len() {
@@ -218,28 +184,14 @@ impl SubsetIndex {
         }
     }
 
-    /// The end of a path of the literals, the rarest first, at which there is room.
-    fn open_path(&mut self, lits: &[Lit]) -> u64
-        ensures path { (path : List Literal) × (length path ≤ 16) × IsPath self.new.nodes lits.now path result }
-        ensures kept { (k : ℕ) (m : Literal) → Leads self.old.nodes k m → Leads self.new.nodes k m }
-        ensures lists { self.new.lists ≡ self.old.lists }
+    /// The code in whose list a clause is to stand.
+    fn code(&self, lits: &[Lit]) -> u64
+        ensures { IsCode lits.now result }
     {
-        let mut key = START;
-        let mut after = 0;
-        for taken in 0..LONGEST {
-            if self.list(key).len() < FEW {
-                break;
-            }
-            let Some(next) = self.next_rarest(lits, after) else {
-                break;
-            };
-            if !self.lead(key, next) {
-                break;
-            }
-            after = self.rank(next);
-            key = next_key(key, next);
+        match self.rarest(lits) {
+            Some(l) => code_of(l),
+            None => NO_LITERAL,
         }
-        key
     }
 
     /// One clause more. O(its literals), amortised.
@@ -247,14 +199,13 @@ impl SubsetIndex {
         ensures found { OnOk result (IsFound self.new id lits.now) }
         ensures kept { OnOk result ((k : ℕ) (clause : List Literal) → IsFound self.old k clause → IsFound self.new k clause) }
     {
-        let key = self.open_path(lits);
+        let code = self.code(lits);
         let signature = signature_of(lits);
-        self.push(key, Watch { id, signature })
+        self.push(code, Watch { id, signature })
     }
 
     /// Whether a clause held under a smaller id is a subset of the list.
-    /// O(paths of literals of the list x literals of the list), where few of the clauses at their ends have no other literals;
-    /// at worst as `scan`.
+    /// O(clauses in the lists of its literals), where few of them have no other literals; at worst as `scan`.
     pub fn covers(&self, store: &Store, id: u64, lits: &[Lit]) -> bool
         requires { AreFound store.now.held self.now }
         ensures { MatchBool result (Covers store.now.held id lits.now) (¬ Covers store.now.held id lits.now) }
@@ -265,40 +216,20 @@ impl SubsetIndex {
             lits,
             signature: signature_of(lits),
         };
-        let mut looks = self.watches.saturating_add(FEW);
-        match self.visit(&asked, START, LONGEST, &mut looks) {
-            Some(is_covered) => is_covered,
-            None => scan(store, id, lits),
+        if is_in_list(&asked, self.list(NO_LITERAL)) {
+            return true;
         }
-    }
-
-    /// Whether such a clause stands at the end of a path from this key on that has at most so many literals, all of them asked
-    /// for; nothing where that takes more looks than are left.
-    fn visit(&self, asked: &Asked, key: u64, left: usize, looks: &mut usize) -> Option<bool>
-        requires { asked.now.signature ≡ signature_of asked.now.lits.now }
-        ensures yes { result ≡ Some true → Covers asked.now.store.now.held asked.now.id asked.now.lits.now }
-        ensures no { result ≡ Some false → AreMissing self.now asked.now.store.now.held asked.now.id asked.now.lits.now key left }
-    {
-        let list = self.list(key);
-        *looks = looks.checked_sub(list.len())?.checked_sub(1)?;
-        if is_in_list(asked, list) {
-            return Some(true);
-        }
-        let ways = self.ways(key);
-        if left == 0 || ways == 0 {
-            return Some(false);
-        }
-        for l in asked.lits {
-            if ways | bit_of(*l) == ways && self.visit(asked, next_key(key, *l), left - 1, looks)? {
-                return Some(true);
+        for l in lits {
+            if is_in_list(&asked, self.list(code_of(*l))) {
+                return true;
             }
         }
-        Some(false)
+        false
     }
 
     /// Whether the lists have grown long.
     fn is_full(&self) -> bool {
-        self.watches / 2 >= self.nodes.len()
+        self.watches / 4 >= self.lists.len()
     }
 }
 
@@ -307,29 +238,32 @@ impl SubsetIndex {
 pub fn put_clause(index: &mut Option<SubsetIndex>, store: &Store, id: u64, lits: &[Lit])
     ensures { (held : Held) → store.now.held ≡ with_clause held id lits.now → IfSome index.old (AreFound held) → IfSome index.new (AreFound store.now.held) }
 {
-    let Some(paths) = index else {
+    let Some(subsets) = index else {
         return;
     };
-    if paths.is_full() {
-        let alloc = *paths.lists.allocator();
+    if subsets.is_full() {
+        let alloc = *subsets.lists.allocator();
         *index = SubsetIndex::of(alloc, store);
-    } else if paths.put(id, lits).is_err() {
+        return;
+    }
+    subsets.count(lits);
+    if subsets.put(id, lits).is_err() {
         *index = None;
     }
 }
 
-/// What so many clauses that were taken out of the store leave of the index: it is made anew once more than half of its
-/// watches may be of clauses that are held no more. O(1), or O(literals held), amortised.
+/// What so many clauses that were taken out of the store leave of the index: it is made anew once more than a quarter of
+/// its watches may be of clauses that are held no more. O(1), or O(literals held), amortised.
 pub fn forget(index: &mut Option<SubsetIndex>, store: &Store, removed: usize)
     requires { IfSome index.old (AreFound store.now.held) }
     ensures { IfSome index.new (AreFound store.now.held) }
 {
-    let Some(paths) = index else {
+    let Some(subsets) = index else {
         return;
     };
-    paths.stale = paths.stale.saturating_add(removed);
-    if paths.stale > paths.watches / 2 {
-        let alloc = *paths.lists.allocator();
+    subsets.stale = subsets.stale.saturating_add(removed);
+    if subsets.stale > subsets.watches / 4 {
+        let alloc = *subsets.lists.allocator();
         *index = SubsetIndex::of(alloc, store);
     }
 }

@@ -1,12 +1,12 @@
 -- What a line says, one word later.
-use Rattle.std.proofs.Common.{◌≡◌, ℕ, ℤ, List, [], ◌∷◌, true, false, refl, Option, None, Some, rules, subst}
-use Rattle.std.specs.Prelude.{is_some, IsSome}
+use Rattle.std.proofs.Common.{◌≡◌, ℕ, ℤ, List, [], ◌∷◌, true, false, ◌<◌, refl, arith, Option, None, Some, rules, subst}
+use Rattle.std.specs.Prelude.{is_some, IsSome, IfSome}
 use Rattle.lrat_model.specs.Literal.{Literal}
 use Rattle.lrat_model.specs.Clauses.{Held}
 use Rattle.lrat_model.specs.Steps.{Database}
 use Rattle.lrat_model.specs.declared.step.Rule.{Rule}
 use Rattle.lrat_model.specs.declared.step.StepFault.{StepFault}
-use Rattle.lrat_checker.specs.Adding.{Adding, StopsAt}
+use Rattle.lrat_checker.specs.Adding.{Adding, HasPlace, GoesOn, StopsAt}
 use Rattle.lrat_text.specs.Words.{Word}
 use Rattle.lrat_text.specs.Lines.{is_mark, after_id}
 use Rattle.step_stream.specs.declared.words.StepWords.{StepWords}
@@ -29,9 +29,22 @@ moved p q v w d e rule vars database s t now then ws us is =
     subst (λ (r : Rule). ahead r v d s now ws ≡ ahead r v d t then us) rule
     (subst (λ (n : ℕ). ahead q n d s now ws ≡ ahead q n d t then us) vars (subst (λ (b : Database). ahead q w b s now ws ≡ ahead q w b t then us) database is))
 
--- a hint at which the addition stops, whatever hints come behind it
-pub stopped : (rule : Rule) (held : Held) (hint : ℤ) (id : ℕ) (lits : List Literal) (kept : Option StepFault) (now : Option Adding) (fault : StepFault) → is_some kept ≡ false → IsOpen id lits kept now → StopsAt rule held hint now fault
-    → (hints : List ℤ) → fault_then rule held kept now (hint ∷ hints) ≡ Some fault
-stopped rule held hint id lits (Some f) now fault none is stops hints = cc
-stopped rule held hint id lits None None fault none is stops hints = absurd is
-stopped rule held hint id lits None (Some a) fault none is stops hints = stops hints
+-- a hint at which the addition goes on or stops, whatever hints come behind it
+module _ (rule : Rule) (held : Held) (hint : ℤ) (id : ℕ) (lits : List Literal) where
+  pub went : (kept : Option StepFault) (now then : Option Adding) → is_some kept ≡ false → IsOpen id lits kept now → GoesOn rule held hint now then → IfSome now (λ a. HasPlace a.hints)
+      → (hints : List ℤ) → fault_then rule held kept now (hint ∷ hints) ≡ fault_then rule held kept then hints
+  went (Some f) now then none is goes place hints = cc
+  went None None then none is goes place hints = absurd is
+  went None (Some a) None none is goes place hints = absurd goes
+  went None (Some a) (Some b) none is goes place hints = goes.3 place hints
+
+  pub stopped : (kept : Option StepFault) (now : Option Adding) (fault : StepFault) → is_some kept ≡ false → IsOpen id lits kept now → StopsAt rule held hint now fault → IfSome now (λ a. HasPlace a.hints)
+      → (hints : List ℤ) → fault_then rule held kept now (hint ∷ hints) ≡ Some fault
+  stopped (Some f) now fault none is stops place hints = cc
+  stopped None None fault none is stops place hints = absurd is
+  stopped None (Some a) fault none is stops place hints = stops place hints
+
+-- the place of a hint after so many
+pub has_place : (now : Option Adding) (hints : ℕ) → IfSome now (λ a. hints ≡ a.hints) → hints < 1000000000000 → IfSome now (λ a. HasPlace a.hints)
+has_place None hints is few = tt
+has_place (Some a) hints is few = omega (arith, is, few)

@@ -226,7 +226,6 @@ impl StepWords {
         }
         match checker.hint(hint) {
             Ok(_) => Ok(()),
-            Err(StepFault::Memory) => Err(AllocError),
             Err(fault) => {
                 self.fault = Some(fault);
                 Ok(())

@@ -1,5 +1,5 @@
 use Rattle.lrat_checker.specs.Subsets.{is_watch_of}
-use Rattle.lrat_checker.proofs.PathLaws.{none_more}
+use Rattle.lrat_checker.proofs.SubsetLaws.{none_more}
 use Rattle.lrat_checker.proofs.subsets.is_in_list.Goals as goal
 
 pub loop-watch-preserved : goal.loop-watch-preserved

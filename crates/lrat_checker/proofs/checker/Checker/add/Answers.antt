@@ -1,7 +1,6 @@
 use Rattle.std.proofs.Common.{◌≡◌, sym, subst, ◌∙◌, None, []}
 use Rattle.lrat_model.specs.Steps.{literal_fault}
 use Rattle.partial_assignment.specs.Assigned.{Assigned}
-use Rattle.lrat_model.specs.Steps.{Database}
 use Rattle.lrat_checker.specs.State.{IsReady}
 use Rattle.lrat_model.specs.Ranges.{IsInRange}
 use Rattle.lrat_checker.proofs.FaultLaws.{range-literal_fault, lemma_fault-not_memory, literals_first}
@@ -21,13 +20,9 @@ give-requires-clause-range c =
 pub invariant_of-self : goal.invariant_of-self
 invariant_of-self c =
     let inside = c.self.inside in
-    let clauses = c.lemma_fault.new.clauses in
-    subst (λ (a : Assigned). IsReady (record { rule = inside.rule; clauses = clauses; assignment = a; subsets = inside.subsets; opened = inside.opened; lits = inside.lits; groups = inside.groups })) (sym c.in-Some.ensures.unchanged)
-    (subst (λ (d : Database). IsReady (record { rule = inside.rule; clauses = d; assignment = inside.assignment; subsets = inside.subsets; opened = inside.opened; lits = inside.lits; groups = inside.groups })) (sym c.in-Some.ensures.clauses) c.self.invariant)
+    subst (λ (a : Assigned). IsReady (record { rule = inside.rule; clauses = inside.clauses; assignment = a; subsets = inside.subsets; opened = inside.opened; lits = inside.lits; groups = inside.groups })) (sym c.in-Some.ensures.unchanged) c.self.invariant
 
 pub invariant_of-self-2 : goal.invariant_of-self-2
 invariant_of-self-2 c =
     let inside = c.self.inside in
-    let clauses = c.lemma_fault.new.clauses in
-    subst (λ (a : Assigned). IsReady (record { rule = inside.rule; clauses = clauses; assignment = a; subsets = inside.subsets; opened = inside.opened; lits = inside.lits; groups = inside.groups })) (sym c.in_default.ensures.unchanged)
-    (subst (λ (d : Database). IsReady (record { rule = inside.rule; clauses = d; assignment = inside.assignment; subsets = inside.subsets; opened = inside.opened; lits = inside.lits; groups = inside.groups })) (sym c.in_default.ensures.clauses) c.self.invariant)
+    subst (λ (a : Assigned). IsReady (record { rule = inside.rule; clauses = inside.clauses; assignment = a; subsets = inside.subsets; opened = inside.opened; lits = inside.lits; groups = inside.groups })) (sym c.in_default.ensures.unchanged) c.self.invariant

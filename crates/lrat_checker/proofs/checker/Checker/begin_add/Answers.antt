@@ -1,4 +1,4 @@
-use Rattle.std.proofs.Common.{◌≡◌, List, [], ◌++◌, refl, sym, ap, ◌∙◌, subst, arith, Option, None}
+use Rattle.std.proofs.Common.{◌≡◌, List, [], refl, sym, ap, ◌∙◌, subst, arith, Option, None}
 use Rattle.lrat_model.specs.Literal.{Literal}
 use Rattle.lrat_model.specs.Steps.{Database, literal_fault}
 use Rattle.lrat_model.specs.Rules.{addition_fault_by}
@@ -6,10 +6,10 @@ use Rattle.lrat_checker.specs.Adding.{unit_fault}
 use Rattle.lrat_model.specs.Ranges.{IsInRange, AreInRange}
 use Rattle.std.proofs.Common.{ℕ}
 use Rattle.lrat_checker.specs.Checking.{Stepping}
-use Rattle.lrat_checker.proofs.FaultLaws.{range-literal_fault, taken}
+use Rattle.lrat_checker.proofs.FaultLaws.{range-literal_fault, where_ok}
 use Rattle.std.specs.Prelude.{IfNone, IfSome}
 use Rattle.lrat_checker.specs.declared.opened.Opened.{Opened}
-use Rattle.lrat_checker.specs.Courses.{Suits}
+use Rattle.lrat_checker.specs.Courses.{Suits, HasGroupRoom}
 use Rattle.lrat_checker.proofs.AddingLaws.{begun_fault, not_opened}
 use Rattle.lrat_checker.proofs.checker.Checker.begin_add.Goals as goal
 
@@ -18,12 +18,14 @@ invariant_of-self-2 c =
     let inside = c.self.inside in
     let lits = c.args.lits.now in
     let none : literal_fault inside.assignment.vars [] lits ≡ None = sym c.in_default.ensures.fault in
-    let copied : c.extend_from_slice.new.self.items ≡ lits = c.extend_from_slice.ensures.items ∙ taken c.extend_from_slice.result (c.clear-3.new.self.items ++ lits) c.clear-3.new.self.items (sym c.is_err.ensures.value ∙ c.if-is_err.false) ∙ ap (λ (xs : List Literal). xs ++ lits) c.clear-3.ensures.items in
+    let ok = sym c.is_err.ensures.value ∙ c.if-is_err.false in
+    let copied : c.make_room.new.copy.items ≡ lits = where_ok c.make_room.result _ ok c.make_room.ensures.copy in
     record {
       nothing_true = tt;
       above = omega (arith, c.if-id-last.false, c.last-last.ensures.value, ap (λ (d : Database). d.last) c.store.ensures);
-      suits = c.clear-2.ensures.items;
-      literals = subst (λ (n : ℕ). IsInRange n c.extend_from_slice.new.self.items) (sym c.assume_negations.ensures.vars) (subst (λ (xs : List Literal). IsInRange inside.assignment.vars xs) (sym copied) (range-literal_fault inside.assignment.vars [] lits none));
+      suits = where_ok c.make_room.result _ ok c.make_room.ensures.hints;
+      room = subst (λ (xs : List Literal). HasGroupRoom inside.rule inside.clauses.held xs c.make_room.new.groups) (sym copied) (where_ok c.make_room.result _ ok c.make_room.ensures.room);
+      literals = subst (λ (n : ℕ). IsInRange n c.make_room.new.copy.items) (sym c.assume_negations.ensures.vars) (subst (λ (xs : List Literal). IsInRange inside.assignment.vars xs) (sym copied) (range-literal_fault inside.assignment.vars [] lits none));
       in_range = subst (λ (n : ℕ). AreInRange n inside.clauses.held) (sym c.assume_negations.ensures.vars) c.self.invariant.in_range;
       found = c.self.invariant.found;
     }
@@ -34,7 +36,7 @@ returns-clause-opened c =
     let lits = c.args.lits.now in
     let trues = c.assume_negations.new.assignment.trues in
     let none : literal_fault inside.assignment.vars [] lits ≡ None = sym c.in_default.ensures.fault in
-    let copied : c.extend_from_slice.new.self.items ≡ lits = c.extend_from_slice.ensures.items ∙ taken c.extend_from_slice.result (c.clear-3.new.self.items ++ lits) c.clear-3.new.self.items (sym c.is_err.ensures.value ∙ c.if-is_err.false) ∙ ap (λ (xs : List Literal). xs ++ lits) c.clear-3.ensures.items in (
+    let copied : c.make_room.new.copy.items ≡ lits = where_ok c.make_room.result _ (sym c.is_err.ensures.value ∙ c.if-is_err.false) c.make_room.ensures.copy in (
       refl,
       copied,
       refl,
@@ -48,12 +50,13 @@ returns-clause-opened c =
 pub invariant_of-self : goal.invariant_of-self
 invariant_of-self c =
     let inside = c.self.inside in
-    let none : inside.opened ≡ None = not_opened inside.lits.items inside.assignment.trues inside.groups.items inside.opened (ap (λ (s : Stepping). s.open_addition) c.self.view_is ∙ c.requires) in
+    let none : inside.opened ≡ None = not_opened inside.lits.items inside.assignment.trues inside.groups.hints inside.opened (ap (λ (s : Stepping). s.open_addition) c.self.view_is ∙ c.requires) in
     record {
       nothing_true = subst (λ (o : Option Opened). IfNone o (c.clear.new.self.trues ≡ [])) (sym none) c.clear.ensures.trues;
       above = c.self.invariant.above;
       literals = subst (λ (o : Option Opened). IfSome o (λ _. IsInRange c.clear.new.self.vars inside.lits.items)) (sym none) tt;
-      suits = subst (λ (o : Option Opened). IfSome o (λ k. Suits inside.rule c.clear.new.self.trues inside.groups.items k.course)) (sym none) tt;
+      suits = subst (λ (o : Option Opened). IfSome o (λ k. Suits inside.rule c.clear.new.self.trues inside.groups.hints k.course)) (sym none) tt;
+      room = c.self.invariant.room;
       in_range = subst (λ (n : ℕ). AreInRange n inside.clauses.held) (sym (c.clear.ensures.vars ∙ c.assume_negations.ensures.vars)) c.self.invariant.in_range;
       found = c.self.invariant.found;
     }
@@ -61,12 +64,13 @@ invariant_of-self c =
 pub invariant_of-self-then-is_err : goal.invariant_of-self-then-is_err
 invariant_of-self-then-is_err c =
     let inside = c.self.inside in
-    let none : inside.opened ≡ None = not_opened inside.lits.items inside.assignment.trues inside.groups.items inside.opened (ap (λ (s : Stepping). s.open_addition) c.self.view_is ∙ c.requires) in
+    let none : inside.opened ≡ None = not_opened inside.lits.items inside.assignment.trues inside.groups.hints inside.opened (ap (λ (s : Stepping). s.open_addition) c.self.view_is ∙ c.requires) in
     record {
       nothing_true = subst (λ (o : Option Opened). IfNone o (c.clear-then-is_err.new.self.trues ≡ [])) (sym none) c.clear-then-is_err.ensures.trues;
       above = c.self.invariant.above;
-      literals = subst (λ (o : Option Opened). IfSome o (λ _. IsInRange c.clear-then-is_err.new.self.vars c.extend_from_slice.new.self.items)) (sym none) tt;
-      suits = subst (λ (o : Option Opened). IfSome o (λ k. Suits inside.rule c.clear-then-is_err.new.self.trues c.clear-2.new.self.items k.course)) (sym none) tt;
+      literals = subst (λ (o : Option Opened). IfSome o (λ _. IsInRange c.clear-then-is_err.new.self.vars c.make_room.new.copy.items)) (sym none) tt;
+      suits = subst (λ (o : Option Opened). IfSome o (λ k. Suits inside.rule c.clear-then-is_err.new.self.trues c.make_room.new.groups.hints k.course)) (sym none) tt;
+      room = subst (λ (o : Option Opened). IfSome o (λ _. HasGroupRoom inside.rule inside.clauses.held c.make_room.new.copy.items c.make_room.new.groups)) (sym none) tt;
       in_range = subst (λ (n : ℕ). AreInRange n inside.clauses.held) (sym (c.clear-then-is_err.ensures.vars ∙ c.assume_negations.ensures.vars)) c.self.invariant.in_range;
       found = c.self.invariant.found;
     }

@@ -7,7 +7,7 @@ use Rattle.lrat_model.specs.Ranges.{IsInRange, AreInRange}
 use Rattle.lrat_checker.specs.declared.opened.Opened.{Opened}
 use Rattle.lrat_checker.specs.Adding.{GoesOn, StopsAt}
 use Rattle.lrat_checker.specs.Checking.{Stepping}
-use Rattle.lrat_checker.specs.Courses.{adding, adding_of, Suits, IsUnitHint}
+use Rattle.lrat_checker.specs.Courses.{adding, adding_of, Suits, IsUnitHint, HasGroupRoom}
 use Rattle.lrat_checker.proofs.checker.Checker.unit_hint.Goals as goal
 
 pub invariant_of-self : goal.invariant_of-self
@@ -19,7 +19,8 @@ invariant_of-self c =
       nothing_true = tt;
       above = subst (λ (n : ℕ). inside.clauses.last < n) (sym c.after_unit.ensures.id) (subst (λ (x : Option Opened). IfSome x (λ k. inside.clauses.last < k.id)) is c.self.invariant.above);
       literals = subst (λ (n : ℕ). IsInRange n inside.lits.items) (sym c.after_unit.ensures.vars) (subst (λ (x : Option Opened). IfSome x (λ _. IsInRange inside.assignment.vars inside.lits.items)) is c.self.invariant.literals);
-      suits = c.in-Ok.ensures.suits inside.rule inside.groups.items (subst (λ (x : Option Opened). IfSome x (λ k. Suits inside.rule inside.assignment.trues inside.groups.items k.course)) is c.self.invariant.suits);
+      suits = c.in-Ok.ensures.suits inside.rule inside.groups.hints (subst (λ (x : Option Opened). IfSome x (λ k. Suits inside.rule inside.assignment.trues inside.groups.hints k.course)) is c.self.invariant.suits);
+      room = subst (λ (x : Option Opened). IfSome x (λ _. HasGroupRoom inside.rule inside.clauses.held inside.lits.items inside.groups)) is c.self.invariant.room;
       in_range = subst (λ (n : ℕ). AreInRange n inside.clauses.held) (sym c.after_unit.ensures.vars) c.self.invariant.in_range;
       found = c.self.invariant.found;
     }
@@ -31,7 +32,7 @@ returns-in-Ok-clause-taken c =
     let is : inside.opened ≡ Some o = cc (c.as_mut.ensures.value, c.unwrap-opened.ensures) in
     let lits = inside.lits.items in
     let trues = inside.assignment.trues in
-    let groups = inside.groups.items in
+    let groups = inside.groups.hints in
     let later = Some (adding_of lits c.after_unit.new.assignment.trues groups c.after_unit.new.opened) in
     let fits : SFits w64 c.args.hint = search rules in
     let same : to_z w64 (of_z w64 c.args.hint) ≡ c.args.hint = simp to_z-of_z refl in
@@ -52,18 +53,19 @@ invariant_of-self-in-Err c =
       above = tt;
       literals = tt;
       suits = tt;
+      room = tt;
       in_range = subst (λ (n : ℕ). AreInRange n inside.clauses.held) (sym (c.clear.ensures.vars ∙ c.after_unit.ensures.vars)) c.self.invariant.in_range;
       found = c.self.invariant.found;
     }
 
 pub returns-in-Err-clause-refused : goal.returns-in-Err-clause-refused
-returns-in-Err-clause-refused c = λ _.
+returns-in-Err-clause-refused c =
     let inside = c.self.inside in
     let o = c.unwrap-opened.result.now in
     let is : inside.opened ≡ Some o = cc (c.as_mut.ensures.value, c.unwrap-opened.ensures) in
     let lits = inside.lits.items in
     let trues = inside.assignment.trues in
-    let groups = inside.groups.items in
+    let groups = inside.groups.hints in
     let fault = c.in-Err.fault in
     let fits : SFits w64 c.args.hint = search rules in
     let same : to_z w64 (of_z w64 c.args.hint) ≡ c.args.hint = simp to_z-of_z refl in

@@ -11,7 +11,7 @@ returns-clause-pushed c =
     let shown = λ (v : Vec Watch). v.items in
     let lists = c.self.inside.lists.items in
     let i = c.slot_of-slot.result in
-    let key = c.args.key in
+    let key = c.args.code in
     let many : c.len.result ≡ length lists = c.len.ensures ∙ c.self.inside.lists.ok.0 in
     let within : i < length lists = omega (arith, c.slot_of-slot.ensures.within, many) in
     let at : i ≡ slot_of (length (map shown lists)) key = c.slot_of-slot.ensures.value ∙ ap (λ n. slot_of n key) (many ∙ sym (length-map lists shown)) in
@@ -19,14 +19,14 @@ returns-clause-pushed c =
     map-set shown lists i c.push.new.self
     ∙ ap (λ (ws : List Watch). set (map shown lists) i ws) (c.in_ok-push.ensures.items ∙ ap (λ (ws : List Watch). ws ++ c.args.watch ∷ []) here)
     ∙ ap (λ k. set (map shown lists) k (get_or (map shown lists) k [] ++ c.args.watch ∷ [])) at
-    ∙ ap (λ (xs : List (List Watch)). set xs (slot_of (length xs) key) (list_at xs key ++ c.args.watch ∷ [])) (ap (λ p. p.lists) c.self.view_is)
+    ∙ ap (λ (xs : List (List Watch)). set xs (slot_of (length xs) key) (list_at xs key ++ c.args.watch ∷ [])) c.self.view_is
 
 pub returns-clause-within : goal.returns-clause-within
 returns-clause-within c =
     let shown = λ (v : Vec Watch). v.items in
     let lists = c.self.inside.lists.items in
-    let key = c.args.key in
+    let key = c.args.code in
     let many : c.len.result ≡ length lists = c.len.ensures ∙ c.self.inside.lists.ok.0 in
-    let long : length lists ≡ length c.args.self.now.lists = sym (length-map lists shown) ∙ ap (λ p. length p.lists) c.self.view_is in
-    let at : c.slot_of-slot.result ≡ slot_of (length c.args.self.now.lists) key = c.slot_of-slot.ensures.value ∙ ap (λ n. slot_of n key) (many ∙ long) in
+    let long : length lists ≡ length c.args.self.now = sym (length-map lists shown) ∙ ap (λ (ls : List (List Watch)). length ls) c.self.view_is in
+    let at : c.slot_of-slot.result ≡ slot_of (length c.args.self.now) key = c.slot_of-slot.ensures.value ∙ ap (λ n. slot_of n key) (many ∙ long) in
     omega (arith, at, c.slot_of-slot.ensures.within, many, long)
