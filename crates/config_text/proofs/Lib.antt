@@ -1,0 +1,4 @@
+pub mod ReadBack
+pub mod Placed
+pub mod Items
+pub mod Trees

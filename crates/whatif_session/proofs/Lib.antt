@@ -1,0 +1,9 @@
+pub mod ChangeLists
+pub mod Following
+pub mod Limits
+pub mod EditLaws
+pub mod ScriptLaws
+pub mod NamePlaces
+pub mod NewNames
+pub mod NamesStay
+pub mod LineLaws
