@@ -113,19 +113,19 @@ search_spent k f b total left top journal solver is few none unclosed = record {
 -- ---- a line
 
 -- a clause has the literal of each member
-has_member : (p : ℕ → Literal) (k : ℕ) (t : Table) (w : ℕ) → members t w ≡ true → has (map p (listed_from k t)) (p (k + w)) ≡ true
+pub has_member : (p : ℕ → Literal) (k : ℕ) (t : Table) (w : ℕ) → members t w ≡ true → has (map p (listed_from k t)) (p (k + w)) ≡ true
 has_member p k [] w here = absurd (false≢true here)
 has_member p k (true ∷ t) zero here = subst (λ (x : ℕ). has (p k ∷ map p (listed_from (k + 1) t)) (p x) ≡ true) (sym (same_place k)) (has-first (p k) (map p (listed_from (k + 1) t)))
 has_member p k (true ∷ t) (suc w) here = has-rest (p k) (p (k + suc w)) (map p (listed_from (k + 1) t)) (subst (λ (x : ℕ). has (map p (listed_from (k + 1) t)) (p x) ≡ true) (sym (next_place k w)) (has_member p (k + 1) t w here))
 has_member p k (false ∷ t) zero here = absurd (false≢true here)
 has_member p k (false ∷ t) (suc w) here = subst (λ (x : ℕ). has (map p (listed_from (k + 1) t)) (p x) ≡ true) (sym (next_place k w)) (has_member p (k + 1) t w here)
 
-none_listed : (p : ℕ → Literal) (k : ℕ) (t : Table) → ((w : ℕ) → members t w ≡ false) → map p (listed_from k t) ≡ []
+pub none_listed : (p : ℕ → Literal) (k : ℕ) (t : Table) → ((w : ℕ) → members t w ≡ false) → map p (listed_from k t) ≡ []
 none_listed p k [] none = refl
 none_listed p k (true ∷ t) none = absurd (both_ways true (none 0) refl)
 none_listed p k (false ∷ t) none = none_listed p (k + 1) t (λ w. none (suc w))
 
-above_last : (n : ℕ) → n < n + 1
+pub above_last : (n : ℕ) → n < n + 1
 above_last n = omega arith
 
 -- a minimal set may be listed
@@ -159,7 +159,7 @@ line_open which id set = All-cons (λ line. line_progress line ≡ Going) (SetLi
 empty_database : AreBelow nothing_held
 empty_database k h = refl
 
-same_database : (d e : Database) → d.held ≡ e.held → d.last ≡ e.last → d ≡ e
+pub same_database : (d e : Database) → d.held ≡ e.held → d.last ≡ e.last → d ≡ e
 same_database d e held_is last_is =
     let one : d ≡ record { held = e.held; last = d.last } = ap (λ (h : Held). record { held = h; last = d.last }) held_is in
     let two : record { held = e.held; last = d.last } ≡ e = ap (λ (n : ℕ). record { held = e.held; last = n }) last_is in

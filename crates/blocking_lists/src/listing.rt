@@ -1,5 +1,5 @@
 //! The list of all minimal sets of a kind.
-ghost use Rattle.std.specs.Prelude.{◌≡◌, ◌+◌, ◌<◌, ◌^◌, [], length, None, Ok, Err, All, IfOk, IfErr, IfSome, OnOk};
+ghost use Rattle.std.specs.Prelude.{◌≡◌, ◌≢◌, ◌+◌, ◌<◌, ◌^◌, [], length, None, Ok, Err, All, IfOk, IfErr, IfSome, OnOk};
 ghost use Rattle.fbas_model.specs.Nodes.{members, size};
 ghost use Rattle.lrat_model.specs.Propagation.{Closes};
 ghost use Rattle.greatest_quorum.specs.Greatest.{greatest_of};
@@ -18,7 +18,7 @@ use list_journal::{Listed, rising};
 use name_set::NodeSet;
 use std::alloc::{AllocError, Global};
 
-/// All minimal sets of a kind once the faulty nodes are deleted, in name order, or the journal of the search for them where
+/// All minimal sets of a kind of which there are lists, once the faulty nodes are deleted, in name order, or the journal of the search for them where
 /// the budget was spent: one unit for each lemma with a literal, and for each quorum and blocking set that is listed.
 ///
 /// The solver's assignments are sets of nodes of the greatest quorum. Where a quorum is outside such a set, a minimal one is
@@ -31,6 +31,7 @@ pub fn list_all(
     faulty: &NodeSet,
     budget: &mut Budget,
 ) -> Result<ListOutcome, AllocError>
+    requires kind { sought ≢ Listed.Smaller }
     requires same_faulty { length faulty.now ≡ length system.now.sets }
     requires room { budget.old + 1 < 2 ^ 63 }
     ensures outcome { IfOk result (λ outcome. OutcomeHolds sought system.now.sets faulty.now budget.old budget.new outcome) }
@@ -133,6 +134,7 @@ fn found_sets(
     listed: &mut Vec<ListLine>,
     budget: &mut Budget,
 ) -> Result<Option<Vec<NodeSet>>, AllocError>
+    requires kind { sought ≢ Listed.Smaller }
     requires same_faulty { length faulty.now ≡ length system.now.sets }
     requires greatest { greatest.now ≡ greatest_of system.now.sets faulty.now }
     requires room { budget.old + 1 < 2 ^ 63 }

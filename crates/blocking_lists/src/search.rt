@@ -1,7 +1,8 @@
 //! The search for all minimal sets of a kind, line by line.
-ghost use Rattle.std.specs.Prelude.{◌≡◌, ℕ, true, false, Ok, ◌+◌, ◌<◌, ◌≤◌, ◌^◌, ◌++◌, [], ◌∷◌, length, All, IfOk, OnOk};
+ghost use Rattle.std.specs.Prelude.{◌≡◌, ◌≢◌, ℕ, true, false, Ok, ◌+◌, ◌<◌, ◌≤◌, ◌^◌, ◌++◌, [], ◌∷◌, length, All, IfOk, OnOk};
 ghost use Rattle.fbas_model.specs.Nodes.{members, ◌⊆◌, size};
 ghost use Rattle.lrat_model.specs.Clauses.{Satisfies, with_clause};
+ghost use Rattle.lrat_model.specs.Ranges.{IsInRange};
 ghost use Rattle.lrat_model.specs.Propagation.{Closes};
 ghost use Rattle.cdcl_core.specs.Solving.{assignment};
 ghost use Rattle.list_journal.specs.Numbering.{clause_for};
@@ -15,10 +16,38 @@ use fbas_core::System;
 use fbas_model::MOST_NODES;
 use greatest_quorum::{blocks, minimal_block, minimal_quorum};
 use list_journal::{Listed, clause_of};
+use lrat_model::Lit;
 use name_set::NodeSet;
 use std::alloc::{AllocError, Global};
 
-/// Adds the clause of a set to the solver, and lists the set behind the steps of the solver's log.
+/// Adds the clause of a set to the solver, and lists the set behind the steps of the solver's log. Linear in the literals.
+pub fn list_set(
+    which: Listed,
+    clause: &[Lit],
+    set: NodeSet,
+    solver: &mut Solver,
+    listed: &mut Vec<ListLine>,
+) -> Result<(), AllocError>
+    requires range { IsInRange solver.old.vars clause.now }
+    requires room { solver.old.database.last + 1 < 2 ^ 63 }
+    ensures listed { OnOk result (listed.new.items ≡ listed.old.items ++ record { after = length solver.old.log; which = which; id = solver.old.database.last + 1; set = set } ∷ []) }
+    ensures held { OnOk result (solver.new.database.held ≡ with_clause solver.old.database.held (solver.old.database.last + 1) clause.now) }
+    ensures last { OnOk result (solver.new.database.last ≡ solver.old.database.last + 1) }
+    ensures log { solver.new.log ≡ solver.old.log }
+    ensures vars { solver.new.vars ≡ solver.old.vars }
+{
+    let after = solver.log().len();
+    let id = solver.add(clause)?;
+    listed.push(ListLine {
+        after,
+        which,
+        id,
+        set,
+    })?;
+    Ok(())
+}
+
+/// Adds the clause of a set of a list to the solver, and lists the set.
 fn add_line(
     alloc: Global,
     sought: Listed,
@@ -42,15 +71,7 @@ fn add_line(
     ensures vars { solver.new.vars ≡ solver.old.vars }
 {
     let clause = clause_of(alloc, sought, which, n, greatest, &set)?;
-    let after = solver.log().len();
-    let id = solver.add(&clause)?;
-    listed.push(ListLine {
-        after,
-        which,
-        id,
-        set,
-    })?;
-    Ok(())
+    list_set(which, &clause, set, solver, listed)
 }
 
 /// Lists a set whose clause is false in the solver's assignment: a minimal quorum outside the assignment's set, or where there
@@ -64,6 +85,7 @@ fn turn(
     solver: &mut Solver,
     listed: &mut Vec<ListLine>,
 ) -> Result<(), AllocError>
+    requires kind { sought ≢ Listed.Smaller }
     requires same_faulty { length faulty.now ≡ length system.now.sets }
     requires greatest { greatest.now ≡ greatest_of system.now.sets faulty.now }
     requires vars { solver.old.vars ≡ size greatest.now }
@@ -114,6 +136,7 @@ pub fn run(
     listed: &mut Vec<ListLine>,
     budget: &mut Budget,
 ) -> Result<bool, AllocError>
+    requires kind { sought ≢ Listed.Smaller }
     requires same_faulty { length faulty.now ≡ length system.now.sets }
     requires greatest { greatest.now ≡ greatest_of system.now.sets faulty.now }
     requires room { budget.old + 1 < 2 ^ 63 }

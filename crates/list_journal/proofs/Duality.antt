@@ -4,25 +4,28 @@ use Rattle.std.proofs.lemmas.Bool.{and_parts, and_from, cases_Bool, both_ways, f
 use Rattle.fbas_model.specs.Nodes.{Nodes, Table, members, ◌⊆◌, Meets}
 use Rattle.fbas_model.specs.Fbas.{Fbas, Quorum, Blocks, BlocksMinimally, all_nodes}
 use Rattle.fbas_model.proofs.Tables.{table_ext}
-use Rattle.list_journal.specs.Kinds.{other, is_sought, Is, IsMinimal}
+use Rattle.list_journal.specs.Kinds.{other, is_sought, HasLists, Is, IsMinimal}
 use Rattle.list_journal.specs.Journals.{RightFor}
 use Rattle.list_journal.specs.Lists.{IsMinimalSet}
 use Rattle.list_journal.specs.declared.kinds.Listed.{Listed}
-use Rattle.list_journal.specs.declared.kinds.Listed.TheVariants.{Quorum as quorum, Blocking as blocking}
+use Rattle.list_journal.specs.declared.kinds.Listed.TheVariants.{Quorum as quorum, Blocking as blocking, Smaller as smaller}
 use Rattle.list_journal.proofs.Greatest.{IsGreatest}
 
 -- each set of a kind shares a node with each of the other
 pub meets : (k : Listed) (f : Fbas) (b s u : Nodes) → Is k f b s → Is (other k) f b u → Meets s u
 meets quorum f b s u is there = let m = there.meets s is in (m.0, m.2, m.1)
 meets blocking f b s u is there = is.meets u there
+meets smaller f b s u is there = absurd is
 
 pub is_of : (k : Listed) (f : Fbas) (b s : Nodes) → IsMinimal k f b s → Is k f b s
 is_of quorum f b s is = is.quorum
 is_of blocking f b s is = is.blocks
+is_of smaller f b s is = absurd is
 
 pub minimal_of : (k : Listed) (f : Fbas) (b s t : Nodes) → IsMinimal k f b s → t ⊆ s → Is k f b t → s ⊆ t
 minimal_of quorum f b s t is inside one = is.least t inside one
 minimal_of blocking f b s t is inside one = is.least t inside one
+minimal_of smaller f b s t is inside one = absurd is
 
 -- each quorum lies inside the greatest
 pub quorum_within : (f : Fbas) (b : Nodes) (g : Table) (u : Nodes) → IsGreatest f b g → Quorum f b u → u ⊆ members g
@@ -42,6 +45,7 @@ block_within f b g s greatest is =
 pub minimal_within : (k : Listed) (f : Fbas) (b : Nodes) (g : Table) (s : Nodes) → IsGreatest f b g → IsMinimal k f b s → s ⊆ members g
 minimal_within quorum f b g s greatest is = quorum_within f b g s greatest is.quorum
 minimal_within blocking f b g s greatest is = block_within f b g s greatest is
+minimal_within smaller f b g s greatest is = absurd is
 
 pub same_nodes : (s t : Table) → length s ≡ length t → members s ⊆ members t → members t ⊆ members s → s ≡ t
 same_nodes s t e there back = table_ext s t e (λ v. elim (cases_Bool (members s v)) [
@@ -54,19 +58,50 @@ pub same_minimal : (k : Listed) (f : Fbas) (b : Nodes) (s t : Table) → IsMinim
 same_minimal k f b s t is places one inside = same_nodes t s (places ∙ sym is.0) inside (minimal_of k f b (members s) (members t) is.1 inside one)
 
 -- a listed set is a minimal one of the sought kind, or one of the other kind
-pub role_of : (k which : Listed) (f : Fbas) (b : Nodes) (g t : Table) → RightFor (is_sought k which) which f b g t → ((which ≡ k) × IsMinimal k f b (members t)) ⊎ ((which ≡ other k) × Is (other k) f b (members t) × (members t ⊆ members g))
-role_of quorum quorum f b g t right = inl (refl, right)
-role_of quorum blocking f b g t right = inr (refl, right.0, right.1)
-role_of blocking quorum f b g t right = inr (refl, right.0, right.1)
-role_of blocking blocking f b g t right = inl (refl, right)
+pub role_of : (k which : Listed) → HasLists k → (f : Fbas) (b : Nodes) (g t : Table) → RightFor (is_sought k which) which f b g t → ((which ≡ k) × IsMinimal k f b (members t)) ⊎ ((which ≡ other k) × Is (other k) f b (members t) × (members t ⊆ members g))
+role_of quorum quorum lists f b g t right = inl (refl, right)
+role_of quorum blocking lists f b g t right = inr (refl, right.0, right.1)
+role_of quorum smaller lists f b g t right = absurd right.0
+role_of blocking quorum lists f b g t right = inr (refl, right.0, right.1)
+role_of blocking blocking lists f b g t right = inl (refl, right)
+role_of blocking smaller lists f b g t right = absurd right.0
+role_of smaller which lists f b g t right = absurd lists
+
+-- there are lists of a kind that has a minimal set
+pub lists_of : (k : Listed) (f : Fbas) (b s : Nodes) → IsMinimal k f b s → HasLists k
+lists_of quorum f b s is = tt
+lists_of blocking f b s is = tt
+lists_of smaller f b s is = is
+
+pub lists_of_other : (k : Listed) (f : Fbas) (b s : Nodes) → IsMinimal (other k) f b s → HasLists k
+lists_of_other quorum f b s is = tt
+lists_of_other blocking f b s is = tt
+lists_of_other smaller f b s is = is
 
 pub sought_itself : (k : Listed) → is_sought k k ≡ true
 sought_itself quorum = refl
 sought_itself blocking = refl
+sought_itself smaller = refl
+
+pub sought_same : (k which : Listed) → is_sought k which ≡ true → which ≡ k
+sought_same quorum quorum on = refl
+sought_same quorum blocking on = absurd cc
+sought_same quorum smaller on = absurd cc
+sought_same blocking quorum on = absurd cc
+sought_same blocking blocking on = refl
+sought_same blocking smaller on = absurd cc
+sought_same smaller quorum on = absurd cc
+sought_same smaller blocking on = absurd cc
+sought_same smaller smaller on = refl
 
 -- each listed set lies in the greatest quorum
 pub right_within : (k which : Listed) (f : Fbas) (b : Nodes) (g t : Table) → IsGreatest f b g → RightFor (is_sought k which) which f b g t → members t ⊆ members g
 right_within quorum quorum f b g t greatest right = minimal_within quorum f b g (members t) greatest right
 right_within quorum blocking f b g t greatest right = right.1
+right_within quorum smaller f b g t greatest right = right.1
 right_within blocking quorum f b g t greatest right = right.1
 right_within blocking blocking f b g t greatest right = minimal_within blocking f b g (members t) greatest right
+right_within blocking smaller f b g t greatest right = right.1
+right_within smaller quorum f b g t greatest right = right.1
+right_within smaller blocking f b g t greatest right = right.1
+right_within smaller smaller f b g t greatest right = absurd right

@@ -12,7 +12,7 @@ use Rattle.greatest_quorum.specs.Greatest.{some_set}
 use Rattle.list_journal.specs.Tests.{is_within, is_meeting, is_blocking, is_kind, is_minimal}
 use Rattle.list_journal.specs.Kinds.{Is}
 use Rattle.list_journal.specs.declared.kinds.Listed.{Listed}
-use Rattle.list_journal.specs.declared.kinds.Listed.TheVariants.{Quorum, Blocking}
+use Rattle.list_journal.specs.declared.kinds.Listed.TheVariants.{Quorum, Blocking, Smaller}
 use Rattle.greatest_quorum.proofs.GreatestLaws.{some_set-from, table_of}
 
 -- ---- sets of so many nodes
@@ -106,14 +106,17 @@ blocks_from f b s is = and_from (not (is_meeting s b)) (not (some_set (length f)
 pub is_kind_to : (k : Listed) (f : Fbas) (b s : Table) → length b ≡ length f → length s ≡ length f → is_kind k f b s ≡ true → Is k f (members b) (members s)
 is_kind_to Quorum f b s same size h = quorum-to f b s h
 is_kind_to Blocking f b s same size h = blocks_to f b s same size h
+is_kind_to Smaller f b s same size h = absurd (false≢true h)
 
 pub is_kind_from : (k : Listed) (f : Fbas) (b s : Table) → length b ≡ length f → length s ≡ length f → Is k f (members b) (members s) → is_kind k f b s ≡ true
 is_kind_from Quorum f b s same size is = quorum-from f b s (same ∙ sym size) (sym size) is
 is_kind_from Blocking f b s same size is = blocks_from f b s is
+is_kind_from Smaller f b s same size is = absurd is
 
 kind_left : (k : Listed) (f : Fbas) (b u : Nodes) → Is k f b u → u ⊆ all_nodes f
 kind_left Quorum f b u is = low_nodes f b u is.left
 kind_left Blocking f b u is = low_nodes f b u is.left
+kind_left Smaller f b u is = absurd is
 
 pub minimal_to : (k : Listed) (f : Fbas) (b s : Table) → length b ≡ length f → is_minimal k f b s ≡ true → (t : Nodes) → t ⊆ members s → Is k f (members b) t → members s ⊆ t
 minimal_to k f b s same h t inside is_one =

@@ -1,5 +1,5 @@
 -- A journal that runs to the empty lemma has each minimal set of both kinds: one that it lacks would leave every clause true.
-use Rattle.std.proofs.Common.{◌≡◌, Bool, true, false, not, ◌&&◌, List, [], ◌∷◌, length, refl, sym, ap, ◌∙◌, subst, inl, inr, Contains}
+use Rattle.std.proofs.Common.{◌≡◌, true, false, not, ◌&&◌, List, [], ◌∷◌, length, refl, sym, ap, ◌∙◌, subst, inl, inr, Contains}
 use Rattle.std.specs.Prelude.{All}
 use Rattle.std.proofs.lemmas.Bool.{and_parts, and_from, both_ways, false_from_ne_true, not_from_false}
 use Rattle.std.proofs.lemmas.List.Elements.{All-nil, All-cons, All-contains}
@@ -12,15 +12,14 @@ use Rattle.lrat_model.specs.Steps.{Database, after_step}
 use Rattle.greatest_quorum.proofs.GreatestLaws.{table_of}
 use Rattle.list_journal.specs.Kinds.{other, is_sought}
 use Rattle.list_journal.specs.Numbering.{assignment_of, clause_for}
-use Rattle.list_journal.specs.Journals.{JournalLine, SetLine, StepLine, nothing_held, list_of, IsListedFor, after_line, JournalRun, IsWholeJournal, put_if, sets_in}
+use Rattle.list_journal.specs.Journals.{JournalLine, SetLine, StepLine, nothing_held, list_of, IsListedFor, RightFor, after_line, JournalRun, IsWholeJournal, put_if, sets_in}
 use Rattle.list_journal.specs.Lists.{IsMinimalSet, AreMinimalSets}
 use Rattle.list_journal.specs.declared.kinds.ListKind.{ListKind}
 use Rattle.list_journal.specs.declared.kinds.ListKind.TheVariants.{Whole}
 use Rattle.list_journal.specs.declared.kinds.Listed.{Listed}
-use Rattle.list_journal.specs.declared.kinds.Listed.TheVariants as listed
 use Rattle.list_journal.proofs.Greatest.{IsGreatest}
 use Rattle.list_journal.proofs.Comparing.{within_or_not, contains_or_not}
-use Rattle.list_journal.proofs.Duality.{meets, is_of, minimal_within, same_minimal, role_of, sought_itself}
+use Rattle.list_journal.proofs.Duality.{meets, is_of, minimal_within, same_minimal, role_of, lists_of, lists_of_other, sought_itself, sought_same}
 use Rattle.list_journal.proofs.ClauseTruth.{sought_clause_true, other_clause_true}
 use Rattle.list_journal.proofs.Refuting.{no_whole_journal, true_without}
 
@@ -30,8 +29,9 @@ module _ (k : Listed) (f : Fbas) (b : Nodes) (g : Table) (greatest : IsGreatest 
   -- it makes true the clause of each other listed set
   sought_true : (s : Table) → IsMinimalSet k f b s → (which : Listed) (t : Table) → IsListedFor k f b g which t → (is_sought k which ≡ true → t ≡ s → ⊥) → clause_true (assignment_of g s) (clause_for k g which t) ≡ true
   sought_true s is which t right differ =
+      let lists = lists_of k f b (members s) is.1 in
       let fits : length s ≡ length g = is.0 ∙ sym greatest.places in
-      elim (role_of k which f b g t right.1) [
+      elim (role_of k which lists f b g t right.1) [
         | inl sought ↦ elim (within_or_not t s) [
           | inl inside ↦ absurd (differ (ap (is_sought k) sought.0 ∙ sought_itself k) (same_minimal k f b s t is right.0 (is_of k f b (members t) sought.1) inside))
           | inr lacks ↦ subst (λ (w : Listed). clause_true (assignment_of g s) (clause_for k g w t) ≡ true) (sym sought.0)
@@ -39,7 +39,7 @@ module _ (k : Listed) (f : Fbas) (b : Nodes) (g : Table) (greatest : IsGreatest 
         ]
         | inr against ↦
             let m = meets k f b (members s) (members t) (is_of k f b (members s) is.1) against.1 in
-            subst (λ (w : Listed). clause_true (assignment_of g s) (clause_for k g w t) ≡ true) (sym against.0) (other_clause_true k g s t m.0 fits (against.2 m.0 m.2) m.1 m.2)
+            subst (λ (w : Listed). clause_true (assignment_of g s) (clause_for k g w t) ≡ true) (sym against.0) (other_clause_true k lists g s t m.0 fits (against.2 m.0 m.2) m.1 m.2)
       ]
 
   -- ---- the assignment that leaves out a set of the other kind
@@ -56,7 +56,7 @@ module _ (k : Listed) (f : Fbas) (b : Nodes) (g : Table) (greatest : IsGreatest 
   rest_is s = table_of f (members g ∖ members s) (λ v here. let in_g = (and_parts (members g v) (not (members s v)) here).0 in (and_parts (all_nodes f v) (not (b v)) (greatest.greatest.within v in_g)).0)
 
   other_true : (s : Table) → IsMinimalSet (other k) f b s → (which : Listed) (t : Table) → IsListedFor k f b g which t → (is_sought (other k) which ≡ true → t ≡ s → ⊥) → clause_true (assignment_of g (rest s)) (clause_for k g which t) ≡ true
-  other_true s is which t right differ = elim (role_of k which f b g t right.1) [
+  other_true s is which t right differ = elim (role_of k which (lists_of_other k f b (members s) is.1) f b g t right.1) [
     | inl sought ↦
         let m = meets k f b (members t) (members s) (is_of k f b (members t) sought.1) (is_of (other k) f b (members s) is.1) in
         let missing : members (rest s) m.0 ≡ false = ap (λ (u : Nodes). u m.0) (rest_is s) ∙ false_from_ne_true (members g m.0 && not (members s m.0)) (λ h.
@@ -68,21 +68,18 @@ module _ (k : Listed) (f : Fbas) (b : Nodes) (g : Table) (greatest : IsGreatest 
       | inr lacks ↦
           let in_g = against.2 lacks.0 lacks.1 in
           let chosen : members (rest s) lacks.0 ≡ true = ap (λ (u : Nodes). u lacks.0) (rest_is s) ∙ and_from (members g lacks.0) (not (members s lacks.0)) in_g (not_from_false (members s lacks.0) lacks.2) in
-          subst (λ (w : Listed). clause_true (assignment_of g (rest s)) (clause_for k g w t) ≡ true) (sym against.0) (other_clause_true k g (rest s) t lacks.0 (rest_fits s) in_g chosen lacks.1)
+          subst (λ (w : Listed). clause_true (assignment_of g (rest s)) (clause_for k g w t) ≡ true) (sym against.0) (other_clause_true k (lists_of_other k f b (members s) is.1) g (rest s) t lacks.0 (rest_fits s) in_g chosen lacks.1)
     ]
   ]
 
   -- ---- the laws
 
   put_one : (which : Listed) (t : Table) (sets : List Table) → IsListedFor k f b g which t → All (IsMinimalSet k f b) sets → All (IsMinimalSet k f b) (put_if (is_sought k which) t sets)
-  put_one which t sets right all = elim (role_of k which f b g t right.1) [
-    | inl sought ↦ subst (λ (x : Bool). All (IsMinimalSet k f b) (put_if x t sets)) (sym (ap (is_sought k) sought.0 ∙ sought_itself k)) (All-cons (IsMinimalSet k f b) t sets (right.0, sought.1) all)
-    | inr against ↦ subst (λ (x : Bool). All (IsMinimalSet k f b) (put_if x t sets)) (sym (ap (is_sought k) against.0 ∙ never k)) all
-  ]
-    where
-      never : (k : Listed) → is_sought k (other k) ≡ false
-      never listed.Quorum = refl
-      never listed.Blocking = refl
+  put_one which t sets right all =
+      elim (is_sought k which) as (λ x. is_sought k which ≡ x → RightFor x which f b g t → All (IsMinimalSet k f b) (put_if x t sets)) [
+        | true ↦ λ on is. All-cons (IsMinimalSet k f b) t sets (subst (λ (w : Listed). IsMinimalSet w f b t) (sought_same k which on) (right.0, is)) all
+        | false ↦ λ off is. all
+      ] refl right.1
 
   pub listed_minimal : (kind : ListKind) (old : Database) (lines : List JournalLine) (new : Database) → JournalRun (list_of k f b g) kind old lines new → All (IsMinimalSet k f b) (sets_in k lines)
   listed_minimal kind old [] new run = All-nil (IsMinimalSet k f b)

@@ -5,7 +5,7 @@ use Rattle.fbas_model.specs.Fbas.{Fbas}
 use Rattle.fbas_model.specs.Counting.{is_quorum}
 use Rattle.greatest_quorum.specs.Greatest.{some_set}
 use Rattle.list_journal.specs.declared.kinds.Listed.{Listed}
-use Rattle.list_journal.specs.declared.kinds.Listed.TheVariants.{Quorum, Blocking}
+use Rattle.list_journal.specs.declared.kinds.Listed.TheVariants.{Quorum, Blocking, Smaller}
 
 -- each node of the one is in the other
 abbrev pub is_within : Table → Table → Bool
@@ -26,6 +26,7 @@ is_blocking f b s = not (is_meeting s b) && not (some_set (length f) (λ u. is_q
 abbrev pub is_kind : Listed → Fbas → Table → Table → Bool
 is_kind Quorum f b u = is_quorum f b u
 is_kind Blocking f b s = is_blocking f b s
+is_kind Smaller f b u = false
 
 -- no proper subset is of the kind
 abbrev pub is_minimal : Listed → Fbas → Table → Table → Bool

@@ -17,9 +17,9 @@ fn literal(sought: Listed, which: Listed, variable: u32) -> Lit
     ensures { result ≡ signed sought which variable }
 {
     match (sought, which) {
-        (Listed::Quorum, Listed::Quorum) | (Listed::Blocking, Listed::Blocking) => {
-            Lit::negative(variable)
-        }
+        (Listed::Quorum, Listed::Quorum)
+        | (Listed::Blocking, Listed::Blocking)
+        | (Listed::Smaller, Listed::Smaller) => Lit::negative(variable),
         _ => Lit::positive(variable),
     }
 }

@@ -71,5 +71,7 @@ pub fn make_minimal(
     match kind {
         Listed::Quorum => minimal_quorum(system, set, faulty, scratch),
         Listed::Blocking => minimal_block(system, set, faulty, scratch),
+        // There is no such set.
+        Listed::Smaller => {}
     }
 }

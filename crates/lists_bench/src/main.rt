@@ -1,15 +1,18 @@
-//! Lists the minimal blocking sets of the configuration on standard input, to be timed by `bench/lists.py`.
+//! Lists the minimal blocking sets of the configuration on standard input, to be timed by `bench/lists.py`, or finds a smallest
+//! quorum of it.
 //!
 //! `lists_bench UNITS` prints how many sets there are, the lines of the journal and the units that are left.
 //! `lists_bench UNITS sets` prints the sets before that, and `lists_bench UNITS quorums` the quorums of the journal, each by the
-//! numbers of its nodes.
+//! numbers of its nodes. `lists_bench UNITS least` prints how many nodes a smallest quorum has, and the same of its journal.
 #![tactic(auto)]
 
 ghost use Rattle.std.specs.Prelude.{◌≤◌, IfOk};
 
 mod printing;
+mod smallest;
 
 use crate::printing::{counts_of, print_quorums, print_sets};
+use crate::smallest::show_least;
 use anyhow::{Context, Result, bail};
 use blocking_lists::{Journal, ListOutcome, list};
 use cdcl_core::Budget;
@@ -28,6 +31,7 @@ const MOST_UNITS: u64 = 1_000_000_000;
 enum Shown {
     Sets,
     Quorums,
+    Least,
     Nothing,
 }
 
@@ -35,7 +39,8 @@ fn shown_by(word: Option<&str>) -> Result<Shown> {
     match word {
         Some("sets") => Ok(Shown::Sets),
         Some("quorums") => Ok(Shown::Quorums),
-        Some(_) => bail!("the second word is sets or quorums"),
+        Some("least") => Ok(Shown::Least),
+        Some(_) => bail!("the second word is sets, quorums or least"),
         None => Ok(Shown::Nothing),
     }
 }
@@ -75,7 +80,7 @@ fn print_outcome(rt: HostRuntime, outcome: &ListOutcome, shown: Shown, left: u64
             match shown {
                 Shown::Sets => print_sets(rt, sets)?,
                 Shown::Quorums => print_quorums(rt, journal)?,
-                Shown::Nothing => {}
+                Shown::Least | Shown::Nothing => {}
             }
             print_counts(rt, Some(sets.len()), journal, left)
         }
@@ -117,7 +122,17 @@ fn show_list(rt: HostRuntime, system: &System, units: u64, shown: Shown) -> Resu
     print_outcome(rt, &outcome, shown, budget.left())
 }
 
+/// Searches for what is asked of a system, and prints what was found.
+fn show(rt: HostRuntime, system: &System, units: u64, shown: Shown) -> Result<()>
+    requires { units ≤ MOST_UNITS }
+{
+    match shown {
+        Shown::Least => show_least(rt, system, units),
+        _ => show_list(rt, system, units, shown),
+    }
+}
+
 fn main(rt: HostRuntime) -> Result<()> {
     let (units, shown) = asked(rt)?;
-    show_list(rt, &read_system(rt)?, units, shown)
+    show(rt, &read_system(rt)?, units, shown)
 }

@@ -21,7 +21,9 @@ pub fn counts_of(journal: &Journal) -> Counts {
     let mut lines = journal.lines();
     for _ in 0..u64::MAX {
         match lines.next_line() {
-            Some(Line::Quorum(_, _)) => counts.quorums = counts.quorums.saturating_add(1),
+            Some(Line::Quorum(_, _)) | Some(Line::Smaller(_, _)) => {
+                counts.quorums = counts.quorums.saturating_add(1);
+            }
             Some(Line::Blocking(_, _)) => counts.blocks = counts.blocks.saturating_add(1),
             Some(Line::Step(_)) => counts.steps = counts.steps.saturating_add(1),
             None => break,

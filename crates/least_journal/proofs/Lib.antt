@@ -1,0 +1,4 @@
+pub mod Counts
+pub mod Smallest
+pub mod Sizing
+mod Samples
