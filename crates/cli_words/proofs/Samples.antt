@@ -7,9 +7,9 @@ use Rattle.cli_words.specs.Words.{order_of}
 use Rattle.cli_words.specs.Table.{row_of}
 use Rattle.cli_words.specs.Usage.{usage}
 use Rattle.cli_words.specs.declared.orders.Command.{Command}
-use Rattle.cli_words.specs.declared.orders.Command.TheVariants.{Query, Search, Check, CheckLrat}
+use Rattle.cli_words.specs.declared.orders.Command.TheVariants.{Query, Search, Check, CheckLrat, Whatif}
 use Rattle.cli_words.specs.declared.orders.Goal.{Goal}
-use Rattle.cli_words.specs.declared.orders.Goal.TheVariants.{Intersect, Dset, Splits, Blocking, Trial, Quorums}
+use Rattle.cli_words.specs.declared.orders.Goal.TheVariants.{Intersect, Dset, Splits, Blocking, Trial, Quorums, Least}
 use Rattle.cli_words.specs.declared.orders.Query.TheVariants.{Show, Closure, Greatest, Available, Blocks, Vblocks, Export}
 use Rattle.cli_words.specs.declared.orders.OrderFault.{OrderFault}
 use Rattle.cli_words.specs.declared.orders.OrderFault.TheVariants.{Words, SamePath}
@@ -20,6 +20,7 @@ nothing_for command = record {
   command = command;
   config = [];
   cert = [];
+  script = [];
   orgs = None;
   node = None;
   from = None;
@@ -54,7 +55,7 @@ program_alone = refl
 
 -- ---- the usage text
 
-usage_text : usage ≡ codes "usage: quorum_cli COMMAND\nshow CONFIG\nclosure CONFIG --node NAME\ngreatest CONFIG [COMMON]\nintersect CONFIG CERT [COMMON] [--budget UNITS]\navailable CONFIG --set NAMES [--from NAME]\ndset CONFIG CERT --set NAMES [--from NAME] [--budget UNITS]\nblocks CONFIG --set NAMES [COMMON]\nvblocks CONFIG --node NAME --set NAMES\nsplits CONFIG CERT --set NAMES [COMMON] [--budget UNITS]\nblocking CONFIG CERT [COMMON] [--budget UNITS]\ncheck CONFIG CERT\nexport CONFIG [COMMON]\ntrial N CERT [--budget UNITS]\ncheck-lrat CONFIG LRAT [COMMON]\nquorums CONFIG CERT [COMMON] [--budget UNITS]\nCOMMON: --from NAME --faulty NAMES --orgs ORGS --faulty-orgs IDS\n"
+usage_text : usage ≡ codes "usage: quorum_cli COMMAND\nshow CONFIG\nclosure CONFIG --node NAME\ngreatest CONFIG [COMMON]\nintersect CONFIG CERT [COMMON] [--budget UNITS]\navailable CONFIG --set NAMES [--from NAME]\ndset CONFIG CERT --set NAMES [--from NAME] [--budget UNITS]\nblocks CONFIG --set NAMES [COMMON]\nvblocks CONFIG --node NAME --set NAMES\nsplits CONFIG CERT --set NAMES [COMMON] [--budget UNITS]\nblocking CONFIG CERT [COMMON] [--budget UNITS]\ncheck CONFIG CERT\nexport CONFIG [COMMON]\ntrial N CERT [--budget UNITS]\ncheck-lrat CONFIG LRAT [COMMON]\nquorums CONFIG CERT [COMMON] [--budget UNITS]\nleast CONFIG CERT [COMMON] [--budget UNITS]\nwhatif CONFIG SCRIPT --set NAMES\nCOMMON: --from NAME --faulty NAMES --orgs ORGS --faulty-orgs IDS\n"
 unfolding usage row_of
 usage_text = refl
 
@@ -146,6 +147,31 @@ blocking = refl
 quorums : typed (codes "quorums f c --from b --budget 0") ≡ Ok (record (search_of Quorums 0) { from = Some (codes "b") })
 unfolding words_on_literals
 quorums = refl
+
+least : typed (codes "least f c --from b --budget 0") ≡ Ok (record (search_of Least 0) { from = Some (codes "b") })
+unfolding words_on_literals
+least = refl
+
+whatif : typed (codes "whatif f s --set a,b") ≡ Ok (record (nothing_for Whatif) { config = codes "f"; script = codes "s"; set = Some (codes "a,b") })
+unfolding words_on_literals
+whatif = refl
+
+-- one path may stand for both: nothing is written
+whatif_of_one_file : typed (codes "whatif f f --set=") ≡ Ok (record (nothing_for Whatif) { config = codes "f"; script = codes "f"; set = Some [] })
+unfolding words_on_literals
+whatif_of_one_file = refl
+
+whatif_without_a_set : typed (codes "whatif f s") ≡ Err Words
+unfolding words_on_literals
+whatif_without_a_set = refl
+
+whatif_without_a_script : typed (codes "whatif f --set a") ≡ Err Words
+unfolding words_on_literals
+whatif_without_a_script = refl
+
+whatif_from_a_node : typed (codes "whatif f s --set a --from b") ≡ Err Words
+unfolding words_on_literals
+whatif_from_a_node = refl
 
 trial : typed (codes "trial 100 c") ≡ Ok (record (nothing_for (Search Trial)) { cert = codes "c"; budget = 1000000; trial = 100 })
 unfolding words_on_literals

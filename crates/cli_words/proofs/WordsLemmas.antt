@@ -10,12 +10,12 @@ use Rattle.clap.specs.declared.error.kind.ErrorKind.TheVariants.{OutOfMemory}
 use Rattle.cli_words.specs.Order.{Ordered, has_same_path}
 use Rattle.cli_words.specs.Table.{Row, file_id, flag_id, row_of, target_id}
 use Rattle.cli_words.specs.declared.table.Target.TheVariants.{Config}
-use Rattle.cli_words.specs.declared.table.SecondFile.TheVariants.{Certificate}
+use Rattle.cli_words.specs.declared.table.SecondFile.TheVariants.{Certificate, Script}
 use Rattle.cli_words.specs.declared.table.Flag.TheVariants.{From, Faulty, Orgs, FaultyOrgs, Node, Set}
 use Rattle.cli_words.specs.Words.{all_option_rules, app_for, app_with, file_rules, is_taken, named_among, order_in, text_of, order_by, order_among, path_checked, positional, rules_of_row, with_rules}
 use Rattle.cli_words.specs.declared.orders.Command.{Command}
-use Rattle.cli_words.specs.declared.orders.Command.TheVariants.{Query, Search, Check, CheckLrat}
-use Rattle.cli_words.specs.declared.orders.Goal.TheVariants.{Intersect, Dset, Splits, Blocking, Trial, Quorums}
+use Rattle.cli_words.specs.declared.orders.Command.TheVariants.{Query, Search, Check, CheckLrat, Whatif}
+use Rattle.cli_words.specs.declared.orders.Goal.TheVariants.{Intersect, Dset, Splits, Blocking, Trial, Quorums, Least}
 use Rattle.cli_words.specs.declared.orders.Query.TheVariants.{Show, Closure, Greatest, Available, Blocks, Vblocks, Export}
 use Rattle.cli_words.specs.declared.orders.OrderFault.TheVariants.{Words, SamePath}
 
@@ -40,9 +40,11 @@ is_stated (Search Splits) app e = rw e refl
 is_stated (Search Blocking) app e = rw e refl
 is_stated (Search Trial) app e = rw e refl
 is_stated (Search Quorums) app e = rw e refl
+is_stated (Search Least) app e = rw e refl
 is_stated Check app e = rw e refl
 is_stated (Query Export) app e = rw e refl
 is_stated CheckLrat app e = rw e refl
+is_stated Whatif app e = rw e refl
 
 -- words in which clap finds no fault are taken
 pub taken_by : (app wanted : App) (words : List Text) → app ≡ wanted → fault_of app words ≡ [] → is_taken wanted words ≡ true
@@ -90,10 +92,10 @@ app_by_parts row =
     ∙ rules_behind row.word (about ∷ file_rules row.second) (all_option_rules row.options)
 
 -- an order by its texts
-pub order_by_texts : (k : Command) (budget trial : ℕ) (rows : List Matched) {config cert : Text} {orgs node from faulty faulty_orgs set : Option Text} → config ≡ text_of (target_id Config) rows → cert ≡ text_of (file_id Certificate) rows
+pub order_by_texts : (k : Command) (budget trial : ℕ) (rows : List Matched) {config cert script : Text} {orgs node from faulty faulty_orgs set : Option Text} → config ≡ text_of (target_id Config) rows → cert ≡ text_of (file_id Certificate) rows → script ≡ text_of (file_id Script) rows
     → orgs ≡ first_of (flag_id Orgs) rows → node ≡ first_of (flag_id Node) rows → from ≡ first_of (flag_id From) rows → faulty ≡ first_of (flag_id Faulty) rows → faulty_orgs ≡ first_of (flag_id FaultyOrgs) rows → set ≡ first_of (flag_id Set) rows
-    → record { command = k; config = config; cert = cert; orgs = orgs; node = node; from = from; faulty = faulty; faulty_orgs = faulty_orgs; set = set; budget = budget; trial = trial } ≡ order_in k budget trial rows
-order_by_texts k budget trial rows a b c d e f g h = rw (a, b, c, d, e, f, g, h) refl
+    → record { command = k; config = config; cert = cert; script = script; orgs = orgs; node = node; from = from; faulty = faulty; faulty_orgs = faulty_orgs; set = set; budget = budget; trial = trial } ≡ order_in k budget trial rows
+order_by_texts k budget trial rows a b c d e f g h i = rw (a, b, c, d, e, f, g, h, i) refl
 
 -- ---- a command by its name
 

@@ -10,6 +10,7 @@ pub record Ordered : Type 0 where
   pub command : Command
   pub config : List ℕ
   pub cert : List ℕ
+  pub script : List ℕ
   pub orgs : Option (List ℕ)
   pub node : Option (List ℕ)
   pub from : Option (List ℕ)
@@ -25,6 +26,7 @@ order_view o = record {
   command = o.command;
   config = string_bytes o.config;
   cert = string_bytes o.cert;
+  script = string_bytes o.script;
   orgs = option_map string_bytes o.orgs;
   node = option_map string_bytes o.node;
   from = option_map string_bytes o.from;

@@ -3,13 +3,13 @@ use Rattle.std.specs.Prelude.{List, [], ◌∷◌, Bool, true, false, Option, So
 use Rattle.std.specs.List.{list_any}
 use Rattle.clap.specs.Words.{Text}
 use Rattle.cli_words.specs.declared.orders.Command.{Command}
-use Rattle.cli_words.specs.declared.orders.Command.TheVariants.{Query, Search, Check, CheckLrat}
-use Rattle.cli_words.specs.declared.orders.Goal.TheVariants.{Intersect, Dset, Splits, Blocking, Trial, Quorums}
+use Rattle.cli_words.specs.declared.orders.Command.TheVariants.{Query, Search, Check, CheckLrat, Whatif}
+use Rattle.cli_words.specs.declared.orders.Goal.TheVariants.{Intersect, Dset, Splits, Blocking, Trial, Quorums, Least}
 use Rattle.cli_words.specs.declared.orders.Query.TheVariants.{Show, Closure, Greatest, Available, Blocks, Vblocks, Export}
 use Rattle.cli_words.specs.declared.table.Target.{Target}
 use Rattle.cli_words.specs.declared.table.Target.TheVariants.{Config, Organisations}
 use Rattle.cli_words.specs.declared.table.SecondFile.{SecondFile}
-use Rattle.cli_words.specs.declared.table.SecondFile.TheVariants.{Certificate, Proof}
+use Rattle.cli_words.specs.declared.table.SecondFile.TheVariants.{Certificate, Proof, Script}
 use Rattle.cli_words.specs.declared.table.Flag.{Flag}
 use Rattle.cli_words.specs.declared.table.Flag.TheVariants.{From, Faulty, Orgs, FaultyOrgs, Node, Set, Budget}
 use Rattle.cli_words.specs.declared.table.Parameter.{Parameter}
@@ -45,12 +45,14 @@ row_of (Search Splits) = row (codes "splits") Config (Some Certificate) (Needs S
 row_of (Search Blocking) = row (codes "blocking") Config (Some Certificate) (Common ∷ Takes Budget ∷ [])
 row_of (Search Trial) = row (codes "trial") Organisations (Some Certificate) (Takes Budget ∷ [])
 row_of (Search Quorums) = row (codes "quorums") Config (Some Certificate) (Common ∷ Takes Budget ∷ [])
+row_of (Search Least) = row (codes "least") Config (Some Certificate) (Common ∷ Takes Budget ∷ [])
 row_of Check = row (codes "check") Config (Some Certificate) []
 row_of CheckLrat = row (codes "check-lrat") Config (Some Proof) (Common ∷ [])
+row_of Whatif = row (codes "whatif") Config (Some Script) (Needs Set ∷ [])
 
 -- the commands in the order of the usage text
 abbrev pub commands : List Command
-commands = Query Show ∷ Query Closure ∷ Query Greatest ∷ Search Intersect ∷ Query Available ∷ Search Dset ∷ Query Blocks ∷ Query Vblocks ∷ Search Splits ∷ Search Blocking ∷ Check ∷ Query Export ∷ Search Trial ∷ CheckLrat ∷ Search Quorums ∷ []
+commands = Query Show ∷ Query Closure ∷ Query Greatest ∷ Search Intersect ∷ Query Available ∷ Search Dset ∷ Query Blocks ∷ Query Vblocks ∷ Search Splits ∷ Search Blocking ∷ Check ∷ Query Export ∷ Search Trial ∷ CheckLrat ∷ Search Quorums ∷ Search Least ∷ Whatif ∷ []
 
 -- ---- the names that clap knows the arguments by, and what stands for them in the usage text
 
@@ -65,10 +67,12 @@ target_place Organisations = codes "N"
 abbrev pub file_id : SecondFile → Text
 file_id Certificate = codes "cert"
 file_id Proof = codes "cert"
+file_id Script = codes "script"
 
 abbrev pub file_place : SecondFile → Text
 file_place Certificate = codes "CERT"
 file_place Proof = codes "LRAT"
+file_place Script = codes "SCRIPT"
 
 abbrev pub flag_id : Flag → Text
 flag_id From = codes "from"
@@ -106,6 +110,7 @@ abbrev pub is_evidence : Option SecondFile → Bool
 is_evidence None = false
 is_evidence (Some Certificate) = true
 is_evidence (Some Proof) = true
+is_evidence (Some Script) = false
 
 -- the commands with a certificate, or with another solver's proof in its place
 abbrev pub has_certificate : Command → Bool

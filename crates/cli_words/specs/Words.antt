@@ -10,7 +10,7 @@ use Rattle.cli_words.specs.Organisations.{organisations_of}
 use Rattle.cli_words.specs.Table.{Row, commands, common, file_id, flag_id, row_of, target_id}
 use Rattle.cli_words.specs.declared.table.Target.TheVariants.{Config, Organisations}
 use Rattle.cli_words.specs.declared.table.SecondFile.{SecondFile}
-use Rattle.cli_words.specs.declared.table.SecondFile.TheVariants.{Certificate}
+use Rattle.cli_words.specs.declared.table.SecondFile.TheVariants.{Certificate, Script}
 use Rattle.cli_words.specs.declared.table.Flag.{Flag}
 use Rattle.cli_words.specs.declared.table.Flag.TheVariants.{From, Faulty, Orgs, FaultyOrgs, Node, Set, Budget}
 use Rattle.cli_words.specs.declared.table.Parameter.{Parameter}
@@ -83,6 +83,7 @@ order_in command budget trial rows = record {
   command = command;
   config = text_of (target_id Config) rows;
   cert = text_of (file_id Certificate) rows;
+  script = text_of (file_id Script) rows;
   orgs = first_of (flag_id Orgs) rows;
   node = first_of (flag_id Node) rows;
   from = first_of (flag_id From) rows;

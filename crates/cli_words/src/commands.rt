@@ -187,6 +187,7 @@ fn put_texts(alloc: Global, order: &mut Order, matches: &ArgMatches<'_>) -> Resu
         matches,
         SecondFile::Certificate.id(),
     )?;
+    put_text(alloc, &mut order.script, matches, SecondFile::Script.id())?;
     put_if_any(alloc, &mut order.orgs, matches, Flag::Orgs)?;
     put_if_any(alloc, &mut order.node, matches, Flag::Node)?;
     put_if_any(alloc, &mut order.from, matches, Flag::From)?;
@@ -214,6 +215,7 @@ pub fn order_from(
         command,
         config: String::new(alloc),
         cert: String::new(alloc),
+        script: String::new(alloc),
         orgs: None,
         node: None,
         from: None,

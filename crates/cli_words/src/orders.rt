@@ -41,6 +41,8 @@ pub enum Goal {
     Trial,
     /// All minimal quorums.
     Quorums,
+    /// A smallest quorum.
+    Least,
 }
 
 /// What the program is to do, by the command's word. The table of the commands has what each is about, and its options.
@@ -54,6 +56,8 @@ pub enum Command {
     Check,
     /// Another solver's proof is checked.
     CheckLrat,
+    /// The edits of a script are tried one after another.
+    Whatif,
 }
 
 impl Command {
@@ -88,6 +92,8 @@ pub struct Order {
     pub config: String,
     /// The path of the certificate, or of the proof of `check-lrat`, empty where the command has none.
     pub cert: String,
+    /// The path of the script of edits, empty where the command has none.
+    pub script: String,
     /// The path of the organisations, which `--orgs` gives.
     pub orgs: Option<String>,
     /// The name that `--node` gives.

@@ -5,7 +5,7 @@ ghost use Rattle.cli_words.specs.Table.{commands, file_id, file_place, flag_id, 
 use crate::orders::{Command, Goal, Query};
 use crate::table::Flag::{Budget, From, Node, Set};
 use crate::table::Parameter::{Common, Needs, Takes};
-use crate::table::SecondFile::{Certificate, Proof};
+use crate::table::SecondFile::{Certificate, Proof, Script};
 use crate::table::Target::{Config, Organisations};
 
 /// What a command is about: the word that comes first after the command's own.
@@ -24,6 +24,8 @@ pub enum SecondFile {
     Certificate,
     /// The proof of another solver.
     Proof,
+    /// The edits that are tried.
+    Script,
 }
 
 /// An option, which has a value.
@@ -88,6 +90,7 @@ impl SecondFile {
     {
         match self {
             SecondFile::Certificate | SecondFile::Proof => "cert",
+            SecondFile::Script => "script",
         }
     }
 
@@ -98,6 +101,7 @@ impl SecondFile {
         match self {
             SecondFile::Certificate => "CERT",
             SecondFile::Proof => "LRAT",
+            SecondFile::Script => "SCRIPT",
         }
     }
 }
@@ -209,8 +213,15 @@ pub fn row_of<'a>(command: Command) -> Row<'a>
             Some(Certificate),
             &[Common, Takes(Budget)],
         ),
+        Command::Search(Goal::Least) => Row::of(
+            "least",
+            Config,
+            Some(Certificate),
+            &[Common, Takes(Budget)],
+        ),
         Command::Check => Row::of("check", Config, Some(Certificate), &[]),
         Command::CheckLrat => Row::of("check-lrat", Config, Some(Proof), &[Common]),
+        Command::Whatif => Row::of("whatif", Config, Some(Script), &[Needs(Set)]),
     }
 }
 
@@ -234,6 +245,8 @@ pub fn all_commands<'a>() -> &'a [Command]
         Command::Search(Goal::Trial),
         Command::CheckLrat,
         Command::Search(Goal::Quorums),
+        Command::Search(Goal::Least),
+        Command::Whatif,
     ]
 }
 
