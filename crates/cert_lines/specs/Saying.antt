@@ -1,4 +1,4 @@
--- The size of a formula and the step that a line says.
+-- The size of a formula or of a counter, and the step, that a line says.
 use Rattle.std.specs.Prelude.{ℕ, List, [], ◌∷◌, Option, Some, None, Result, Ok, Err, codes, if◌then◌else◌}
 use Rattle.std.specs.Str.{bytes_eq}
 use Rattle.lrat_model.specs.Steps.{ProofStep}
@@ -26,6 +26,14 @@ counts_behind words = None
 -- the numbers behind the word `formula`
 abbrev pub counts_in : List ℕ → Option Counts
 counts_in text = counts_behind (words_of text)
+
+-- the two numbers behind the word `counter`: there may be no variable, and no clause
+abbrev pub counter_behind : List Word → Option Counts
+counter_behind (word ∷ vars ∷ clauses ∷ []) = if bytes_eq word (codes "counter") then counts_if_any (number_in vars) (number_in clauses) else None
+counter_behind words = None
+
+abbrev pub counter_in : List ℕ → Option Counts
+counter_in text = counter_behind (words_of text)
 
 -- the step of a line, which is bad where it has none
 abbrev pub or_bad_line : ℕ → Result ProofStep LineFault → Result ProofStep CertError

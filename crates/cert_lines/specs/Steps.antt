@@ -6,7 +6,7 @@ use Rattle.lrat_text.specs.Words.{is_blank}
 -- the line begins as `end` does, or as a line that lists a set
 abbrev pub is_other : List ℕ → Bool
 is_other [] = false
-is_other (b ∷ bytes) = (b == 101) || ((b == 113) || (b == 98))
+is_other (b ∷ bytes) = (b == 101) || ((b == 113) || ((b == 98) || (b == 115)))
 
 -- the first byte is a `c`
 abbrev pub is_comment : List ℕ → Bool

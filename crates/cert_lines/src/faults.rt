@@ -31,13 +31,16 @@ pub enum CertError {
     /// Some of the nodes of this line block without the others.
     #[error("the nodes of line {0} block with some to spare")]
     NotMinimal(u64),
+    /// The quorum of this line has no fewer nodes than the one that was listed before it.
+    #[error("the quorum of line {0} is not smaller than the one before it")]
+    NotSmaller(u64),
     /// The quorum of this line shares nodes with the one before it, of which this is the least.
     #[error("the quorum of line {0} shares node {1} with the first one")]
     Overlap(u64, u32),
-    /// The formula has so many variables, more than 4,000,000.
+    /// The formula, or the counter, has so many variables, more than 4,000,000.
     #[error("the formula has {0} variables")]
     TooLarge(u64),
-    /// The formula has not the variables or the clauses that this line says.
+    /// The formula, or the counter, has not the variables or the clauses that this line says.
     #[error("line {0} has not the size of the formula")]
     Formula(u64),
     /// The step of this line is refused.

@@ -1,10 +1,10 @@
-//! What the words of a line say: a digest, the size of a formula, or a step.
+//! What the words of a line say: a digest, the size of a formula or of a counter, or a step.
 ghost use Rattle.std.specs.Prelude.{◌≡◌, ◌⊎◌, None, IfOk, IfErr, IfSome, IsErrOf, Ok, Err};
 ghost use Rattle.digest_text.specs.Digits.{digest_of};
 ghost use Rattle.lrat_model.specs.Steps.{step_of};
 ghost use Rattle.lrat_text.specs.Lines.{step_in};
 ghost use Rattle.cert_lines.specs.Words.{digest_in};
-ghost use Rattle.cert_lines.specs.Saying.{number_in, counts_in, or_bad_line};
+ghost use Rattle.cert_lines.specs.Saying.{number_in, counts_in, counter_in, or_bad_line};
 
 use crate::faults::CertError;
 use crate::words::Words;
@@ -12,7 +12,7 @@ use lrat_model::Step;
 use lrat_text::{LineFault, read_id, read_step};
 use std::alloc::Global;
 
-/// How many variables and clauses a formula has.
+/// How many variables and clauses a formula, or a counter, has.
 #[derive(Clone, Copy)]
 pub struct Counts {
     pub vars: u64,
@@ -31,7 +31,7 @@ pub fn digits_in(text: &[u8]) -> Option<&[u8]>
     }
 }
 
-/// A number of variables: 0, or what is written as an id is.
+/// A number of variables or of clauses: 0, or what is written as an id is.
 fn number(word: &[u8]) -> Option<u64>
     ensures { result ≡ number_in word.now }
 {
@@ -51,6 +51,22 @@ pub fn counts_in(text: &[u8]) -> Option<Counts>
             Some(Counts {
                 vars: number(vars)?,
                 clauses: read_id(clauses)?,
+            })
+        }
+        _ => None,
+    }
+}
+
+/// The numbers behind the word `counter`, where there are two and nothing else: each from 0 to 2^63 - 1.
+pub fn counter_in(text: &[u8]) -> Option<Counts>
+    ensures { result ≡ counter_in text.now }
+{
+    let mut words = Words::of(text);
+    match (words.next(), words.next(), words.next(), words.next()) {
+        (Some(word), Some(vars), Some(clauses), None) if word == b"counter".as_slice() => {
+            Some(Counts {
+                vars: number(vars)?,
+                clauses: number(clauses)?,
             })
         }
         _ => None,

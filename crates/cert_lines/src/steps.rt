@@ -24,7 +24,7 @@ fn is_other(text: &[u8]) -> bool
     ensures { result ≡ is_other text.now }
 {
     match text.first() {
-        Some(byte) => *byte == b'e' || *byte == b'q' || *byte == b'b',
+        Some(byte) => *byte == b'e' || *byte == b'q' || *byte == b'b' || *byte == b's',
         None => false,
     }
 }

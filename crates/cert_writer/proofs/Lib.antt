@@ -18,3 +18,4 @@ pub mod StepTexts
 pub mod Ends
 pub mod Found
 pub mod ListFound
+pub mod LeastFound

@@ -1,4 +1,4 @@
--- From what a search for the minimal blocking sets shows to a certificate that is accepted.
+-- From what a search for minimal sets shows to a certificate that is accepted.
 use Rattle.std.proofs.Common.{◌≡◌, ℕ, ◌+◌, ◌≤◌, List, [], ◌∷◌, length, map, IfSome, Ok, refl, sym, ◌∙◌, ap, subst, arith, ◌<◌}
 use Rattle.std.specs.List.{All}
 use Rattle.std.specs.List.Sorted.{IsStrictlySortedBy}
@@ -13,7 +13,7 @@ use Rattle.fbas_model.proofs.Kept.{length-kept}
 use Rattle.fbas_model.proofs.Renumbered.{length-restricted_sets}
 use Rattle.greatest_quorum.specs.Greatest.{greatest_of}
 use Rattle.lrat_model.specs.Steps.{Database}
-use Rattle.list_journal.specs.Journals.{JournalLine, SetLine, StepLine, list_of, JournalRun, IsWholeJournal, after_line, nothing_held, sets_in}
+use Rattle.list_journal.specs.Journals.{JournalLine, SetLine, StepLine, Rules, JournalRun, IsWholeJournal, after_line, nothing_held, sets_in}
 use Rattle.list_journal.specs.Lists.{IsListOf}
 use Rattle.list_journal.specs.declared.kinds.Listed.{Listed}
 use Rattle.list_journal.specs.Order.{ordered}
@@ -37,7 +37,7 @@ use Rattle.cert_writer.specs.Texts.{raised_table}
 use Rattle.cert_writer.specs.Promises.{IsHeader}
 use Rattle.cert_writer.specs.Finding.{Search, part, faulty}
 use Rattle.cert_writer.specs.Listing.{list_cert_of, ListShows, FindsList, CanBeLine, CanBeListed}
-use Rattle.cert_writer.proofs.ListLaws.{list_of_accepted}
+use Rattle.cert_writer.proofs.ListLaws.{lists_ordered, list_of_accepted}
 use Rattle.cert_writer.proofs.Pairs.{part_is_restricted}
 use Rattle.cert_writer.proofs.Raised.{spread, is_raised}
 use Rattle.cert_writer.proofs.RaisedOrder.{same_order, ordered-map}
@@ -86,8 +86,8 @@ module _ (s : Search) (is : IsSystem s.whole.names s.whole.sets) (sorted : IsStr
         shows = r;
         cert_is = refl;
         accepted =
-            list_of_accepted s.whole s.digest s.header is sorted long bytes head sought (part s) kind.Whole journal refl (record { new = whole.after; run = whole.run; numbers = r.numbers; few_words = r.few_words; few = few; ends = whole.ends })
-            ∙ ap (λ (xs : List Table). Ok (record { header = s.header; answer = answer_of (whole_of sought xs) })) (raised_list sought (part s).sets (faulty s) nodes sets.items journal same count holds.list whole);
+            list_of_accepted s.whole s.digest s.header is sorted long bytes head sought (part s) kind.Whole journal refl (record { lists = r.lists; new = whole.after; run = whole.run; numbers = r.numbers; few_words = r.few_words; few = few; ends = whole.ends })
+            ∙ ap (λ (xs : List Table). Ok (record { header = s.header; answer = answer_of (whole_of sought xs) })) (lists_ordered sought r.lists (map (raised_table nodes) (sets_in sought journal)) ∙ raised_list sought (part s).sets (faulty s) nodes sets.items journal same count holds.list whole);
       }
   list_found (Spent journal) r =
       let holds = r.holds.1 in
@@ -96,20 +96,24 @@ module _ (s : Search) (is : IsSystem s.whole.names s.whole.sets) (sorted : IsStr
         shows = r;
         cert_is = refl;
         accepted =
-            list_of_accepted s.whole s.digest s.header is sorted long bytes head sought (part s) kind.Partial journal refl (record { new = holds.after; run = one.run; numbers = r.numbers; few_words = r.few_words; few = few; ends = one.opens })
+            list_of_accepted s.whole s.digest s.header is sorted long bytes head sought (part s) kind.Partial journal refl (record { lists = r.lists; new = holds.after; run = one.run; numbers = r.numbers; few_words = r.few_words; few = few; ends = one.opens })
             ∙ ap (λ (n : ℕ). Ok (record { header = s.header; answer = answer_of (part_of_list sought n) })) holds.taken;
       }
 
 -- ---- what can be written
 
-lines_can : (sought : Listed) (kind : ListKind) (f : Fbas) (b g : Table) (n : ℕ) (old new : Database) (lines : List JournalLine) → n ≡ length f → JournalRun (list_of sought f (members b) g) kind old lines new → All HasLineNumbers lines → All (CanBeLine n) lines
-lines_can sought kind f b g n old new [] size run numbers = All-nil (CanBeLine n)
-lines_can sought kind f b g n old new (SetLine which id u ∷ lines) size run numbers =
-    All-cons (CanBeLine n) (SetLine which id u) lines (run.0.1.0 ∙ sym size)
-    (lines_can sought kind f b g n (after_line (list_of sought f (members b) g) old (SetLine which id u)) new lines size run.2 (All-tail HasLineNumbers (SetLine which id u) lines numbers))
-lines_can sought kind f b g n old new (StepLine step ∷ lines) size run numbers =
-    All-cons (CanBeLine n) (StepLine step) lines (All-head HasLineNumbers (StepLine step) lines numbers) (lines_can sought kind f b g n (after_line (list_of sought f (members b) g) old (StepLine step)) new lines size run.2 (All-tail HasLineNumbers (StepLine step) lines numbers))
+-- each listed set has a place for each of n nodes
+abbrev pub HasPlacesFor : ℕ → Rules → Type 0
+HasPlacesFor n r = (which : Listed) (u : Table) → r.IsRight which u → length u ≡ n
+
+pub lines_can : (r : Rules) (kind : ListKind) (n : ℕ) (old new : Database) (lines : List JournalLine) → HasPlacesFor n r → JournalRun r kind old lines new → All HasLineNumbers lines → All (CanBeLine n) lines
+lines_can r kind n old new [] places run numbers = All-nil (CanBeLine n)
+lines_can r kind n old new (SetLine which id u ∷ lines) places run numbers =
+    All-cons (CanBeLine n) (SetLine which id u) lines (places which u run.0.1)
+    (lines_can r kind n (after_line r old (SetLine which id u)) new lines places run.2 (All-tail HasLineNumbers (SetLine which id u) lines numbers))
+lines_can r kind n old new (StepLine step ∷ lines) places run numbers =
+    All-cons (CanBeLine n) (StepLine step) lines (All-head HasLineNumbers (StepLine step) lines numbers) (lines_can r kind n (after_line r old (StepLine step)) new lines places run.2 (All-tail HasLineNumbers (StepLine step) lines numbers))
 
 pub can_be_listed : (sought : Listed) (f : System) (b : Table) (budget : ℕ) (outcome : ListOutcome) → length f.names ≡ length f.sets → ListShows sought f.sets b budget outcome → CanBeListed (length f.names) outcome
-can_be_listed sought f b budget (Whole sets journal) same r = lines_can sought kind.Whole f.sets b (greatest_of f.sets b) (length f.names) nothing_held r.holds.journal_is.after journal same r.holds.journal_is.run r.numbers
-can_be_listed sought f b budget (Spent journal) same r = lines_can sought kind.Partial f.sets b (greatest_of f.sets b) (length f.names) nothing_held r.holds.1.after journal same r.holds.1.journal_is.run r.numbers
+can_be_listed sought f b budget (Whole sets journal) same r = lines_can (rules sought f.sets b) kind.Whole (length f.names) nothing_held r.holds.journal_is.after journal (λ which u is. is.0 ∙ sym same) r.holds.journal_is.run r.numbers
+can_be_listed sought f b budget (Spent journal) same r = lines_can (rules sought f.sets b) kind.Partial (length f.names) nothing_held r.holds.1.after journal (λ which u is. is.0 ∙ sym same) r.holds.1.journal_is.run r.numbers

@@ -80,7 +80,7 @@ number_zero : number_in (decimal 0) ≡ Some 0
 unfolding digits
 number_zero = refl
 
-number_back : (n : ℕ) → n < 9223372036854775808 → number_in (decimal n) ≡ Some n
+pub number_back : (n : ℕ) → n < 9223372036854775808 → number_in (decimal n) ≡ Some n
 number_back zero low = number_zero
 number_back (suc n) low =
     let back = id_back (suc n) (omega arith, low) in

@@ -1,5 +1,5 @@
 -- How the texts grow.
-use Rattle.std.proofs.Common.{◌≡◌, ℕ, ◌+◌, ◌<◌, List, [], ◌∷◌, ◌++◌, length, map, take, drop, take-append-drop, Option, Some, refl, sym, ◌∙◌, ap, codes, append_assoc, slice_get, slice_index_or}
+use Rattle.std.proofs.Common.{◌≡◌, ℕ, ◌+◌, ◌*◌, ◌<◌, List, [], ◌∷◌, ◌++◌, length, map, take, drop, take-append-drop, Option, Some, refl, sym, ◌∙◌, ap, codes, append_assoc, slice_get, slice_index_or}
 use Rattle.std.proofs.lemmas.List.{append-nil, take_more, map-append}
 use Rattle.std.proofs.lemmas.Option.{get_or_from_slice_get}
 use Rattle.fbas_model.specs.Nodes.{Table, listed_from}
@@ -17,7 +17,9 @@ use Rattle.certificate_file.specs.declared.places.Aim.{Aim}
 use Rattle.list_journal.specs.Journals.{JournalLine}
 use Rattle.list_journal.specs.declared.kinds.ListKind.{ListKind}
 use Rattle.list_journal.specs.declared.kinds.Listed.{Listed}
-use Rattle.cert_writer.specs.Texts.{Text, joined, name_if_any, header_lines, pair_front, kind_of, log_front, set_line, journal_line, list_kind_of, list_front}
+use Rattle.list_journal.specs.declared.kinds.Listed.TheVariants.{Smaller}
+use Rattle.clause_encoder.specs.NameCounter.{counter_vars}
+use Rattle.cert_writer.specs.Texts.{Text, joined, name_if_any, header_lines, pair_front, kind_of, log_front, set_line, journal_line, list_kind_of, list_front, least_front}
 
 pub spaced-append : (xs ys : List Text) → spaced (xs ++ ys) ≡ spaced xs ++ spaced ys
 spaced-append [] ys = refl
@@ -87,3 +89,6 @@ lines_left {A = A} line xs ys zs is = sym (joined-append (map line xs) (map line
 
 pub list_text : (sought : Listed) (kind : ListKind) (names : List Name) (journal : List JournalLine) → (list_kind_of sought kind ++ codes "\n") ++ joined (map (journal_line names) journal) ≡ joined (list_front names sought kind journal)
 list_text sought kind names journal = simp (append_assoc, append-nil)
+
+pub least_text : (g : ℕ) (kind : ListKind) (names : List Name) (journal : List JournalLine) → ((((list_kind_of Smaller kind ++ codes "\ncounter") ++ 32 ∷ decimal (counter_vars g)) ++ 32 ∷ decimal (g * g)) ++ codes "\n") ++ joined (map (journal_line names) journal) ≡ joined (least_front names g kind journal)
+least_text g kind names journal = simp (append_assoc, append-nil)

@@ -3,3 +3,4 @@ pub mod Writing
 pub mod Promises
 pub mod Finding
 pub mod Listing
+pub mod Least

@@ -7,6 +7,7 @@ use Rattle.fbas_model.specs.Systems.{System}
 use Rattle.greatest_quorum.specs.Greatest.{greatest_of}
 use Rattle.list_journal.specs.Journals.{JournalLine, SetLine, StepLine}
 use Rattle.list_journal.specs.declared.kinds.ListKind.TheVariants as kind
+use Rattle.list_journal.specs.Kinds.{HasLists}
 use Rattle.list_journal.specs.declared.kinds.Listed.{Listed}
 use Rattle.blocking_lists.specs.Lines.{HasLineNumbers, HasFewWords}
 use Rattle.blocking_lists.specs.Outcomes.{OutcomeHolds, journal_in}
@@ -35,6 +36,7 @@ list_accepted_as sought s (Spent journal) = answer_of (part_of_list sought s.bud
 
 -- what a search of a system within a budget shows, once b is deleted
 pub record ListShows (sought : Listed) (f : Fbas) (b : Table) (budget : ℕ) (outcome : ListOutcome) : Type 0 where
+  pub lists : HasLists sought
   pub left : ℕ
   pub holds : OutcomeHolds sought f b budget left outcome
   pub numbers : All HasLineNumbers (journal_in outcome)

@@ -1,5 +1,5 @@
 -- What is asked of a certificate that is written, and what is out then.
-use Rattle.std.specs.Prelude.{◌≡◌, ℕ, ◌+◌, ◌<◌, ◌≤◌, List, map, length, take, All, IsTrue, Option, Some, None, IfSome}
+use Rattle.std.specs.Prelude.{◌≡◌, ℕ, ◌+◌, ◌<◌, ◌≤◌, List, map, length, take, All, IsTrue, Option, Some, None, IfSome, option_map}
 use Rattle.desk_io.specs.State.{DeskState, written, CannotPut}
 use Rattle.desk_io.specs.declared.desk.To.TheVariants.{Cert}
 use Rattle.fbas_model.specs.Nodes.{Table, members, size}
@@ -13,14 +13,16 @@ use Rattle.cdcl_core.specs.Log.{AreLemmas, EndsEmpty, HasNoEmptyLemma, IsBounded
 use Rattle.witness_pair.specs.Making.{shared}
 use Rattle.witness_pair.specs.declared.Pair.{Pair}
 use Rattle.list_journal.specs.Journals.{JournalLine, Rules, nothing_held, JournalRun, IsOpen, EndsRefuted, sets_in, journal_units}
-use Rattle.list_journal.specs.Order.{ordered}
 use Rattle.list_journal.specs.declared.kinds.ListKind.{ListKind}
 use Rattle.list_journal.specs.declared.kinds.ListKind.TheVariants as kind
+use Rattle.list_journal.specs.Kinds.{HasLists}
 use Rattle.list_journal.specs.declared.kinds.Listed.{Listed}
+use Rattle.least_journal.specs.Least.{least_of, AreFalling, answer_of as last_listed}
+use Rattle.clause_encoder.specs.NameCounter.{counter_vars}
 use Rattle.blocking_lists.specs.Lines.{HasLineNumbers, HasFewWords}
 use Rattle.blocking_lists.specs.Outcomes.{rules}
 use Rattle.certificate_file.specs.Acceptance.{answer_of}
-use Rattle.reach_kinds.specs.Bodies.{whole_of, part_of as part_of_list}
+use Rattle.reach_kinds.specs.Bodies.{in_order, whole_of, part_of as part_of_list}
 use Rattle.certificate_file.specs.Formulas.{formula_of}
 use Rattle.certificate_file.specs.Meaning.{part_from}
 use Rattle.certificate_file.specs.declared.places.Header.{Header}
@@ -28,7 +30,7 @@ use Rattle.certificate_file.specs.declared.places.Subject.{Subject}
 use Rattle.certificate_file.specs.declared.places.Aim.{Aim}
 use Rattle.certificate_file.specs.declared.places.Aim.TheVariants as aim
 use Rattle.certificate_file.specs.declared.places.Answer.{Answer}
-use Rattle.certificate_file.specs.declared.places.Answer.TheVariants.{Refutation, Partial}
+use Rattle.certificate_file.specs.declared.places.Answer.TheVariants.{Refutation, Partial, Least, PartialLeast}
 use Rattle.cert_writer.specs.Texts.{raised_table}
 use Rattle.cert_lines.specs.declared.lines.TheConstants.{MAX_LINES}
 use Rattle.clause_encoder.specs.declared.limits.TheConstants.{MOST_VARS}
@@ -94,18 +96,42 @@ ListEndsAs kind.Partial journal = IsOpen journal
 abbrev pub rules_in : Listed → System → Header → Rules
 rules_in sought f h = rules sought (part_of f h.from).sets (faulty_in f h)
 
--- what its certificate shows: the sought sets in name order, or the units of its lines
+-- what its certificate shows: the sought sets in the order in which they are shown, or the units of its lines
 abbrev pub shown_by_list : Listed → System → Header → Rules → ListKind → List JournalLine → Answer
-shown_by_list sought f h r kind.Whole journal = answer_of (whole_of sought (ordered (raised_sets f h (sets_in sought journal))))
+shown_by_list sought f h r kind.Whole journal = answer_of (whole_of sought (in_order sought (raised_sets f h (sets_in sought journal))))
 shown_by_list sought f h r kind.Partial journal = answer_of (part_of_list sought (journal_units r journal))
 
 -- a journal of a list of the part, by the variables of the part's greatest quorum
 pub record IsJournalOf (sought : Listed) (f : System) (h : Header) (kind : ListKind) (journal : List JournalLine) : Type 0 where
+  pub lists : HasLists sought
   pub new : Database
   pub run : JournalRun (rules_in sought f h) kind nothing_held journal new
   pub numbers : All HasLineNumbers journal
   pub few_words : All (HasFewWords (size (greatest_of (part_of f h.from).sets (faulty_in f h)))) journal
   pub few : length journal + 6 ≤ MAX_LINES
+  pub ends : ListEndsAs kind journal
+
+-- the nodes of the greatest quorum of the part, and the rules of a search for a smallest one
+abbrev pub greatest_in : System → Header → Table
+greatest_in f h = greatest_of (part_of f h.from).sets (faulty_in f h)
+
+abbrev pub least_rules : System → Header → Rules
+least_rules f h = least_of (part_of f h.from).sets (members (faulty_in f h)) (greatest_in f h)
+
+-- what its certificate shows: the quorum that is listed last, if one is, or the units of its lines
+abbrev pub shown_by_least : System → Header → ListKind → List JournalLine → Answer
+shown_by_least f h kind.Whole journal = Least (option_map (raised_table (part_from f h.from)) (last_listed journal))
+shown_by_least f h kind.Partial journal = PartialLeast (journal_units (least_rules f h) journal)
+
+-- a journal of a search for a smallest quorum of the part, whose counter is not too large
+pub record IsLeastJournalOf (f : System) (h : Header) (kind : ListKind) (journal : List JournalLine) : Type 0 where
+  pub small : counter_vars (size (greatest_in f h)) ≤ MOST_VARS
+  pub new : Database
+  pub run : JournalRun (least_rules f h) kind (least_rules f h).start journal new
+  pub falls : AreFalling journal
+  pub numbers : All HasLineNumbers journal
+  pub few_words : All (HasFewWords (counter_vars (size (greatest_in f h)))) journal
+  pub few : length journal + 7 ≤ MAX_LINES
   pub ends : ListEndsAs kind journal
 
 -- a proper prefix of the text is put; on a plain desk no file was created, or there was no room for another buffer

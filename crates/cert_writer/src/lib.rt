@@ -1,12 +1,16 @@
-//! Certificates, written through a buffer: pairs, refutations, lists of minimal sets, and partial ones. The check of `certificate_file` accepts each.
+//! Certificates, written through a buffer: pairs, refutations, lists of minimal sets, a smallest quorum, and partial ones. The check of `certificate_file` accepts each.
 #![tactic(auto)]
 
 mod finding;
+mod least;
 mod listing;
 mod whole;
 mod writer;
 
 pub use finding::{what_is_shown_is_found, write_found};
+pub use least::{what_is_least_is_found, write_least};
 pub use listing::{what_is_listed_is_found, write_list};
-pub use whole::{a_written_certificate_is_accepted, write_journal, write_log, write_pair};
+pub use whole::{
+    a_written_certificate_is_accepted, write_journal, write_least_journal, write_log, write_pair,
+};
 pub use writer::CertWriter;

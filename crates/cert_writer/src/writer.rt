@@ -10,12 +10,15 @@ ghost use Rattle.lrat_model.specs.Steps.{Addition, Deletion};
 ghost use Rattle.lrat_text.specs.Lent.{lent_step, lent_hints};
 ghost use Rattle.lrat_text.specs.Texts.{line_of, literal_text, HasNumbers};
 ghost use Rattle.blocking_lists.specs.Lines.{line_of as said_line};
-ghost use Rattle.cert_writer.specs.Texts.{joined, name_if_any, header_lines, pair_front, kind_of, log_front, list_kind_of, set_line, journal_line, list_front};
+ghost use Rattle.cert_writer.specs.Texts.{joined, name_if_any, header_lines, pair_front, kind_of, log_front, list_kind_of, set_line, journal_line, list_front, least_front};
+ghost use Rattle.clause_encoder.specs.NameCounter.{counter_vars};
+ghost use Rattle.clause_encoder.specs.declared.limits.TheConstants.{MOST_VARS};
 ghost use Rattle.cert_writer.specs.Listing.{CanBeLine};
 ghost use Rattle.cert_writer.specs.Writing.{Writes};
 
 use blocking_lists::{Journal, Line};
 use certificate_file::{Aim, Header, Pair};
+use clause_encoder::counter_vars;
 use desk_io::{Desk, To, WriteFailed, put_all};
 use digest_text::digits;
 use fbas_core::System;
@@ -331,7 +334,7 @@ impl CertWriter {
         self.text(desk, b"\n");
     }
 
-    /// Writes a line of a journal: a quorum, a minimal blocking set, or a step.
+    /// Writes a line of a journal: a listed set, or a step.
     fn journal_line<D: Desk>(&mut self, desk: &mut D, names: &Names, line: Line<'_>)
         requires { CanBeLine (length names.now) (said_line line) }
         ensures { Writes D.tells (journal_line names.now (said_line line.entry) ++ 10 ∷ []) self.old (D.state desk.old) (D.faults desk.old) self.new (D.state desk.new) (D.faults desk.new) }
@@ -339,6 +342,7 @@ impl CertWriter {
         match line {
             Line::Quorum(id, set) => self.set_line(desk, b'q', id, names, set),
             Line::Blocking(id, set) => self.set_line(desk, b'b', id, names, set),
+            Line::Smaller(id, set) => self.set_line(desk, b's', id, names, set),
             Line::Step(step) => self.step(desk, step),
         }
     }
@@ -370,6 +374,28 @@ impl CertWriter {
         ensures { Writes D.tells (joined (list_front names.now sought kind journal.now)) self.old (D.state desk.old) (D.faults desk.old) self.new (D.state desk.new) (D.faults desk.new) }
     {
         self.text(desk, list_kind_of(sought, kind).as_bytes());
+        self.text(desk, b"\n");
+        self.journal_lines(desk, names, journal);
+    }
+
+    /// Writes the lines of a search for a smallest quorum up to the last: its kind, the size of the counter of so many nodes, and
+    /// its journal.
+    fn least_lines<D: Desk>(
+        &mut self,
+        desk: &mut D,
+        size: u32,
+        kind: ListKind,
+        names: &Names,
+        journal: &Journal,
+    )
+        requires small { counter_vars size ≤ MOST_VARS }
+        requires lines { All (CanBeLine (length names.now)) journal.now }
+        ensures { Writes D.tells (joined (least_front names.now size kind journal.now)) self.old (D.state desk.old) (D.faults desk.old) self.new (D.state desk.new) (D.faults desk.new) }
+    {
+        self.text(desk, list_kind_of(Listed::Smaller, kind).as_bytes());
+        self.text(desk, b"\ncounter");
+        self.number(desk, counter_vars(size));
+        self.number(desk, u64::from(size) * u64::from(size));
         self.text(desk, b"\n");
         self.journal_lines(desk, names, journal);
     }
@@ -446,6 +472,32 @@ impl CertWriter {
         self.outcome()
     }
 
+    /// Writes the certificate of a search for a smallest quorum up to its last line, where the greatest quorum has so many nodes.
+    ///
+    /// The header has the numbers of the whole system, whose names come first, and the journal those of the part.
+    pub fn least<D: Desk>(
+        &mut self,
+        desk: &mut D,
+        digest: &[u8; 32],
+        header: &Header,
+        whole: &System,
+        kept: &System,
+        size: u32,
+        kind: ListKind,
+        journal: &Journal,
+    ) -> Result<(), WriteFailed>
+        requires from { IfSome header.now.from (λ v. v < length whole.now.names) }
+        requires faulty { length header.now.faulty ≡ length whole.now.names }
+        requires small { counter_vars size ≤ MOST_VARS }
+        requires lines { All (CanBeLine (length kept.now.names)) journal.now }
+        ensures writes { Writes D.tells (joined (header_lines whole.now.names digest.now header.now ++ least_front kept.now.names size kind journal.now)) self.old (D.state desk.old) (D.faults desk.old) self.new (D.state desk.new) (D.faults desk.new) }
+        ensures failed { IsTrue self.new.failed ↔ IsErr result }
+    {
+        self.header(desk, digest, header, whole.names());
+        self.least_lines(desk, size, kind, kept.names(), journal);
+        self.outcome()
+    }
+
     /// Writes the last line, and puts all that is held.
     pub fn finish<D: Desk>(&mut self, desk: &mut D) -> Result<(), WriteFailed>
         ensures writes { Writes D.tells (codes "end\n") self.old (D.state desk.old) (D.faults desk.old) self.new (D.state desk.new) (D.faults desk.new) }
@@ -488,5 +540,7 @@ fn list_kind_of(sought: Listed, kind: ListKind) -> &'static str
         (Listed::Blocking, ListKind::Partial) => "kind partial-blocking",
         (Listed::Quorum, ListKind::Whole) => "kind quorums",
         (Listed::Quorum, ListKind::Partial) => "kind partial-quorums",
+        (Listed::Smaller, ListKind::Whole) => "kind least",
+        (Listed::Smaller, ListKind::Partial) => "kind partial-least",
     }
 }

@@ -9,8 +9,8 @@ use Rattle.greatest_quorum.specs.Greatest.{greatest_of}
 use Rattle.certificate_file.specs.Acceptance.{checked, take_line}
 use Rattle.certificate_file.specs.declared.places.Accepted.{Accepted}
 use Rattle.certificate_file.specs.declared.places.Answer.{Answer}
-use Rattle.certificate_file.specs.declared.places.Answer.TheVariants.{Blocking, PartialBlocking, Quorums}
-use Rattle.cert_lines.specs.declared.faults.CertError.TheVariants.{BadLine, UnknownNode, NotQuorum, NotBlocking, NotMinimal, Step, NotNew, NotRefuted}
+use Rattle.certificate_file.specs.declared.places.Answer.TheVariants.{Blocking, PartialBlocking, Quorums, Least, PartialLeast}
+use Rattle.cert_lines.specs.declared.faults.CertError.TheVariants.{BadLine, UnknownNode, NotQuorum, NotBlocking, NotMinimal, NotSmaller, Formula, Step, NotNew, NotRefuted}
 
 two_of_three : Option QuorumSet
 two_of_three = Some (quorum_set 2 (node 0 (node 1 (node 2 none))))
@@ -124,3 +124,56 @@ blocking_set_twice = refl
 quorum_listed_twice : checked three zeros (quorums ++ codes "q 1 a b\nq 2 a b\nend\n") ≡ Err (NotNew 7)
 unfolding checked take_line encode_with decode_pairs greatest_of three two_of_three zeros quorums
 quorum_listed_twice = refl
+
+-- ---- a smallest quorum: behind the counter each quorum is smaller than the one before it
+
+least : List ℕ
+least = codes "fbas-cert 2\nconfig 0000000000000000000000000000000000000000000000000000000000000000\nfrom\nfaulty\nkind least\n"
+
+partial_least : List ℕ
+partial_least = codes "fbas-cert 2\nconfig 0000000000000000000000000000000000000000000000000000000000000000\nfrom\nfaulty\nkind partial-least\n"
+
+worked_least : checked three zeros (least ++ codes "counter 9 9\ns 10 a b\nb 11 a b\nb 12 a c\nb 13 b c\n14 -2 0 3 10 8 7 4 1 12 0\n15 0 14 11 13 1 2 10 8 0\nend\n") ≡ Ok (shows (Least (Some (true ∷ true ∷ false ∷ []))))
+unfolding checked take_line encode_with decode_pairs greatest_of three two_of_three zeros least
+worked_least = refl
+
+quorum_not_smaller : checked three zeros (least ++ codes "counter 9 9\ns 10 a b\ns 11 a c\nend\n") ≡ Err (NotSmaller 8)
+unfolding checked take_line encode_with decode_pairs greatest_of three two_of_three zeros least
+quorum_not_smaller = refl
+
+-- a set that is no quorum is told as such, however large it is
+small_set : checked three zeros (least ++ codes "counter 9 9\ns 10 a b\ns 11 a\nend\n") ≡ Err (NotQuorum 8)
+unfolding checked take_line encode_with decode_pairs greatest_of three two_of_three zeros least
+small_set = refl
+
+counter_of_another_size : checked three zeros (least ++ codes "counter 9 8\nend\n") ≡ Err (Formula 6)
+unfolding checked take_line encode_with decode_pairs greatest_of three two_of_three zeros least
+counter_of_another_size = refl
+
+no_counter : checked three zeros (least ++ codes "s 10 a b\nend\n") ≡ Err (BadLine 6)
+unfolding checked take_line encode_with decode_pairs greatest_of three two_of_three zeros least
+no_counter = refl
+
+-- its quorums have a letter of their own
+quorum_by_the_other_letter : checked three zeros (least ++ codes "counter 9 9\nq 10 a b\nend\n") ≡ Err (BadLine 7)
+unfolding checked take_line encode_with decode_pairs greatest_of three two_of_three zeros least
+quorum_by_the_other_letter = refl
+
+-- a listed quorum takes no unit
+units_of_blocking_sets : checked three zeros (partial_least ++ codes "counter 9 9\ns 10 a b c\ns 11 a b\nb 12 a b\nend\n") ≡ Ok (shows (PartialLeast 1))
+unfolding checked take_line encode_with decode_pairs greatest_of three two_of_three zeros partial_least
+units_of_blocking_sets = refl
+
+-- a blocking set may come twice, but not in a part
+blocking_set_again : checked three zeros (least ++ codes "counter 9 9\nb 10 a b\nb 11 a b\nend\n") ≡ Err (NotRefuted 9)
+unfolding checked take_line encode_with decode_pairs greatest_of three two_of_three zeros least
+blocking_set_again = refl
+
+old_blocking_set : checked three zeros (partial_least ++ codes "counter 9 9\nb 10 a b\nb 11 a b\nend\n") ≡ Err (NotNew 8)
+unfolding checked take_line encode_with decode_pairs greatest_of three two_of_three zeros partial_least
+old_blocking_set = refl
+
+-- without a quorum the counter is empty, and nobody blocks
+no_quorum : checked (record { names = []; sets = [] }) zeros (least ++ codes "counter 0 0\nb 1\n2 0 1 0\nend\n") ≡ Ok (record { header = record { from = None; faulty = [] }; answer = Least None })
+unfolding checked take_line encode_with decode_pairs greatest_of zeros least
+no_quorum = refl

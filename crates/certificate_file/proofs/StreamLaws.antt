@@ -45,19 +45,29 @@ use Rattle.certificate_file.specs.declared.places.State.TheVariants.{Going}
 
 not_end : (text : List ℕ) → is_other text ≡ false → bytes_eq text (codes "end") ≡ false
 not_end [] is = refl
-not_end (b ∷ bytes) is = rw (or_parts (b == 101) ((b == 113) || (b == 98)) is).0 refl
+not_end (b ∷ bytes) is = rw (or_parts (b == 101) ((b == 113) || ((b == 98) || (b == 115))) is).0 refl
 
-first_word : (b : ℕ) (ws : List Word) → (b == 113) ≡ false → (b == 98) ≡ false → listed_by (onto_first b ws) ≡ None
-first_word b [] q k = rw (q, k) refl
-first_word b (w ∷ ws) q k = rw (q, k) refl
+first_word : (sought : Listed) (b : ℕ) (ws : List Word) → (b == 113) ≡ false → (b == 98) ≡ false → (b == 115) ≡ false → listed_by sought (onto_first b ws) ≡ None
+first_word listed.Quorum b [] q k s = rw (q, k) refl
+first_word listed.Quorum b (w ∷ ws) q k s = rw (q, k) refl
+first_word listed.Blocking b [] q k s = rw (q, k) refl
+first_word listed.Blocking b (w ∷ ws) q k s = rw (q, k) refl
+first_word listed.Smaller b [] q k s = rw (s, k) refl
+first_word listed.Smaller b (w ∷ ws) q k s = rw (s, k) refl
 
-not_listed : (text : List ℕ) → is_other text ≡ false → listed_by (words_of text) ≡ None
-not_listed [] is = refl
-not_listed (b ∷ bytes) is =
-    let later = or_parts (b == 113) (b == 98) (or_parts (b == 101) ((b == 113) || (b == 98)) is).1 in
-    elim (b == 32) as (λ t. listed_by (cond t ([] ∷ words_of bytes) (onto_first b (words_of bytes))) ≡ None) [
-      | true ↦ refl
-      | false ↦ first_word b (words_of bytes) later.0 later.1
+no_word : (sought : Listed) (ws : List Word) → listed_by sought ([] ∷ ws) ≡ None
+no_word listed.Quorum ws = refl
+no_word listed.Blocking ws = refl
+no_word listed.Smaller ws = refl
+
+not_listed : (sought : Listed) (text : List ℕ) → is_other text ≡ false → listed_by sought (words_of text) ≡ None
+not_listed sought [] is = no_word sought []
+not_listed sought (b ∷ bytes) is =
+    let later = or_parts (b == 113) ((b == 98) || (b == 115)) (or_parts (b == 101) ((b == 113) || ((b == 98) || (b == 115))) is).1 in
+    let last = or_parts (b == 98) (b == 115) later.1 in
+    elim (b == 32) as (λ t. listed_by sought (cond t ([] ∷ words_of bytes) (onto_first b (words_of bytes))) ≡ None) [
+      | true ↦ no_word sought (words_of bytes)
+      | false ↦ first_word sought b (words_of bytes) later.0 last.0 last.1
     ]
 
 -- checkers with the same rule, variables and clauses
@@ -108,6 +118,7 @@ list_progress_so : (s : Subject) (sought : Listed) (kind : ListKind) (part : Lis
 list_progress_so s sought kind part sets c n going = refl
 list_progress_so s listed.Quorum kind part sets c n Refuted = refl
 list_progress_so s listed.Blocking kind part sets c n Refuted = refl
+list_progress_so s listed.Smaller kind part sets c n Refuted = refl
 
 module _ (l : ℕ) (h : Header) (c : Checking) (n : ℕ) where
   step_taken : (r : Result ProofStep LineFault) → and_then (take_step l h c) (or_bad_line l r) ≡ and_then (next_of (proof.Refutation h)) (read l false c.rule c.vars c.database n (outline_in c.rule c.vars c.database r))
@@ -162,7 +173,7 @@ read_so f d (proof.Partial h) c n l text is = at_lemmas f d h c n l text ∙ rw 
 read_so f d (proof.List s sought kind part sets) c n l text is =
     at_list f d s (record { sought = sought; kind = kind; part = part; checker = c; sets = sets; units = n }) l text
     ∙ rw (not_end text is)
-    (ap (λ (o : Option Listed). and_then (λ x. Ok (in_reach s x)) (list_text f s.nodes (record { sought = sought; kind = kind; part = part; checker = c; sets = sets; units = n }) l text o)) (not_listed text is) ∙ list_taken l s sought part c sets n kind (step_in text))
+    (ap (λ (o : Option Listed). and_then (λ x. Ok (in_reach s x)) (list_text f s.nodes (record { sought = sought; kind = kind; part = part; checker = c; sets = sets; units = n }) l text o)) (not_listed sought text is) ∙ list_taken l s sought part c sets n kind (step_in text))
 
 -- a step line that was read as a stream, before and after which the checkers were these, is taken so
 pub read_line : (f : System) (d : List ℕ) (p : Proof) (part : Bool) (now later : Stepping) (n l line : ℕ) (words : StepWords) (text : List ℕ) (r : Result (Finished × ℕ) CertError)

@@ -11,11 +11,10 @@ use Rattle.step_stream.specs.Outline.{StepOutline, Adds, Deletes}
 use Rattle.list_journal.specs.declared.kinds.ListKind.{ListKind}
 use Rattle.list_journal.specs.declared.kinds.ListKind.TheVariants.{Whole, Partial as Part}
 use Rattle.cert_lines.specs.Limits.{unless}
-use Rattle.list_journal.specs.Order.{ordered}
 use Rattle.reach_kinds.specs.Bodies.{and_then, is_covered}
 use Rattle.certificate_file.specs.declared.places.Answer.TheVariants.{Refutation}
 use Rattle.reach_kinds.specs.declared.places.ReachPlace.TheVariants.{AtList, AtEnd as Ended}
-use Rattle.reach_kinds.specs.Bodies.{whole_of}
+use Rattle.reach_kinds.specs.Bodies.{in_order, whole_of}
 use Rattle.certificate_file.specs.declared.places.Place.{Place}
 use Rattle.certificate_file.specs.declared.places.Place.TheVariants.{AtSteps, AtLemmas, AtReach, AtEnd}
 use Rattle.certificate_file.specs.declared.places.State.{State}
@@ -93,7 +92,7 @@ place_of (proof.List s sought kind part sets) c n = AtReach s (AtList (record { 
 abbrev pub end_of : Proof → Place
 end_of (proof.Refutation h) = AtEnd (record { header = h; answer = Refutation })
 end_of (proof.Partial h) = AtEnd (record { header = h; answer = Refutation })
-end_of (proof.List s sought kind part sets) = AtReach s (Ended (whole_of sought (ordered sets)))
+end_of (proof.List s sought kind part sets) = AtReach s (Ended (whole_of sought (in_order sought sets)))
 
 -- what is so after a step, by where it led
 abbrev pub after_step_of : Proof → Checking → ℕ → Progress → State

@@ -1,9 +1,8 @@
 //! The kinds of lists: the place of the first line of one.
 ghost use Rattle.std.specs.Prelude.{◌≡◌, ◌⊎◌, IfOk, IfErr, IsErrOf, Ok, Err};
-ghost use Rattle.certificate_file.specs.Acceptance.{list_named, list_kind, any_kind_line};
+ghost use Rattle.certificate_file.specs.Acceptance.{list_named, quorum_list, list_kind, any_kind_line};
 ghost use Rattle.certificate_file.specs.Known.{IsSubject};
-ghost use Rattle.reach_kinds.specs.Bodies.{no_listing};
-ghost use Rattle.reach_kinds.specs.declared.places.ReachPlace.TheVariants.{AtList};
+ghost use Rattle.reach_kinds.specs.Bodies.{body_begins};
 
 use crate::places::{ListTitle, Place, State, Subject};
 use crate::taking::kind_line;
@@ -11,7 +10,7 @@ use cert_lines::CertError;
 use clause_encoder::Version;
 use fbas_core::System;
 use list_journal::{ListKind, Listed};
-use reach_kinds::{ReachPlace, no_listing};
+use reach_kinds::body_begins;
 use std::alloc::Global;
 
 /// The list of the sought sets that a kind names, whole or in part.
@@ -33,7 +32,18 @@ fn list_named(sought: Listed, whole: &str, part: &str, text: &[u8]) -> Option<Li
     None
 }
 
-/// The list that a kind names, if it is one. Minimal quorums are listed from version two on.
+/// The list of minimal quorums, or the search for a smallest one, that a kind of version two names.
+fn quorum_list(text: &[u8]) -> Option<ListTitle>
+    ensures { result ≡ quorum_list Version.Two text.now }
+{
+    let quorums = list_named(Listed::Quorum, "kind quorums", "kind partial-quorums", text);
+    match quorums {
+        Some(title) => Some(title),
+        None => list_named(Listed::Smaller, "kind least", "kind partial-least", text),
+    }
+}
+
+/// The list that a kind names, if it is one. Minimal quorums are listed, and a smallest one is sought, from version two on.
 fn list_kind(version: Version, text: &[u8]) -> Option<ListTitle>
     ensures { result ≡ list_kind version text.now }
 {
@@ -47,7 +57,7 @@ fn list_kind(version: Version, text: &[u8]) -> Option<ListTitle>
         Version::One => blocking,
         Version::Two => match blocking {
             Some(title) => Some(title),
-            None => list_named(Listed::Quorum, "kind quorums", "kind partial-quorums", text),
+            None => quorum_list(text),
         },
     }
 }
@@ -61,10 +71,10 @@ fn list_from(
     subject: Subject,
 ) -> Result<State, CertError>
     requires { IsSubject system.now subject }
-    ensures ok { IfOk result (λ s. s ≡ State.Going (Place.AtReach subject (AtList (no_listing system.now sought kind subject.nodes subject.header.faulty)))) }
+    ensures ok { IfOk result (λ s. s ≡ State.Going (Place.AtReach subject (body_begins system.now sought kind subject.nodes subject.header.faulty))) }
     ensures err { IfErr result (λ e. e ≡ CertError.Memory) }
 {
-    let listing = no_listing(
+    let place = body_begins(
         alloc,
         system,
         sought,
@@ -72,7 +82,7 @@ fn list_from(
         &subject.nodes,
         &subject.header.faulty,
     )?;
-    Ok(State::Going(Place::AtReach(subject, ReachPlace::AtList(listing))))
+    Ok(State::Going(Place::AtReach(subject, place)))
 }
 
 /// Line 5: the kind. That of a list costs what its part's greatest quorum does.

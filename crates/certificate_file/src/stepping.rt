@@ -65,9 +65,7 @@ impl Steps {
                         units,
                     })
                 }
-                ReachPlace::AtEnd(reached) => {
-                    Err(Place::AtReach(subject, ReachPlace::AtEnd(reached)))
-                }
+                other => Err(Place::AtReach(subject, other)),
             },
             other => Err(other),
         }
@@ -107,8 +105,7 @@ impl Proof {
         }
     }
 
-    /// The place behind the empty lemma, which ends a refutation, and a list, whose sets are then put in order. In no part of a
-    /// proof is it taken.
+    /// The place behind the empty lemma, which ends a refutation, and a list. In no part of a proof is it taken.
     fn end(self) -> Place
         requires { HasSizedSets self }
         ensures { result ≡ end_of self }
@@ -124,7 +121,7 @@ impl Proof {
             }),
             Proof::List(subject, sought, _, part, sets) => {
                 drop(part);
-                Place::AtReach(subject, ReachPlace::AtEnd(whole_of(sought, sets.ordered())))
+                Place::AtReach(subject, ReachPlace::AtEnd(whole_of(sought, sets)))
             }
         }
     }

@@ -1,8 +1,10 @@
--- The bodies that are read line by line: of lists.
-use Rattle.std.specs.Prelude.{ℕ, ◌+◌, List, [], ◌∷◌, ◌++◌, map, Bool, true, false, not, ◌&&◌, ◌||◌, nat_lt, Option, Some, None, is_none, ok_or, Result, Ok, Err, codes, if◌then◌else◌}
+-- The bodies that are read line by line: of lists, and of a smallest quorum.
+use Rattle.std.specs.Prelude.{ℕ, ◌+◌, ◌*◌, List, [], ◌∷◌, ◌++◌, map, Bool, true, false, not, ◌&&◌, ◌||◌, ◌==◌, nat_le, nat_lt, Option, Some, None, is_none, ok_or, Result, Ok, Err, codes, if◌then◌else◌}
 use Rattle.std.specs.List.{list_all, list_any}
 use Rattle.std.specs.Str.{bytes_eq}
-use Rattle.fbas_model.specs.Nodes.{Table, size}
+use Rattle.fbas_model.specs.Nodes.{Table, members, size}
+use Rattle.fbas_model.specs.Fbas.{Fbas}
+use Rattle.fbas_model.specs.Counting.{is_quorum}
 use Rattle.fbas_model.specs.Names.{Name, is_among, marks}
 use Rattle.fbas_model.specs.Systems.{System}
 use Rattle.fbas_model.specs.Restriction.{kept, restricted, restricted_sets}
@@ -19,27 +21,31 @@ use Rattle.lrat_model.specs.declared.step.Progress.TheVariants.{Going as going, 
 use Rattle.lrat_checker.specs.Checking.{Checking}
 use Rattle.lrat_text.specs.Lines.{step_in}
 use Rattle.lrat_text.specs.Numbers.{id_in}
-use Rattle.list_journal.specs.Journals.{nothing_held}
-use Rattle.list_journal.specs.Kinds.{is_sought, asks_new}
-use Rattle.list_journal.specs.Numbering.{clause_for}
+use Rattle.lrat_model.specs.Runs.{formula_database}
+use Rattle.list_journal.specs.Journals.{Rules, list_of, nothing_held}
+use Rattle.list_journal.specs.Kinds.{is_sought}
 use Rattle.list_journal.specs.Order.{ordered}
 use Rattle.list_journal.specs.Tests.{is_within, is_kind, is_minimal}
 use Rattle.list_journal.specs.declared.kinds.ListKind.{ListKind}
 use Rattle.list_journal.specs.declared.kinds.ListKind.TheVariants.{Whole, Partial as Part}
 use Rattle.list_journal.specs.declared.kinds.Listed.{Listed}
 use Rattle.list_journal.specs.declared.kinds.Listed.TheVariants as listed
+use Rattle.clause_encoder.specs.declared.limits.TheConstants.{MOST_VARS}
+use Rattle.clause_encoder.specs.NameCounter.{counter_vars, counter_of}
+use Rattle.least_journal.specs.Least.{least_of, last_of}
 use Rattle.cert_lines.specs.Limits.{unless}
 use Rattle.cert_lines.specs.Words.{Word, words_of, names_in}
-use Rattle.cert_lines.specs.Saying.{or_bad_line}
+use Rattle.cert_lines.specs.Saying.{counter_in, or_bad_line}
+use Rattle.cert_lines.specs.declared.saying.Counts.{Counts}
 use Rattle.cert_lines.specs.declared.faults.CertError.{CertError}
-use Rattle.cert_lines.specs.declared.faults.CertError.TheVariants.{BadLine, UnknownNode, NotQuorum, NotBlocking, NotMinimal, Step, NotNew, NotRefuted}
+use Rattle.cert_lines.specs.declared.faults.CertError.TheVariants.{BadLine, UnknownNode, NotQuorum, NotBlocking, NotMinimal, NotSmaller, TooLarge, Formula, Step, NotNew, NotRefuted}
 use Rattle.witness_pair.specs.Making.{shared, least}
 use Rattle.reach_kinds.specs.declared.places.Reached.{Reached}
-use Rattle.reach_kinds.specs.declared.places.Reached.TheVariants.{Blocking, PartialBlocking, Quorums, PartialQuorums}
+use Rattle.reach_kinds.specs.declared.places.Reached.TheVariants.{Blocking, PartialBlocking, Quorums, PartialQuorums, Least, PartialLeast}
 use Rattle.reach_kinds.specs.declared.places.ListPart.{ListPart}
 use Rattle.reach_kinds.specs.declared.places.Listing.{Listing}
 use Rattle.reach_kinds.specs.declared.places.ReachPlace.{ReachPlace}
-use Rattle.reach_kinds.specs.declared.places.ReachPlace.TheVariants.{AtList, AtEnd}
+use Rattle.reach_kinds.specs.declared.places.ReachPlace.TheVariants.{AtCounter, AtList, AtEnd}
 use Rattle.reach_kinds.specs.declared.places.ReachState.{ReachState}
 use Rattle.reach_kinds.specs.declared.places.ReachState.TheVariants.{Going, Done}
 
@@ -128,10 +134,48 @@ list_checking vars database = record { rule = Rup; vars = vars; database = datab
 abbrev pub no_listing : System → Listed → ListKind → Table → Table → Listing
 no_listing f sought kind nodes faulty = listing_on sought kind (list_part f nodes faulty) (list_checking (size (list_part f nodes faulty).greatest) nothing_held) [] 0
 
+-- the rules of a list of the sets of a kind of the part: of all minimal ones, or, where ever smaller quorums are sought, of a smallest one
+abbrev pub rules_of : Listed → ListPart → Rules
+rules_of listed.Quorum p = list_of listed.Quorum p.system.sets (members p.faulty) p.greatest
+rules_of listed.Blocking p = list_of listed.Blocking p.system.sets (members p.faulty) p.greatest
+rules_of listed.Smaller p = least_of p.system.sets (members p.faulty) p.greatest
+
+-- behind the counter: its clauses are held
+abbrev pub counted_listing : ListKind → ListPart → Listing
+counted_listing kind p = listing_on listed.Smaller kind p (list_checking (counter_vars (size p.greatest)) (formula_database (counter_of (size p.greatest)))) [] 0
+
+-- where the counter has these many variables and clauses
+abbrev pub counter_sized : ℕ → ListKind → ListPart → Counts → Result ReachState CertError
+counter_sized l kind p counts =
+    unless (TooLarge (counter_vars (size p.greatest))) (nat_le (counter_vars (size p.greatest)) MOST_VARS)
+    (unless (Formula l) ((counts.vars == counter_vars (size p.greatest)) && (counts.clauses == size p.greatest * size p.greatest))
+    (Ok (Going (AtList (counted_listing kind p)))))
+
+-- how many variables and clauses the counter of the nodes of the greatest quorum has
+abbrev pub counter_line : ListKind → ListPart → ℕ → List ℕ → Result ReachState CertError
+counter_line kind p l text = and_then (counter_sized l kind p) (ok_or (counter_in text) (BadLine l))
+
+-- the first line that is awaited: that of the counter where a smallest quorum is sought
+abbrev pub body_begins : System → Listed → ListKind → Table → Table → ReachPlace
+body_begins f listed.Quorum kind nodes faulty = AtList (no_listing f listed.Quorum kind nodes faulty)
+body_begins f listed.Blocking kind nodes faulty = AtList (no_listing f listed.Blocking kind nodes faulty)
+body_begins f listed.Smaller kind nodes faulty = AtCounter kind (list_part f nodes faulty)
+
+-- as what a quorum is listed, and by which letter: where ever smaller ones are sought, as one of them
+abbrev pub quorum_as : Listed → Listed
+quorum_as listed.Quorum = listed.Quorum
+quorum_as listed.Blocking = listed.Quorum
+quorum_as listed.Smaller = listed.Smaller
+
+abbrev pub quorum_letter : Listed → Word
+quorum_letter listed.Quorum = codes "q"
+quorum_letter listed.Blocking = codes "q"
+quorum_letter listed.Smaller = codes "s"
+
 -- what the first word of a line lists, if it is no step
-abbrev pub listed_by : List Word → Option Listed
-listed_by [] = None
-listed_by (w ∷ ws) = if bytes_eq w (codes "q") then Some listed.Quorum else (if bytes_eq w (codes "b") then Some listed.Blocking else None)
+abbrev pub listed_by : Listed → List Word → Option Listed
+listed_by sought [] = None
+listed_by sought (w ∷ ws) = if bytes_eq w (quorum_letter sought) then Some (quorum_as sought) else (if bytes_eq w (codes "b") then Some listed.Blocking else None)
 
 -- an id and names
 pub record Numbered : Type 0 where
@@ -149,26 +193,54 @@ numbered_in [] = None
 numbered_in (w ∷ []) = None
 numbered_in (w ∷ id ∷ names) = numbered_if_any (id_in id) (names_in names)
 
--- where quorums are sought, a blocking set lies in the greatest one
+-- where quorums are sought, a blocking set lies in the greatest one, and where smaller ones are, each set does
 abbrev pub asks_inside : Listed → Listed → Bool
 asks_inside listed.Quorum listed.Quorum = false
 asks_inside listed.Quorum listed.Blocking = true
+asks_inside listed.Quorum listed.Smaller = false
 asks_inside listed.Blocking which = false
+asks_inside listed.Smaller which = true
+
+-- a set is what it is listed for: a quorum or a blocking set, as far as its letter may stand where these are sought
+abbrev pub is_listed_for : Listed → Listed → Fbas → Table → Table → Bool
+is_listed_for listed.Quorum which f b u = is_kind which f b u
+is_listed_for listed.Blocking which f b u = is_kind which f b u
+is_listed_for listed.Smaller listed.Quorum f b u = false
+is_listed_for listed.Smaller listed.Blocking f b u = is_kind listed.Blocking f b u
+is_listed_for listed.Smaller listed.Smaller f b u = is_quorum f b u
 
 abbrev pub not_of : ℕ → Listed → CertError
 not_of l listed.Quorum = NotQuorum l
 not_of l listed.Blocking = NotBlocking l
+not_of l listed.Smaller = NotQuorum l
+
+-- where all minimal sets are sought, one of them has no node to spare
+abbrev pub asks_minimal : Listed → Listed → Bool
+asks_minimal listed.Quorum which = is_sought listed.Quorum which
+asks_minimal listed.Blocking which = is_sought listed.Blocking which
+asks_minimal listed.Smaller which = false
+
+-- where ever smaller quorums are sought, one of them has fewer nodes than the one before it
+abbrev pub asks_smaller : Listed → Listed → Bool
+asks_smaller listed.Quorum which = false
+asks_smaller listed.Blocking which = false
+asks_smaller listed.Smaller which = is_sought listed.Smaller which
+
+abbrev pub is_below : ℕ → Option Table → Bool
+is_below n None = true
+is_below n (Some u) = nat_lt n (size u)
 
 -- a set of the part that is what it is listed for
 abbrev pub right_set : Listing → ℕ → Listed → Table → Result Table CertError
 right_set k l which u =
     unless (UnknownNode l) (not (asks_inside k.sought which) || is_within u k.part.greatest)
-    (unless (not_of l which) (is_kind which k.part.system.sets k.part.faulty u)
-    (unless (NotMinimal l) (not (is_sought k.sought which) || is_minimal which k.part.system.sets k.part.faulty u) (Ok u)))
+    (unless (not_of l which) (is_listed_for k.sought which k.part.system.sets k.part.faulty u)
+    (unless (NotMinimal l) (not (asks_minimal k.sought which) || is_minimal which k.part.system.sets k.part.faulty u)
+    (unless (NotSmaller l) (not (asks_smaller k.sought which) || is_below (size u) (last_of None k.sets)) (Ok u))))
 
 -- the set's clause had to be new and is not
 abbrev pub is_old : Listing → Listed → ℕ → Table → Bool
-is_old k which id u = asks_new k.sought k.kind which && is_covered k.checker.database.held id (clause_for k.sought k.part.greatest which u)
+is_old k which id u = (rules_of k.sought k.part).asks k.kind which && is_covered k.checker.database.held id ((rules_of k.sought k.part).clause which u)
 
 abbrev pub new_set : Listing → ℕ → Listed → ℕ → Table → Result Table CertError
 new_set k l which id u = unless (NotNew l) (not (is_old k which id u)) (Ok u)
@@ -184,7 +256,7 @@ with_sought sought sets which u = put_last (is_sought sought which) sets u
 -- the list with a set u of the whole system, which is w in the part
 abbrev pub with_listed : Listing → Listed → ℕ → Table → Table → Listing
 with_listed k which id u w =
-    listing_on k.sought k.kind k.part (holding k.checker (record { held = with_clause k.checker.database.held id (clause_for k.sought k.part.greatest which w); last = id })) (with_sought k.sought k.sets which u) (k.units + 1)
+    listing_on k.sought k.kind k.part (holding k.checker (record { held = with_clause k.checker.database.held id ((rules_of k.sought k.part).clause which w); last = id })) (with_sought k.sought k.sets which u) (k.units + (rules_of k.sought k.part).cost which)
 
 -- the set u of the whole system listed under an id
 abbrev pub list_set : Table → Listing → ℕ → Listed → ℕ → Table → Result ReachState CertError
@@ -213,19 +285,27 @@ is_old_step k step = asks_steps k.kind && adds_covered k.checker.database.held s
 abbrev pub with_step : Listing → ProofStep → Listing
 with_step k step = listing_on k.sought k.kind k.part (holding k.checker (after_step k.checker.database step)) k.sets (counted k.units step)
 
--- what a list of a kind shows, and a part of one
+-- the listed sets in the order in which they are shown: each once and in name order, or as they were listed
+abbrev pub in_order : Listed → List Table → List Table
+in_order listed.Quorum sets = ordered sets
+in_order listed.Blocking sets = ordered sets
+in_order listed.Smaller sets = sets
+
+-- what a list of a kind shows, and a part of one: of ever smaller quorums the last one
 abbrev pub whole_of : Listed → List Table → Reached
 whole_of listed.Quorum sets = Quorums sets
 whole_of listed.Blocking sets = Blocking sets
+whole_of listed.Smaller sets = Least (last_of None sets)
 
 abbrev pub part_of : Listed → ℕ → Reached
 part_of listed.Quorum units = PartialQuorums units
 part_of listed.Blocking units = PartialBlocking units
+part_of listed.Smaller units = PartialLeast units
 
 -- the next line after a step: `end` where it was the empty lemma
 abbrev pub after_list_step : Listing → Progress → ReachState
 after_list_step k going = Going (AtList k)
-after_list_step k Refuted = Going (AtEnd (whole_of k.sought (ordered k.sets)))
+after_list_step k Refuted = Going (AtEnd (whole_of k.sought (in_order k.sought k.sets)))
 
 -- what is so after a step, if it has no fault and is as new as the kind asks
 abbrev pub list_step_unless : ℕ → Listing → ProofStep → Option StepFault → Result ReachState CertError
@@ -240,16 +320,17 @@ abbrev pub list_end : ListKind → Listing → ℕ → Result ReachState CertErr
 list_end Whole k l = Err (NotRefuted l)
 list_end Part k l = Ok (Done (part_of k.sought k.units))
 
--- a quorum or a minimal blocking set, or else a step
+-- a listed set, or else a step
 abbrev pub list_text : System → Table → Listing → ℕ → List ℕ → Option Listed → Result ReachState CertError
 list_text f nodes k l text (Some which) = and_then (set_line f nodes k l which) (ok_or (numbered_in (words_of text)) (BadLine l))
 list_text f nodes k l text None = and_then (list_step k l) (and_then (literal_in k.kind l) (or_bad_line l (step_in text)))
 
 -- a line of a list, or its end
 abbrev pub list_line : System → Table → Listing → ℕ → List ℕ → Result ReachState CertError
-list_line f nodes k l text = if bytes_eq text (codes "end") then list_end k.kind k l else list_text f nodes k l text (listed_by (words_of text))
+list_line f nodes k l text = if bytes_eq text (codes "end") then list_end k.kind k l else list_text f nodes k l text (listed_by k.sought (words_of text))
 
 -- line l taken at its place, where the body speaks of these nodes of the system
 abbrev pub reach_line : System → Table → ReachPlace → ℕ → List ℕ → Result ReachState CertError
+reach_line f nodes (AtCounter kind p) l text = counter_line kind p l text
 reach_line f nodes (AtList k) l text = list_line f nodes k l text
 reach_line f nodes (AtEnd r) l text = expected l text (codes "end") (Ok (Done r))

@@ -1,11 +1,11 @@
 //! The kinds of lists: what is known before the first line of one.
-ghost use Rattle.std.specs.Prelude.{◌≡◌, ◌<◌, ◌^◌, IfOk};
+ghost use Rattle.std.specs.Prelude.{◌≡◌, ◌<◌, ◌^◌, [], IfOk};
 ghost use Rattle.fbas_model.specs.Nodes.{size};
 ghost use Rattle.list_journal.specs.Journals.{nothing_held};
-ghost use Rattle.reach_kinds.specs.Bodies.{list_checking, no_listing};
+ghost use Rattle.reach_kinds.specs.Bodies.{list_part, list_checking, listing_on, body_begins};
 ghost use Rattle.reach_kinds.specs.Known.{IsPartNodes};
 
-use crate::places::{ListPart, Listing};
+use crate::places::{ListPart, Listing, ReachPlace};
 use clause_store::Store;
 use fbas_core::System;
 use greatest_quorum::greatest;
@@ -26,26 +26,37 @@ fn list_checker(alloc: Global, greatest: &NodeSet) -> Result<IdleChecker, AllocE
     Ok(checker)
 }
 
-/// A list of the part before its first line.
-pub fn no_listing(
+/// The part of the system that a list is of.
+fn list_part(
     alloc: Global,
     system: &System,
-    sought: Listed,
-    kind: ListKind,
     nodes: &NodeSet,
     faulty: &NodeSet,
-) -> Result<Listing, AllocError>
+) -> Result<ListPart, AllocError>
     requires { IsPartNodes system.now nodes.now faulty.now }
-    ensures { IfOk result (λ k. k ≡ no_listing system.now sought kind nodes.now faulty.now) }
+    ensures part { IfOk result (λ part. part ≡ list_part system.now nodes.now faulty.now) }
+    ensures few { IfOk result (λ part. size part.greatest < 2 ^ 31) }
 {
     let restricted = system.restrict(alloc, nodes)?;
     let faulty = system.cut(faulty, nodes);
     let greatest = greatest(&restricted, &faulty);
-    let part = ListPart {
+    Ok(ListPart {
         system: restricted,
         faulty,
         greatest,
-    };
+    })
+}
+
+/// A list of all minimal sets of a kind of the part, before its first line.
+fn no_listing(
+    alloc: Global,
+    sought: Listed,
+    kind: ListKind,
+    part: ListPart,
+) -> Result<Listing, AllocError>
+    requires { size part.greatest < 2 ^ 31 }
+    ensures { IfOk result (λ k. k ≡ listing_on sought kind part (list_checking (size part.greatest) nothing_held) [] 0) }
+{
     match list_checker(alloc, &part.greatest) {
         Ok(checker) => Ok(Listing {
             sought,
@@ -58,6 +69,28 @@ pub fn no_listing(
         Err(fault) => {
             drop(part);
             Err(fault)
+        }
+    }
+}
+
+/// The place of the first line of a body: that of the counter where a smallest quorum is sought, else that of the list.
+pub fn body_begins(
+    alloc: Global,
+    system: &System,
+    sought: Listed,
+    kind: ListKind,
+    nodes: &NodeSet,
+    faulty: &NodeSet,
+) -> Result<ReachPlace, AllocError>
+    requires { IsPartNodes system.now nodes.now faulty.now }
+    ensures { IfOk result (λ place. place ≡ body_begins system.now sought kind nodes.now faulty.now) }
+{
+    let part = list_part(alloc, system, nodes, faulty)?;
+    match sought {
+        Listed::Smaller => Ok(ReachPlace::AtCounter(kind, part)),
+        Listed::Quorum | Listed::Blocking => {
+            let listing = no_listing(alloc, sought, kind, part)?;
+            Ok(ReachPlace::AtList(listing))
         }
     }
 }

@@ -1,9 +1,10 @@
 //! The lines of lists.
 ghost use Rattle.std.specs.Prelude.{◌≡◌, ◌⊎◌, Some, None, is_some, IfSome, IfOk, IfErr, IsErrOf, OnOk, Ok, Err, codes};
 ghost use Rattle.cert_lines.specs.Words.{words_of, names_in};
-ghost use Rattle.reach_kinds.specs.Bodies.{listed_by, numbered_in, set_line, after_list_step, list_text, list_line, expected, reach_line};
+ghost use Rattle.reach_kinds.specs.Bodies.{quorum_as, quorum_letter, listed_by, numbered_in, set_line, after_list_step, list_text, list_line, expected, reach_line};
 ghost use Rattle.reach_kinds.specs.Known.{IsList, IsReachPlace, IsReachState};
 
+use crate::counter::counter_line;
 use crate::list_sets::list_set;
 use crate::list_steps::{after_list_step, list_end, list_step};
 use crate::lists::nodes_of;
@@ -17,14 +18,34 @@ use lrat_text::read_id;
 use name_set::NodeSet;
 use std::alloc::Global;
 
+/// As what a quorum is listed: where ever smaller ones are sought, as one of them.
+fn quorum_as(sought: Listed) -> Listed
+    ensures { result ≡ quorum_as sought }
+{
+    match sought {
+        Listed::Quorum | Listed::Blocking => Listed::Quorum,
+        Listed::Smaller => Listed::Smaller,
+    }
+}
+
+/// And by which letter.
+fn quorum_letter(sought: Listed) -> &'static str
+    ensures { result.now ≡ quorum_letter sought }
+{
+    match sought {
+        Listed::Quorum | Listed::Blocking => "q",
+        Listed::Smaller => "s",
+    }
+}
+
 /// What the first word of a line lists, if it is no step.
-fn listed_by(text: &[u8]) -> Option<Listed>
-    ensures { result ≡ listed_by (words_of text.now) }
+fn listed_by(sought: Listed, text: &[u8]) -> Option<Listed>
+    ensures { result ≡ listed_by sought (words_of text.now) }
 {
     let mut words = Words::of(text);
     let word = words.next()?;
-    if word == b"q".as_slice() {
-        return Some(Listed::Quorum);
+    if word == quorum_letter(sought).as_bytes() {
+        return Some(quorum_as(sought));
     }
     if word == b"b".as_slice() {
         return Some(Listed::Blocking);
@@ -90,7 +111,7 @@ fn set_line(
     list_set(alloc, system, nodes, faulty, listing, line, which, id, set)
 }
 
-/// A line of a list before its end: a quorum, a minimal blocking set, or a step, which may refute.
+/// A line of a list before its end: a listed set, or a step, which may refute.
 fn list_text(
     alloc: Global,
     system: &System,
@@ -103,10 +124,10 @@ fn list_text(
     requires { IsList system.now nodes.now faulty.now listing.old }
     ensures unread { IsErrOf result CertError.Read → ⊥ }
     ensures sets { result ≡ Ok Progress.Refuted → listing.new.sets ≡ listing.old.sets }
-    ensures ok { IfOk result (λ p. list_text system.now nodes.now listing.old line text.now (listed_by (words_of text.now)) ≡ Ok (after_list_step listing.new p)) }
-    ensures err { IfErr result (λ e. (e ≡ CertError.Memory) ⊎ (list_text system.now nodes.now listing.old line text.now (listed_by (words_of text.now)) ≡ Err e)) }
+    ensures ok { IfOk result (λ p. list_text system.now nodes.now listing.old line text.now (listed_by listing.old.sought (words_of text.now)) ≡ Ok (after_list_step listing.new p)) }
+    ensures err { IfErr result (λ e. (e ≡ CertError.Memory) ⊎ (list_text system.now nodes.now listing.old line text.now (listed_by listing.old.sought (words_of text.now)) ≡ Err e)) }
 {
-    let Some(which) = listed_by(text) else {
+    let Some(which) = listed_by(listing.sought, text) else {
         return list_step(listing, line, step_in(alloc, line, text)?);
     };
     let Some((id, mut names)) = numbered_in(text) else {
@@ -118,7 +139,7 @@ fn list_text(
     Ok(Progress::Going)
 }
 
-/// A line of a list: a quorum, a minimal blocking set, a step, or the end. A set costs what its test does, a step its literals
+/// A line of a list: a listed set, a step, or the end. A set costs what its test does, a step its literals
 /// and those of the clauses that its hints name; and a clause that has to be new is linear in the literals that are held.
 fn list_line(
     alloc: Global,
@@ -174,6 +195,7 @@ pub fn reach_line(
     ensures known { IfOk result (IsReachState system.now nodes.now faulty.now) }
 {
     match place {
+        ReachPlace::AtCounter(kind, part) => counter_line(alloc, kind, part, line, text),
         ReachPlace::AtList(listing) => {
             list_line(alloc, system, nodes, faulty, listing, line, text)
         }

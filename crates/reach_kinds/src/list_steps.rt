@@ -1,13 +1,15 @@
 //! The steps of lists, and their end.
-ghost use Rattle.std.specs.Prelude.{◌≡◌, ◌⊎◌, ◌&&◌, ℕ, length, All, IfOk, IfErr, IsErrOf, Ok, Err};
+ghost use Rattle.std.specs.Prelude.{◌≡◌, ◌⊎◌, ◌&&◌, ℕ, length, All, None, IfOk, IfErr, IsErrOf, Ok, Err};
 ghost use Rattle.lrat_model.specs.Steps.{step_of};
-ghost use Rattle.reach_kinds.specs.Bodies.{and_then, literal_in, is_old_step, whole_of, part_of, after_list_step, list_step, list_end};
+ghost use Rattle.least_journal.specs.Least.{last_of};
+ghost use Rattle.reach_kinds.specs.Bodies.{and_then, literal_in, is_old_step, in_order, whole_of, part_of, after_list_step, list_step, list_end};
 
 use crate::places::{Listing, ReachPlace, ReachState, Reached};
 use crate::steps::{adds_covered, counted, with_literal};
 use cert_lines::CertError;
 use list_journal::{ListKind, Listed, NodeSets};
 use lrat_model::{Progress, Step, StepFault};
+use name_set::NodeSet;
 
 /// The step, which is not the empty lemma in a part of a list.
 fn literal_in(kind: ListKind, line: u64, step: Step) -> Result<Step, CertError>
@@ -66,13 +68,25 @@ pub fn list_step(listing: &mut Listing, line: u64, step: Step) -> Result<Progres
     take_list_step(listing, line, &literal)
 }
 
-/// What a list of a kind shows.
+/// The set that is listed last.
+fn last_of(sets: &NodeSets) -> Option<NodeSet>
+    ensures { result ≡ last_of None sets.now }
+{
+    match sets.as_slice().last() {
+        Some(set) => Some(set.copy()),
+        None => None,
+    }
+}
+
+/// What a list of a kind shows: its sets put in order, or of ever smaller quorums the last one.
 pub fn whole_of(sought: Listed, sets: NodeSets) -> Reached
-    ensures { result ≡ whole_of sought sets }
+    requires { (n : ℕ) × All (λ s. length s ≡ n) sets }
+    ensures { result ≡ whole_of sought (in_order sought sets) }
 {
     match sought {
-        Listed::Quorum => Reached::Quorums(sets),
-        Listed::Blocking => Reached::Blocking(sets),
+        Listed::Quorum => Reached::Quorums(sets.ordered()),
+        Listed::Blocking => Reached::Blocking(sets.ordered()),
+        Listed::Smaller => Reached::Least(last_of(&sets)),
     }
 }
 
@@ -83,10 +97,11 @@ fn part_of(sought: Listed, units: u64) -> Reached
     match sought {
         Listed::Quorum => Reached::PartialQuorums(units),
         Listed::Blocking => Reached::PartialBlocking(units),
+        Listed::Smaller => Reached::PartialLeast(units),
     }
 }
 
-/// The place of the line after a step: the empty lemma ends a whole list, whose sets are then put in order.
+/// The place of the line after a step: the empty lemma ends a whole list.
 pub fn after_list_step(listing: Listing, progress: Progress) -> ReachPlace
     requires { progress ≡ Progress.Refuted → (n : ℕ) × All (λ s. length s ≡ n) listing.sets }
     ensures { ReachState.Going result ≡ after_list_step listing progress }
@@ -104,7 +119,7 @@ pub fn after_list_step(listing: Listing, progress: Progress) -> ReachPlace
             } = listing;
             drop(part);
             drop(checker);
-            ReachPlace::AtEnd(whole_of(sought, sets.ordered()))
+            ReachPlace::AtEnd(whole_of(sought, sets))
         }
     }
 }

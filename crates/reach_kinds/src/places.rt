@@ -13,7 +13,8 @@ pub struct ListPart {
     pub greatest: NodeSet,
 }
 
-/// A list so far: the sought sets of its lines in their order, and how many lines count.
+/// A list so far: the sought sets of its lines in their order, and how many lines count. Where a smallest quorum is sought, these
+/// are the ever smaller ones.
 #[derive(Drop)]
 pub struct Listing {
     pub sought: Listed,
@@ -35,11 +36,16 @@ pub enum Reached {
     Quorums(NodeSets),
     /// Nothing but work done, where minimal quorums are sought.
     PartialQuorums(u64),
+    /// A smallest quorum, whose nodes have their numbers in the whole system, or none where there is no quorum.
+    Least(Option<NodeSet>),
+    /// Nothing but work done, where a smallest quorum is sought.
+    PartialLeast(u64),
 }
 
 /// Which line is awaited, with what the lines before it said.
 #[derive(Drop)]
 pub enum ReachPlace {
+    AtCounter(ListKind, ListPart),
     AtList(Listing),
     AtEnd(Reached),
 }

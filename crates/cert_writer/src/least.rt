@@ -1,0 +1,91 @@
+//! The certificates of a search for a smallest quorum.
+ghost use Rattle.std.specs.Prelude.{◌≡◌, ◌≤◌, ℕ, [], false, length, IsTrue, IsErr, OnOk, OnErr};
+ghost use Rattle.std.specs.List.Sorted.{IsStrictlySortedBy};
+ghost use Rattle.hex.specs.Hex.{IsBytes};
+ghost use Rattle.desk_io.specs.Faults.{WriteFails};
+ghost use Rattle.desk_io.specs.State.{written};
+ghost use Rattle.fbas_model.specs.Names.{name_cmp};
+ghost use Rattle.fbas_model.specs.Nodes.{Table, size};
+ghost use Rattle.fbas_model.specs.Systems.{System, IsSystem};
+ghost use Rattle.clause_encoder.specs.NameCounter.{counter_vars};
+ghost use Rattle.clause_encoder.specs.declared.limits.TheConstants.{MOST_VARS};
+ghost use Rattle.least_quorum.specs.Outcomes.{least_journal_of};
+ghost use Rattle.least_quorum.specs.declared.outcome.LeastOutcome.{LeastOutcome};
+ghost use Rattle.quorum_questions.specs.declared.asking.TheConstants.{MOST_UNITS};
+ghost use Rattle.cert_writer.specs.Promises.{IsHeader, part_of, greatest_in, PutsPart};
+ghost use Rattle.cert_writer.specs.Finding.{Search, part, faulty};
+ghost use Rattle.cert_writer.specs.Least.{kind_of, least_cert_over, least_cert_of, LeastShows, FindsLeast, CanBeLeast};
+
+use crate::whole::write_least_journal;
+use crate::writer::CertWriter;
+use blocking_lists::Journal;
+use certificate_file::Header;
+use desk_io::{Desk, To, WriteFailed};
+use fbas_core::System;
+use least_quorum::LeastOutcome;
+use list_journal::ListKind;
+
+/// Whether the journal of an outcome is a whole one.
+fn kind_of(outcome: &LeastOutcome) -> ListKind
+    ensures { result ≡ kind_of outcome.now }
+{
+    match outcome {
+        LeastOutcome::Least(_, _) | LeastOutcome::NoQuorum(_) => ListKind::Whole,
+        LeastOutcome::Spent(_) => ListKind::Partial,
+    }
+}
+
+/// The journal of an outcome.
+fn journal_of(outcome: &LeastOutcome) -> &Journal
+    ensures { result.now ≡ least_journal_of outcome.now }
+{
+    match outcome {
+        LeastOutcome::Least(_, journal)
+        | LeastOutcome::NoQuorum(journal)
+        | LeastOutcome::Spent(journal) => journal,
+    }
+}
+
+/// Writes the certificate of a search for a smallest quorum, whole or in part, to the created file. `check` accepts it.
+///
+/// The header has the numbers of the whole system, and the journal those of the part that the header names, whose greatest quorum
+/// has so many nodes.
+pub fn write_least<D: Desk>(
+    writer: &mut CertWriter,
+    desk: &mut D,
+    digest: &[u8; 32],
+    header: &Header,
+    whole: &System,
+    kept: &System,
+    nodes: u32,
+    outcome: &LeastOutcome,
+) -> Result<(), WriteFailed>
+    requires fresh { writer.old ≡ record { held = []; failed = false } }
+    requires header { IsHeader whole.now header.now }
+    requires part { kept.now ≡ part_of whole.now header.now.from }
+    requires nodes { nodes ≡ size (greatest_in whole.now header.now) }
+    requires small { counter_vars nodes ≤ MOST_VARS }
+    requires found { CanBeLeast (length kept.now.names) outcome.now }
+    ensures all { OnOk result (IsTrue D.tells → D.state desk.new ≡ written To.Cert (least_cert_over whole.now digest.now header.now outcome.now) (D.state desk.old)) }
+    ensures part { OnErr result (IsTrue D.tells → PutsPart (least_cert_over whole.now digest.now header.now outcome.now) (D.state desk.old) (D.state desk.new)) }
+    ensures faults { WriteFails (D.faults desk.old) (D.faults desk.new) (IsErr result) }
+{
+    write_least_journal(
+        writer,
+        desk,
+        digest,
+        header,
+        whole,
+        kept,
+        nodes,
+        kind_of(outcome),
+        journal_of(outcome),
+    )
+}
+
+/// What a search for a smallest quorum shows can be written, and its certificate is accepted.
+pub fn what_is_least_is_found()
+    ensures written { (f : System) (b : Table) (budget : ℕ) (outcome : LeastOutcome) → length f.names ≡ length f.sets → LeastShows f.sets b budget outcome → CanBeLeast (length f.names) outcome }
+    ensures found { (s : Search) (outcome : LeastOutcome) → IsSystem s.whole.names s.whole.sets → IsStrictlySortedBy name_cmp s.whole.names → length s.digest ≡ 32 → IsBytes s.digest → IsHeader s.whole s.header → s.budget ≤ MOST_UNITS
+        → LeastShows (part s).sets (faulty s) s.budget outcome → FindsLeast s outcome (least_cert_of s outcome) }
+{}
