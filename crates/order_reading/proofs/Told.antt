@@ -17,7 +17,7 @@ use Rattle.order_reading.specs.declared.status.Status.TheVariants.{ConfigRefused
 use Rattle.order_reading.specs.declared.early.Early.{Early}
 use Rattle.order_reading.specs.declared.early.Early.TheVariants.{Told, Read, Memory}
 use Rattle.order_reading.specs.declared.files.TheConstants.{MAX_FILE}
-use Rattle.order_reading.specs.Answers.{or_words_refused, refused_words, file_in, is_told, system_in, or_config_refused}
+use Rattle.order_reading.specs.Answers.{or_words_refused, refused_words, file_in, file_within, is_told, system_in, or_config_refused}
 use Rattle.order_reading.specs.Meaning.{MeansYes, OfWords, NamesAccepted, NamesVerified, YesMeans, IsCheck, IsCheckLrat, IsTold}
 
 pub YesMeans-weaker : (A B : Type 0) (e : Early) → (A → B) → YesMeans A e → YesMeans B e
@@ -68,23 +68,23 @@ pub words_refused : (r : Result Ordered OrderFault) (e : OrderFault) (a : Answer
 words_refused r e a (inl memory) said = absurd (let k = ap refused_words memory in cc)
 words_refused r e a (inr words) said = ap or_words_refused words ∙ ap (λ (x : Early). Err x) said
 
-held_within : (text : Text) (held bytes : List ℕ) (within : Bool) → (if within then Ok held else Err (Told (record { status = ConfigRefused; text = text }))) ≡ Ok bytes → Some held ≡ Some bytes
-held_within text held bytes true e = cc
-held_within text held bytes false e = absurd cc
+held_within : (refusal : Answer) (held bytes : List ℕ) (within : Bool) → (if within then Ok held else Err (Told refusal)) ≡ Ok bytes → Some held ≡ Some bytes
+held_within refusal held bytes true e = cc
+held_within refusal held bytes false e = absurd cc
 
 -- a file within the limit is read, and one past it is refused
-pub file_read : (text : Text) (file : Option (List ℕ)) (bytes : List ℕ) → file ≡ Some bytes → length bytes ≤ MAX_FILE → file_in text file ≡ Ok bytes
-file_read text file bytes held within =
-    rw held (ap {B = Result (List ℕ) Early} (λ (b : Bool). if b then Ok bytes else Err (Told (record { status = ConfigRefused; text = text }))) (le-leb (length bytes) MAX_FILE within))
+pub file_read : (most : ℕ) (refusal : Answer) (file : Option (List ℕ)) (bytes : List ℕ) → file ≡ Some bytes → length bytes ≤ most → file_within most refusal file ≡ Ok bytes
+file_read most refusal file bytes held within =
+    rw held (ap {B = Result (List ℕ) Early} (λ (b : Bool). if b then Ok bytes else Err (Told refusal)) (le-leb (length bytes) most within))
 
-pub file_refused : (text : Text) (file : Option (List ℕ)) (bytes : List ℕ) (a : Answer) → file ≡ Some bytes → MAX_FILE < length bytes → a ≡ record { status = ConfigRefused; text = text } → file_in text file ≡ Err (Told a)
-file_refused text file bytes a held longer said =
-    rw held (ap {B = Result (List ℕ) Early} (λ (b : Bool). if b then Ok bytes else Err (Told (record { status = ConfigRefused; text = text }))) (lt-leb (length bytes) MAX_FILE longer) ∙ ap {B = Result (List ℕ) Early} (λ (x : Answer). Err (Told x)) (sym said))
+pub file_refused : (most : ℕ) (refusal : Answer) (file : Option (List ℕ)) (bytes : List ℕ) (a : Answer) → file ≡ Some bytes → most < length bytes → a ≡ refusal → file_within most refusal file ≡ Err (Told a)
+file_refused most refusal file bytes a held longer said =
+    rw held (ap {B = Result (List ℕ) Early} (λ (b : Bool). if b then Ok bytes else Err (Told refusal)) (lt-leb (length bytes) most longer) ∙ ap {B = Result (List ℕ) Early} (λ (x : Answer). Err (Told x)) (sym said))
 
 -- the bytes that were read are those of the file
 pub file_held : (text : Text) (file : Option (List ℕ)) (bytes : List ℕ) → file_in text file ≡ Ok bytes → file ≡ Some bytes
 file_held text None bytes e = absurd cc
-file_held text (Some held) bytes e = held_within text held bytes (nat_le (length held) MAX_FILE) e
+file_held text (Some held) bytes e = held_within (record { status = ConfigRefused; text = text }) held bytes (nat_le (length held) MAX_FILE) e
 
 read_of : (r : Result System ConfigFault) (f : System) → or_config_refused r ≡ Ok f → r ≡ Ok f
 read_of (Ok g) f e = cc

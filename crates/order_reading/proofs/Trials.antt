@@ -6,7 +6,7 @@ use Rattle.trial_network.specs.Tree.{trial_text}
 use Rattle.cli_words.specs.Order.{Ordered}
 use Rattle.cli_words.specs.Table.{has_configuration, row_of}
 use Rattle.cli_words.specs.declared.orders.Command.{Command}
-use Rattle.cli_words.specs.declared.orders.Command.TheVariants.{Query, Search, Check, CheckLrat}
+use Rattle.cli_words.specs.declared.orders.Command.TheVariants.{Query, Search, Check, CheckLrat, Whatif}
 use Rattle.order_reading.specs.declared.early.Early.{Early}
 use Rattle.order_reading.specs.declared.reading.Asked.{Asked}
 use Rattle.order_reading.specs.declared.reading.Asked.TheVariants as asked
@@ -21,6 +21,7 @@ told_of_configuration Check told e = cc
 told_of_configuration CheckLrat told e = cc
 told_of_configuration (Query q) told e = cc
 told_of_configuration (Search goal) told e = cc
+told_of_configuration Whatif told e = cc
 
 -- what a trial asks, where its text was read back
 pub trial_read : (o : Ordered) (f : System) (text : List ℕ) (s : Sought) → system_of (trial_text o.trial) ≡ Ok f → text ≡ trial_text o.trial → s ≡ trial_of f text o → trial_asked o ≡ Ok (asked.Search s)

@@ -1,5 +1,5 @@
 -- What the program asks or answers, by its words and the files that they name.
-use Rattle.std.specs.Prelude.{ℕ, nat_le, Bool, true, false, List, [], length, Option, Some, None, Result, Ok, Err, if◌then◌else◌, map, string_bytes, String}
+use Rattle.std.specs.Prelude.{ℕ, nat_le, Bool, true, false, List, [], length, Option, Some, None, Result, Ok, Err, if◌then◌else◌, map, string_bytes, String, codes, unwrap_or}
 use Rattle.std.specs.declared.alloc.Global.{Global}
 use Rattle.sha2.specs.Sha256.{sha256}
 use Rattle.desk_io.specs.State.{Files}
@@ -25,30 +25,39 @@ use Rattle.certificate_file.specs.Verification.{verified}
 use Rattle.certificate_file.specs.declared.places.Header.{Header}
 use Rattle.certificate_file.specs.declared.places.Accepted.{Accepted}
 use Rattle.certificate_file.specs.declared.places.Answer.{Answer as Shown}
-use Rattle.certificate_file.specs.declared.places.Answer.TheVariants.{Partial, PartialBlocking, PartialQuorums}
+use Rattle.certificate_file.specs.declared.places.Answer.TheVariants.{Partial, PartialBlocking, PartialQuorums, PartialLeast}
 use Rattle.cert_lines.specs.declared.faults.CertError.{CertError}
 use Rattle.cert_lines.specs.declared.faults.CertError.TheVariants.{TooLarge as TooManyVariables}
-use Rattle.report.specs.Lines.{Text, same_path, config_too_long, config_refused, orgs_too_long, orgs_refused, cert_refused, accepted, verified as verified_lines}
-use Rattle.order_reading.specs.declared.status.Status.TheVariants.{Yes, Unknown, Usage, ConfigRefused, CertRefused, TooLarge}
+use Rattle.report.specs.Lines.{Text, same_path, config_too_long, config_refused, orgs_too_long, orgs_refused, script_too_long, cert_refused, accepted, verified as verified_lines}
+use Rattle.order_reading.specs.declared.status.Status.TheVariants.{Yes, Unknown, Usage, ConfigRefused, CertRefused, TooLarge, ScriptRefused}
 use Rattle.order_reading.specs.declared.status.Status.{Status}
 use Rattle.order_reading.specs.declared.reply.Reply.{Reply as Answer}
 use Rattle.order_reading.specs.declared.early.Early.{Early}
 use Rattle.order_reading.specs.declared.early.Early.TheVariants.{Told, Read, Memory}
-use Rattle.order_reading.specs.declared.files.TheConstants.{MAX_FILE}
+use Rattle.order_reading.specs.declared.files.TheConstants.{MAX_FILE, MAX_SCRIPT}
 use Rattle.order_reading.specs.declared.reading.Asked.{Asked}
 use Rattle.order_reading.specs.declared.reading.Asked.TheVariants as asked
 use Rattle.order_reading.specs.declared.question.Inquiry.{Inquiry}
+use Rattle.order_reading.specs.declared.edits.Edits.{Edits}
 use Rattle.order_reading.specs.Reading.{◌>>=◌}
-use Rattle.order_reading.specs.Questions.{question_of, part_of, FitsQuestion}
+use Rattle.order_reading.specs.Questions.{question_of, set_named, part_of, FitsQuestion}
 use Rattle.order_reading.specs.Searches.{header_named, search_of, trial_of, FitsSearch}
 
 abbrev pub words_of : List (String Global) → List (List ℕ)
 words_of words = map string_bytes words
 
--- the bytes of a file, which is refused with this text where they are too many
+-- the bytes of a file, which is refused with this answer where they are more than so many
+abbrev pub file_within : ℕ → Answer → Option (List ℕ) → Result (List ℕ) Early
+file_within most refusal None = Err Read
+file_within most refusal (Some bytes) = if nat_le (length bytes) most then Ok bytes else Err (Told refusal)
+
+-- the bytes of a configuration, or of organisations, which is refused with this text where they are too many
 abbrev pub file_in : Text → Option (List ℕ) → Result (List ℕ) Early
-file_in too_long None = Err Read
-file_in too_long (Some bytes) = if nat_le (length bytes) MAX_FILE then Ok bytes else Err (Told (record { status = ConfigRefused; text = too_long }))
+file_in too_long file = file_within MAX_FILE (record { status = ConfigRefused; text = too_long }) file
+
+-- the bytes of a script
+abbrev pub script_in : Option (List ℕ) → Result (List ℕ) Early
+script_in file = file_within MAX_SCRIPT (record { status = ScriptRefused; text = script_too_long }) file
 
 abbrev pub or_config_refused : Result System ConfigFault → Result System Early
 or_config_refused (Ok f) = Ok f
@@ -81,6 +90,7 @@ abbrev pub accepted_status : Shown → Status
 accepted_status (Partial units) = Unknown
 accepted_status (PartialBlocking units) = Unknown
 accepted_status (PartialQuorums units) = Unknown
+accepted_status (PartialLeast units) = Unknown
 accepted_status shown = Yes
 
 -- the first fault of a certificate, or of a proof, is named
@@ -122,6 +132,7 @@ verify_asked o f files = do
 abbrev pub is_told : Command → Bool
 is_told command.Check = true
 is_told command.CheckLrat = true
+is_told command.Whatif = false
 is_told (command.Query q) = false
 is_told (command.Search goal) = false
 
@@ -140,6 +151,18 @@ goal_asked goal o f config orgs = do
   search ← search_of goal f config orgs o
   Ok (asked.Search search)
 
+-- the script that an order names: the names of its set are read before
+abbrev pub script_named : Ordered → List Name → Files → Result (List ℕ) Early
+script_named o names files = do
+  set ← set_named names (codes "--set") o.set
+  script_in (files o.script)
+
+-- the edits that an order names, over a configuration that was read
+abbrev pub edits_asked : Ordered → System → Files → Result Edits Early
+edits_asked o f files = do
+  script ← script_named o f.names files
+  Ok (record { system = f; script = script; set = unwrap_or o.set [] })
+
 -- what a command asks over a configuration that was read, or its early answer
 abbrev pub command_asked : Command → Ordered → System → List ℕ → Files → Result Asked Early
 command_asked command.Check o f config files = do
@@ -148,6 +171,9 @@ command_asked command.Check o f config files = do
 command_asked command.CheckLrat o f config files = do
   answer ← verify_asked o f files
   Err (Told answer)
+command_asked command.Whatif o f config files = do
+  edits ← edits_asked o f files
+  Ok (asked.Edits edits)
 command_asked (command.Query q) o f config files = do
   orgs ← orgs_given f.names files o.orgs
   query_asked q o f config orgs
@@ -198,3 +224,4 @@ asked_of words files = do
 abbrev pub FitsAsked : Asked → Type 0
 FitsAsked (asked.Question f question) = FitsQuestion (length f.sets) question
 FitsAsked (asked.Search s) = FitsSearch s
+FitsAsked (asked.Edits e) = Unit {0}

@@ -5,7 +5,7 @@ use Rattle.fbas_model.specs.Systems.{System}
 use Rattle.desk_io.specs.State.{Files}
 use Rattle.cli_words.specs.Order.{Ordered}
 use Rattle.cli_words.specs.declared.orders.Command.{Command}
-use Rattle.cli_words.specs.declared.orders.Command.TheVariants.{Query, Search, Check, CheckLrat}
+use Rattle.cli_words.specs.declared.orders.Command.TheVariants.{Query, Search, Check, CheckLrat, Whatif}
 use Rattle.cli_words.specs.declared.orders.OrderFault.{OrderFault}
 use Rattle.cli_words.specs.Words.{order_of}
 use Rattle.node_json.specs.Configuration.{system_of}
@@ -60,6 +60,7 @@ MeansYes Check order system config files = HasCert system config files order.cer
 MeansYes CheckLrat order system config files = HasVerified order system files
 MeansYes (Query q) order system config files = ⊥
 MeansYes (Search goal) order system config files = ⊥
+MeansYes Whatif order system config files = ⊥
 
 -- ---- what is so of a configuration that is read
 

@@ -3,7 +3,7 @@ use Rattle.std.specs.Prelude.{◌≡◌, Bool, true, false, IsTrue, Result, Ok, 
 use Rattle.order_reading.specs.declared.early.Early.{Early}
 use Rattle.order_reading.specs.declared.early.Early.TheVariants.{Told, Read, Memory}
 use Rattle.order_reading.specs.declared.status.Status.{Status}
-use Rattle.order_reading.specs.declared.status.Status.TheVariants.{Usage, ConfigRefused}
+use Rattle.order_reading.specs.declared.status.Status.TheVariants.{Usage, ConfigRefused, ScriptRefused}
 use Rattle.order_reading.specs.Status.{is_answer}
 
 infixl 10 ◌>>=◌
@@ -44,6 +44,7 @@ TellsStatus P Memory = Unit {0}
 abbrev pub is_refusal : Status → Bool
 is_refusal Usage = true
 is_refusal ConfigRefused = true
+is_refusal ScriptRefused = true
 is_refusal status = false
 
 -- a refusal, if an answer is told

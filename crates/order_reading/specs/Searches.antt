@@ -12,7 +12,7 @@ use Rattle.node_json.specs.Organisations.{Org}
 use Rattle.cli_words.specs.Order.{Ordered}
 use Rattle.cli_words.specs.declared.budget.TheConstants.{MOST_BUDGET}
 use Rattle.cli_words.specs.declared.orders.Goal.{Goal}
-use Rattle.cli_words.specs.declared.orders.Goal.TheVariants.{Intersect, Dset, Splits, Blocking, Trial, Quorums}
+use Rattle.cli_words.specs.declared.orders.Goal.TheVariants.{Intersect, Dset, Splits, Blocking, Trial, Quorums, Least}
 use Rattle.order_reading.specs.declared.early.Early.{Early}
 use Rattle.order_reading.specs.declared.searches.Search.{Search}
 use Rattle.order_reading.specs.Reading.{◌>>=◌}
@@ -32,6 +32,7 @@ deleted_by Splits f orgs o = do
   Ok (union faulty set)
 deleted_by Blocking f orgs o = faulty_named f orgs o
 deleted_by Quorums f orgs o = faulty_named f orgs o
+deleted_by Least f orgs o = faulty_named f orgs o
 deleted_by Trial f orgs o = Ok (nobody f)
 
 -- the nodes of a set that are in the part, the whole system or the trust closure of a node

@@ -1,7 +1,7 @@
 -- How the program ends.
 use Rattle.std.specs.Prelude.{ℕ, Bool, true, false}
 use Rattle.order_reading.specs.declared.status.Status.{Status}
-use Rattle.order_reading.specs.declared.status.Status.TheVariants.{Yes, No, Unknown, Usage, ConfigRefused, CertRefused, ReadFault, WriteFault, Memory, TooLarge}
+use Rattle.order_reading.specs.declared.status.Status.TheVariants.{Yes, No, Unknown, Usage, ConfigRefused, CertRefused, ReadFault, WriteFault, Memory, TooLarge, ScriptRefused}
 
 -- an answer to the words and the files, and not a failing of the outside or of the memory
 abbrev pub is_answer : Status → Bool
@@ -22,3 +22,4 @@ code_of ReadFault = 6
 code_of WriteFault = 7
 code_of Memory = 8
 code_of TooLarge = 9
+code_of ScriptRefused = 10

@@ -45,11 +45,15 @@ fn accepted_status(answer: &Answer) -> Status
     ensures answer { IsTrue (is_answer result) }
 {
     match answer {
-        Answer::Pair(_) | Answer::Refutation | Answer::Blocking(_) | Answer::Quorums(_) =>
-            Status::Yes,
-        Answer::Partial(_) | Answer::PartialBlocking(_) | Answer::PartialQuorums(_) => {
-            Status::Unknown
-        }
+        Answer::Pair(_)
+        | Answer::Refutation
+        | Answer::Blocking(_)
+        | Answer::Quorums(_)
+        | Answer::Least(_) => Status::Yes,
+        Answer::Partial(_)
+        | Answer::PartialBlocking(_)
+        | Answer::PartialQuorums(_)
+        | Answer::PartialLeast(_) => Status::Unknown,
     }
 }
 

@@ -3,6 +3,7 @@
 
 mod checking;
 mod early;
+mod edits;
 mod files;
 mod names;
 mod parts;
@@ -15,6 +16,7 @@ mod verifying;
 mod word;
 
 pub use early::Early;
+pub use edits::{Edits, Script};
 pub use question::{Origin, Question};
 pub use reading::{Asked, ask_by_words};
 pub use reply::{Reply, Text, says};

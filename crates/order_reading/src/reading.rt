@@ -17,6 +17,7 @@ ghost use Rattle.order_reading.specs.Status.{is_answer};
 
 use crate::checking::check;
 use crate::early::Early;
+use crate::edits::{Edits, edits_named};
 use crate::files::read_file;
 use crate::parts::part_of;
 use crate::question::{Inquiry, Question, question_asked};
@@ -38,6 +39,8 @@ pub enum Asked {
     Question(System, Question),
     /// A search over the system.
     Search(Search),
+    /// Edits of the system, tried one after another.
+    Edits(Edits),
 }
 
 // The answer to words that are refused.
@@ -273,6 +276,7 @@ fn command<D: Desk>(
         }
         Command::Query(query) => ask(alloc, query, order, system, config, desk),
         Command::Search(goal) => seek(alloc, goal, order, system, config, desk),
+        Command::Whatif => Ok(Asked::Edits(edits_named(alloc, order, system, desk)?)),
     }
 }
 

@@ -64,7 +64,7 @@ fn deleted(
     ensures fits { IfOk result (λ s. length s ≡ length system.now.sets) }
 {
     match goal {
-        Goal::Intersect | Goal::Blocking | Goal::Quorums => {
+        Goal::Intersect | Goal::Blocking | Goal::Quorums | Goal::Least => {
             faulty_named(alloc, system, orgs, order)
         }
         Goal::Dset => set_named(alloc, system, "--set", &order.set),

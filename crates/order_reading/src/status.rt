@@ -25,6 +25,8 @@ pub enum Status {
     Memory,
     /// The formula has too many variables.
     TooLarge,
+    /// The script of edits is refused.
+    ScriptRefused,
 }
 
 impl Status {
@@ -43,6 +45,7 @@ impl Status {
             Status::WriteFault => 7,
             Status::Memory => 8,
             Status::TooLarge => 9,
+            Status::ScriptRefused => 10,
         }
     }
 }

@@ -1,8 +1,8 @@
 -- The lines that the program prints.
-use Rattle.std.specs.Prelude.{ℕ, ◌+◌, List, [], ◌∷◌, ◌++◌, length, true, false, Option, Some, None, unwrap_or, slice_get, codes, decimal}
+use Rattle.std.specs.Prelude.{ℕ, ◌+◌, List, [], ◌∷◌, ◌++◌, length, Bool, true, false, Option, Some, None, unwrap_or, slice_get, codes, decimal}
 use Rattle.hex.specs.Hex.{encode_lower}
 use Rattle.fbas_model.specs.Names.{Name}
-use Rattle.fbas_model.specs.Nodes.{Table}
+use Rattle.fbas_model.specs.Nodes.{Table, size}
 use Rattle.fbas_model.specs.Systems.{System, entries_in, unset_in}
 use Rattle.fbas_model.specs.Fbas.{Fbas}
 use Rattle.quorum_set.specs.Findings.{Found, bad_threshold, repeated, findings_of}
@@ -18,12 +18,12 @@ use Rattle.lrat_model.specs.Literal.{Literal, Plus, Minus}
 use Rattle.lrat_model.specs.declared.step.StepFault.{StepFault}
 use Rattle.lrat_model.specs.declared.step.StepFault.TheVariants.{IdOrder, BadLiteral, Tautology, NoSuchClause, NotUnit, NoConflict, RatStep, RatMissing, Memory as NoStep}
 use Rattle.cert_lines.specs.declared.faults.CertError.{CertError}
-use Rattle.cert_lines.specs.declared.faults.CertError.TheVariants.{BadLine, LineTooLong, TooManyLines, Digest, UnknownNode, NotQuorum, NotBlocking, NotMinimal, Overlap, Formula, Step, NotNew, NotRefuted, TooLarge, Truncated, Trailing, Read, Memory as NoMemory}
+use Rattle.cert_lines.specs.declared.faults.CertError.TheVariants.{BadLine, LineTooLong, TooManyLines, Digest, UnknownNode, NotQuorum, NotBlocking, NotMinimal, NotSmaller, Overlap, Formula, Step, NotNew, NotRefuted, TooLarge, Truncated, Trailing, Read, Memory as NoMemory}
 use Rattle.certificate_file.specs.declared.places.Accepted.{Accepted}
 use Rattle.certificate_file.specs.declared.places.Header.{Header}
 use Rattle.witness_pair.specs.declared.Pair.{Pair}
 use Rattle.certificate_file.specs.declared.places.Answer.{Answer}
-use Rattle.certificate_file.specs.declared.places.Answer.TheVariants.{Pair as pair, Refutation, Partial, Blocking, PartialBlocking, Quorums, PartialQuorums}
+use Rattle.certificate_file.specs.declared.places.Answer.TheVariants.{Pair as pair, Refutation, Partial, Blocking, PartialBlocking, Quorums, PartialQuorums, Least, PartialLeast}
 
 abbrev pub Text : Type 0
 Text = List ℕ
@@ -113,6 +113,17 @@ orgs_too_long = codes "orgs too-long\n"
 abbrev pub orgs_refused : OrgFault → Text
 orgs_refused fault = line (orgs_fault fault)
 
+abbrev pub script_too_long : Text
+script_too_long = codes "script too-long\n"
+
+-- why a script is refused, at which line, and how many there would be where too many are the reason
+abbrev pub script_fault : Text → ℕ → Option ℕ → Text
+script_fault word l None = numbered (worded (codes "script") word) l
+script_fault word l (Some n) = numbered (numbered (worded (codes "script") word) l) n
+
+abbrev pub script_refused : Text → ℕ → Option ℕ → Text
+script_refused word l n = line (script_fault word l n)
+
 -- a literal as a signed number
 abbrev pub literal_word : Literal → Text
 literal_word (Plus x) = decimal x
@@ -140,6 +151,7 @@ cert_fault names (UnknownNode l) = numbered (codes "refused unknown-node") l
 cert_fault names (NotQuorum l) = numbered (codes "refused not-quorum") l
 cert_fault names (NotBlocking l) = numbered (codes "refused not-blocking") l
 cert_fault names (NotMinimal l) = numbered (codes "refused not-minimal") l
+cert_fault names (NotSmaller l) = numbered (codes "refused not-smaller") l
 cert_fault names (Overlap l v) = worded (numbered (codes "refused overlap") l) (name_at names v)
 cert_fault names (Formula l) = numbered (codes "refused formula") l
 cert_fault names (Step l fault) = worded (numbered (codes "refused step") l) (step_fault fault)
@@ -164,6 +176,9 @@ accepted_kind (Blocking sets) = counted (codes "accepted blocking") (length sets
 accepted_kind (PartialBlocking units) = counted (codes "accepted partial-blocking") units
 accepted_kind (Quorums sets) = counted (codes "accepted quorums") (length sets)
 accepted_kind (PartialQuorums units) = counted (codes "accepted partial-quorums") units
+accepted_kind (Least None) = codes "accepted least none\n"
+accepted_kind (Least (Some u)) = counted (codes "accepted least") (size u)
+accepted_kind (PartialLeast units) = counted (codes "accepted partial-least") units
 
 -- a line for each set
 abbrev pub set_lines : List Name → List Table → Text
@@ -174,6 +189,14 @@ set_lines names (set ∷ sets) = line (list (codes "set") names set) ++ set_line
 abbrev pub with_sets : Text → List Name → List Table → Text
 with_sets word names sets = counted word (length sets) ++ set_lines names sets
 
+-- a smallest quorum: how many nodes it has, and their names; or that there is none
+abbrev pub smallest : List Name → Table → Text
+smallest names u = counted (codes "least") (size u) ++ line (list (codes "set") names u)
+
+abbrev pub least_lines : List Name → Option Table → Text
+least_lines names None = codes "least none\n"
+least_lines names (Some u) = smallest names u
+
 -- the sets of an answer
 abbrev pub answer_sets : Answer → List Table
 answer_sets (pair p) = []
@@ -183,6 +206,9 @@ answer_sets (Blocking sets) = sets
 answer_sets (PartialBlocking units) = []
 answer_sets (Quorums sets) = sets
 answer_sets (PartialQuorums units) = []
+answer_sets (Least None) = []
+answer_sets (Least (Some u)) = u ∷ []
+answer_sets (PartialLeast units) = []
 
 -- a word, and behind it the name of a node where there is one
 abbrev pub word_if_any : Text → List Name → Option ℕ → Text
@@ -239,6 +265,15 @@ greatest names quorum = with_list [] (codes "greatest") names quorum
 
 abbrev pub unavailable : List Name → Table → Text
 unavailable names unmet = with_list (codes "available no\n") (codes "unmet") names unmet
+
+-- whether the nodes without a set are available, and which of them are unmet where they aren't
+abbrev pub available_lines : List Name → Bool → Table → Text
+available_lines names true unmet = codes "available yes\n"
+available_lines names false unmet = unavailable names unmet
+
+-- what is so after an edit: its number, the greatest quorum, and whether the nodes without a set are available
+abbrev pub edit_lines : List Name → ℕ → Table → Bool → Table → Text
+edit_lines names i quorum available unmet = counted (codes "edit") i ++ (greatest names quorum ++ available_lines names available unmet)
 
 abbrev pub not_blocking : List Name → Table → Text
 not_blocking names quorum = with_list (codes "blocks no\n") (codes "quorum") names quorum

@@ -6,7 +6,8 @@ mod refusals;
 mod words;
 
 pub use findings::shown;
-pub use refusals::{cert_refused, config_refused, names_refused, orgs_refused};
+pub use refusals::{cert_refused, config_refused, names_refused, orgs_refused, script_refused};
 pub use words::{
-    accepted, counted, export_comments, trial_size, verified, with_list, with_pair, with_sets,
+    accepted, counted, export_comments, push_edit, smallest, trial_size, verified, with_list,
+    with_pair, with_sets,
 };

@@ -1,6 +1,6 @@
 //! Why a file is refused.
 ghost use Rattle.std.specs.Prelude.{◌≡◌, ◌<◌, ◌++◌, ◌∷◌, [], length, codes, OnOk, IfOk};
-ghost use Rattle.report.specs.Lines.{numbered, worded, config_fault, config_refused as spec_config_refused, orgs_fault, orgs_refused as spec_orgs_refused, cert_fault, cert_refused as spec_cert_refused, literal_word, step_fault, names_fault, names_refused as spec_names_refused, set_fault};
+ghost use Rattle.report.specs.Lines.{numbered, worded, config_fault, config_refused as spec_config_refused, orgs_fault, orgs_refused as spec_orgs_refused, cert_fault, cert_refused as spec_cert_refused, literal_word, step_fault, names_fault, names_refused as spec_names_refused, script_fault, script_refused as spec_script_refused, set_fault};
 
 use crate::words::{name_at, push_behind, push_decimal, push_number};
 use certificate_file::{CertError, Lit, StepFault};
@@ -165,6 +165,7 @@ fn cert_words(alloc: Global, names: &Names, fault: &CertError) -> Result<Vec<u8>
         CertError::NotQuorum(l) => numbered_word(alloc, "refused not-quorum", *l),
         CertError::NotBlocking(l) => numbered_word(alloc, "refused not-blocking", *l),
         CertError::NotMinimal(l) => numbered_word(alloc, "refused not-minimal", *l),
+        CertError::NotSmaller(l) => numbered_word(alloc, "refused not-smaller", *l),
         CertError::Overlap(l, v) => overlap(alloc, names, *l, *v),
         CertError::Formula(l) => numbered_word(alloc, "refused formula", *l),
         CertError::Step(l, fault) => step_refused(alloc, *l, fault),
@@ -203,6 +204,37 @@ fn names_words(alloc: Global, option: &str, fault: NameFault) -> Result<Vec<u8>,
         NameFault::BadKey(at) => name_words(alloc, "usage bad-name", option, at),
         NameFault::Unknown(at) => name_words(alloc, "usage unknown-name", option, at),
     }
+}
+
+fn script_words(
+    alloc: Global,
+    word: &str,
+    line: u64,
+    number: Option<u64>,
+) -> Result<Vec<u8>, AllocError>
+    ensures { IfOk result (λ text. text.items ≡ script_fault word.now line number) }
+{
+    let mut text = Vec::from_slice(alloc, b"script")?;
+    push_behind(&mut text, word.as_bytes())?;
+    push_number(&mut text, line)?;
+    if let Some(number) = number {
+        push_number(&mut text, number)?;
+    }
+    Ok(text)
+}
+
+/// The line for a script that is refused: why, at which line, and how many there would be where too many are the reason.
+pub fn script_refused(
+    alloc: Global,
+    word: &str,
+    line: u64,
+    number: Option<u64>,
+) -> Result<Vec<u8>, AllocError>
+    ensures { IfOk result (λ text. text.items ≡ spec_script_refused word.now line number) }
+{
+    let mut text = script_words(alloc, word, line, number)?;
+    text.push(b'\n')?;
+    Ok(text)
 }
 
 /// The line for a list of names that is refused, behind this option.

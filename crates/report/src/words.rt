@@ -1,7 +1,7 @@
 //! Words, numbers and names, one behind another.
 ghost use Rattle.std.specs.Prelude.{◌≡◌, ◌<◌, ◌++◌, ◌∷◌, [], length, decimal, codes, option_map, All, OnOk, IfOk};
 ghost use Rattle.certificate_file.specs.Meaning.{HasPlaces, AnswerHasPlaces};
-ghost use Rattle.report.specs.Lines.{numbered, worded, list, listed, line, word_if_any, accepted as spec_accepted, accepted_kind, verified as spec_verified, set_lines, answer_sets, with_list as spec_with_list, counts as spec_counts, export_head as spec_export_head, export_comments as spec_export_comments, with_pair as spec_with_pair, with_sets as spec_with_sets, trial_size as spec_trial_size, counted as spec_counted, name_at as spec_name_at};
+ghost use Rattle.report.specs.Lines.{numbered, worded, list, listed, line, word_if_any, accepted as spec_accepted, accepted_kind, verified as spec_verified, set_lines, answer_sets, with_list as spec_with_list, counts as spec_counts, export_head as spec_export_head, export_comments as spec_export_comments, with_pair as spec_with_pair, with_sets as spec_with_sets, smallest as spec_smallest, trial_size as spec_trial_size, counted as spec_counted, available_lines, edit_lines, name_at as spec_name_at};
 
 use certificate_file::{Accepted, Answer, Header, Pair};
 use fbas_core::System;
@@ -96,6 +96,16 @@ fn push_word_if_any(
     Ok(())
 }
 
+// Adds the line of a smallest quorum that a certificate shows: how many nodes it has, or that there is none.
+fn push_least(text: &mut Vec<u8>, answer: &Option<NodeSet>) -> Result<(), AllocError>
+    ensures { OnOk result (text.new.items ≡ text.old.items ++ accepted_kind (Answer.Least answer.now)) }
+{
+    match answer {
+        Some(set) => push_count(text, "accepted least", u64::from(set.count())),
+        None => push_word(text, "accepted least none\n"),
+    }
+}
+
 // Adds the line of what a certificate shows.
 fn push_kind(text: &mut Vec<u8>, answer: &Answer) -> Result<(), AllocError>
     ensures { OnOk result (text.new.items ≡ text.old.items ++ accepted_kind answer.now) }
@@ -110,6 +120,8 @@ fn push_kind(text: &mut Vec<u8>, answer: &Answer) -> Result<(), AllocError>
         Answer::PartialBlocking(units) => push_count(text, "accepted partial-blocking", *units),
         Answer::Quorums(sets) => push_count(text, "accepted quorums", sets.as_slice().len() as u64),
         Answer::PartialQuorums(units) => push_count(text, "accepted partial-quorums", *units),
+        Answer::Least(answer) => push_least(text, answer),
+        Answer::PartialLeast(units) => push_count(text, "accepted partial-least", *units),
     }
 }
 
@@ -133,6 +145,7 @@ fn push_answer_sets(text: &mut Vec<u8>, system: &System, answer: &Answer) -> Res
         Answer::Blocking(sets) | Answer::Quorums(sets) => {
             push_sets(text, system, sets.as_slice())
         }
+        Answer::Least(Some(set)) => push_list(text, "set", system, set),
         _ => Ok(()),
     }
 }
@@ -205,6 +218,42 @@ fn push_count(text: &mut Vec<u8>, word: &str, number: u64) -> Result<(), AllocEr
     Ok(())
 }
 
+// Adds whether the nodes without a set are available, and which of them are unmet where they aren't.
+fn push_available(
+    text: &mut Vec<u8>,
+    system: &System,
+    is_available: bool,
+    unmet: &NodeSet,
+) -> Result<(), AllocError>
+    requires { length unmet.now ≡ length system.now.sets }
+    ensures { OnOk result (text.new.items ≡ text.old.items ++ available_lines system.now.names is_available unmet.now) }
+{
+    if is_available {
+        return push_word(text, "available yes\n");
+    }
+    push_word(text, "available no\n")?;
+    push_list(text, "unmet", system, unmet)
+}
+
+/// Adds what is so after an edit: its number, the greatest quorum, whether the nodes without a set are available, and which of
+/// them are unmet where they aren't.
+pub fn push_edit(
+    text: &mut Vec<u8>,
+    edit: u64,
+    system: &System,
+    quorum: &NodeSet,
+    is_available: bool,
+    unmet: &NodeSet,
+) -> Result<(), AllocError>
+    requires quorum { length quorum.now ≡ length system.now.sets }
+    requires unmet { length unmet.now ≡ length system.now.sets }
+    ensures { OnOk result (text.new.items ≡ text.old.items ++ edit_lines system.now.names edit quorum.now is_available unmet.now) }
+{
+    push_count(text, "edit", edit)?;
+    push_list(text, "greatest", system, quorum)?;
+    push_available(text, system, is_available, unmet)
+}
+
 /// A line of a word and how many sets there are, and behind it a line for each of them.
 pub fn with_sets(
     alloc: Global,
@@ -218,6 +267,17 @@ pub fn with_sets(
     let mut text = Vec::new(alloc);
     push_count(&mut text, word, sets.len() as u64)?;
     push_sets(&mut text, system, sets)?;
+    Ok(text)
+}
+
+/// The lines of a smallest quorum: how many nodes it has, and their names.
+pub fn smallest(alloc: Global, system: &System, set: &NodeSet) -> Result<Vec<u8>, AllocError>
+    requires { length set.now ≡ length system.now.sets }
+    ensures { IfOk result (λ text. text.items ≡ spec_smallest system.now.names set.now) }
+{
+    let mut text = Vec::new(alloc);
+    push_count(&mut text, "least", u64::from(set.count()))?;
+    push_list(&mut text, "set", system, set)?;
     Ok(text)
 }
 
