@@ -9,6 +9,7 @@ use Rattle.order_reading.specs.declared.status.Status.{Status}
 use Rattle.order_reading.specs.declared.status.Status.TheVariants.{WriteFault, Memory as Wanting}
 use Rattle.order_reading.specs.Status.{is_answer}
 use Rattle.quorum_run.specs.Headline.{IsCertOf, MayChange}
+use Rattle.quorum_run.specs.Edits.{edits_answer}
 use Rattle.order_reading.specs.declared.early.Early.{Early}
 use Rattle.order_reading.specs.declared.early.Early.TheVariants.{Told}
 use Rattle.order_reading.specs.declared.reading.Asked.{Asked}
@@ -74,11 +75,13 @@ pub asked_after : (a : Asked) (old mid new : DeskState) (st : Status) → OnlyRe
 asked_after (asked.Question f q) old mid new st only p = record { answer = p.answer; is = p.is; printed = answer_after p.answer old mid new st only p.printed }
 asked_after (asked.Search s) old mid new st only (inl p) = inl (record { reply = p.reply; put = both_after s.path p.reply.cert p.reply.answer old mid new st only p.put })
 asked_after (asked.Search s) old mid new st only (inr p) = inr (record { answer = p.answer; is = p.is; printed = answer_after p.answer old mid new st only p.printed })
+asked_after (asked.Edits e) old mid new st only p = answer_after (edits_answer e) old mid new st only p
 
 asked_part_after : (a : Asked) (old mid new : DeskState) → OnlyReads old mid → PrintsAskedPart a mid new → PrintsAskedPart a old new
 asked_part_after (asked.Question f q) old mid new only p = record { answer = p.answer; is = p.is; printed = part_after p.answer old mid new only p.printed }
 asked_part_after (asked.Search s) old mid new only (inl p) = inl (record { reply = p.reply; came = came_after s.path p.reply.cert p.reply.answer.text old mid new only p.came })
 asked_part_after (asked.Search s) old mid new only (inr p) = inr (record { answer = p.answer; is = p.is; printed = part_after p.answer old mid new only p.printed })
+asked_part_after (asked.Edits e) old mid new only p = part_after (edits_answer e) old mid new only p
 
 -- ---- what comes of the words
 
@@ -109,6 +112,7 @@ printed_files : (a : Asked) (old new : DeskState) (st : Status) (path : List ℕ
 printed_files (asked.Question f q) old new st path other p = at_path path old.files new.files p.printed.files
 printed_files (asked.Search s) old new st path other (inl p) = at_path path (with_file s.path p.reply.cert old.files) new.files p.put.files ∙ other_file path s.path p.reply.cert old.files other
 printed_files (asked.Search s) old new st path other (inr p) = at_path path old.files new.files p.printed.files
+printed_files (asked.Edits e) old new st path other p = at_path path old.files new.files p.files
 
 came_files : (name : List ℕ) (cert text : Text) (old new : DeskState) (path : List ℕ) → (bytes_eq path name ≡ true → ⊥) → CameTo name cert text old new → new.files path ≡ old.files path
 came_files name cert text old new path other (uncreated f o why) = at_path path old.files new.files f
@@ -119,6 +123,7 @@ part_files : (a : Asked) (old new : DeskState) (path : List ℕ) → (IsCertOf p
 part_files (asked.Question f q) old new path other p = at_path path old.files new.files p.printed.files
 part_files (asked.Search s) old new path other (inl p) = came_files s.path p.reply.cert p.reply.answer.text old new path other p.came
 part_files (asked.Search s) old new path other (inr p) = at_path path old.files new.files p.printed.files
+part_files (asked.Edits e) old new path other p = at_path path old.files new.files p.files
 
 -- how an answer to what is asked ends
 pub record Ended (a : Asked) (old new : DeskState) (st : Status) : Type 0 where

@@ -1,8 +1,9 @@
 -- What is so where a search prints its answer.
-use Rattle.std.proofs.Common.{◌≡◌, ◌⊎◌, ◌↔◌, inl, inr, IsTrue, Bool, true, false, ℕ, List, [], ◌++◌, Option, Some, Result, Ok, refl, sym, ◌∙◌, ap, subst, codes}
+use Rattle.std.proofs.Common.{◌≡◌, ◌⊎◌, ◌↔◌, inl, inr, IsTrue, Bool, true, false, ℕ, List, [], ◌++◌, Option, Some, None, Result, Ok, refl, sym, ◌∙◌, ap, subst, codes}
 use Rattle.std.proofs.lemmas.List.{append_assoc, append-nil}
 use Rattle.std.proofs.lemmas.Slice.Eq.{bytes_eq-Decides}
 use Rattle.fbas_model.specs.Nodes.{Table}
+use Rattle.fbas_model.specs.Systems.{System}
 use Rattle.witness_pair.specs.declared.Pair.{Pair}
 use Rattle.lrat_model.specs.Steps.{ProofStep}
 use Rattle.quorum_questions.specs.declared.answers.Size.{Size}
@@ -16,27 +17,36 @@ use Rattle.desk_io.specs.State.{Files, DeskState, with_file}
 use Rattle.certificate_file.specs.Acceptance.{checked}
 use Rattle.cert_writer.specs.Finding.{Finds}
 use Rattle.cert_writer.specs.Listing.{FindsList}
+use Rattle.cert_writer.specs.Least.{FindsLeast, least_cert_by, raised_if_any}
+use Rattle.list_journal.specs.Journals.{JournalLine}
+use Rattle.list_journal.specs.declared.kinds.ListKind.TheVariants.{Whole}
+use Rattle.least_quorum.specs.Outcomes.{LeastHolds}
+use Rattle.least_quorum.specs.declared.outcome.LeastOutcome.{LeastOutcome}
+use Rattle.least_quorum.specs.declared.outcome.LeastOutcome.TheVariants as found_least
+use Rattle.certificate_file.specs.declared.places.Answer.TheVariants as shown
 use Rattle.cli_words.specs.Words.{order_of}
 use Rattle.cli_words.specs.declared.orders.Goal.{Goal}
-use Rattle.cli_words.specs.declared.orders.Goal.TheVariants.{Intersect, Dset, Splits, Blocking, Trial, Quorums}
-use Rattle.report.specs.Lines.{Text, with_pair, counted}
+use Rattle.cli_words.specs.declared.orders.Goal.TheVariants.{Intersect, Dset, Splits, Blocking, Trial, Quorums, Least}
+use Rattle.report.specs.Lines.{Text, available_lines, with_pair, least_lines, counted}
 use Rattle.order_reading.specs.declared.early.Early.{Early}
 use Rattle.order_reading.specs.declared.reading.Asked.{Asked}
 use Rattle.order_reading.specs.declared.reading.Asked.TheVariants as asked
 use Rattle.order_reading.specs.declared.searches.Search.{Search}
 use Rattle.quorum_run.specs.declared.found.Found.{Found}
-use Rattle.quorum_run.specs.declared.found.Found.TheVariants.{Shared, Listed}
+use Rattle.quorum_run.specs.declared.found.Found.TheVariants.{Shared, Listed, Smallest}
 use Rattle.order_reading.specs.declared.reply.Reply.{Reply as Answer}
 use Rattle.order_reading.specs.declared.status.Status.{Status}
 use Rattle.order_reading.specs.declared.status.Status.TheVariants.{Yes, No, Unknown, TooLarge}
 use Rattle.quorum_run.specs.Finding.{FindsFound, accepted_as}
 use Rattle.quorum_run.specs.Putting.{PutsBoth}
-use Rattle.quorum_run.specs.Replies.{intersect_answer, splits_answer, available_lines, dset_answer, size_lines, RepliesTrial, listed_by, RepliesListed, Replies}
+use Rattle.quorum_run.specs.Replies.{intersect_answer, splits_answer, dset_answer, size_lines, RepliesTrial, listed_by, RepliesListed, least_answer, RepliesLeast, Replies}
 use Rattle.quorum_run.specs.Printing.{part, deleted, request, PrintsFound, PrintsTooLarge, PrintsSearch, Prints}
 use Rattle.quorum_run.proofs.Titles.{title_there}
+use Rattle.quorum_run.specs.Smallest.{PrintsLeast, PrintsPartOfLeast}
 use Rattle.quorum_run.specs.Showing.{IsAccepted, WritesAccepted, ShowsPair, PrintsPair, ShowsNone, ShowsUnknown, PrintsUnknown, PrintsUnknownTrial, IsAvailable, IsNoDset, PrintsList, PrintsPartOfList}
 use Rattle.order_reading.specs.Answers.{asked_of}
 use Rattle.order_reading.specs.Meaning.{IsCheck, IsCheckLrat, NamesAccepted, NamesVerified}
+use Rattle.quorum_run.proofs.Edited.{edits_show}
 use Rattle.quorum_run.specs.Headline.{NoShows, YesShows, UnknownShows, Headline}
 
 held_there : (path : List ℕ) (cert : Text) (files now : Files) → now ≡ with_file path cert files → now path ≡ Some cert
@@ -75,6 +85,7 @@ of_unknown s old new log size cert finds files = record {
 accepted_there : (s : Search) (found : Found) (cert : Text) → FindsFound (request s) found cert → IsAccepted s cert (accepted_as (request s) found)
 accepted_there s (Shared answer) cert finds = finds.accepted
 accepted_there s (Listed kind outcome) cert finds = finds.accepted
+accepted_there s (Smallest nodes outcome) cert finds = finds.accepted
 
 -- ---- the reply that was put
 
@@ -224,6 +235,58 @@ list_unknown sought kind s old new status (part_of_list journal) cert a is finds
       accepted = sym (ap (checked s.whole s.digest) found.cert_is) ∙ found.accepted;
     }
 
+-- ---- a smallest quorum
+
+-- a journal that ends, with its answer
+least_printed : (s : Search) (old new : DeskState) (status : Status) (outcome : LeastOutcome) (answer : Option Table) (left : ℕ) (journal : List JournalLine) (cert : Text) (a : Answer) → LeastHolds (part s).sets (deleted s) s.budget left answer journal
+    → cert ≡ least_cert_by s.whole s.digest s.header Whole journal → IsAccepted s cert (shown.Least (raised_if_any s.whole s.header answer)) → a ≡ record { status = Yes; text = least_lines (part s).names answer } → PutsBoth s.path cert a old new status → PrintsLeast s old new
+least_printed s old new status outcome answer left journal cert a holds is accepted said put = record {
+  answer = answer;
+  out = text_there s old new status cert a _ put said;
+  least = holds.least;
+  journal = journal;
+  left = left;
+  finds = holds;
+  held = held_there s.path cert old.files new.files put.files ∙ ap Some is;
+  accepted = sym (ap (checked s.whole s.digest) is) ∙ accepted;
+}
+
+least_whole : (s : Search) (old new : DeskState) (status : Status) (outcome : LeastOutcome) (cert : Text) (a : Answer) → a ≡ least_answer (part s).names s.budget outcome → FindsLeast (request s) outcome cert → PutsBoth s.path cert a old new status → status ≡ Yes → PrintsLeast s old new
+least_whole s old new status (found_least.Least set journal) cert a is finds put at = least_printed s old new status (found_least.Least set journal) (Some set) finds.shows.left journal cert a finds.shows.holds finds.cert_is finds.accepted is put
+least_whole s old new status (found_least.NoQuorum journal) cert a is finds put at = least_printed s old new status (found_least.NoQuorum journal) None finds.shows.left journal cert a finds.shows.holds finds.cert_is finds.accepted is put
+least_whole s old new status (found_least.Spent journal) cert a is finds put at = absurd (let k : Unknown ≡ Yes = status_there s old new status cert a _ Yes put is at in cc)
+
+least_unknown : (s : Search) (old new : DeskState) (status : Status) (outcome : LeastOutcome) (cert : Text) (a : Answer) → a ≡ least_answer (part s).names s.budget outcome → FindsLeast (request s) outcome cert → PutsBoth s.path cert a old new status → status ≡ Unknown → PrintsPartOfLeast s old new
+least_unknown s old new status (found_least.Least set journal) cert a is finds put at = absurd (let k : Yes ≡ Unknown = status_there s old new status cert a _ Unknown put is at in cc)
+least_unknown s old new status (found_least.NoQuorum journal) cert a is finds put at = absurd (let k : Yes ≡ Unknown = status_there s old new status cert a _ Unknown put is at in cc)
+least_unknown s old new status (found_least.Spent journal) cert a is finds put at = record {
+  out = text_there s old new status cert a _ put is;
+  journal = journal;
+  finds = finds.shows.holds.1;
+  held = held_there s.path cert old.files new.files put.files ∙ ap Some finds.cert_is;
+  accepted = sym (ap (checked s.whole s.digest) finds.cert_is) ∙ finds.accepted;
+}
+
+-- nothing but a smallest quorum is found where one is sought
+least_there : (s : Search) (old new : DeskState) (status : Status) (found : Found) (cert : Text) (a : Answer) → Replies Least (part s) (deleted s) s.budget found a → FindsFound (request s) found cert → PutsBoth s.path cert a old new status → status ≡ Yes → PrintsLeast s old new
+least_there s old new status (Shared answer) cert a is finds put at = absurd is
+least_there s old new status (Listed kind outcome) cert a is finds put at = absurd is
+least_there s old new status (Smallest nodes outcome) cert a is finds put at = least_whole s old new status outcome cert a is finds put at
+
+found_least_of : (s : Search) (old new : DeskState) (status : Status) (goal : Goal) (found : Found) (cert : Text) (a : Answer) → Replies goal (part s) (deleted s) s.budget found a → FindsFound (request s) found cert → PutsBoth s.path cert a old new status
+    → goal ≡ Least → status ≡ Yes → PrintsLeast s old new
+found_least_of s old new status goal found cert a is finds put at_goal at = least_there s old new status found cert a (subst (λ (x : Goal). Replies x (part s) (deleted s) s.budget found a) at_goal is) finds put at
+
+-- where sets are listed no smallest quorum is replied
+no_least : (goal : Goal) (f : System) (budget : ℕ) (outcome : LeastOutcome) (a : Answer) (sought : Kind) → RepliesLeast goal f budget outcome a → listed_by goal ≡ Some sought → ⊥
+no_least Least f budget outcome a sought is lists = cc
+no_least Intersect f budget outcome a sought is lists = is
+no_least Splits f budget outcome a sought is lists = is
+no_least Dset f budget outcome a sought is lists = is
+no_least Trial f budget outcome a sought is lists = is
+no_least Blocking f budget outcome a sought is lists = is
+no_least Quorums f budget outcome a sought is lists = is
+
 -- ---- by what is sought
 
 found_no : (s : Search) (old new : DeskState) (status : Status) (goal : Goal) (found : Found) (cert : Text) (a : Answer) → Replies goal (part s) (deleted s) s.budget found a → FindsFound (request s) found cert → PutsBoth s.path cert a old new status → NoShows goal s old new status
@@ -232,11 +295,16 @@ found_no s old new status Splits (Shared answer) cert a is finds put = λ at. sp
 found_no s old new status Dset (Shared answer) cert a is finds put = λ at. dset_no s old new status answer cert a is.available is.unmet is.is.is is.said finds put at
 found_no s old new status Blocking found cert a is finds put = tt
 found_no s old new status Quorums found cert a is finds put = tt
+found_no s old new status Least found cert a is finds put = tt
 found_no s old new status Trial (Shared answer) cert a is finds put = λ at. trial_no s old new status answer cert a is put at
 found_no s old new status Intersect (Listed kind outcome) cert a is finds put = absurd is
 found_no s old new status Splits (Listed kind outcome) cert a is finds put = absurd is
 found_no s old new status Dset (Listed kind outcome) cert a is finds put = absurd is
 found_no s old new status Trial (Listed kind outcome) cert a is finds put = absurd is
+found_no s old new status Intersect (Smallest nodes outcome) cert a is finds put = absurd is
+found_no s old new status Splits (Smallest nodes outcome) cert a is finds put = absurd is
+found_no s old new status Dset (Smallest nodes outcome) cert a is finds put = absurd is
+found_no s old new status Trial (Smallest nodes outcome) cert a is finds put = absurd is
 
 found_yes : (s : Search) (old new : DeskState) (status : Status) (goal : Goal) (found : Found) (cert : Text) (a : Answer) → Replies goal (part s) (deleted s) s.budget found a → FindsFound (request s) found cert → PutsBoth s.path cert a old new status → YesShows goal s new status
 found_yes s old new status Intersect (Shared answer) cert a is finds put = λ at. intersect_yes s old new status answer cert a is finds put at
@@ -244,11 +312,16 @@ found_yes s old new status Splits (Shared answer) cert a is finds put = λ at. s
 found_yes s old new status Dset (Shared answer) cert a is finds put = λ at. dset_yes s old new status answer cert a is.available is.unmet is.is.is is.said finds put at
 found_yes s old new status Blocking found cert a is finds put = tt
 found_yes s old new status Quorums found cert a is finds put = tt
+found_yes s old new status Least found cert a is finds put = tt
 found_yes s old new status Trial (Shared answer) cert a is finds put = λ at. trial_yes s old new status answer cert a is finds put at
 found_yes s old new status Intersect (Listed kind outcome) cert a is finds put = absurd is
 found_yes s old new status Splits (Listed kind outcome) cert a is finds put = absurd is
 found_yes s old new status Dset (Listed kind outcome) cert a is finds put = absurd is
 found_yes s old new status Trial (Listed kind outcome) cert a is finds put = absurd is
+found_yes s old new status Intersect (Smallest nodes outcome) cert a is finds put = absurd is
+found_yes s old new status Splits (Smallest nodes outcome) cert a is finds put = absurd is
+found_yes s old new status Dset (Smallest nodes outcome) cert a is finds put = absurd is
+found_yes s old new status Trial (Smallest nodes outcome) cert a is finds put = absurd is
 
 found_unknown : (s : Search) (old new : DeskState) (status : Status) (goal : Goal) (found : Found) (cert : Text) (a : Answer) → Replies goal (part s) (deleted s) s.budget found a → FindsFound (request s) found cert → PutsBoth s.path cert a old new status → status ≡ Unknown
     → UnknownShows goal s old new
@@ -259,30 +332,42 @@ found_unknown s old new status Blocking (Listed kind outcome) cert a is finds pu
 found_unknown s old new status Blocking (Shared answer) cert a is finds put at = absurd is
 found_unknown s old new status Quorums (Listed kind outcome) cert a is finds put at = list_unknown listed.Quorum kind s old new status outcome cert a is finds put at
 found_unknown s old new status Quorums (Shared answer) cert a is finds put at = absurd is
+found_unknown s old new status Least (Smallest nodes outcome) cert a is finds put at = least_unknown s old new status outcome cert a is finds put at
+found_unknown s old new status Least (Listed kind outcome) cert a is finds put at = absurd is
+found_unknown s old new status Least (Shared answer) cert a is finds put at = absurd is
 found_unknown s old new status Trial (Shared answer) cert a is finds put at = trial_unknown s old new status answer cert a is finds put at
 found_unknown s old new status Intersect (Listed kind outcome) cert a is finds put at = absurd is
 found_unknown s old new status Splits (Listed kind outcome) cert a is finds put at = absurd is
 found_unknown s old new status Dset (Listed kind outcome) cert a is finds put at = absurd is
 found_unknown s old new status Trial (Listed kind outcome) cert a is finds put at = absurd is
+found_unknown s old new status Intersect (Smallest nodes outcome) cert a is finds put at = absurd is
+found_unknown s old new status Splits (Smallest nodes outcome) cert a is finds put at = absurd is
+found_unknown s old new status Dset (Smallest nodes outcome) cert a is finds put at = absurd is
+found_unknown s old new status Blocking (Smallest nodes outcome) cert a is finds put at = absurd is
+found_unknown s old new status Quorums (Smallest nodes outcome) cert a is finds put at = absurd is
+found_unknown s old new status Trial (Smallest nodes outcome) cert a is finds put at = absurd is
 
 found_list : (s : Search) (old new : DeskState) (status : Status) (goal : Goal) (found : Found) (cert : Text) (a : Answer) → Replies goal (part s) (deleted s) s.budget found a → FindsFound (request s) found cert → PutsBoth s.path cert a old new status
     → (sought : Kind) → listed_by goal ≡ Some sought → status ≡ Yes → PrintsList sought s old new
 found_list s old new status goal (Listed kind outcome) cert a is finds put sought lists at =
     list_whole sought kind s old new status outcome cert a (subst (λ (o : Option Kind). RepliesListed o (part s) s.budget kind outcome a) lists is) finds put at
+found_list s old new status goal (Smallest nodes outcome) cert a is finds put sought lists at = absurd (no_least goal (part s) s.budget outcome a sought is lists)
 found_list s old new status Intersect (Shared answer) cert a is finds put sought lists at = absurd cc
 found_list s old new status Splits (Shared answer) cert a is finds put sought lists at = absurd cc
 found_list s old new status Dset (Shared answer) cert a is finds put sought lists at = absurd cc
 found_list s old new status Blocking (Shared answer) cert a is finds put sought lists at = absurd is
 found_list s old new status Quorums (Shared answer) cert a is finds put sought lists at = absurd is
 found_list s old new status Trial (Shared answer) cert a is finds put sought lists at = absurd cc
+found_list s old new status Least (Shared answer) cert a is finds put sought lists at = absurd is
 
 -- ---- what is so of a search that was answered
 
--- the five parts of the headline, of one search
+-- the parts of the headline, of one search
 pub record SearchMeans (s : Search) (old new : DeskState) (status : Status) : Type 0 where
   pub no : NoShows s.goal s old new status
   pub yes : YesShows s.goal s new status
   pub completed : (sought : Kind) → listed_by s.goal ≡ Some sought → status ≡ Yes → PrintsList sought s old new
+  pub smallest : s.goal ≡ Least → status ≡ Yes → PrintsLeast s old new
   pub finished : (status ≡ Yes) ⊎ ((status ≡ No) ⊎ (status ≡ Unknown)) → WritesAccepted s new
   pub unknown : status ≡ Unknown → UnknownShows s.goal s old new
 
@@ -293,6 +378,7 @@ found_means s old new status p =
       no = found_no s old new status s.goal r.found r.cert r.answer r.is r.finds p.put;
       yes = found_yes s old new status s.goal r.found r.cert r.answer r.is r.finds p.put;
       completed = found_list s old new status s.goal r.found r.cert r.answer r.is r.finds p.put;
+      smallest = found_least_of s old new status s.goal r.found r.cert r.answer r.is r.finds p.put;
       finished = λ at. record {
         cert = r.cert;
         held = held_there s.path r.cert old.files new.files p.put.files;
@@ -314,6 +400,7 @@ no_no s old new status Splits large = λ at. absurd cc
 no_no s old new status Dset large = λ at. absurd cc
 no_no s old new status Blocking large = tt
 no_no s old new status Quorums large = tt
+no_no s old new status Least large = tt
 no_no s old new status Trial large = λ at. absurd cc
 
 no_yes : (s : Search) (new : DeskState) (status : Status) (goal : Goal) → status ≡ TooLarge → YesShows goal s new status
@@ -322,6 +409,7 @@ no_yes s new status Splits large = λ at. absurd cc
 no_yes s new status Dset large = λ at. absurd cc
 no_yes s new status Blocking large = tt
 no_yes s new status Quorums large = tt
+no_yes s new status Least large = tt
 no_yes s new status Trial large = λ at. absurd cc
 
 too_large_means : (s : Search) (old new : DeskState) (status : Status) → PrintsTooLarge s old new status → SearchMeans s old new status
@@ -331,6 +419,7 @@ too_large_means s old new status p =
       no = no_no s old new status s.goal large;
       yes = no_yes s new status s.goal large;
       completed = λ sought lists at. absurd cc;
+      smallest = λ goal at. absurd cc;
       finished = λ at. elim at [
         | inl yes_is ↦ absurd cc
         | inr other ↦ elim other [ inl no_is ↦ absurd cc | inr unknown_is ↦ absurd cc ]
@@ -355,6 +444,8 @@ headline_of words old new status prints accepts verifies = record {
   accepts = accepts;
   verifies = verifies;
   completed = λ s sought seeks. (sought_means (asked_of words old.files) s old new status seeks prints).completed sought;
+  smallest = λ s seeks. (sought_means (asked_of words old.files) s old new status seeks prints).smallest;
   finished = λ s seeks. (sought_means (asked_of words old.files) s old new status seeks prints).finished;
   unknown = λ s seeks. (sought_means (asked_of words old.files) s old new status seeks prints).unknown;
+  edits = λ e tries. edits_show e old new status (subst (λ (x : Result Asked Early). Prints x old new status) tries prints);
 }

@@ -1,5 +1,5 @@
 -- The answer is that a formula is too large exactly where there is one.
-use Rattle.std.proofs.Common.{◌≡◌, ◌↔◌, ◌<◌, ◌≤◌, ℕ, inl, inr, Bool, true, false, nat_le, if◌then◌else◌, arith, Option, Some, None, Result, Ok, Err, refl, sym, ◌∙◌, ap}
+use Rattle.std.proofs.Common.{◌≡◌, ◌↔◌, ◌<◌, ◌≤◌, ℕ, inl, inr, Bool, true, false, nat_le, if◌then◌else◌, arith, List, Option, Some, None, Result, Ok, Err, refl, sym, ◌∙◌, ap}
 use Rattle.std.proofs.lemmas.Bool.{cases_Bool, leb-true, leb-false}
 use Rattle.fbas_model.specs.Nodes.{Table}
 use Rattle.fbas_model.specs.Systems.{System}
@@ -8,13 +8,15 @@ use Rattle.clause_encoder.specs.declared.limits.TheConstants.{MOST_VARS}
 use Rattle.quorum_questions.specs.declared.answers.Answer.{Answer as Shown}
 use Rattle.quorum_questions.specs.declared.answers.Answer.TheVariants.{Yes as together, No as apart, Spent as spent}
 use Rattle.list_journal.specs.declared.kinds.Listed.{Listed as Kind}
+use Rattle.least_quorum.specs.declared.outcome.LeastOutcome.{LeastOutcome}
+use Rattle.least_quorum.specs.declared.outcome.LeastOutcome.TheVariants as found_least
 use Rattle.blocking_lists.specs.declared.outcome.ListOutcome.{ListOutcome}
 use Rattle.blocking_lists.specs.declared.outcome.ListOutcome.TheVariants.{Whole as whole_list, Spent as part_of_list}
 use Rattle.cli_words.specs.declared.orders.Goal.{Goal}
-use Rattle.cli_words.specs.declared.orders.Goal.TheVariants.{Intersect, Dset, Splits, Blocking, Quorums, Trial}
+use Rattle.cli_words.specs.declared.orders.Goal.TheVariants.{Intersect, Dset, Splits, Blocking, Quorums, Trial, Least}
 use Rattle.report.specs.Lines.{Text}
 use Rattle.order_reading.specs.declared.status.Status.{Status}
-use Rattle.order_reading.specs.declared.status.Status.TheVariants.{Yes, No, Unknown, TooLarge}
+use Rattle.order_reading.specs.declared.status.Status.TheVariants.{Yes, No, Unknown, TooLarge, ScriptRefused}
 use Rattle.order_reading.specs.declared.reply.Reply.{Reply as Answer}
 use Rattle.order_reading.specs.declared.early.Early.{Early}
 use Rattle.order_reading.specs.declared.early.Early.TheVariants.{Told, Read, Memory}
@@ -25,13 +27,25 @@ use Rattle.order_reading.specs.declared.reading.Asked.{Asked}
 use Rattle.order_reading.specs.declared.reading.Asked.TheVariants as asked
 use Rattle.order_reading.specs.declared.searches.Search.{Search}
 use Rattle.quorum_run.specs.declared.found.Found.{Found}
-use Rattle.quorum_run.specs.declared.found.Found.TheVariants.{Shared, Listed}
+use Rattle.quorum_run.specs.declared.found.Found.TheVariants.{Shared, Listed, Smallest}
+use Rattle.whatif_session.specs.Scripts.{states_of}
+use Rattle.whatif_session.specs.declared.faults.ScriptFault.{ScriptFault}
+use Rattle.quorum_run.specs.Edits.{states_answer, edits_answer}
 use Rattle.quorum_run.specs.QuestionAnswers.{Answers, AnswersExport, export_answer}
-use Rattle.quorum_run.specs.Replies.{intersect_answer, splits_answer, list_answer, listed_by, dset_status, RepliesListed, IsLarge, Replies}
+use Rattle.quorum_run.specs.Replies.{intersect_answer, splits_answer, list_answer, listed_by, dset_status, RepliesListed, RepliesLeast, IsLarge, Replies}
 use Rattle.quorum_run.specs.Printing.{PrintsSearch, Prints, PrintsAsked, IsLargeQuestion, IsLargeAsked, IsTooLarge}
 
 abbrev IsSmall : Status → Type 0
 IsSmall status = status ≡ TooLarge → ⊥
+
+yes_small : IsSmall Yes
+yes_small e = cc
+
+no_small : IsSmall No
+no_small e = cc
+
+unknown_small : IsSmall Unknown
+unknown_small e = cc
 
 -- ---- a reply of a search never is
 
@@ -60,25 +74,32 @@ listed_small : (o : Option Kind) (f : System) (budget : ℕ) (sought : Kind) (fo
 listed_small None f budget sought found a is = absurd is
 listed_small (Some kind) f budget sought found a is = small_as a _ is.1 (list_small kind f budget found)
 
+least_small : (goal : Goal) (f : System) (budget : ℕ) (found : LeastOutcome) (a : Answer) → RepliesLeast goal f budget found a → IsSmall a.status
+least_small Least f budget (found_least.Least set journal) a is = small_as a _ is yes_small
+least_small Least f budget (found_least.NoQuorum journal) a is = small_as a _ is yes_small
+least_small Least f budget (found_least.Spent journal) a is = small_as a _ is unknown_small
+least_small Intersect f budget found a is = absurd is
+least_small Splits f budget found a is = absurd is
+least_small Dset f budget found a is = absurd is
+least_small Trial f budget found a is = absurd is
+least_small Blocking f budget found a is = absurd is
+least_small Quorums f budget found a is = absurd is
+
 reply_small : (goal : Goal) (f : System) (deleted : Table) (budget : ℕ) (found : Found) (a : Answer) → Replies goal f deleted budget found a → IsSmall a.status
 reply_small goal f deleted budget (Listed sought found) a is = listed_small (listed_by goal) f budget sought found a is
+reply_small goal f deleted budget (Smallest nodes found) a is = least_small goal f budget found a is
 reply_small Intersect f deleted budget (Shared found) a is = small_as a _ is (intersect_small f budget found)
 reply_small Splits f deleted budget (Shared found) a is = small_as a _ is (splits_small f budget found)
 reply_small Dset f deleted budget (Shared found) a is = small_as a _ is.said (dset_small f budget is.available found)
 reply_small Trial f deleted budget (Shared found) a is = small_as a _ is.said (intersect_small f budget found)
 reply_small Blocking f deleted budget (Shared found) a is = absurd is
 reply_small Quorums f deleted budget (Shared found) a is = absurd is
+reply_small Least f deleted budget (Shared found) a is = absurd is
 
 -- ---- the answer to a question
 
 never : (a : Answer) (status : Status) (text : Text) → a ≡ record { status = status; text = text } → IsSmall status → (a.status ≡ TooLarge) ↔ ⊥
 never a status text is small = (small_as a (record { status = status; text = text }) is small, λ none. absurd none)
-
-yes_small : IsSmall Yes
-yes_small e = cc
-
-no_small : IsSmall No
-no_small e = cc
 
 by_size : (n : ℕ) (text more : Text) (a : Answer) → a ≡ (if nat_le n 4000000 then record { status = Yes; text = text } else record { status = TooLarge; text = more }) → (a.status ≡ TooLarge) ↔ (MOST_VARS < n)
 by_size n text more a is = elim (cases_Bool (nat_le n 4000000)) [
@@ -107,6 +128,12 @@ answer_large f (Export origin b) a is = export_large f origin b a is
 answer_large f (Vblocks v s) a (inl is) = never a Yes _ is.1 yes_small
 answer_large f (Vblocks v s) a (inr is) = never a No _ is.1 no_small
 
+-- ---- the answer to edits
+
+states_small : (set : Text) (r : Result (List System) ScriptFault) → ((states_answer set r).status ≡ TooLarge) ↔ ⊥
+states_small set (Ok states) = never (states_answer set (Ok states)) Yes _ refl yes_small
+states_small set (Err fault) = never (states_answer set (Err fault)) ScriptRefused _ refl (λ e. cc)
+
 -- ---- what is printed
 
 by_status : (P : Type 0) (wanted status : Status) → status ≡ wanted → (wanted ≡ TooLarge) ↔ P → (status ≡ TooLarge) ↔ P
@@ -120,6 +147,7 @@ search_large s old new status (inr p) = (λ large. (p.is.encodes, p.is.large), �
 asked_large : (a : Asked) (old new : DeskState) (status : Status) → PrintsAsked a old new status → (status ≡ TooLarge) ↔ IsLargeAsked a
 asked_large (asked.Question f q) old new status p = by_status _ p.answer.status status p.printed.status_is (answer_large f q p.answer p.is)
 asked_large (asked.Search s) old new status p = search_large s old new status p
+asked_large (asked.Edits e) old new status p = by_status _ (edits_answer e).status status p.status_is (states_small e.set (states_of e.system e.script))
 
 pub too_large_of : (r : Result Asked Early) (old new : DeskState) (status : Status) → Prints r old new status → (status ≡ TooLarge) ↔ IsTooLarge r
 too_large_of (Ok a) old new status p = asked_large a old new status p

@@ -5,3 +5,4 @@ pub mod Titles
 pub mod Headlines
 pub mod After
 pub mod Large
+pub mod Edited

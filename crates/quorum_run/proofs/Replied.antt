@@ -13,16 +13,21 @@ use Rattle.order_reading.specs.declared.status.Status.TheVariants.{TooLarge}
 use Rattle.quorum_questions.specs.declared.answers.Answer.{Answer as Shown}
 use Rattle.quorum_questions.specs.declared.answers.Answer.TheVariants.{Yes as together, No as apart, Spent as spent}
 use Rattle.cli_words.specs.declared.orders.Goal.{Goal}
-use Rattle.cli_words.specs.declared.orders.Goal.TheVariants.{Intersect, Dset, Splits, Blocking, Trial, Quorums}
+use Rattle.cli_words.specs.declared.orders.Goal.TheVariants.{Intersect, Dset, Splits, Blocking, Trial, Quorums, Least}
+use Rattle.list_journal.specs.Kinds.{HasLists}
 use Rattle.list_journal.specs.declared.kinds.Listed.{Listed as Kind}
+use Rattle.list_journal.specs.declared.kinds.Listed.TheVariants as listed
+use Rattle.least_quorum.specs.Outcomes.{LeastOutcomeHolds}
+use Rattle.least_quorum.specs.declared.outcome.LeastOutcome.{LeastOutcome}
+use Rattle.least_quorum.specs.declared.outcome.LeastOutcome.TheVariants as found_least
 use Rattle.blocking_lists.specs.Outcomes.{OutcomeHolds}
 use Rattle.blocking_lists.specs.declared.outcome.ListOutcome.{ListOutcome}
 use Rattle.blocking_lists.specs.declared.outcome.ListOutcome.TheVariants.{Whole as whole_list, Spent as part_of_list}
 use Rattle.order_reading.specs.Status.{is_answer}
 use Rattle.quorum_run.specs.declared.found.Found.{Found}
-use Rattle.quorum_run.specs.declared.found.Found.TheVariants.{Shared, Listed}
+use Rattle.quorum_run.specs.declared.found.Found.TheVariants.{Shared, Listed, Smallest}
 use Rattle.order_reading.specs.declared.reply.Reply.{Reply as Answer}
-use Rattle.quorum_run.specs.Replies.{intersect_answer, splits_answer, list_answer, dset_status, listed_by, HasSets, RepliesListed, Encodes, IsLarge, Replies, RepliesTooLarge}
+use Rattle.quorum_run.specs.Replies.{intersect_answer, splits_answer, list_answer, least_answer, dset_status, listed_by, HasSets, HasPlaces, RepliesListed, RepliesLeast, Encodes, IsLarge, vars_by, Replies, RepliesTooLarge}
 
 abbrev Answered : Answer → Type 0
 Answered a = IsTrue (is_answer a.status)
@@ -45,23 +50,36 @@ list_answered : (sought : Kind) (f : System) (budget : ℕ) (found : ListOutcome
 list_answered sought f budget (whole_list sets journal) = refl
 list_answered sought f budget (part_of_list journal) = refl
 
+least_answered : (goal : Goal) (f : System) (budget : ℕ) (found : LeastOutcome) (a : Answer) → RepliesLeast goal f budget found a → Answered a
+least_answered Least f budget (found_least.Least set journal) a is = subst Answered (sym is) refl
+least_answered Least f budget (found_least.NoQuorum journal) a is = subst Answered (sym is) refl
+least_answered Least f budget (found_least.Spent journal) a is = subst Answered (sym is) refl
+least_answered Intersect f budget found a is = absurd is
+least_answered Splits f budget found a is = absurd is
+least_answered Dset f budget found a is = absurd is
+least_answered Trial f budget found a is = absurd is
+least_answered Blocking f budget found a is = absurd is
+least_answered Quorums f budget found a is = absurd is
+
 listed_answered : (o : Option Kind) (f : System) (budget : ℕ) (sought : Kind) (found : ListOutcome) (a : Answer) → RepliesListed o f budget sought found a → Answered a
 listed_answered None f budget sought found a is = absurd is
 listed_answered (Some kind) f budget sought found a is = subst Answered (sym is.1) (list_answered kind f budget found)
 
 pub reply_answered : (goal : Goal) (f : System) (deleted : Table) (budget : ℕ) (found : Found) (a : Answer) → Replies goal f deleted budget found a → IsTrue (is_answer a.status)
 reply_answered goal f deleted budget (Listed sought found) a is = listed_answered (listed_by goal) f budget sought found a is
+reply_answered goal f deleted budget (Smallest nodes found) a is = least_answered goal f budget found a is
 reply_answered Intersect f deleted budget (Shared found) a is = subst Answered (sym is) (intersect_answered f budget found)
 reply_answered Splits f deleted budget (Shared found) a is = subst Answered (sym is) (splits_answered f budget found)
 reply_answered Dset f deleted budget (Shared found) a is = subst Answered (sym is.said) (dset_answered f budget is.available found)
 reply_answered Trial f deleted budget (Shared found) a is = subst Answered (sym is.said) (intersect_answered f budget found)
 reply_answered Blocking f deleted budget (Shared found) a is = absurd is
 reply_answered Quorums f deleted budget (Shared found) a is = absurd is
+reply_answered Least f deleted budget (Shared found) a is = absurd is
 
 pub too_large_answered : (goal : Goal) (f : System) (deleted : Table) (a : Answer) → RepliesTooLarge goal f deleted a → IsTrue (is_answer a.status)
 too_large_answered goal f deleted a is = subst Answered (sym is.said) refl
 
-pub too_large_fits : (goal : Goal) (f : System) (deleted : Table) (vars : ℕ) (a : Answer) → Encodes goal → vars ≡ vars_of f.sets deleted → MOST_VARS < vars → a ≡ record { status = TooLarge; text = too_large vars } → RepliesTooLarge goal f deleted a
+pub too_large_fits : (goal : Goal) (f : System) (deleted : Table) (vars : ℕ) (a : Answer) → Encodes goal → vars ≡ vars_by goal f deleted → MOST_VARS < vars → a ≡ record { status = TooLarge; text = too_large vars } → RepliesTooLarge goal f deleted a
 too_large_fits goal f deleted vars a encodes same large said = record {
   encodes = encodes;
   large = subst (λ (n : ℕ). MOST_VARS < n) same large;
@@ -81,6 +99,22 @@ pub list_sized : (sought : Kind) (f : Fbas) (b : Table) (units left : ℕ) (foun
 list_sized sought f b units left (whole_list sets journal) holds =
     All-weaker (Contains sets.items) (λ s. length s ≡ length f) (λ s there. ((holds.list.exact s).0 there).0) sets.items (All-contains_itself sets.items)
 list_sized sought f b units left (part_of_list journal) holds = tt
+
+-- a smallest quorum has a place for each node
+pub least_sized : (f : Fbas) (b : Table) (units left : ℕ) (found : LeastOutcome) → LeastOutcomeHolds f b units left found → HasPlaces (length f) found
+least_sized f b units left (found_least.Least set journal) holds = holds.least.places
+least_sized f b units left (found_least.NoQuorum journal) holds = tt
+least_sized f b units left (found_least.Spent journal) holds = tt
+
+-- what a goal lists are quorums or blocking sets, all minimal ones
+pub lists_all : (goal : Goal) (sought : Kind) → listed_by goal ≡ Some sought → HasLists sought
+lists_all Blocking sought is = let same : listed.Blocking ≡ sought = cc in subst HasLists same tt
+lists_all Quorums sought is = let same : listed.Quorum ≡ sought = cc in subst HasLists same tt
+lists_all Intersect sought is = absurd cc
+lists_all Splits sought is = absurd cc
+lists_all Dset sought is = absurd cc
+lists_all Trial sought is = absurd cc
+lists_all Least sought is = absurd cc
 
 -- where every two quorums share a node, none are found apart
 pub found_together : (f : Fbas) (b : Table) (budget : ℕ) (found : Shown) → Intersects f (members b) → Shows f b budget found → (p : Pair) → found ≡ apart p → ⊥

@@ -7,11 +7,14 @@ use Rattle.certificate_file.specs.declared.places.Header.{Header}
 use Rattle.certificate_file.specs.declared.places.Aim.TheVariants as aim
 use Rattle.quorum_questions.specs.declared.answers.Answer.TheVariants as shared
 use Rattle.blocking_lists.specs.declared.outcome.ListOutcome.TheVariants as outcome
-use Rattle.cert_writer.specs.Promises.{part_of}
-use Rattle.cert_writer.specs.Texts.{Text, joined, worded, listed, name_if_any, header_lines, pair_lines, log_lines, list_lines}
+use Rattle.cert_writer.specs.Promises.{part_of, greatest_in}
+use Rattle.cert_writer.specs.Least.{kind_of}
+use Rattle.least_quorum.specs.Outcomes.{least_journal_of}
+use Rattle.fbas_model.specs.Nodes.{size}
+use Rattle.cert_writer.specs.Texts.{Text, joined, worded, listed, name_if_any, header_lines, pair_lines, log_lines, list_lines, least_lines}
 use Rattle.order_reading.specs.declared.searches.Search.{Search}
 use Rattle.quorum_run.specs.declared.found.Found.{Found}
-use Rattle.quorum_run.specs.declared.found.Found.TheVariants.{Shared, Listed}
+use Rattle.quorum_run.specs.declared.found.Found.TheVariants.{Shared, Listed, Smallest}
 use Rattle.quorum_run.specs.Finding.{FindsFound}
 use Rattle.quorum_run.specs.Printing.{request}
 use Rattle.quorum_run.specs.Showing.{IsOfVersionTwo}
@@ -34,3 +37,5 @@ title_there s (Listed sought (outcome.Whole sets journal)) cert finds =
     subst IsOfVersionTwo (sym finds.cert_is) (titled s.whole.names s.digest s.header (list_lines (part_of s.whole s.header.from).names sought kind.Whole journal))
 title_there s (Listed sought (outcome.Spent journal)) cert finds =
     subst IsOfVersionTwo (sym finds.cert_is) (titled s.whole.names s.digest s.header (list_lines (part_of s.whole s.header.from).names sought kind.Partial journal))
+title_there s (Smallest nodes outcome) cert finds =
+    subst IsOfVersionTwo (sym finds.cert_is) (titled s.whole.names s.digest s.header (least_lines (part_of s.whole s.header.from).names (size (greatest_in s.whole s.header)) (kind_of outcome) (least_journal_of outcome)))

@@ -1,6 +1,6 @@
 -- What a search found, its certificate, and what that shows.
-use Rattle.std.specs.Prelude.{ℕ, List}
-use Rattle.fbas_model.specs.Nodes.{Table}
+use Rattle.std.specs.Prelude.{◌≡◌, ◌≤◌, ℕ, List}
+use Rattle.fbas_model.specs.Nodes.{Table, size}
 use Rattle.fbas_model.specs.Fbas.{Fbas}
 use Rattle.fbas_model.specs.Systems.{System}
 use Rattle.certificate_file.specs.declared.places.Answer.{Answer}
@@ -8,19 +8,26 @@ use Rattle.certificate_file.specs.declared.places.Header.{Header}
 use Rattle.quorum_questions.specs.Evidence.{Shows}
 use Rattle.cert_writer.specs.Texts.{Text}
 use Rattle.cert_writer.specs.Finding.{Search, Finds, CanBeWritten, cert_over as cert_of_shared, accepted_as as shared_as}
+use Rattle.greatest_quorum.specs.Greatest.{greatest_of}
+use Rattle.clause_encoder.specs.NameCounter.{counter_vars}
+use Rattle.clause_encoder.specs.declared.limits.TheConstants.{MOST_VARS}
+use Rattle.cert_writer.specs.Promises.{greatest_in}
+use Rattle.cert_writer.specs.Least.{LeastShows, FindsLeast, CanBeLeast, least_cert_over, least_accepted_as}
 use Rattle.cert_writer.specs.Listing.{ListShows, FindsList, CanBeListed, list_cert_over, list_accepted_as}
 use Rattle.quorum_run.specs.declared.found.Found.{Found}
-use Rattle.quorum_run.specs.declared.found.Found.TheVariants.{Shared, Listed}
+use Rattle.quorum_run.specs.declared.found.Found.TheVariants.{Shared, Listed, Smallest}
 
 -- what was found shows what is so of a system once b is deleted, where the search had these units
 abbrev pub FoundShows : Fbas → Table → ℕ → Found → Type 0
 FoundShows f b budget (Shared answer) = Shows f b budget answer
 FoundShows f b budget (Listed sought outcome) = ListShows sought f b budget outcome
+FoundShows f b budget (Smallest nodes outcome) = (nodes ≡ size (greatest_of f b)) × LeastShows f b budget outcome
 
 -- its certificate
 abbrev pub cert_over : System → List ℕ → Header → Found → Text
 cert_over f digest h (Shared answer) = cert_of_shared f digest h answer
 cert_over f digest h (Listed sought outcome) = list_cert_over sought f digest h outcome
+cert_over f digest h (Smallest nodes outcome) = least_cert_over f digest h outcome
 
 abbrev pub cert_of : Search → Found → Text
 cert_of s found = cert_over s.whole s.digest s.header found
@@ -29,13 +36,22 @@ cert_of s found = cert_over s.whole s.digest s.header found
 abbrev pub accepted_as : Search → Found → Answer
 accepted_as s (Shared answer) = shared_as s answer
 accepted_as s (Listed sought outcome) = list_accepted_as sought s outcome
+accepted_as s (Smallest nodes outcome) = least_accepted_as s outcome
 
 -- what was found shows what is so, and its certificate is accepted with the header that was asked for
 abbrev pub FindsFound : Search → Found → Text → Type 0
 FindsFound s (Shared answer) cert = Finds s answer cert
 FindsFound s (Listed sought outcome) cert = FindsList sought s outcome cert
+FindsFound s (Smallest nodes outcome) cert = FindsLeast s outcome cert
 
 -- what a certificate can be written of, where the part has n nodes
 abbrev pub IsWritable : ℕ → Found → Type 0
 IsWritable n (Shared answer) = CanBeWritten n answer
 IsWritable n (Listed sought outcome) = CanBeListed n outcome
+IsWritable n (Smallest nodes outcome) = CanBeLeast n outcome
+
+-- the nodes of the greatest quorum, where their number is found, are those of the part, and their counter is not too large
+abbrev pub HasGreatest : System → Header → Found → Type 0
+HasGreatest f h (Shared answer) = Unit {0}
+HasGreatest f h (Listed sought outcome) = Unit {0}
+HasGreatest f h (Smallest nodes outcome) = (nodes ≡ size (greatest_in f h)) × (counter_vars nodes ≤ MOST_VARS)

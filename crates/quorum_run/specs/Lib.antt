@@ -5,5 +5,7 @@ pub mod Searching
 pub mod Putting
 pub mod Printing
 pub mod Showing
+pub mod Smallest
 pub mod Headline
 pub mod Running
+pub mod Edits

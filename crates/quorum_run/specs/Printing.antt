@@ -9,7 +9,7 @@ use Rattle.report.specs.Lines.{Text}
 use Rattle.order_reading.specs.declared.searches.Search.{Search}
 use Rattle.quorum_run.specs.declared.found.Found.{Found}
 use Rattle.quorum_run.specs.Finding.{FindsFound}
-use Rattle.quorum_run.specs.Replies.{Encodes, IsLarge, Replies, RepliesTooLarge}
+use Rattle.quorum_run.specs.Replies.{Encodes, IsLarge, IsLargeFor, Replies, RepliesTooLarge}
 use Rattle.quorum_run.specs.Putting.{PutsBoth, CameTo}
 use Rattle.order_reading.specs.declared.status.Status.{Status}
 use Rattle.order_reading.specs.declared.status.Status.TheVariants.{TooLarge}
@@ -21,6 +21,7 @@ use Rattle.order_reading.specs.declared.question.Question.TheVariants.{Export}
 use Rattle.order_reading.specs.declared.reading.Asked.{Asked}
 use Rattle.order_reading.specs.declared.reading.Asked.TheVariants as asked
 use Rattle.quorum_run.specs.QuestionAnswers.{Answers}
+use Rattle.quorum_run.specs.Edits.{edits_answer}
 
 -- ---- an answer is out, whole or in part
 
@@ -65,7 +66,7 @@ request s = record { whole = s.whole; digest = s.digest; header = s.header; budg
 
 -- what the search found, where the formula is not too large: it shows the answer, its certificate is accepted, and this is the reply
 pub record FindsReply (s : Search) : Type 0 where
-  pub small : Encodes s.goal → IsLarge (part s) (deleted s) → ⊥
+  pub small : Encodes s.goal → IsLargeFor s.goal (part s) (deleted s) → ⊥
   pub found : Found
   pub cert : Text
   pub finds : FindsFound (request s) found cert
@@ -103,6 +104,7 @@ PrintsSearchPart s old new = PrintsFoundPart s old new ⊎ PrintsTooLargePart s 
 abbrev pub PrintsAsked : Asked → DeskState → DeskState → Status → Type 0
 PrintsAsked (asked.Question f question) old new status = PrintsAnswerTo f question old new status
 PrintsAsked (asked.Search s) old new status = PrintsSearch s old new status
+PrintsAsked (asked.Edits e) old new status = PrintsAnswer (edits_answer e) old new status
 
 abbrev pub PrintsEarly : Early → DeskState → DeskState → Status → Type 0
 PrintsEarly (Told answer) old new status = PrintsAnswer answer old new status
@@ -117,6 +119,7 @@ Prints (Err early) old new status = PrintsEarly early old new status
 abbrev pub PrintsAskedPart : Asked → DeskState → DeskState → Type 0
 PrintsAskedPart (asked.Question f question) old new = PrintsAnswerToPart f question old new
 PrintsAskedPart (asked.Search s) old new = PrintsSearchPart s old new
+PrintsAskedPart (asked.Edits e) old new = PrintsAnswerPart (edits_answer e) old new
 
 abbrev pub PrintsEarlyPart : Early → DeskState → DeskState → Type 0
 PrintsEarlyPart (Told answer) old new = PrintsAnswerPart answer old new
@@ -136,14 +139,15 @@ IsLargeQuestion f question = ⊥
 
 abbrev pub IsLargeAsked : Asked → Type 0
 IsLargeAsked (asked.Question f question) = IsLargeQuestion f question
-IsLargeAsked (asked.Search s) = Encodes s.goal × IsLarge (part s) (deleted s)
+IsLargeAsked (asked.Search s) = Encodes s.goal × IsLargeFor s.goal (part s) (deleted s)
+IsLargeAsked (asked.Edits e) = ⊥
 
 abbrev pub IsLargeEarly : Early → Type 0
 IsLargeEarly (Told answer) = answer.status ≡ TooLarge
 IsLargeEarly Read = ⊥
 IsLargeEarly Memory = ⊥
 
--- what is asked encodes a formula that has too many variables, or such a one stands in the certificate that is checked
+-- what is asked encodes a formula, or a counter, that has too many variables, or such a one stands in the certificate that is checked
 abbrev pub IsTooLarge : Result Asked Early → Type 0
 IsTooLarge (Ok a) = IsLargeAsked a
 IsTooLarge (Err early) = IsLargeEarly early

@@ -1,7 +1,11 @@
 -- What a search prints of what it found.
 use Rattle.std.specs.Prelude.{◌≡◌, ◌↔◌, ◌<◌, ℕ, ◌++◌, ◌/◌, Bool, true, false, IsTrue, List, All, length, Option, Some, None, codes}
 use Rattle.fbas_model.specs.Names.{Name}
-use Rattle.fbas_model.specs.Nodes.{Table, members}
+use Rattle.fbas_model.specs.Nodes.{Table, members, size}
+use Rattle.greatest_quorum.specs.Greatest.{greatest_of}
+use Rattle.clause_encoder.specs.NameCounter.{counter_vars}
+use Rattle.least_quorum.specs.declared.outcome.LeastOutcome.{LeastOutcome}
+use Rattle.least_quorum.specs.declared.outcome.LeastOutcome.TheVariants as found_least
 use Rattle.fbas_model.specs.Fbas.{Available, AreUnmet}
 use Rattle.fbas_model.specs.Systems.{System}
 use Rattle.quorum_questions.specs.Evidence.{vars_of}
@@ -14,13 +18,13 @@ use Rattle.blocking_lists.specs.declared.outcome.ListOutcome.{ListOutcome}
 use Rattle.blocking_lists.specs.declared.outcome.ListOutcome.TheVariants.{Whole as whole, Spent as part}
 use Rattle.clause_encoder.specs.declared.limits.TheConstants.{MOST_VARS}
 use Rattle.cli_words.specs.declared.orders.Goal.{Goal}
-use Rattle.cli_words.specs.declared.orders.Goal.TheVariants.{Intersect, Dset, Splits, Blocking, Trial, Quorums}
-use Rattle.report.specs.Lines.{Text, with_pair, with_sets, trial_size, counted, unavailable, too_large}
+use Rattle.cli_words.specs.declared.orders.Goal.TheVariants.{Intersect, Dset, Splits, Blocking, Trial, Quorums, Least}
+use Rattle.report.specs.Lines.{Text, with_pair, with_sets, least_lines, trial_size, counted, available_lines, too_large}
 use Rattle.order_reading.specs.declared.status.Status.{Status}
 use Rattle.order_reading.specs.declared.status.Status.TheVariants.{Yes, No, Unknown, TooLarge}
 use Rattle.order_reading.specs.declared.reply.Reply.{Reply as Answer}
 use Rattle.quorum_run.specs.declared.found.Found.{Found}
-use Rattle.quorum_run.specs.declared.found.Found.TheVariants.{Shared, Listed}
+use Rattle.quorum_run.specs.declared.found.Found.TheVariants.{Shared, Listed, Smallest}
 
 -- whether every two quorums share a node, by the names of the part
 abbrev pub intersect_answer : List Name → ℕ → Shown → Answer
@@ -44,10 +48,12 @@ listed_by goal = None
 abbrev pub list_word : Kind → Text
 list_word listed.Quorum = codes "quorums"
 list_word listed.Blocking = codes "blocking"
+list_word listed.Smaller = codes "least"
 
 abbrev pub unknown_word : Kind → Text
 unknown_word listed.Quorum = codes "quorums unknown"
 unknown_word listed.Blocking = codes "blocking unknown"
+unknown_word listed.Smaller = codes "least unknown"
 
 -- all minimal sets of a kind
 abbrev pub list_answer : Kind → List Name → ℕ → ListOutcome → Answer
@@ -64,11 +70,26 @@ abbrev pub HasSets : ℕ → ListOutcome → Type 0
 HasSets n (whole sets journal) = All (λ s. length s ≡ n) sets.items
 HasSets n (part journal) = Unit {0}
 
--- ---- a dispensable set
+-- ---- a smallest quorum
 
-abbrev pub available_lines : List Name → Bool → Table → Text
-available_lines names true unmet = codes "available yes\n"
-available_lines names false unmet = unavailable names unmet
+-- its nodes, or that there is none, or that the budget is spent
+abbrev pub least_answer : List Name → ℕ → LeastOutcome → Answer
+least_answer names budget (found_least.Least set journal) = record { status = Yes; text = least_lines names (Some set) }
+least_answer names budget (found_least.NoQuorum journal) = record { status = Yes; text = least_lines names None }
+least_answer names budget (found_least.Spent journal) = record { status = Unknown; text = counted (unknown_word listed.Smaller) budget }
+
+-- it was asked for
+abbrev pub RepliesLeast : Goal → System → ℕ → LeastOutcome → Answer → Type 0
+RepliesLeast Least f budget found a = a ≡ least_answer f.names budget found
+RepliesLeast goal f budget found a = ⊥
+
+-- the set has a place for each of n nodes
+abbrev pub HasPlaces : ℕ → LeastOutcome → Type 0
+HasPlaces n (found_least.Least set journal) = length set ≡ n
+HasPlaces n (found_least.NoQuorum journal) = Unit {0}
+HasPlaces n (found_least.Spent journal) = Unit {0}
+
+-- ---- a dispensable set
 
 -- no where either is no, yes where both are yes, else unknown
 abbrev pub dset_status : Bool → Status → Status
@@ -121,6 +142,7 @@ pub record RepliesTrial (f : System) (budget : ℕ) (found : Shown) (a : Answer)
 
 abbrev pub Replies : Goal → System → Table → ℕ → Found → Answer → Type 0
 Replies goal f deleted budget (Listed sought found) a = RepliesListed (listed_by goal) f budget sought found a
+Replies goal f deleted budget (Smallest nodes found) a = RepliesLeast goal f budget found a
 Replies Intersect f deleted budget (Shared found) a = a ≡ intersect_answer f.names budget found
 Replies Splits f deleted budget (Shared found) a = a ≡ splits_answer f.names budget found
 Replies Dset f deleted budget (Shared found) a = RepliesDset f deleted budget found a
@@ -129,7 +151,7 @@ Replies goal f deleted budget (Shared found) a = ⊥
 
 -- ---- a formula that is too large
 
--- a search with this goal encodes the intersection formula: all but one for a list of sets
+-- a search with this goal begins with clauses, those of the intersection formula or of a counter: all but one for a list of sets
 abbrev pub ListsNone : Option Kind → Type 0
 ListsNone None = Unit {0}
 ListsNone (Some kind) = ⊥
@@ -141,8 +163,16 @@ Encodes goal = ListsNone (listed_by goal)
 abbrev pub IsLarge : System → Table → Type 0
 IsLarge f deleted = MOST_VARS < vars_of f.sets deleted
 
--- the formula is encoded, and has too many variables, which are told
+-- how many variables they have: the counter is that of the nodes of the greatest quorum
+abbrev pub vars_by : Goal → System → Table → ℕ
+vars_by Least f deleted = counter_vars (size (greatest_of f.sets deleted))
+vars_by goal f deleted = vars_of f.sets deleted
+
+abbrev pub IsLargeFor : Goal → System → Table → Type 0
+IsLargeFor goal f deleted = MOST_VARS < vars_by goal f deleted
+
+-- the clauses are encoded, and have too many variables, which are told
 pub record RepliesTooLarge (goal : Goal) (f : System) (deleted : Table) (a : Answer) : Type 0 where
   pub encodes : Encodes goal
-  pub large : IsLarge f deleted
-  pub said : a ≡ record { status = TooLarge; text = too_large (vars_of f.sets deleted) }
+  pub large : IsLargeFor goal f deleted
+  pub said : a ≡ record { status = TooLarge; text = too_large (vars_by goal f deleted) }

@@ -7,14 +7,14 @@ use Rattle.std.specs.declared.alloc.AllocError.{AllocError}
 use Rattle.order_reading.specs.declared.reply.Reply.{Reply}
 use Rattle.quorum_run.specs.declared.found.Found.{Found as Finding}
 use Rattle.quorum_run.specs.Finding.{FoundShows}
-use Rattle.quorum_run.specs.Replies.{Encodes, IsLarge, Replies, RepliesTooLarge}
+use Rattle.quorum_run.specs.Replies.{Encodes, IsLargeFor, Replies, RepliesTooLarge}
 use Rattle.quorum_run.specs.declared.searching.Held.{Held}
 use Rattle.quorum_run.specs.declared.searching.Ready.{Ready}
 use Rattle.quorum_run.specs.declared.searching.Ready.TheVariants.{Found, TooLarge}
 
 -- what was found, where the formula is not too large, its reply, and a writer that has written nothing
 pub record FitsHeld (goal : Goal) (part : System) (deleted : Table) (budget : ℕ) (h : Held) : Type 0 where
-  pub small : Encodes goal → IsLarge part deleted → ⊥
+  pub small : Encodes goal → IsLargeFor goal part deleted → ⊥
   pub shows : FoundShows part.sets deleted budget h.found
   pub replies : Replies goal part deleted budget h.found h.reply
   pub fresh : h.writer ≡ record { held = []; failed = false }

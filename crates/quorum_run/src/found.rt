@@ -10,15 +10,17 @@ ghost use Rattle.fbas_model.specs.Systems.{System, IsSystem};
 ghost use Rattle.quorum_questions.specs.declared.asking.TheConstants.{MOST_UNITS};
 ghost use Rattle.cert_writer.specs.Promises.{IsHeader, part_of, PutsPart};
 ghost use Rattle.cert_writer.specs.Finding.{Search, part, faulty};
-ghost use Rattle.quorum_run.specs.Finding.{cert_over, cert_of, FoundShows, FindsFound, IsWritable};
+ghost use Rattle.quorum_run.specs.Finding.{cert_over, cert_of, FoundShows, FindsFound, IsWritable, HasGreatest};
 
 use blocking_lists::ListOutcome;
 use cert_writer::{
-    CertWriter, what_is_listed_is_found, what_is_shown_is_found, write_found, write_list,
+    CertWriter, what_is_least_is_found, what_is_listed_is_found, what_is_shown_is_found,
+    write_found, write_least, write_list,
 };
 use certificate_file::Header;
 use desk_io::{Desk, To, WriteFailed};
 use fbas_core::System;
+use least_quorum::LeastOutcome;
 use list_journal::Listed;
 use quorum_questions::Answer;
 
@@ -29,6 +31,8 @@ pub enum Found {
     Shared(Answer),
     /// All minimal sets of a kind.
     Listed(Listed, ListOutcome),
+    /// A smallest quorum, where the greatest one has so many nodes.
+    Smallest(u32, LeastOutcome),
 }
 
 /// Writes the certificate of what was found to the created file.
@@ -45,6 +49,7 @@ pub fn write_certificate<D: Desk>(
     requires header { IsHeader whole.now header.now }
     requires part { kept.now ≡ part_of whole.now header.now.from }
     requires found { IsWritable (length kept.now.names) found.now }
+    requires greatest { HasGreatest whole.now header.now found.now }
     ensures all { OnOk result (IsTrue D.tells → D.state desk.new ≡ written To.Cert (cert_over whole.now digest.now header.now found.now) (D.state desk.old)) }
     ensures part { OnErr result (IsTrue D.tells → PutsPart (cert_over whole.now digest.now header.now found.now) (D.state desk.old) (D.state desk.new)) }
     ensures faults { WriteFails (D.faults desk.old) (D.faults desk.new) (IsErr result) }
@@ -53,6 +58,9 @@ pub fn write_certificate<D: Desk>(
         Found::Shared(answer) => write_found(writer, desk, digest, header, whole, kept, answer),
         Found::Listed(sought, outcome) => write_list(
             writer, desk, digest, header, whole, kept, *sought, outcome,
+        ),
+        Found::Smallest(nodes, outcome) => write_least(
+            writer, desk, digest, header, whole, kept, *nodes, outcome,
         ),
     }
 }
@@ -65,4 +73,5 @@ pub fn what_is_shown_is_accepted()
 {
     what_is_shown_is_found();
     what_is_listed_is_found();
+    what_is_least_is_found();
 }

@@ -15,30 +15,36 @@ mod printing;
 mod replies;
 mod searching;
 mod solving;
+mod trying;
 
 use crate::printing::print;
 use crate::searching::search;
 use crate::solving::solve;
+use crate::trying::try_edits;
 use desk_io::Desk;
 pub use order_reading::Status;
 use order_reading::{Asked, Early, ask_by_words};
 use std::alloc::{AllocError, Global};
 
 // Puts the answer to what is asked.
-fn answer<D: Desk>(alloc: Global, desk: &mut D, asked: &Asked) -> Status
-    requires { FitsAsked asked.now }
-    ensures answered { IsTrue D.tells → IsTrue (is_answer result) → PrintsAsked asked.now (D.state desk.old) (D.state desk.new) result }
-    ensures part { IsTrue D.tells → result ≡ Status.WriteFault → PrintsAskedPart asked.now (D.state desk.old) (D.state desk.new) }
+fn answer<D: Desk>(alloc: Global, desk: &mut D, asked: Asked) -> Status
+    requires { FitsAsked asked }
+    ensures answered { IsTrue D.tells → IsTrue (is_answer result) → PrintsAsked asked (D.state desk.old) (D.state desk.new) result }
+    ensures part { IsTrue D.tells → result ≡ Status.WriteFault → PrintsAskedPart asked (D.state desk.old) (D.state desk.new) }
     ensures silent { IsTrue D.tells → result ≡ Status.Memory → D.state desk.new ≡ D.state desk.old }
     ensures ends { IsTrue (is_answer result) ⊎ (result ≡ Status.WriteFault) ⊎ (result ≡ Status.Memory) }
     ensures faults { WriteFails (D.faults desk.old) (D.faults desk.new) (result ≡ Status.WriteFault) }
 {
     match asked {
-        Asked::Question(system, question) => match solve(alloc, system, question) {
+        Asked::Question(system, question) => match solve(alloc, &system, &question) {
             Ok(reply) => print(desk, &reply),
             Err(AllocError) => Status::Memory,
         },
-        Asked::Search(sought) => search(alloc, desk, sought),
+        Asked::Search(sought) => search(alloc, desk, &sought),
+        Asked::Edits(edits) => match try_edits(alloc, edits) {
+            Ok(reply) => print(desk, &reply),
+            Err(AllocError) => Status::Memory,
+        },
     }
 }
 
@@ -87,7 +93,7 @@ pub fn run<D: Desk>(alloc: Global, words: &[String], desk: &mut D) -> Status
         asked_of (words_of words.now) (D.state desk.old).files ≡ Err Early.Read }
 {
     match ask_by_words(alloc, words, desk) {
-        Ok(asked) => answer(alloc, desk, &asked),
+        Ok(asked) => answer(alloc, desk, asked),
         Err(Early::Told(reply)) => print(desk, &reply),
         Err(Early::Read) => Status::ReadFault,
         Err(Early::Memory) => Status::Memory,

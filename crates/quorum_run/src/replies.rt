@@ -4,11 +4,13 @@ ghost use Rattle.witness_pair.specs.declared.Pair.{Pair};
 ghost use Rattle.fbas_model.specs.Nodes.{members};
 ghost use Rattle.fbas_model.specs.Fbas.{Available, AreUnmet};
 ghost use Rattle.cert_writer.specs.Finding.{CanBeWritten};
-ghost use Rattle.quorum_run.specs.Replies.{intersect_answer as spec_intersect, splits_answer as spec_splits, list_word as spec_list_word, unknown_word as spec_unknown_word, list_answer as spec_list, HasSets, HasSize, RepliesTrial, available_lines as spec_available, dset_status as spec_dset_status, dset_line as spec_dset_line, dset_answer as spec_dset};
+ghost use Rattle.report.specs.Lines.{available_lines as spec_available};
+ghost use Rattle.quorum_run.specs.Replies.{intersect_answer as spec_intersect, splits_answer as spec_splits, list_word as spec_list_word, unknown_word as spec_unknown_word, list_answer as spec_list, HasSets, least_answer as spec_least, HasPlaces, HasSize, RepliesTrial, dset_status as spec_dset_status, dset_line as spec_dset_line, dset_answer as spec_dset};
 ghost use Rattle.order_reading.specs.Status.{is_answer};
 
 use blocking_lists::ListOutcome;
 use fbas_core::System;
+use least_quorum::LeastOutcome;
 use list_journal::Listed;
 use name_set::NodeSet;
 use order_reading::{Reply, Status, says};
@@ -68,6 +70,7 @@ fn list_word(sought: Listed) -> &'static str
     match sought {
         Listed::Quorum => "quorums",
         Listed::Blocking => "blocking",
+        Listed::Smaller => "least",
     }
 }
 
@@ -78,6 +81,7 @@ fn unknown_word(sought: Listed) -> &'static str
     match sought {
         Listed::Quorum => "quorums unknown",
         Listed::Blocking => "blocking unknown",
+        Listed::Smaller => "least unknown",
     }
 }
 
@@ -99,6 +103,29 @@ pub fn list_answer(
         }
         ListOutcome::Spent(_) => {
             let text = report::counted(alloc, unknown_word(sought), budget)?;
+            Ok(Reply::new(Status::Unknown, text))
+        }
+    }
+}
+
+/// A smallest quorum, by what a search for one found.
+pub fn least_answer(
+    alloc: Global,
+    part: &System,
+    budget: u64,
+    found: &LeastOutcome,
+) -> Result<Reply, AllocError>
+    requires { HasPlaces (length part.now.sets) found.now }
+    ensures { IfOk result (λ a. a ≡ spec_least part.now.names budget found.now) }
+{
+    match found {
+        LeastOutcome::Least(set, _) => {
+            let text = report::smallest(alloc, part, set)?;
+            Ok(Reply::new(Status::Yes, text))
+        }
+        LeastOutcome::NoQuorum(_) => says(alloc, Status::Yes, "least none\n"),
+        LeastOutcome::Spent(_) => {
+            let text = report::counted(alloc, unknown_word(Listed::Smaller), budget)?;
             Ok(Reply::new(Status::Unknown, text))
         }
     }

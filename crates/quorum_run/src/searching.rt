@@ -7,7 +7,7 @@ ghost use Rattle.report.specs.Lines.{too_large as too_large_line};
 ghost use Rattle.desk_io.specs.Faults.{WriteFails};
 ghost use Rattle.cert_writer.specs.Promises.{IsHeader, part_of, faulty_in};
 ghost use Rattle.quorum_questions.specs.declared.asking.TheConstants.{MOST_UNITS};
-ghost use Rattle.quorum_run.specs.Finding.{cert_over, IsWritable};
+ghost use Rattle.quorum_run.specs.Finding.{cert_over, IsWritable, HasGreatest};
 ghost use Rattle.quorum_run.specs.Putting.{put_whole, PutsSome};
 ghost use Rattle.quorum_run.specs.Printing.{PrintsSearch, PrintsSearchPart};
 ghost use Rattle.quorum_run.specs.Replies.{listed_by};
@@ -17,13 +17,18 @@ ghost use Rattle.order_reading.specs.Status.{is_answer};
 
 use crate::found::{Found, what_is_shown_is_accepted, write_certificate};
 use crate::printing::print;
-use crate::replies::{dset_answer, intersect_answer, list_answer, splits_answer, trial_answer};
+use crate::replies::{
+    dset_answer, intersect_answer, least_answer, list_answer, splits_answer, trial_answer,
+};
 use blocking_lists::list_all;
 use cdcl_core::Budget;
 use cert_writer::{CertWriter, what_is_shown_is_found};
+use clause_encoder::EncodeError;
 use cli_words::Goal;
 use desk_io::{Desk, To, WriteFailed, put_all};
 use fbas_core::System;
+use greatest_quorum::greatest;
+use least_quorum::least;
 use list_journal::Listed;
 use name_set::NodeSet;
 use order_reading::{Reply, Search, Status};
@@ -151,6 +156,30 @@ fn list_ready(
     hold(alloc, Found::Listed(sought, found), reply)
 }
 
+// A smallest quorum, whose search begins with a counter of the nodes of the greatest one.
+fn least_ready(
+    alloc: Global,
+    part: &System,
+    faulty: &NodeSet,
+    budget: u64,
+) -> Result<Ready, AllocError>
+    requires same_n { length faulty.now ≡ length part.now.sets }
+    requires few { budget ≤ MOST_UNITS }
+    ensures { IfOk result (FitsReady Goal.Least part.now faulty.now budget) }
+{
+    let _ = part.len();
+    let nodes = greatest(part, faulty).count();
+    let mut units = Budget::of(budget);
+    match least(alloc, part, faulty, &mut units) {
+        Ok(found) => {
+            let reply = least_answer(alloc, part, budget, &found);
+            hold(alloc, Found::Smallest(nodes, found), reply)
+        }
+        Err(EncodeError::TooLarge(vars)) => too_large(alloc, vars),
+        Err(EncodeError::Memory) => Err(AllocError),
+    }
+}
+
 // Every two quorums share a node there, so no two are found apart.
 fn trial_ready(
     alloc: Global,
@@ -194,6 +223,7 @@ fn make_ready(
         Goal::Dset => dset_ready(alloc, part, faulty, budget),
         Goal::Blocking => list_ready(alloc, goal, Listed::Blocking, part, faulty, budget),
         Goal::Quorums => list_ready(alloc, goal, Listed::Quorum, part, faulty, budget),
+        Goal::Least => least_ready(alloc, part, faulty, budget),
         Goal::Trial => trial_ready(alloc, part, faulty, budget),
     }
 }
@@ -212,6 +242,7 @@ fn put_both<D: Desk>(
     requires header { IsHeader search.now.whole search.now.header }
     requires part { part.now ≡ part_of search.now.whole search.now.header.from }
     requires found { IsWritable (length part.now.names) found.now }
+    requires greatest { HasGreatest search.now.whole search.now.header found.now }
     ensures all { OnOk result (IsTrue D.tells → D.state desk.new ≡ put_whole path.now (cert_over search.now.whole search.now.digest search.now.header found.now) text.now (D.state desk.old)) }
     ensures part { OnErr result (IsTrue D.tells → PutsSome path.now (cert_over search.now.whole search.now.digest search.now.header found.now) text.now (D.state desk.old) (D.state desk.new)) }
     ensures faults { WriteFails (D.faults desk.old) (D.faults desk.new) (IsErr result) }

@@ -10,3 +10,6 @@ returns-in-Shared-clause-all g c = subst (λ (x : Found). OnOk c.write_found.res
 
 pub returns-in-Listed-clause-all : goal.returns-in-Listed-clause-all
 returns-in-Listed-clause-all g c = subst (λ (x : Found). OnOk c.write_list.result (IsTrue g.D.Desk.tells → g.D.Desk.state c.write_list.new.desk ≡ written Cert (cert_over c.args.whole.now c.args.digest.now c.args.header.now x) (g.D.Desk.state c.args.desk.now))) (sym c.in-Listed.is) c.write_list.ensures.all
+
+pub returns-in-Smallest-clause-all : goal.returns-in-Smallest-clause-all
+returns-in-Smallest-clause-all g c = subst (λ (x : Found). OnOk c.write_least.result (IsTrue g.D.Desk.tells → g.D.Desk.state c.write_least.new.desk ≡ written Cert (cert_over c.args.whole.now c.args.digest.now c.args.header.now x) (g.D.Desk.state c.args.desk.now))) (sym c.in-Smallest.is) c.write_least.ensures.all

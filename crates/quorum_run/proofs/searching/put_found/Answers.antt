@@ -4,14 +4,18 @@ use Rattle.quorum_run.specs.Finding.{cert_of, FoundShows}
 use Rattle.cert_writer.specs.Promises.{faulty_in}
 use Rattle.quorum_run.specs.Printing.{request, FindsReply}
 use Rattle.quorum_run.specs.Putting.{PutsSome, put_whole}
-use Rattle.quorum_run.specs.Replies.{Encodes, IsLarge, Replies}
+use Rattle.quorum_run.specs.Replies.{Encodes, IsLargeFor, Replies}
 use Rattle.quorum_run.proofs.Puts.{puts_both, came_to}
 use Rattle.quorum_run.proofs.Replied.{reply_answered}
+use Rattle.quorum_run.proofs.Shown.{has_greatest}
 use Rattle.quorum_run.proofs.searching.put_found.Goals as goal
 
 pub put_both-requires-clause-found : goal.put_both-requires-clause-found
 put_both-requires-clause-found g c =
     c.what_is_shown_is_accepted.ensures.written c.args.part.now (faulty_in c.args.search.now.whole c.args.search.now.header) c.args.search.now.budget c.args.held.found (sym c.len-2.ensures.names ∙ c.len-2.ensures.sets) c.requires.held.shows
+
+pub put_both-requires-clause-greatest : goal.put_both-requires-clause-greatest
+put_both-requires-clause-greatest g c = has_greatest c.args.search.now.whole c.args.search.now.header c.args.part.now c.args.search.now.budget c.args.held.found c.requires.part c.requires.held.shows
 
 pub returns-in-Ok-clause-answered : goal.returns-in-Ok-clause-answered
 returns-in-Ok-clause-answered g c = λ tell answer.
@@ -20,7 +24,7 @@ returns-in-Ok-clause-answered g c = λ tell answer.
     let a = c.args.held.reply in
     let cert = cert_of (request s) f in
     let same : System → Type 0 = λ p. FoundShows p.sets (faulty_in s.whole s.header) s.budget f in
-    let small : System → Type 0 = λ p. Encodes s.goal → IsLarge p (faulty_in s.whole s.header) → ⊥ in
+    let small : System → Type 0 = λ p. Encodes s.goal → IsLargeFor s.goal p (faulty_in s.whole s.header) → ⊥ in
     let replied : System → Type 0 = λ p. Replies s.goal p (faulty_in s.whole s.header) s.budget f a in
     let finds = c.what_is_shown_is_accepted.ensures.found (request s) f c.len.ensures.system c.len.ensures.sorted c.requires.search.long c.requires.search.bytes c.requires.search.header c.requires.search.few (subst same c.requires.part c.requires.held.shows) in
     let reply : FindsReply s = record { small = subst small c.requires.part c.requires.held.small; found = f; cert = cert; finds = finds; answer = a; is = subst replied c.requires.part c.requires.held.replies } in
@@ -35,7 +39,7 @@ returns-clause-part g c = λ tell is.
     let a = c.args.held.reply in
     let cert = cert_of (request s) f in
     let same : System → Type 0 = λ p. FoundShows p.sets (faulty_in s.whole s.header) s.budget f in
-    let small : System → Type 0 = λ p. Encodes s.goal → IsLarge p (faulty_in s.whole s.header) → ⊥ in
+    let small : System → Type 0 = λ p. Encodes s.goal → IsLargeFor s.goal p (faulty_in s.whole s.header) → ⊥ in
     let replied : System → Type 0 = λ p. Replies s.goal p (faulty_in s.whole s.header) s.budget f a in
     let finds = c.what_is_shown_is_accepted.ensures.found (request s) f c.len.ensures.system c.len.ensures.sorted c.requires.search.long c.requires.search.bytes c.requires.search.header c.requires.search.few (subst same c.requires.part c.requires.held.shows) in
     let reply : FindsReply s = record { small = subst small c.requires.part c.requires.held.small; found = f; cert = cert; finds = finds; answer = a; is = subst replied c.requires.part c.requires.held.replies } in
