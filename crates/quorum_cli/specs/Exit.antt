@@ -1,7 +1,7 @@
 -- The exit status of the process.
 use Rattle.std.specs.Prelude.{ℕ}
 use Rattle.order_reading.specs.declared.status.Status.{Status}
-use Rattle.order_reading.specs.declared.status.Status.TheVariants.{Yes, No, Unknown, Usage, ConfigRefused, CertRefused, ReadFault, WriteFault, Memory, TooLarge}
+use Rattle.order_reading.specs.declared.status.Status.TheVariants.{Yes, No, Unknown, Usage, ConfigRefused, CertRefused, ReadFault, WriteFault, Memory, TooLarge, ScriptRefused}
 
 -- the exit status of each way to end
 abbrev pub code_of : Status → ℕ
@@ -15,3 +15,4 @@ code_of ReadFault = 6
 code_of WriteFault = 7
 code_of Memory = 8
 code_of TooLarge = 9
+code_of ScriptRefused = 10

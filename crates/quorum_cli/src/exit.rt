@@ -21,6 +21,7 @@ fn code(status: Status) -> u8
         Status::WriteFault => 7,
         Status::Memory => 8,
         Status::TooLarge => 9,
+        Status::ScriptRefused => 10,
     }
 }
 
