@@ -1,8 +1,8 @@
 #!/usr/bin/env python3
-"""The tables of lists: `blocking` and `quorums` beside clasp (Debian's packages clasp and gringo).
+"""The tables of lists and of `least` beside clasp (Debian's packages clasp and gringo).
 
 For blocking sets clasp enumerates the subset-minimal sets that meet the minimal quorums which our run has found; for quorums the
-subset-minimal answer sets of the system as a logic program. It proves nothing, and gringo's time is not counted. A row has single
+subset-minimal answer sets of the system as a logic program, and for `least` it minimizes over these. It proves nothing, and gringo's time is not counted. A row has single
 runs: processor time and largest memory of the list with its certificate, and of `check`. Both numbers of sets have to agree.
 
 bench/lists.py alone builds crates/lists_bench (with its proofs, some minutes the first time) and prints the time of `list` alone,
@@ -54,10 +54,16 @@ QUORUMS = {
     "8 of 12 nodes": network(12, quorum_set(8, range(12))),
     "watchers:seven": watchers.Made("seven").nodes,
 }
+LEAST = {
+    "5 organisations (4 needed), each 2 of 3": organisations(5, 4, 3, 2),
+    "7 (5), each 2 of 3": organisations(7, 5, 3, 2),
+    "10 (7), each 2 of 3": organisations(10, 7, 3, 2),
+    "11 of 16 nodes": network(16, quorum_set(11, range(16))),
+}
 
 
 class Listed:
-    """A list with its certificate: the sets that are printed, the runs, the units, and the quorums of the certificate."""
+    """An answer with its certificate: the number that is printed, the runs, the units, and the quorums of the certificate."""
 
     def __init__(self, program, word, nodes, folder):
         config, cert = os.path.join(folder, "config"), os.path.join(folder, "cert")
@@ -107,14 +113,33 @@ def logic(nodes):
     return "\n".join(out) + "\nany :- in(X). :- not any. #show in/1.\n"
 
 
-def clasp(program, mod, wanted):
-    """Clasp's run on a logic program, which has to find as many minimal answer sets."""
+def clasp(program, options, word, wanted):
+    """Clasp's run on a logic program, which has to print the same number."""
     ground = subprocess.run(["gringo"], input=program, capture_output=True, text=True, check=True).stdout
-    made = runs.run(["clasp", "0", "--quiet=2", "--heuristic=Domain", "--enum-mode=domRec", "--dom-mod=" + mod], LIMIT, ground)
-    models = re.findall(r"^Models +: (\d+)", made.text, re.M)
-    if made.ended and models != [str(wanted)]:
-        raise SystemExit("clasp finds %s sets and not %d" % (models, wanted))
+    made = runs.run(["clasp", "0", "--quiet=2", *options], LIMIT, ground)
+    found = re.findall(r"^%s +: (\d+)" % word, made.text, re.M)[-1:]
+    if made.ended and found != [str(wanted)]:
+        raise SystemExit("clasp finds %s and not %d" % (found, wanted))
     return made
+
+
+def minimal(program, mod, wanted):
+    """Its run to all minimal answer sets."""
+    return clasp(program, ["--heuristic=Domain", "--enum-mode=domRec", "--dom-mod=" + mod], "Models", wanted)
+
+
+def smallest(program, wanted):
+    """Its run to an answer set with as few nodes as any, core-guided."""
+    return clasp(program + "#minimize { 1,X : in(X) }.\n", ["--opt-strategy=usc"], "Optimization", wanted)
+
+
+def beside(word, nodes, it):
+    """Clasp's run on the same question."""
+    if word == "quorums":
+        return minimal(logic(nodes), "5,16", it.sets)
+    if word == "least":
+        return smallest(logic(nodes), it.sets)
+    return minimal(hitting(sorted({name for quorum in it.quorums for name in quorum}), it.quorums), "false,show", it.sets)
 
 
 def listed(program, word, name, nodes):
@@ -122,18 +147,15 @@ def listed(program, word, name, nodes):
         it = Listed(program, word, nodes, folder)
     if not it.run.ended:
         return runs.row([name, "-", "-", runs.seconds(it.run), it.run.memory, "-", "-", "-"])
-    its = None
-    if runs.has("clasp") and runs.has("gringo"):
-        names = sorted({name for quorum in it.quorums for name in quorum})
-        its = clasp(logic(nodes), "5,16", it.sets) if word == "quorums" else clasp(hitting(names, it.quorums), "false,show", it.sets)
+    its = beside(word, nodes, it) if runs.has("clasp") and runs.has("gringo") else None
     cells = [name, "{:,}".format(it.sets), "{:,}".format(it.units), runs.seconds(it.run), it.run.memory, runs.megabytes(it.size), runs.seconds(it.check)]
     return runs.row([*cells, runs.beside(it.run, its)])
 
 
 def made(program, quick):
-    """The lines of both tables, one by one."""
-    for word, systems in (("blocking", BLOCKING), ("quorums", QUORUMS)):
-        yield from runs.head(["`%s` of" % word, "sets", "units", "s", "MB", "certificate, MB", "`check`, s", "clasp, s"])
+    """The lines of the tables, one by one."""
+    for word, systems in (("blocking", BLOCKING), ("quorums", QUORUMS), ("least", LEAST)):
+        yield from runs.head(["`%s` of" % word, "nodes" if word == "least" else "sets", "units", "s", "MB", "certificate, MB", "`check`, s", "clasp, s"])
         for name in list(systems)[: 1 if quick else None]:
             yield listed(program, word, name, systems[name])
         yield ""

@@ -202,4 +202,5 @@ def main():
     print("a log in memory, 20 literals and 100 hints a lemma: %s, %.2f s, %d MB" % (text, took, memory))
 
 
-main()
+if __name__ == "__main__":
+    main()

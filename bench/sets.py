@@ -49,4 +49,5 @@ def main():
         print("| %s.json | %.2f s | %s |" % (name, reading, " | ".join("%.2f ms" % (took * 1e3) for took in row)))
 
 
-main()
+if __name__ == "__main__":
+    main()

@@ -8,7 +8,7 @@ The parts, with the minutes that each takes of one processor at rest:
     reading   1   `show` beside jq
     searches  9   `intersect` beside minisat, cadical, cryptominisat and clasp, and docs/growth-random.svg
     networks  9   the same on networks of organisations, and docs/growth.svg
-    lists     2   `blocking` and `quorums` beside clasp
+    lists     2   `blocking`, `quorums` and `least` beside clasp
     check     2   `check` beside sha256sum
     memory    4   memory beside jq, and the stack
 

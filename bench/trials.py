@@ -93,7 +93,8 @@ class Asked:
             raise SystemExit("%s: the certificate is not accepted: %r" % (system, self.check.text))
         self.lemmas, self.size = self.counted()
         with open(cnf, "wb") as it:
-            runs.run([program, "export", config], limit, out=it)
+            if not runs.run([program, "export", config], limit, out=it).ended:
+                raise SystemExit("%s: export did not end" % system)
         self.others = {name: self.asked(name, cnf, limit) if runs.has(SOLVERS[name][0]) else None for name in solvers}
 
     def counted(self):

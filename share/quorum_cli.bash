@@ -2,7 +2,7 @@
 _quorum_cli() {
   local word=${COMP_WORDS[COMP_CWORD]} before=${COMP_WORDS[COMP_CWORD - 1]} options=''
   if [ "$COMP_CWORD" = 1 ]; then
-    mapfile -t COMPREPLY < <(compgen -W 'show closure greatest intersect available dset blocks vblocks splits blocking check export trial check-lrat quorums' -- "$word")
+    mapfile -t COMPREPLY < <(compgen -W 'show closure greatest intersect available dset blocks vblocks splits blocking check export trial check-lrat quorums least whatif' -- "$word")
     return
   fi
   case ${COMP_WORDS[1]} in
@@ -21,6 +21,8 @@ _quorum_cli() {
     trial) options='--budget' ;;
     check-lrat) options='--from --faulty --orgs --faulty-orgs' ;;
     quorums) options='--budget --from --faulty --orgs --faulty-orgs' ;;
+    least) options='--budget --from --faulty --orgs --faulty-orgs' ;;
+    whatif) options='--set' ;;
   esac
   case $before in
   --orgs) mapfile -t COMPREPLY < <(compgen -f -- "$word") ;;

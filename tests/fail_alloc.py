@@ -50,6 +50,7 @@ void *realloc(void *old, size_t size) { return is_refused() ? NULL : __libc_real
 
 FOUR = malicious.system("abcd", 3)
 ORGS = b'[{"id":"A","validators":["a","zz"]}]'
+SCRIPT = b"threshold a . 3\nadd b . d\ndeclare d\nadd d . d\ndrop b . c\nretire c\n"
 # A search over its formula is not done when that begins anew over gates written out.
 DRAWN = trials.drawn(20, 10, 6, 1).encode()
 
@@ -66,6 +67,9 @@ RUNS = [
     ("quorums config cert", malicious.THREE, malicious.OLD),
     ("quorums config cert --budget 3", malicious.THREE, malicious.OLD),
     ("check config cert", malicious.THREE, malicious.QUORUMS),
+    ("least config cert", malicious.THREE, malicious.OLD),
+    ("least config cert --budget 3", malicious.THREE, malicious.OLD),
+    ("check config cert", malicious.THREE, malicious.LEAST),
     ("dset config cert --set a", FOUR, malicious.OLD),
     ("splits config cert --set a", malicious.APART, malicious.OLD),
     ("trial 1 cert", malicious.EMPTY, malicious.OLD),
@@ -80,6 +84,8 @@ RUNS = [
     ("check config cert", malicious.THREE, malicious.PAIR[:-1]),
     ("check-lrat config cert", malicious.TWO, b"c\n" + malicious.FIRST + malicious.LAST),
     ("check-lrat config cert --from a --orgs orgs --faulty-orgs A", malicious.THREE, b"9 0 1 2 3 0\n"),
+    ("whatif config script --set a", malicious.THREE, malicious.OLD),
+    ("whatif config faulty --set a", malicious.THREE, malicious.OLD),
     ("show config", malicious.THREE, malicious.OLD),
     ("closure config --node a", malicious.APART, malicious.OLD),
     ("greatest config --from a --faulty b", malicious.APART, malicious.OLD),
@@ -155,6 +161,8 @@ def main(program=malicious.BUILT):
     with tempfile.TemporaryDirectory() as folder:
         trial = Trial(folder, program)
         trial.put("orgs", ORGS)
+        trial.put("script", SCRIPT)
+        trial.put("faulty", SCRIPT + b"retire z\n")
         for line, config, cert in RUNS:
             trial.walk(line, config, cert)
     print("fail_alloc: %d passed, %d failed" % (trial.passed, trial.failed))

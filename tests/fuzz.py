@@ -1,12 +1,13 @@
 #!/usr/bin/env python3
-"""Mutates configurations, organisations, certificates of every kind, proofs of other solvers and command words, and runs the built program on them.
+"""Mutates configurations, organisations, certificates of every kind, proofs of other solvers, scripts of edits and command words, and runs the built
+program on them.
 
 The program must end with one of its statuses, put out what fits that status, and nothing on standard error. What 'check'
-says of a configuration and a certificate, 'check-lrat' of a proof, 'greatest' of organisations, and what the plain questions and 'export' answer,
+says of a configuration and a certificate, 'check-lrat' of a proof, 'whatif' of a script, 'greatest' of organisations, and what the plain questions and 'export' answer,
 must be what tests/plain_checker.py says. A certificate that a search wrote must be one that it accepts, and the answer that of
 trying all sets of nodes; where the answer is unknown, each unit of the certificate must be useful and its clauses must not close.
 
-tests/fuzz.py [--cases N] [--seed S] [PROGRAM]; its last line is 'fuzz: N passed, M failed'.
+tests/fuzz.py [--cases N] [--seed S] [--kind KIND] [PROGRAM], all cases of one kind where KIND is given, as whatif; its last line is 'fuzz: N passed, M failed'.
 """
 
 import argparse
@@ -35,9 +36,10 @@ REFUSALS = {
     6: rb"",
     7: rb"",
     9: rb"too-large [0-9]+\n",
+    10: rb"script [a-z].*\n",
 }
-ANSWERS = rb"(?!usage|config|orgs|refused|too-large)(.+\n)+"
-SEARCHES = ("intersect", "splits", "dset", "blocking", "quorums")
+ANSWERS = rb"(?!usage|config|orgs|refused|too-large|script)(.+\n)+"
+SEARCHES = ("intersect", "splits", "dset", "blocking", "quorums", "least")
 # What lists minimal sets.
 LISTS = ("blocking", "quorums")
 
@@ -250,14 +252,21 @@ def is_useful(held, clause):
 def fault_of_units(subject, cert):
     """What is wrong with the units of a partial certificate that a search wrote: one is not useful, or the clauses close at its end."""
     lines = cert.decode().split("\n")[4:-2]
-    sought = "q" if lines.pop(0).endswith("quorums") else "b"
+    kind = lines.pop(0)
+    sought = "q" if kind.endswith(("quorums", "least")) else "b"
     order = sorted(subject.shrunk(set(subject.system)))
     held = {}
+    if kind.endswith("least"):
+        held = {i: frozenset(it) for i, it in enumerate(plain.counter_of(len(order)), 1)}
+        lines = lines[1:]
     if lines and lines[0].startswith("formula"):
         held = {i: frozenset(it) for i, it in enumerate(plain.Formula(subject.system, subject.faulty, 2).clauses, 1)}
         lines = lines[1:]
     for line in lines:
         words = line.split(" ")
+        if words[0] == "s":
+            held[int(words[1])] = frozenset([-plain.counted(len(order), len(order), len(words) - 2)])
+            continue
         if words[0] in ("q", "b"):
             number, sign = int(words[1]), -1 if words[0] == sought else 1
             clause = frozenset(sign * (order.index(it) + 1) for it in words[2:])
@@ -327,16 +336,23 @@ def random_body(rng, subject, kind):
     else:
         lines, held, last = [], {}, 0
         order = sorted(subject.shrunk(set(subject.system)))
+        size, variables = len(order), len(order)
+        if kind.endswith("least"):
+            held = {i: frozenset(it) for i, it in enumerate(plain.counter_of(size), 1)}
+            last, variables = size * size, plain.counted(size, size, size) if size else 0
+            lines.append("counter %d %d" % (variables, last))
         for _ in range(rng.randint(0, 6)):
-            letter = rng.choice("qb")
-            nodes = random_quorum(rng, subject) if letter == "q" else random_block(rng, subject)
+            letter = rng.choice("sb" if kind.endswith("least") else "qb")
+            nodes = random_block(rng, subject) if letter == "b" else random_quorum(rng, subject)
             if letter == "b" or nodes:
                 last += 1
                 held[last] = frozenset((-1 if letter == plain.SOUGHT[kind].decode() else 1) * (order.index(it) + 1) for it in nodes if it in order)
+                if letter == "s":
+                    held[last] = frozenset([-plain.counted(size, size, len(nodes))])
                 lines.append("%s %d%s" % (letter, last, plain.spelled(nodes)))
-        more, last = random_steps(rng, held, len(order), last, rng.random() < 0.05)
+        more, last = random_steps(rng, held, variables, last, rng.random() < 0.05)
         lines += more
-    return lines + (empty_lemma(held, last) if kind in ("refutation", "blocking", "quorums") else [])
+    return lines + (empty_lemma(held, last) if kind in ("refutation", "blocking", "quorums", "least") else [])
 
 
 def random_proof(rng, subject):
@@ -420,6 +436,50 @@ def mutated_lines(rng, lines, subject, others):
 # ---- Words
 
 
+def random_edit(rng, system):
+    """A line of a script, mostly an edit that may be made."""
+    known = sorted(system)
+    names = known + ["h", "i", "zz"]
+    node = rng.choice(names if rng.random() < 0.1 else known or ["a"])
+    path, here = "", system.get(node)
+    while here and rng.random() < 0.6:
+        inner = [entry for entry in here[1] if not isinstance(entry, str)]
+        if not inner:
+            break
+        at = rng.randrange(len(inner))
+        path, here = path + ".%d" % at, inner[at]
+    if rng.random() < 0.05:
+        path = rng.choice(["..", ".00", "0", ".x", ".9", path + ".0", path + ".4294967295", path + ".4294967296", path + "." + "9" * 30])
+    own = [entry for entry in here[1] if isinstance(entry, str)] if here else []
+    return rng.choice(
+        [
+            lambda: "threshold %s %s %s" % (node, path or ".", rng.choice([0, 1, 1, 2, 2, 3, 4] if rng.random() < 0.9 else EDGES)),
+            lambda: "add %s %s %s" % (node, path or ".", rng.choice(names)),
+            lambda: "drop %s %s %s" % (node, path or ".", rng.choice(own or names)),
+            lambda: "declare %s" % rng.choice([it for it in names if not system.get(it)] or names),
+            lambda: "retire %s" % node,
+        ]
+    )().encode()
+
+
+def random_script(rng, system):
+    """Edits of the system one after another, up to one that may not be made, or to the end."""
+    lines = []
+    for _ in range(rng.choice([0, 1, 2, 5, 12, 40])):
+        line = random_edit(rng, system)
+        if rng.random() < 0.02:
+            line = mutated_bytes(rng, line)
+        try:
+            system = plain.edited(system, line)
+        except plain.Fault:
+            if rng.random() < 0.8:
+                continue
+            lines.append(line)
+            break
+        lines.append(line)
+    return b"".join(line + b"\n" for line in lines)
+
+
 def mutated_words(rng, words):
     words = list(words)
     for _ in range(rng.choice([1, 1, 2, 3])):
@@ -428,9 +488,9 @@ def mutated_words(rng, words):
         if kind == 0 and words:
             del words[at % len(words)]
         elif kind == 1:
-            words.insert(at, rng.choice(["--set", "--set=", "--set=a,b", "--faulty", "--faulty=a", "--from=a", "--from", "--node=a", "--orgs=orgs", "--faulty-orgs=A", "--budget=0", "--budget=4000000000", "--budget=4000000001", "--budget=-1", "--budget=01", "--budget=+1", "--budget=", "--", "-", "-x", "--help", "-h", "--version", "help", "", "config", "cert", "=", "--=", "a", "--budget=18446744073709551616"]))
+            words.insert(at, rng.choice(["--set", "--set=", "--set=a,b", "--faulty", "--faulty=a", "--from=a", "--from", "--node=a", "--orgs=orgs", "--faulty-orgs=A", "--budget=0", "--budget=4000000000", "--budget=4000000001", "--budget=-1", "--budget=01", "--budget=+1", "--budget=", "--", "-", "-x", "--help", "-h", "--version", "help", "", "config", "cert", "script", "=", "--=", "a", "--budget=18446744073709551616"]))
         elif kind == 2 and words:
-            words[at % len(words)] = rng.choice(["show", "closure", "greatest", "intersect", "available", "dset", "blocks", "vblocks", "splits", "blocking", "quorums", "check", "check-lrat", "export", "trial", "missing", "config", "cert"])
+            words[at % len(words)] = rng.choice(["show", "closure", "greatest", "intersect", "available", "dset", "blocks", "vblocks", "splits", "blocking", "quorums", "least", "check", "check-lrat", "export", "trial", "whatif", "missing", "config", "cert", "script"])
         elif kind == 3 and words:
             other = rng.randrange(len(words))
             at %= len(words)
@@ -458,6 +518,7 @@ class Program:
         self.searches = [it for it in SEARCHES if b"\n" + it.encode() + b" CONFIG CERT" in usage]
         self.has_trial = b"\ntrial N CERT" in usage
         self.has_proofs = b"\ncheck-lrat CONFIG LRAT" in usage
+        self.has_scripts = b"\nwhatif CONFIG SCRIPT" in usage
 
     def run(self, case):
         """The status, what is put out, what is on standard error, and what the files then hold."""
@@ -504,6 +565,8 @@ class Program:
             subject = case.wanted
             self.said = plain.check_lrat(subject.data, case.files["cert"], subject.start, set(subject.given))
             return self.said
+        if case.kind == "whatif":
+            return plain.whatif(case.files["config"], case.files["script"], case.wanted)
         if case.kind == "orgs":
             return wanted_of_orgs(case)
         if case.kind == "question":
@@ -526,6 +589,14 @@ class Program:
             if kind == command and status == 0 and text == said.split("\n", 3)[3].join(["%s %s\n" % (command, said.split("\n")[0].split(" ")[2]), ""]):
                 return None if wanted is None or text == wanted else "found %r, wanted %r" % (text, wanted)
             if said.startswith("accepted partial-%s %d\n" % (command, budget)) and (status, text) == (2, "%s unknown %d\n" % (command, budget)):
+                return fault_of_units(subject, cert)
+            return "found %r with %r" % ((status, text), said)
+        if command == "least":
+            wanted = None if every is None else min(map(len, every), default=None)
+            if kind == "least" and status == 0 and "accepted " + text.split("\n")[0] + "\n" + head + "".join(text.split("\n", 1)[1:]) == said:
+                count = text.split("\n")[0].split(" ")[1]
+                return None if every is None or count == ("none" if wanted is None else str(wanted)) else "found %r, wanted %r" % (text, wanted)
+            if said.startswith("accepted partial-least %d\n" % budget) and (status, text) == (2, "least unknown %d\n" % budget):
                 return fault_of_units(subject, cert)
             return "found %r with %r" % ((status, text), said)
         if command == "trial" and not text.startswith(sizes_of_trial(subject.system)):
@@ -598,8 +669,7 @@ def wanted_of_question(case):
     if command == "greatest":
         return 0, "greatest%s\n" % plain.spelled(subject.shrunk(everyone))
     if command == "available":
-        unmet = [it for it in everyone - given if not plain.has_slice(subject.system, it, everyone - given)]
-        return (1, "available no\nunmet%s\n" % plain.spelled(unmet)) if unmet else (0, "available yes\n")
+        return plain.availability(subject.system, given)
     if command == "blocks":
         left = subject.shrunk(everyone - given)
         return (1, "blocks no\nquorum%s\n" % plain.spelled(left)) if left else (0, "blocks yes\n")
@@ -646,6 +716,8 @@ class Maker:
             return self.trial()
         if chance < 0.84:
             return self.orgs()
+        if chance < 0.9 and self.program.has_scripts:
+            return self.whatif()
         return self.words()
 
     def config(self):
@@ -754,6 +826,21 @@ class Maker:
         ids = ",".join(rng.choice(["A", "A", "B", "C", "X", "", "é", "A B"]) for _ in range(rng.choice([0, 1, 1, 2])))
         return Case("orgs", ["greatest", "config", "--orgs", "orgs", "--faulty-orgs=" + ids], {"config": self.config(), "orgs": data}, None)
 
+    def whatif(self):
+        rng = self.rng
+        data = self.config()
+        try:
+            system = plain.system_of(data)
+        except plain.Fault:
+            system = {}
+        script = random_script(rng, system)
+        if rng.random() < 0.1:
+            script = mutated_bytes(rng, script)
+        if rng.random() < 0.2:
+            script = script[:-1]
+        names = ",".join(rng.sample("abcdefg" if rng.random() < 0.05 else sorted(system), rng.randint(0, min(3, len(system)))))
+        return Case("whatif", ["whatif", "config", "script", "--set=" + names], {"config": data, "script": script}, names)
+
     def words(self):
         rng = self.rng
         names = ",".join(rng.sample("abcdefg", rng.randint(0, 3)))
@@ -770,16 +857,18 @@ class Maker:
                 ["splits", "config", "cert", "--set", names],
                 ["blocking", "config", "cert"],
                 ["quorums", "config", "cert", "--budget", "9"],
+                ["least", "config", "cert", "--budget", "9"],
                 ["check", "config", "cert"],
                 ["check-lrat", "config", "cert", "--faulty", names],
                 ["export", "config", "--faulty", names],
                 ["trial", "1", "cert", "--budget", "2"],
+                ["whatif", "config", "script", "--set", names],
             ]
         )
         words = mutated_words(rng, words) if rng.random() < 0.8 else words
         if rng.random() < 0.02:
             words.append(b"--set=\xff")
-        return Case("words", words, {"config": self.config(), "cert": b"old\n", "orgs": b'[{"id":"A","validators":["a"]}]'}, None)
+        return Case("words", words, {"config": self.config(), "cert": b"old\n", "script": b"retire a\n", "orgs": b'[{"id":"A","validators":["a"]}]'}, None)
 
 
 def parts(data):
@@ -819,6 +908,7 @@ def main():
     parser = argparse.ArgumentParser()
     parser.add_argument("--cases", type=int, default=400)
     parser.add_argument("--seed", type=int, default=1)
+    parser.add_argument("--kind")
     parser.add_argument("program", nargs="?", default=BUILT)
     asked = parser.parse_args()
     passed = failed = 0
@@ -826,7 +916,7 @@ def main():
         program = Program(asked.program, folder)
         maker = Maker(random.Random(asked.seed), program)
         for number in range(asked.cases):
-            case = maker.case()
+            case = getattr(maker, asked.kind)() if asked.kind else maker.case()
             if program.fault(case) is None:
                 passed += 1
                 if case.kind == "search":

@@ -245,6 +245,10 @@ LISTED = "accepted blocking 3\nfrom\nfaulty\nset a b\nset a c\nset b c\n"
 SOME = head(THREE, "partial-blocking")
 QUORUMS = head(THREE, "quorums", version=2) + re.sub(rb"(?m)^[qb]", lambda it: b"b" if it[0] == b"q" else b"q", BLOCKS)
 
+LEAST_LINES = b"counter 9 9\ns 10 a b\nb 11 a b\nb 12 a c\nb 13 b c\n14 -2 0 3 10 8 7 4 1 12 0\n15 0 14 11 13 1 2 10 8 0\nend\n"
+LEAST = head(THREE, "least", version=2) + LEAST_LINES
+SOME_LEAST = head(THREE, "partial-least", version=2)
+
 LISTS = [
     ("as it should be", THREE, BLOCKING, 0, LISTED),
     ("a set left out", THREE, BLOCKING.replace(b"b 6 b c\n", b""), 5, "refused step 12 no-such-clause 6\n"),
@@ -282,6 +286,25 @@ LISTS = [
     ("a quorum that is not minimal", THREE, QUORUMS.replace(b"q 4 a b", b"q 4 a b c"), 5, "refused not-minimal 9\n"),
     ("a blocking set that is not minimal", THREE, QUORUMS.replace(b"b 3 b c", b"b 3 a b c"), 5, "refused step 12 no-conflict\n"),
     ("no quorums", EMPTY, head(EMPTY, "quorums", version=2) + b"b 1\n2 0 1 0\nend\n", 0, "accepted quorums 0\nfrom\nfaulty\n"),
+    ("a smallest quorum", THREE, LEAST, 0, "accepted least 2\nfrom\nfaulty\nset a b\n"),
+    ("a smallest quorum in version 1", THREE, LEAST.replace(b"cert 2", b"cert 1"), 5, "refused bad-line 5\n"),
+    ("a quorum that is not smaller", THREE, LEAST.replace(b"s 10 a b\n", b"s 10 a b\ns 11 a c\n"), 5, "refused not-smaller 8\n"),
+    ("a smaller set that is no quorum", THREE, LEAST.replace(b"s 10 a b\n", b"s 10 a b\ns 11 a\n"), 5, "refused not-quorum 8\n"),
+    ("a larger quorum told as a smallest", THREE, LEAST.replace(b"s 10 a b\n", b"s 10 a b c\n"), 5, "refused step 11 not-unit 3\n"),
+    ("no smallest quorum listed", THREE, LEAST.replace(b"s 10 a b\n", b""), 5, "refused step 10 no-such-clause 10\n"),
+    ("a quorum by the other letter", THREE, LEAST.replace(b"s 10", b"q 10"), 5, "refused bad-line 7\n"),
+    ("a smaller quorum in a list", THREE, BLOCKING.replace(b"q 1 ", b"s 1 "), 5, "refused bad-line 6\n"),
+    ("a counter of one clause less", THREE, LEAST.replace(b"counter 9 9", b"counter 9 8"), 5, "refused formula 6\n"),
+    ("a counter of one variable more", THREE, LEAST.replace(b"counter 9 9", b"counter 10 9"), 5, "refused formula 6\n"),
+    ("a formula for a counter", THREE, LEAST.replace(b"counter", b"formula"), 5, "refused bad-line 6\n"),
+    ("a counter with a zero before it", THREE, LEAST.replace(b"counter 9 9", b"counter 09 9"), 5, "refused bad-line 6\n"),
+    ("a counter of 2^63 clauses", THREE, LEAST.replace(b"counter 9 9", b"counter 9 9223372036854775808"), 5, "refused bad-line 6\n"),
+    ("nothing behind the kind", THREE, head(THREE, "least", version=2), 5, "refused truncated 6\n"),
+    ("an id of the counter", THREE, LEAST.replace(b"s 10 a b", b"s 9 a b"), 5, "refused step 7 id-order 9 9\n"),
+    ("no quorum at all", EMPTY, head(EMPTY, "least", version=2) + b"counter 0 0\nb 1\n2 0 1 0\nend\n", 0, "accepted least none\nfrom\nfaulty\n"),
+    ("a part of a search for a smallest", THREE, SOME_LEAST + b"counter 9 9\ns 10 a b c\ns 11 a b\nb 12 a b\nend\n", 2, "accepted partial-least 1\nfrom\nfaulty\n"),
+    ("a blocking set again in a part", THREE, SOME_LEAST + b"counter 9 9\nb 10 a b\nb 11 a b\n", 5, "refused not-new 8\n"),
+    ("the empty lemma in a part of a search for a smallest", THREE, SOME_LEAST + b"counter 9 9\n10 0 1 0\n", 5, "refused bad-line 7\n"),
     ("some quorums", THREE, head(THREE, "partial-quorums", version=2) + b"q 1 a b\nend\n", 2, "accepted partial-quorums 1\nfrom\nfaulty\n"),
 ]
 
@@ -332,6 +355,36 @@ PROOFS = [
     ("blanks up to 134,217,729 bytes", lambda: FIRST + b" " * (MOST_LINE + 1) + b"\n" + LAST, 5, "refused line-too-long 2\n"),
     ("an empty lemma with blanks up to 134,217,728 bytes", lambda: FIRST + LAST[:-1].ljust(MOST_LINE), 0, VERIFIED),
     ("an empty lemma with blanks up to 134,217,729 bytes", lambda: FIRST + LAST[:-1].ljust(MOST_LINE + 1), 5, "refused line-too-long 2\n"),
+]
+
+
+# Scripts over two of two, p and q, with the set p, and their answers.
+BEFORE = "edit 0\ngreatest p q\navailable no\nunmet q\n"
+SCRIPTS = [
+    ("nothing", b"", 0, BEFORE),
+    ("1,048,576 bytes of line feeds", lambda: b"\n" * 1048576, 10, "script bad-line 1\n"),
+    ("1,048,577 bytes", lambda: b"\n" * 1048577, 10, "script too-long\n"),
+    ("one line of 1,048,576 bytes", lambda: b"retire " + b"p" * 1048569, 10, "script bad-line 1\n"),
+    ("a threshold of a million digits", lambda: b"threshold p . " + b"1" * 1048562, 10, "script bad-line 1\n"),
+    ("a path of a million digits", lambda: b"threshold p ." + b"1" * 1048561 + b" 1", 10, "script no-set 1\n"),
+    ("a path of half a million places", lambda: b"threshold p " + b".0" * 524281 + b" 1", 10, "script no-set 1\n"),
+    ("a threshold of 2^64 - 1", b"threshold p . 18446744073709551615", 0, BEFORE + "edit 1\ngreatest\navailable no\nunmet q\n"),
+    ("a threshold of 2^64", b"threshold p . 18446744073709551616", 10, "script bad-line 1\n"),
+    ("a name of 128 bytes", b"declare " + b"x" * 128, 0, BEFORE + "edit 1\ngreatest p q\navailable no\nunmet q %s\n" % ("x" * 128)),
+    ("a name of 129 bytes", b"declare " + b"x" * 129, 10, "script bad-line 1\n"),
+    ("a zero byte", b"retire p\0", 10, "script bad-line 1\n"),
+    ("no UTF-8", b"retire \xff", 10, "script bad-line 1\n"),
+    ("a tab between words", b"retire\tp", 10, "script bad-line 1\n"),
+    ("a carriage return", b"retire p\r\n", 10, "script bad-line 1\n"),
+    ("a byte order mark", b"\xef\xbb\xbfretire p", 10, "script bad-line 1\n"),
+    ("a configuration", TWO, 10, "script bad-line 1\n"),
+]
+
+# Nodes and entries at the limits, what comes to them, and the answer.
+LIMITS = [
+    ("one node too many", lambda: b"[" + b",".join(b'{"publicKey":"n%05d"}' % i for i in range(16384)) + b"]", b"declare x", "script too-many-nodes 1 16385\n"),
+    ("one entry too many", lambda: one(b'{"threshold":1,"validators":[' + b",".join([b'"a"'] * 1000000) + b"]}"), b"add a . a", "script too-many-entries 1 1000001\n"),
+    ("one entry too many, of a new node", lambda: one(b'{"threshold":1,"validators":[' + b",".join([b'"a"'] * 1000000) + b"]}"), b"add a . x", "script too-many-entries 1 1000001\n"),
 ]
 
 
@@ -410,10 +463,18 @@ def main(program=BUILT):
         for name, proof, status, text in PROOFS:
             trial.put("cert", proof)
             trial.row("proof: " + name, status, text, "check-lrat", "config", "cert")
+        for name, script, status, text in SCRIPTS:
+            trial.put("script", script)
+            trial.row("script: " + name, status, text, "whatif", "config", "script", "--set", "p")
+        for name, config, script, text in LIMITS:
+            trial.put("config", config)
+            trial.put("script", script)
+            trial.row("script: " + name, 10, text, "whatif", "config", "script", "--set=")
         trial.full_files("intersect", "config", "made")
         trial.full_files("intersect", "config", "made", "--faulty", "a")
         trial.full_files("blocking", "config", "made")
         trial.full_files("quorums", "config", "made")
+        trial.full_files("least", "config", "made")
     print("malicious: %d passed, %d failed" % (trial.passed, trial.failed))
     return 1 if trial.failed else 0
 

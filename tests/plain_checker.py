@@ -1,8 +1,8 @@
 #!/usr/bin/env python3
-"""A second checker of certificates and of proofs, plain and slow, written from docs/FORMATS.md and docs/DEFINITIONS.md and not from the code.
+"""A second checker of certificates, of proofs and of edits, plain and slow, written from docs/FORMATS.md and docs/DEFINITIONS.md and not from the code.
 
-It answers 'check CONFIG CERT' and 'check-lrat CONFIG LRAT' with the program's status and text, and reads organisations, so that
-tests/fuzz.py can compare the two. Nothing here is proved. By hand: tests/plain_checker.py CONFIG CERT
+It answers 'check CONFIG CERT', 'check-lrat CONFIG LRAT' and 'whatif CONFIG SCRIPT' with the program's status and text, and reads organisations, so
+that tests/fuzz.py can compare the two. Nothing here is proved. By hand: tests/plain_checker.py CONFIG CERT
 """
 
 import hashlib
@@ -12,6 +12,7 @@ import re
 import sys
 
 MOST_BYTES = 16777216
+MOST_SCRIPT = 1048576
 MOST_NAMES = 16384
 MOST_ENTRIES = 1000000
 MOST_DEPTH = 32
@@ -20,9 +21,11 @@ MOST_LINE = 134217728
 MOST_ID = 2**63 - 1
 MOST_LIT = 2**31 - 1
 
-KINDS = ("pair", "refutation", "partial", "blocking", "partial-blocking", "quorums", "partial-quorums")
+KINDS = ("pair", "refutation", "partial", "blocking", "partial-blocking", "quorums", "partial-quorums", "least", "partial-least")
+# The kinds of version 2 alone.
+LATER = KINDS[5:]
 # The letter of the sets that a list is of.
-SOUGHT = {"blocking": b"b", "partial-blocking": b"b", "quorums": b"q", "partial-quorums": b"q"}
+SOUGHT = {"blocking": b"b", "partial-blocking": b"b", "quorums": b"q", "partial-quorums": b"q", "least": b"s", "partial-least": b"s"}
 
 sys.setrecursionlimit(10000)
 
@@ -115,6 +118,11 @@ def system_of(data):
     """The system of a configuration: a quorum set, or None, by name."""
     if len(data) > MOST_BYTES:
         raise Fault("too-long")
+    return system_in(data)
+
+
+def system_in(data):
+    """The same without a limit on the bytes."""
     tree = tree_of(data)
     if not isinstance(tree, list):
         raise Fault("not-nodes")
@@ -205,6 +213,13 @@ def blocks(system, faulty, nodes):
     return not greatest_in(system, faulty, set(system) - nodes)
 
 
+def availability(system, given):
+    """The status and the text of 'available' without these nodes."""
+    others = set(system) - given
+    unmet = [node for node in others if not has_slice(system, node, others)]
+    return (1, "available no\nunmet%s\n" % spelled(unmet)) if unmet else (0, "available yes\n")
+
+
 def closure(system, node):
     reached, fresh = {node}, [node]
     while fresh:
@@ -239,6 +254,22 @@ def circuit_of(quorum_set, greatest, faulty):
     if threshold <= 0:
         return ALWAYS
     return (threshold, tuple(inputs)) if threshold <= len(inputs) else NEVER
+
+
+def counted(size, i, j):
+    """The variable of a counter of so many names that tells whether at least j of the first i are true."""
+    return size + i * (i - 1) // 2 + j
+
+
+def counter_of(size):
+    """The clauses of the counter, in order."""
+    clauses = []
+    for i in range(1, size + 1):
+        for j in range(1, i + 1):
+            if j < i:
+                clauses.append([-counted(size, i - 1, j), counted(size, i, j)])
+            clauses.append([-i] + ([-counted(size, i - 1, j - 1)] if j > 1 else []) + [counted(size, i, j)])
+    return clauses
 
 
 class Formula:
@@ -516,7 +547,7 @@ class Check:
         self.faulty = self.known(self.names(rest), self.whole) & part
         self.system = {name: self.whole[name] for name in part}
         (kind,) = self.matching(rb"kind (.*)")
-        if kind.decode("latin-1") not in KINDS or kind.endswith(b"quorums") and self.version == 1:
+        if kind.decode("latin-1") not in KINDS or kind.decode("latin-1") in LATER and self.version == 1:
             self.refuse("bad-line")
         answer, status, lines = self.body(kind.decode())
         if self.at < len(self.data):
@@ -533,11 +564,16 @@ class Check:
         else:
             self.order = sorted(greatest_in(self.system, self.faulty, set(self.system)))
             self.held = Held(len(self.order), [], takes_rat=False)
+            if kind.endswith("least"):
+                self.counter()
         units, sets = self.steps(kind)
         if kind == "refutation":
             return kind, 0, ""
+        if kind == "least":
+            found = sets[-1] if sets else None
+            return "least %s" % ("none" if found is None else len(found)), 0, "" if found is None else "set%s\n" % spelled(found)
         if kind in ("blocking", "quorums"):
-            return "%s %d" % (kind, len(sets)), 0, "".join("set%s\n" % spelled(each) for each in sorted(sets))
+            return "%s %d" % (kind, len(set(sets))), 0, "".join("set%s\n" % spelled(each) for each in sorted(set(sets)))
         return "%s %d" % (kind, units), 2, ""
 
     def pair(self):
@@ -566,10 +602,22 @@ class Check:
             self.refuse("formula")
         self.held = Held(formula.variables, formula.clauses, takes_rat=True)
 
+    def counter(self):
+        said = self.matching(rb"counter (0|[1-9][0-9]*) (0|[1-9][0-9]*)")
+        if any(len(it) > 19 or int(it) > MOST_ID for it in said):
+            self.refuse("bad-line")
+        size = len(self.order)
+        variables = size + size * (size + 1) // 2
+        if variables > MOST_VARS:
+            raise Refused("too-large %d" % variables, 9)
+        if [int(it) for it in said] != [variables, size * size]:
+            self.refuse("formula")
+        self.held = Held(variables, counter_of(size), takes_rat=False)
+
     def steps(self, kind):
-        """The number of units, and the sets that a list is of."""
-        whole = kind in ("refutation", "blocking", "quorums")
-        units, sets, closed = 0, set(), False
+        """The number of units, and the sets that a list is of, in their order."""
+        whole = kind in ("refutation", "blocking", "quorums", "least")
+        units, sets, closed = 0, [], False
         while True:
             line = self.line()
             if line == b"end":
@@ -578,11 +626,11 @@ class Check:
                 return units, sets
             if closed:
                 self.refuse("bad-line")
-            if kind in SOUGHT and line[:1] in (b"q", b"b"):
-                nodes = self.list_line(line, kind)
+            if kind in SOUGHT and line[:1] in (b"s" if kind.endswith("least") else b"q", b"b"):
+                nodes = self.list_line(line, kind, len(sets[-1]) if sets else None)
                 if line[:1] == SOUGHT[kind]:
-                    sets.add(tuple(sorted(nodes)))
-                units += 1
+                    sets.append(tuple(sorted(nodes)))
+                units += line[:1] != b"s"
                 continue
             number, literals, hints = self.step(line)
             if number is None:
@@ -615,16 +663,23 @@ class Check:
             self.refuse("not-new")
         self.held.hold(number, literals)
 
-    def list_line(self, line, kind):
-        letter, digits, rest = self.matching(rb"([qb]) ([1-9][0-9]*)(.*)", line)
+    def list_line(self, line, kind, last):
+        letter, digits, rest = self.matching(rb"([qbs]) ([1-9][0-9]*)(.*)", line)
         if len(digits) > 19 or int(digits) > MOST_ID:
             self.refuse("bad-line")
         number, names = int(digits), self.names(rest)
         self.judged(self.held.in_order, number)
         nodes = self.known(names, self.system)
         sought = letter == SOUGHT[kind]
-        if letter == b"b" and not sought:
+        if letter == b"s" or letter == b"b" and not sought:
             self.known(names, self.order)
+        if letter == b"s":
+            if not is_quorum(self.system, self.faulty, nodes):
+                self.refuse("not-quorum")
+            if last is not None and len(nodes) >= last:
+                self.refuse("not-smaller")
+            self.hold(number, [-counted(len(self.order), len(self.order), len(nodes))], new=False)
+            return nodes
         if letter == b"q":
             if not is_quorum(self.system, self.faulty, nodes):
                 self.refuse("not-quorum")
@@ -676,6 +731,136 @@ class Verification(Check):
         self.judged(self.held.follows, number, literals, hints)
         self.held.hold(number, literals)
         return not literals
+
+
+# ---- Edits
+
+PLACE = "(?:0|[1-9][0-9]*)"
+
+
+def is_threshold(word):
+    return re.fullmatch(PLACE, word) is not None and len(word) <= 20 and int(word) < 2**64
+
+
+def is_path(word):
+    return re.fullmatch(r"\.|(?:\.%s)+" % PLACE, word) is not None
+
+
+# What stands behind the word of an edit.
+EDITS = {
+    "threshold": (is_key, is_path, is_threshold),
+    "add": (is_key, is_path, is_key),
+    "drop": (is_key, is_path, is_key),
+    "declare": (is_key,),
+    "retire": (is_key,),
+}
+
+
+def words_of(line):
+    """The words of an edit."""
+    word, *rest = line.decode("latin-1").split(" ")
+    forms = EDITS.get(word)
+    if forms is None or len(forms) != len(rest) or not all(form(it) for form, it in zip(forms, rest)):
+        raise Fault("bad-line")
+    return word, rest
+
+
+def places_of(path):
+    """The places of a path; one that is too long for a number here is that of no quorum set."""
+    return [int(it) if len(it) < 20 else 10**20 for it in path.split(".")[1:] if it]
+
+
+def changed(quorum_set, places, change):
+    """The quorum set with the one at the path changed."""
+    threshold, entry_list = quorum_set
+    if not places:
+        return change(threshold, entry_list)
+    inner = [at for at, entry in enumerate(entry_list) if not isinstance(entry, str)]
+    if places[0] >= len(inner):
+        raise Fault("no-set")
+    at = inner[places[0]]
+    return threshold, entry_list[:at] + [changed(entry_list[at], places[1:], change)] + entry_list[at + 1 :]
+
+
+def with_name(threshold, entry_list, name):
+    at = sum(isinstance(entry, str) for entry in entry_list)
+    return threshold, entry_list[:at] + [name] + entry_list[at:]
+
+
+def without_name(threshold, entry_list, name):
+    if name not in entry_list:
+        raise Fault("not-there")
+    at = entry_list.index(name)
+    return threshold, entry_list[:at] + entry_list[at + 1 :]
+
+
+def edited(system, line):
+    """The system after an edit, its limits aside."""
+    word, (node, *rest) = words_of(line)
+    if word == "declare":
+        if system.get(node):
+            raise Fault("already")
+        return dict(system, **{node: (1, [])})
+    if node not in system:
+        raise Fault("unknown-node")
+    if system[node] is None:
+        raise Fault("no-set")
+    if word == "retire":
+        return dict(system, **{node: None})
+    places, last = places_of(rest[0]), rest[1]
+    changes = {
+        "threshold": lambda threshold, entry_list: (int(last), entry_list),
+        "add": lambda threshold, entry_list: with_name(threshold, entry_list, last),
+        "drop": lambda threshold, entry_list: without_name(threshold, entry_list, last),
+    }
+    after = dict(system, **{node: changed(system[node], places, changes[word])})
+    if word == "add":
+        after.setdefault(last, None)
+    return after
+
+
+def tree_of_set(quorum_set):
+    threshold, entry_list = quorum_set
+    return {
+        "threshold": threshold,
+        "validators": [entry for entry in entry_list if isinstance(entry, str)],
+        "innerQuorumSets": [tree_of_set(entry) for entry in entry_list if not isinstance(entry, str)],
+    }
+
+
+def text_of(system):
+    """A configuration that says the system: each of its names is a node."""
+    return json.dumps([dict({"publicKey": name}, **({"quorumSet": tree_of_set(own)} if own else {})) for name, own in system.items()]).encode()
+
+
+def whatif(config, script, names):
+    """The status and the text of 'whatif' of these bytes, with this list of names. After each edit the edited configuration is read anew."""
+    try:
+        system = system_of(config)
+    except Fault as fault:
+        return 4, "config %s\n" % fault
+    try:
+        given = listed(names, system)
+    except Fault as fault:
+        word, place = str(fault).split(" ")
+        return 3, "usage %s --set %s\n" % (word, place)
+    if len(script) > MOST_SCRIPT:
+        return 10, "script too-long\n"
+    *lines, rest = script.split(b"\n")
+    said = state(0, system, given)
+    for number, line in enumerate(lines + ([rest] if rest else []), 1):
+        try:
+            system = system_in(text_of(edited(system, line)))
+        except Fault as fault:
+            word, *count = str(fault).split(" ")
+            return 10, "script %s\n" % " ".join([word, str(number)] + count)
+        said += state(number, system, given)
+    return 0, said
+
+
+def state(number, system, given):
+    """What is so after so many edits."""
+    return "edit %d\ngreatest%s\n" % (number, spelled(greatest_in(system, set(), set(system)))) + availability(system, given)[1]
 
 
 def check_lrat(config, proof, start, faulty):

@@ -36,6 +36,8 @@ export CONFIG [COMMON]
 trial N CERT [--budget UNITS]
 check-lrat CONFIG LRAT [COMMON]
 quorums CONFIG CERT [COMMON] [--budget UNITS]
+least CONFIG CERT [COMMON] [--budget UNITS]
+whatif CONFIG SCRIPT --set NAMES
 COMMON: --from NAME --faulty NAMES --orgs ORGS --faulty-orgs IDS
 """
 
@@ -90,6 +92,9 @@ FILES = {
     "proof": PROOF,
     "cutproof": PROOF[:-1],
     "nothing": "",
+    "raise": "threshold a . 3",
+    "retire": "retire c\n",
+    "twice": "retire c\nretire c\n",
     "three": THREE,
     "pair": PAIR,
     "wide": WIDE,
@@ -139,6 +144,10 @@ ROWS = [
     ("quorums three less --faulty a", 0, "quorums 2\nset b\nset c\n", {}),
     ("quorums three none --budget 0", 2, "quorums unknown 0\n", {}),
     ("check three none", 2, "accepted partial-quorums 0\nfrom\nfaulty\n", {}),
+    ("least three fewest --faulty a,b", 0, "least 1\nset c\n", {}),
+    ("check three fewest", 0, "accepted least 1\nfrom\nfaulty a b\nset c\n", {}),
+    ("least three none --budget 0", 2, "least unknown 0\n", {}),
+    ("check three none", 2, "accepted partial-least 0\nfrom\nfaulty\n", {}),
     ("trial 1 tried", 0, TRIALS[1] + "intersects yes\n", {}),
     ("check one tried", 0, "accepted refutation\nfrom\nfaulty\n", {}),
     ("trial 4 tried --budget 10000", 0, TRIALS[4] + "intersects yes\n", {}),
@@ -158,6 +167,16 @@ ROWS = [
     ("check-lrat wide proof", 9, "too-large 6020400\n", {}),
     ("check-lrat two two", 3, "usage same-path\n", {"two": TWO}),
     ("check-lrat two proof --budget 3", 3, USAGE, {}),
+    ("whatif three raise --set c", 0, "edit 0\ngreatest a b c\navailable yes\nedit 1\ngreatest a b c\navailable no\nunmet a\n", {"three": THREE}),
+    ("whatif three retire --set=", 0, "edit 0\ngreatest a b c\navailable yes\nedit 1\ngreatest a b\navailable no\nunmet c\n", {"retire": "retire c\n"}),
+    ("whatif three nothing --set a,b", 0, "edit 0\ngreatest a b c\navailable no\nunmet c\n", {}),
+    ("whatif three twice --set c", 10, "script no-set 2\n", {}),
+    ("whatif three three --set c", 10, "script bad-line 1\n", {"three": THREE}),
+    ("whatif three missing --set c", 6, "", {"missing": None}),
+    ("whatif three . --set c", 6, "", {}),
+    ("whatif three missing --set z", 3, "usage unknown-name --set 1\n", {}),
+    ("whatif bad missing --set z", 4, "config not-json\n", {}),
+    ("whatif three raise", 3, USAGE, {}),
     ("intersect three longer --faulty a", 1, "intersects no\nfirst b\nsecond c\n", {"longer": PAIR}),
     ("intersect three three", 3, "usage same-path\n", {"three": THREE}),
     ("intersect three kept --faulty z", 3, "usage unknown-name --faulty 1\n", {"kept": None}),

@@ -1,9 +1,9 @@
 #!/usr/bin/env python3
-"""Compares `blocking` and `quorums` with trying all sets of nodes, on small random systems.
+"""Compares `blocking`, `quorums` and `least` with trying all sets of nodes, on small random systems.
 
-Makes COUNT systems of up to 12 nodes; the listed sets have to be the minimal ones in name order, and `check` has to accept each
-list. Beside the gate, by hand: tests/random_lists.py [COUNT [SEED]]; needs the built program. The last line is
-'random_lists: N passed, M failed', or says why it is skipped.
+Makes COUNT systems of up to 12 nodes; the listed sets have to be the minimal ones in name order, the set of `least` a quorum with
+as few nodes as any, and `check` has to accept each certificate and print the same. Beside the gate, by hand: tests/random_lists.py
+[COUNT [SEED]]; needs the built program. The last line is 'random_lists: N passed, M failed', or says why it is skipped.
 """
 import json
 import os
@@ -94,6 +94,19 @@ def agrees(folder, system, word, sets):
     return said(word, config, cert) == wanted and said("check", config, cert) == ["accepted " + wanted[0], "from", "faulty", *wanted[1:]]
 
 
+def names_least(folder, system, quorums):
+    """Whether the set of `least` is a smallest quorum, or none is where there is no quorum, and `check` says the same."""
+    config, cert = os.path.join(folder, "config"), os.path.join(folder, "cert")
+    found = said("least", config, cert)
+    if not found or said("check", config, cert) != ["accepted " + found[0], "from", "faulty", *found[1:]]:
+        return False
+    if not quorums:
+        return found == ["least none"]
+    nodes = sum(1 << int(name[1:]) for name in found[1].split(" ")[1:])
+    size = min(bin(it).count("1") for it in quorums)
+    return found[0] == "least %d" % size and bin(nodes).count("1") == size and is_quorum(system, nodes)
+
+
 def main(count=COUNT, seed=1):
     if not os.access(PROGRAM, os.X_OK):
         print("random_lists: skipped, the program is not built")
@@ -103,12 +116,13 @@ def main(count=COUNT, seed=1):
     with tempfile.TemporaryDirectory() as folder:
         for _ in range(int(count)):
             system = random_system()
-            for word, sets in (("blocking", minimal_blocks(system)), ("quorums", minimal_quorums(system))):
-                if agrees(folder, system, word, sets):
-                    passed += 1
-                else:
-                    failed += 1
-                    print("random_lists: %s differs: %s" % (word, as_json(system)))
+            quorums = minimal_quorums(system)
+            answers = [(word, agrees(folder, system, word, sets)) for word, sets in (("blocking", minimal_blocks(system)), ("quorums", quorums))]
+            answers.append(("least", names_least(folder, system, quorums)))
+            passed += sum(right for _, right in answers)
+            failed += sum(not right for _, right in answers)
+            for word in (word for word, right in answers if not right):
+                print("random_lists: %s differs: %s" % (word, as_json(system)))
     print("random_lists: %d passed, %d failed" % (passed, failed))
     return 1 if failed else 0
 

@@ -65,6 +65,7 @@ impl<T> Vec<T> {
     pub fn pop(&mut self) -> Option<T> { self.0.pop() }
     pub fn truncate(&mut self, n: usize) { self.0.truncate(n) }
     pub fn clear(&mut self) { self.0.clear() }
+    pub fn reserve(&mut self, n: usize) -> Result<(), AllocError> { self.0.reserve(n); Ok(()) }
     pub fn as_slice(&self) -> &[T] { &self.0 }
     pub fn allocator(&self) -> &Global { &GLOBAL }
     pub fn as_mut_slice(&mut self) -> &mut [T] { &mut self.0 }

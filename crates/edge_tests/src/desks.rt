@@ -94,12 +94,14 @@ fn three_calls(alloc: Global, call: Call) -> Result<String, AllocError> {
     format!(in alloc; "{call:?} {first} {second} {third}")
 }
 
-static CALLS: [(Call, &str); 9] = [
+static CALLS: [(Call, &str); 11] = [
     (Call::Begin(Which::Config), "Begin(Config) false true false"),
     (Call::Begin(Which::Orgs), "Begin(Orgs) false true false"),
+    (Call::Begin(Which::Script), "Begin(Script) false true false"),
     (Call::Begin(Which::Cert), "Begin(Cert) false true false"),
     (Call::Next(Which::Config), "Next(Config) false true false"),
     (Call::Next(Which::Orgs), "Next(Orgs) false true false"),
+    (Call::Next(Which::Script), "Next(Script) false true false"),
     (Call::Next(Which::Cert), "Next(Cert) false true false"),
     (Call::Create, "Create false true false"),
     (Call::Put(To::Out), "Put(Out) false true false"),

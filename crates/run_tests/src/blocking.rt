@@ -1,5 +1,5 @@
-//! Lists of minimal sets: what `blocking` and `quorums` print, that `check` accepts what they wrote, and what it says of other lists
-//! of blocking sets.
+//! Lists of minimal sets, and a smallest quorum: what `blocking`, `quorums` and `least` print, that `check` accepts what they wrote,
+//! and what it says of other lists of blocking sets.
 use crate::certificates::{DIGEST_OF_THREE, shared_of_kind};
 use crate::desks::{
     Files, Left, run_over, same, text_of, wants_checked, wants_left, wants_of_kind,
@@ -10,7 +10,7 @@ use std::alloc::{AllocError, Global};
 use std::process::Abort;
 
 // A configuration, a line, how it ends and what is out, and the same of `check` of the certificate.
-static LISTS: [(&str, &str, Status, &str, &str); 13] = [
+static LISTS: [(&str, &str, Status, &str, &str); 17] = [
     (
         TWO_OF_THREE,
         "blocking config cert",
@@ -101,6 +101,34 @@ static LISTS: [(&str, &str, Status, &str, &str); 13] = [
         Status::Unknown,
         "quorums unknown 0\n",
         "accepted partial-quorums 0\nfrom\nfaulty\n",
+    ),
+    (
+        REPEATED,
+        "least config cert",
+        Status::Yes,
+        "least 1\nset b\n",
+        "accepted least 1\nfrom\nfaulty\nset b\n",
+    ),
+    (
+        TWO_PAIRS,
+        "least config cert --from a",
+        Status::Yes,
+        "least 2\nset a b\n",
+        "accepted least 2\nfrom a\nfaulty\nset a b\n",
+    ),
+    (
+        "[]",
+        "least config cert",
+        Status::Yes,
+        "least none\n",
+        "accepted least none\nfrom\nfaulty\n",
+    ),
+    (
+        TWO_OF_THREE,
+        "least config cert --budget 0",
+        Status::Unknown,
+        "least unknown 0\n",
+        "accepted partial-least 0\nfrom\nfaulty\n",
     ),
 ];
 

@@ -83,6 +83,7 @@ fn held<'a>(proof: &'a str) -> Files<'a> {
         config: TWO_OF_TWO.as_bytes(),
         cert: proof.as_bytes(),
         orgs: ORG.as_bytes(),
+        script: b"",
     }
 }
 

@@ -17,6 +17,7 @@ pub struct Files<'a> {
     pub config: &'a [u8],
     pub cert: &'a [u8],
     pub orgs: &'a [u8],
+    pub script: &'a [u8],
 }
 
 impl<'a> Files<'a> {
@@ -26,6 +27,7 @@ impl<'a> Files<'a> {
             config,
             cert: b"",
             orgs: b"",
+            script: b"",
         }
     }
 
@@ -35,6 +37,7 @@ impl<'a> Files<'a> {
             config,
             cert,
             orgs: b"",
+            script: b"",
         }
     }
 }
@@ -72,12 +75,13 @@ fn push_file(
 /// How many bytes may be put in a run: more than the longest text of a test, the formula of half of two hundred.
 const ROOM: usize = 2_000_000;
 
-// The three files.
+// The four files.
 fn files_of(alloc: Global, held: &Files) -> Result<Vec<(String, Vec<u8>)>, AllocError> {
     let mut files = Vec::new(alloc);
     push_file(alloc, &mut files, "config", held.config)?;
     push_file(alloc, &mut files, "cert", held.cert)?;
     push_file(alloc, &mut files, "orgs", held.orgs)?;
+    push_file(alloc, &mut files, "script", held.script)?;
     Ok(files)
 }
 
@@ -93,7 +97,7 @@ fn creatable(alloc: Global) -> Result<Vec<String>, AllocError> {
     Ok(paths)
 }
 
-// A desk with the three files, which may create the file `c`, moves so many bytes at once and fails these calls.
+// A desk with the four files, which may create the file `c`, moves so many bytes at once and fails these calls.
 fn desk(
     alloc: Global,
     held: &Files,

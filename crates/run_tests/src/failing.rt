@@ -1,7 +1,7 @@
 //! Each call of the desk fails once, in whole runs: what stands then. The desk moves 8 bytes at once.
 use crate::certificates::PAIR_OF_THREE;
 use crate::desks::{Files, Left, run_over, same, wants_checked};
-use crate::systems::{ORG, THREE_OF_FOUR, TRIAL_OF_ONE, TWO_OF_THREE};
+use crate::systems::{ORG, REPEATED, THREE_OF_FOUR, TRIAL_OF_ONE, TWO_OF_THREE};
 use desk_io::{Call, To, Which};
 use quorum_run::Status;
 use std::alloc::{AllocError, Global};
@@ -13,7 +13,7 @@ const PIECE: usize = 8;
 /// More calls of a kind than a run makes.
 const MANY: u64 = 100_000;
 
-/// A run over a configuration, organisations and what stands in the file `cert`.
+/// A run over a configuration, organisations, a script and what stands in the file `cert`.
 #[derive(Clone, Copy)]
 struct Run {
     line: &'static str,
@@ -26,7 +26,7 @@ struct Run {
     written: Option<(Status, &'static str)>,
 }
 
-static RUNS: [Run; 12] = [
+static RUNS: [Run; 15] = [
     Run {
         line: "intersect config cert",
         config: TWO_OF_THREE,
@@ -110,11 +110,32 @@ static RUNS: [Run; 12] = [
         )),
     },
     Run {
+        line: "least config cert",
+        config: REPEATED,
+        cert: "old",
+        reads: &[Which::Config],
+        written: Some((Status::Yes, "accepted least 1\nfrom\nfaulty\nset b\n")),
+    },
+    Run {
+        line: "least config cert --budget 3",
+        config: TWO_OF_THREE,
+        cert: "old",
+        reads: &[Which::Config],
+        written: Some((Status::Unknown, "accepted partial-least 3\nfrom\nfaulty\n")),
+    },
+    Run {
         line: "splits config cert --set a",
         config: TWO_OF_THREE,
         cert: "old",
         reads: &[Which::Config],
         written: Some((Status::Yes, "accepted pair\nfrom\nfaulty a\n")),
+    },
+    Run {
+        line: "whatif config script --set c",
+        config: TWO_OF_THREE,
+        cert: "old",
+        reads: &[Which::Config, Which::Script],
+        written: None,
     },
     Run {
         line: "trial 1 cert",
@@ -126,11 +147,13 @@ static RUNS: [Run; 12] = [
 ];
 
 /// Each kind of call, of each file.
-static CALLS: [Call; 9] = [
+static CALLS: [Call; 11] = [
     Call::Begin(Which::Config),
     Call::Next(Which::Config),
     Call::Begin(Which::Orgs),
     Call::Next(Which::Orgs),
+    Call::Begin(Which::Script),
+    Call::Next(Which::Script),
     Call::Begin(Which::Cert),
     Call::Next(Which::Cert),
     Call::Create,
@@ -302,6 +325,7 @@ fn file<'a>(held: &Files<'a>, which: Which) -> &'a [u8] {
     match which {
         Which::Config => held.config,
         Which::Orgs => held.orgs,
+        Which::Script => held.script,
         Which::Cert => held.cert,
     }
 }
@@ -333,6 +357,7 @@ fn wants_run(rt: &impl Abort, alloc: Global, run: &Run) {
         config: run.config.as_bytes(),
         cert: run.cert.as_bytes(),
         orgs: ORG.as_bytes(),
+        script: b"threshold a . 3\nretire c\n",
     };
     let whole = leaves(alloc, run.line, &held).expect(rt, "memory");
     if let Some((status, accepted)) = run.written {

@@ -14,6 +14,8 @@ mod desks;
 #[cfg(test)]
 mod failing;
 #[cfg(test)]
+mod least;
+#[cfg(test)]
 mod malicious;
 #[cfg(test)]
 mod questions;
@@ -27,3 +29,5 @@ mod searches;
 mod systems;
 #[cfg(test)]
 mod trials;
+#[cfg(test)]
+mod whatif;

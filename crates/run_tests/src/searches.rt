@@ -124,6 +124,7 @@ fn held<'a>(config: &'a [u8]) -> Files<'a> {
         config,
         cert: b"",
         orgs: ORG.as_bytes(),
+        script: b"",
     }
 }
 

@@ -120,6 +120,25 @@ fn half(alloc: Global, is_rotated: bool) -> Result<Vec<u8>, AllocError> {
     Ok(config)
 }
 
+// The node of this number, which needs itself alone.
+fn push_alone(alloc: Global, config: &mut Vec<u8>, number: u32) -> Result<(), AllocError> {
+    let front = if number == 0 { "" } else { "," };
+    let node = format!(in alloc;
+        "{front}{{\"publicKey\":\"n{number}\",\"quorumSet\":{{\"threshold\":1,\"validators\":[\"n{number}\"]}}}}"
+    )?;
+    config.extend_from_slice(node.as_bytes())
+}
+
+/// A configuration of so many nodes, of which each needs itself alone.
+pub fn each_alone(alloc: Global, nodes: u32) -> Result<Vec<u8>, AllocError> {
+    let mut config = Vec::from_slice(alloc, b"[")?;
+    for number in 0..nodes {
+        push_alone(alloc, &mut config, number)?;
+    }
+    config.push(b']')?;
+    Ok(config)
+}
+
 /// The configuration of a trial of one organisation.
 pub const TRIAL_OF_ONE: &str =
     r#"[{"publicKey":"t000","quorumSet":{"innerQuorumSets":[{"innerQuorumSets":[],"threshold":2,"validators":["t000","t001","t002"]}],"threshold":1,"validators":[]}},{"publicKey":"t001","quorumSet":{"innerQuorumSets":[{"innerQuorumSets":[],"threshold":2,"validators":["t000","t001","t002"]}],"threshold":1,"validators":[]}},{"publicKey":"t002","quorumSet":{"innerQuorumSets":[{"innerQuorumSets":[],"threshold":2,"validators":["t000","t001","t002"]}],"threshold":1,"validators":[]}}]"#;
