@@ -5,7 +5,7 @@ ghost use Rattle.fbas_model.specs.Nodes.{Nodes, Table, members, ◌∈◌, ◌�
 ghost use Rattle.std.specs.Iterator.{YieldsFirst, item_count};
 ghost use Rattle.name_set.specs.Words.{PartAt, IsRest, IsFirst};
 
-use fbas_model::MOST_NODES;
+use fbas_model::{MOST_NODES, MOST_ORGS};
 use std::cmp::Ordering;
 use std::marker::Model;
 
@@ -26,6 +26,12 @@ pub const NODE_WORDS: usize = MOST_NODES / 64;
 
 /// A set of the nodes of a system.
 pub type NodeSet = NodeWords<NODE_WORDS>;
+
+/// How many words a set of the groups of a system has: there are at most as many groups as nodes and organisations.
+pub const GROUP_WORDS: usize = NODE_WORDS + MOST_ORGS / 64;
+
+/// A set of the groups of a system.
+pub type GroupSet = NodeWords<GROUP_WORDS>;
 
 impl<const W: usize> Model for NodeWords<W> {
     ghost use Rattle.fbas_model.specs.Nodes.{Table};
@@ -339,6 +345,19 @@ impl<'a, const W: usize> Iterator for Members<'a, W> {
         self.from = number + 1;
         Some(number)
     }
+}
+
+/// The same numbers in V words: O(V) and as many steps as there are numbers.
+pub fn resized<const W: usize, const V: usize>(set: &NodeWords<W>) -> NodeWords<V>
+    requires words { V ≤ MOST_WORDS }
+    requires fits { length set.now ≤ 64 * V }
+    ensures { result ≡ set.now }
+{
+    let mut copy = NodeWords::new(set.n);
+    for at in set.iter() {
+        copy.put(at);
+    }
+    copy
 }
 
 /// Compares sets as the sorted lists of their numbers, where a prefix comes first: O(W).

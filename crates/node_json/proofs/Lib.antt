@@ -19,3 +19,6 @@ pub mod OrgMarks
 pub mod OrgOwned
 pub mod IdReading
 pub mod OrgSamples
+pub mod GroupTexts
+pub mod GroupNodes
+pub mod GroupLoops

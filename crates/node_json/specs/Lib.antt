@@ -9,3 +9,5 @@ pub mod Sound
 pub mod SystemOf
 pub mod Organisations
 pub mod OrgsView
+pub mod Groups
+pub mod GroupsView

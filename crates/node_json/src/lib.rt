@@ -2,6 +2,7 @@
 #![tactic(auto)]
 
 mod faults;
+mod groups;
 mod ids;
 mod json_numbers;
 mod keys;
@@ -16,6 +17,7 @@ mod system;
 mod tree;
 
 pub use faults::{ConfigFault, OrgFault, SetFault};
+pub use groups::{Groups, groups_of};
 pub use ids::read_ids;
 pub use organisations::{Orgs, read_orgs};
 pub use system::read_config;

@@ -6,6 +6,7 @@ ghost use Rattle.std.specs.Str.{bytes_eq};
 ghost use Rattle.fbas_model.specs.Names.{marks};
 ghost use Rattle.node_json.specs.Organisations.{HasNone, among_nodes, ids_of, members_under, orgs_in, orgs_of, within_orgs};
 ghost use Rattle.node_json.specs.OrgsView.{named_org_view, named_orgs_view, named_ids, org_view};
+ghost use Rattle.node_json.specs.NamesInOrder.{in_order};
 ghost use Rattle.node_json.specs.Reading.{after, and_then};
 ghost use Rattle.node_json.specs.Tree.{view};
 ghost use Rattle.node_json.specs.View.{names_view};
@@ -36,7 +37,8 @@ pub struct Orgs {
 }
 
 impl Model for Orgs {
-    ghost use Rattle.std.specs.Prelude.{List};
+    ghost use Rattle.std.specs.Prelude.{◌≤◌, List, length};
+    ghost use Rattle.fbas_model.specs.declared.TheConstants.{MOST_ORGS};
     ghost use Rattle.node_json.specs.Organisations.{Org as Organisation};
 
     ghost Value = { List Organisation };
@@ -47,7 +49,7 @@ impl Model for Orgs {
 
     ghost view = { λ o. orgs_view o.list.items };
 
-    ghost invariant = { λ o. AreIndexed (orgs_view o.list.items) (λ id. get_by (λ key. name_cmp id key.items) o.places) };
+    ghost invariant = { λ o. AreIndexed (orgs_view o.list.items) (λ id. get_by (λ key. name_cmp id key.items) o.places) × (length o.list.items ≤ MOST_ORGS) };
 }
 
 impl Orgs {
@@ -70,6 +72,18 @@ impl Orgs {
     {
         let at = *self.places.get(id)?;
         Some(&self.list[at].members)
+    }
+
+    /// The ids of the organisations, in byte order: O(m log m) comparisons, and a copy of each of the m ids.
+    pub fn ids(&self, alloc: Global) -> Result<Names, AllocError>
+        ensures ids { IfOk result (λ ids. ids ≡ in_order (ids_of self.now)) }
+        ensures few { length self.now ≤ MOST_ORGS }
+    {
+        let mut ids = Vec::new(alloc);
+        for org in &self.list {
+            ids.push(Vec::from_slice(alloc, &org.id)?)?;
+        }
+        Names::of(ids)
     }
 }
 
@@ -106,6 +120,7 @@ fn owned_org(alloc: Global, names: &Names, org: &NamedOrg) -> Result<Org, AllocE
 // The organisations among the nodes of the names.
 fn owned_orgs(alloc: Global, names: &Names, orgs: &[NamedOrg]) -> Result<Orgs, AllocError>
     requires few { length names.now ≤ MOST_NODES }
+    requires few_orgs { length orgs.now ≤ MOST_ORGS }
     requires apart { IsDistinct bytes_eq (named_ids orgs.now) }
     ensures { IfOk result (λ o. o ≡ map (among_nodes names.now) (named_orgs_view orgs.now)) }
 {

@@ -13,11 +13,11 @@ returns-in_err-at c =
     let id = c.args.id.now in
     let r : c.from_residual.result ≡ None = search rules in
     let none : c.get.result ≡ None = search rules in
-    let nowhere : place_of (ids_of orgs) id ≡ None = sym (c.self.invariant.found id) ∙ sym c.get.ensures.value ∙ ap option_copied none in
+    let nowhere : place_of (ids_of orgs) id ≡ None = sym (c.self.invariant.0.found id) ∙ sym c.get.ensures.value ∙ ap option_copied none in
     rw (r, ← c.self.view_is) (record {
       value = sym (under-none orgs id nowhere);
       cases = under-missing orgs id (under-none orgs id nowhere);
-      apart = c.self.invariant.apart;
+      apart = c.self.invariant.0.apart;
     })
 
 pub index-requires : goal.index-requires
@@ -26,7 +26,7 @@ index-requires c =
     let orgs = orgs_view list in
     let id = c.args.id.now in
     let some : c.get.result ≡ Some c.in_ok-at.field-0 = search rules in
-    let here : place_of (ids_of orgs) id ≡ Some c.in_ok-at.field-0.now = sym (c.self.invariant.found id) ∙ sym c.get.ensures.value ∙ ap option_copied some in
+    let here : place_of (ids_of orgs) id ≡ Some c.in_ok-at.field-0.now = sym (c.self.invariant.0.found id) ∙ sym c.get.ensures.value ∙ ap option_copied some in
     omega (arith, place-within orgs id c.in_ok-at.field-0.now here, length-map list org_view)
 
 pub returns : goal.returns
@@ -36,11 +36,11 @@ returns c =
     let id = c.args.id.now in
     let at = c.in_ok-at.field-0.now in
     let some : c.get.result ≡ Some c.in_ok-at.field-0 = search rules in
-    let here : place_of (ids_of orgs) id ≡ Some at = sym (c.self.invariant.found id) ∙ sym c.get.ensures.value ∙ ap option_copied some in
+    let here : place_of (ids_of orgs) id ≡ Some at = sym (c.self.invariant.0.found id) ∙ sym c.get.ensures.value ∙ ap option_copied some in
     let within : at < length list = omega (arith, place-within orgs id at here, length-map list org_view) in
     let under : members_under orgs id ≡ Some c.index.result.now.members = under-at orgs id at here ∙ rw (slice_get-map org_view list at, slice_get_read list (length list) at c.index.result.now refl within c.index.ensures) refl in
     rw (← c.self.view_is) (record {
       value = sym under;
       cases = under-there orgs id c.index.result.now.members under;
-      apart = c.self.invariant.apart;
+      apart = c.self.invariant.0.apart;
     })
