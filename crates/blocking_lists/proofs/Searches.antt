@@ -22,11 +22,10 @@ use Rattle.list_journal.specs.Numbering.{variable_in, clause_for}
 use Rattle.list_journal.specs.Journals.{JournalLine, SetLine, Rules, list_of, RightFor, IsNewIf, nothing_held, JournalRun, line_progress, IsOpen, EndsRefuted, IsWholeJournal, journal_units, AreUseful}
 use Rattle.list_journal.specs.declared.kinds.ListKind.TheVariants.{Whole, Partial}
 use Rattle.lrat_text.specs.Texts.{IsId}
-use Rattle.blocking_lists.specs.Lines.{step_lines, merged, AreBetween, AreForgetting}
+use Rattle.blocking_lists.specs.Lines.{ListLine, step_lines, merged, AreBetween, AreForgetting}
 use Rattle.list_journal.specs.Lists.{IsMinimalSet}
 use Rattle.blocking_lists.specs.Outcomes.{rules, HasFewSteps, PartHolds}
 use Rattle.blocking_lists.specs.Search.{HoldsEmpty, IsSearch, AreMinimalLines, IsListing, IsShortLog, IsWholeListing}
-use Rattle.blocking_lists.specs.declared.journal.ListLine.{ListLine}
 use Rattle.list_journal.specs.declared.kinds.Listed.{Listed}
 use Rattle.list_journal.proofs.Greatest.{IsGreatest}
 use Rattle.list_journal.proofs.Duality.{is_of, minimal_within}

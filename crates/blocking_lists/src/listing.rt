@@ -93,7 +93,7 @@ pub fn list_quorums(
 }
 
 /// A solver over so many variables, without a clause.
-fn solver_over(alloc: Global, vars: u32) -> Result<Solver, AllocError>
+pub fn solver_over(alloc: Global, vars: u32) -> Result<Solver, AllocError>
     requires small { vars < 2 ^ 31 }
     ensures vars { IfOk result (λ solver. solver.vars ≡ vars) }
     ensures database { IfOk result (λ solver. (solver.database.held ≡ []) × (solver.database.last ≡ 0)) }

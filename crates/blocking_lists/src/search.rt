@@ -9,7 +9,7 @@ ghost use Rattle.list_journal.specs.Numbering.{clause_for};
 ghost use Rattle.greatest_quorum.specs.Greatest.{greatest_of};
 ghost use Rattle.blocking_lists.specs.Search.{IsListing, IsWholeListing};
 
-use crate::journal::ListLine;
+use crate::journal::{ListLine, ListedSet};
 use crate::model::model_set;
 use cdcl_core::{Budget, Solver, Verdict};
 use fbas_core::System;
@@ -17,20 +17,20 @@ use fbas_model::MOST_NODES;
 use greatest_quorum::{blocks, minimal_block, minimal_quorum};
 use list_journal::{Listed, clause_of};
 use lrat_model::Lit;
-use name_set::NodeSet;
+use name_set::{NodeSet, NodeWords};
 use std::alloc::{AllocError, Global};
 
 /// Adds the clause of a set to the solver, and lists the set behind the steps of the solver's log. Linear in the literals.
-pub fn list_set(
+pub fn list_set<const W: usize>(
     which: Listed,
     clause: &[Lit],
-    set: NodeSet,
+    set: NodeWords<W>,
     solver: &mut Solver,
-    listed: &mut Vec<ListLine>,
+    listed: &mut Vec<ListedSet<W>>,
 ) -> Result<(), AllocError>
     requires range { IsInRange solver.old.vars clause.now }
     requires room { solver.old.database.last + 1 < 2 ^ 63 }
-    ensures listed { OnOk result (listed.new.items ≡ listed.old.items ++ record { after = length solver.old.log; which = which; id = solver.old.database.last + 1; set = set } ∷ []) }
+    ensures listed { OnOk result (listed.new.items ≡ listed.old.items ++ record { after = length solver.old.log; which = which; id = solver.old.database.last + 1; set = set.entry } ∷ []) }
     ensures held { OnOk result (solver.new.database.held ≡ with_clause solver.old.database.held (solver.old.database.last + 1) clause.now) }
     ensures last { OnOk result (solver.new.database.last ≡ solver.old.database.last + 1) }
     ensures log { solver.new.log ≡ solver.old.log }
@@ -38,12 +38,7 @@ pub fn list_set(
 {
     let after = solver.log().len();
     let id = solver.add(clause)?;
-    listed.push(ListLine {
-        after,
-        which,
-        id,
-        set,
-    })?;
+    listed.push(ListedSet::new(after, which, id, set))?;
     Ok(())
 }
 

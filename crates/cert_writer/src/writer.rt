@@ -25,7 +25,7 @@ use fbas_core::System;
 use itoa::{Buffer, Integer};
 use list_journal::{ListKind, Listed};
 use lrat_text::{HintsRef, Lit, Log, StepRef};
-use name_set::{Names, NodeSet};
+use name_set::{NODE_WORDS, Names, NodeSet};
 use std::alloc::{AllocError, Global};
 use std::marker::Model;
 
@@ -335,7 +335,7 @@ impl CertWriter {
     }
 
     /// Writes a line of a journal: a listed set, or a step.
-    fn journal_line<D: Desk>(&mut self, desk: &mut D, names: &Names, line: Line<'_>)
+    fn journal_line<D: Desk>(&mut self, desk: &mut D, names: &Names, line: Line<'_, NODE_WORDS>)
         requires { CanBeLine (length names.now) (said_line line) }
         ensures { Writes D.tells (journal_line names.now (said_line line.entry) ++ 10 ∷ []) self.old (D.state desk.old) (D.faults desk.old) self.new (D.state desk.new) (D.faults desk.new) }
     {

@@ -16,7 +16,7 @@ use Rattle.list_journal.specs.Kinds.{signed}
 use Rattle.list_journal.specs.declared.kinds.Listed.TheVariants.{Quorum, Blocking}
 use Rattle.list_journal.proofs.Greatest.{IsGreatest}
 use Rattle.blocking_lists.specs.Search.{IsModelSet}
-use Rattle.blocking_lists.specs.declared.journal.ListLine.{ListLine}
+use Rattle.blocking_lists.specs.Lines.{ListLine}
 use Rattle.blocking_lists.proofs.Models.{useful_where_false}
 use Rattle.blocking_lists.proofs.Searches.{has_member}
 use Rattle.blocking_lists.proofs.Turns.{blocking_out, model_within, model_left}

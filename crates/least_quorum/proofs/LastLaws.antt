@@ -6,8 +6,7 @@ use Rattle.list_journal.specs.Kinds.{is_sought}
 use Rattle.list_journal.specs.Journals.{put_if}
 use Rattle.list_journal.specs.declared.kinds.Listed.{Listed}
 use Rattle.list_journal.specs.declared.kinds.Listed.TheVariants.{Quorum, Blocking, Smaller}
-use Rattle.blocking_lists.specs.Lines.{listed_in}
-use Rattle.blocking_lists.specs.declared.journal.ListLine.{ListLine}
+use Rattle.blocking_lists.specs.Lines.{ListLine, listed_in}
 use Rattle.blocking_lists.proofs.Merged.{listed_more}
 use Rattle.least_journal.specs.Least.{last_of}
 

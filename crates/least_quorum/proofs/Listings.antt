@@ -24,9 +24,8 @@ use Rattle.list_journal.specs.declared.kinds.Listed.TheVariants.{Smaller, Blocki
 use Rattle.list_journal.proofs.Greatest.{IsGreatest}
 use Rattle.list_journal.proofs.Ids.{AreBelow, below_run}
 use Rattle.list_journal.proofs.Runs.{AsksMore}
-use Rattle.blocking_lists.specs.Lines.{step_lines, merged, AreBetween, AreForgetting, listed_in}
+use Rattle.blocking_lists.specs.Lines.{ListLine, step_lines, merged, AreBetween, AreForgetting, listed_in}
 use Rattle.blocking_lists.specs.Search.{IsShortLog}
-use Rattle.blocking_lists.specs.declared.journal.ListLine.{ListLine}
 use Rattle.blocking_lists.proofs.Merged.{between_more, between_push, merged_steps, merged_line, listed_append}
 use Rattle.blocking_lists.proofs.Searches.{search_steps, search_refuted, empty_stays}
 use Rattle.blocking_lists.proofs.Short.{short_log, short_nothing}

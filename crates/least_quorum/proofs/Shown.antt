@@ -13,9 +13,8 @@ use Rattle.clause_encoder.specs.NameCounter.{counter_vars}
 use Rattle.list_journal.specs.Journals.{JournalLine, SetLine, StepLine, journal_units, sets_in}
 use Rattle.list_journal.specs.declared.kinds.Listed.TheVariants.{Quorum, Blocking, Smaller}
 use Rattle.list_journal.proofs.Greatest.{counted_greatest}
-use Rattle.blocking_lists.specs.Lines.{merged, listed_in, steps_in, IsShortStep, HasFewWords}
+use Rattle.blocking_lists.specs.Lines.{ListLine, merged, listed_in, steps_in, IsShortStep, HasFewWords}
 use Rattle.blocking_lists.specs.Search.{IsShortLog}
-use Rattle.blocking_lists.specs.declared.journal.ListLine.{ListLine}
 use Rattle.blocking_lists.proofs.Merged.{sets_merged, steps_merged, few_words_merged}
 use Rattle.blocking_lists.proofs.Models.{empty_closes}
 use Rattle.least_journal.specs.Least.{least_of, AreSmaller, FallFrom, IsWholeLeast, last_of, answer_of, IsLeastAnswer}

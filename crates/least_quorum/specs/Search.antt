@@ -10,9 +10,8 @@ use Rattle.cdcl_core.specs.Solving.{Solving}
 use Rattle.clause_encoder.specs.NameCounter.{counter_vars}
 use Rattle.list_journal.specs.Journals.{IsWholeJournal, journal_units}
 use Rattle.list_journal.specs.declared.kinds.Listed.TheVariants.{Smaller}
-use Rattle.blocking_lists.specs.Lines.{merged, AreBetween, AreForgetting, listed_in}
+use Rattle.blocking_lists.specs.Lines.{ListLine, merged, AreBetween, AreForgetting, listed_in}
 use Rattle.blocking_lists.specs.Search.{IsSearch, IsShortLog}
-use Rattle.blocking_lists.specs.declared.journal.ListLine.{ListLine}
 use Rattle.least_journal.specs.Least.{least_of, AreSmaller}
 use Rattle.least_quorum.specs.Staying.{Stays, HoldsCounter, clause_of_size}
 

@@ -116,8 +116,8 @@ fn last_quorum(listed: &[ListLine]) -> Option<NodeSet>
 {
     let mut last = None;
     for line in listed {
-        if is_smaller(line.which) {
-            last = Some(line.set.copy());
+        if is_smaller(line.which()) {
+            last = Some(line.set().copy());
         }
     }
     last

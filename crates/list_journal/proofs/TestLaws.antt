@@ -25,13 +25,13 @@ some_of (suc n) test h = elim (or_cases (some_set n (λ u. test (false ∷ u))) 
 ]
 
 -- a test that some set would pass is passed by this one too, where none passes it
-none_of : (n : ℕ) (test : Table → Bool) → not (some_set n test) ≡ true → (u : Table) → length u ≡ n → test u ≡ false
+pub none_of : (n : ℕ) (test : Table → Bool) → not (some_set n test) ≡ true → (u : Table) → length u ≡ n → test u ≡ false
 none_of n test none u size = false_from_ne_true (test u) (λ h. false≢true (sym (ap not (subst (λ (m : ℕ). some_set m test ≡ true) size (some_set-from u test h))) ∙ none))
 
-none_from : (n : ℕ) (test : Table → Bool) → ((u : Table) → length u ≡ n → test u ≡ true → ⊥) → not (some_set n test) ≡ true
+pub none_from : (n : ℕ) (test : Table → Bool) → ((u : Table) → length u ≡ n → test u ≡ true → ⊥) → not (some_set n test) ≡ true
 none_from n test none = not_from_false (some_set n test) (false_from_ne_true (some_set n test) (λ h. let r = some_of n test h in none r.0 r.1 r.2))
 
-refutes : (b : Bool) → not b ≡ true → b ≡ true → ⊥
+pub refutes : (b : Bool) → not b ≡ true → b ≡ true → ⊥
 refutes true n h = false≢true n
 refutes false n h = false≢true h
 

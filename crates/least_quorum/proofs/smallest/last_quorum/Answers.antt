@@ -10,6 +10,6 @@ loop-line-preserved c =
     let i = c.loop-line.line-index in
     let line = c.line-item.result in
     elim c.if-is_smaller.branch [
-      | then-is_smaller w ↦ rw w.last-is (ap Some w.copy.ensures ∙ sym (last_more None lines i line c.loop-line-test.true c.line-item.is (c.is_smaller.ensures.only_then w.if-is_smaller.true)))
-      | else-is_smaller w ↦ rw w.last-is (c.loop-line.invariant ∙ sym (last_same None lines i line c.loop-line-test.true c.line-item.is (λ e. both_ways c.is_smaller.result w.if-is_smaller.false (c.is_smaller.ensures.always e))))
+      | then-is_smaller w ↦ rw w.last-is (ap Some (w.copy.ensures ∙ w.set.ensures) ∙ sym (last_more None lines i line c.loop-line-test.true c.line-item.is (sym c.which.ensures ∙ c.is_smaller.ensures.only_then w.if-is_smaller.true)))
+      | else-is_smaller w ↦ rw w.last-is (c.loop-line.invariant ∙ sym (last_same None lines i line c.loop-line-test.true c.line-item.is (λ e. both_ways c.is_smaller.result w.if-is_smaller.false (c.is_smaller.ensures.always (c.which.ensures ∙ e)))))
     ]

@@ -8,8 +8,7 @@ use Rattle.clause_encoder.specs.declared.encoder.EncodeError.TheVariants.{Memory
 use Rattle.clause_encoder.specs.NameCounter.{counter_vars, counter_of}
 use Rattle.list_journal.specs.Journals.{JournalLine}
 use Rattle.list_journal.specs.declared.kinds.Listed.TheVariants.{Smaller}
-use Rattle.blocking_lists.specs.Lines.{merged, listed_in, HasLineNumbers, HasFewWords}
-use Rattle.blocking_lists.specs.declared.journal.ListLine.{ListLine}
+use Rattle.blocking_lists.specs.Lines.{ListLine, merged, listed_in, HasLineNumbers, HasFewWords}
 use Rattle.blocking_lists.proofs.Merged.{numbers_merged}
 use Rattle.least_journal.specs.Least.{last_of}
 use Rattle.least_quorum.specs.Outcomes.{LeastOutcomeHolds, least_journal_of, whole_outcome}
