@@ -20,6 +20,7 @@ use std::alloc::{AllocError, Global};
 /// are in memory together.
 pub fn write_config(alloc: Global, system: &System) -> Result<String, AllocError>
     ensures text { IfOk result (λ text. string_bytes text ≡ config_text system.now) }
+    ensures tree { IfOk result (λ text. tree_of (string_bytes text) ≡ Some (config_data (nodes_named system.now))) }
     ensures reads_back { IfOk result (λ text. system_of (string_bytes text) ≡ Ok system.now) }
 {
     config_tree(alloc, system)?.to_string(alloc)

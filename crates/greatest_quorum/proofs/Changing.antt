@@ -1,11 +1,12 @@
 -- The greatest quorum after the change of one node's quorum set.
 use Rattle.std.proofs.Common.{◌≡◌, ℕ, false, not, sym, ap, ◌∙◌, subst, inl, inr, ⊎_elim}
 use Rattle.std.specs.Prelude.{nat_lt, ◌==◌}
-use Rattle.std.proofs.lemmas.Bool.{eqb-true, eq-eqb, and_parts, cases_Bool, both_ways, false≢true, or_left, or_right, or_cases}
+use Rattle.std.proofs.lemmas.Bool.{eqb-true, eq-eqb, and_parts, and_from, not_from_false, cases_Bool, both_ways, false≢true, or_left, or_right, or_cases}
 use Rattle.fbas_model.specs.Nodes.{Nodes, only, ◌∈◌, ◌⊆◌, ◌∪◌, ◌∖◌, ∅}
 use Rattle.fbas_model.specs.Fbas.{Fbas, HasSliceWithin, Quorum, IsGreatestQuorum, all_nodes}
 use Rattle.fbas_model.proofs.Unions.{slice_wider}
 use Rattle.greatest_quorum.specs.Changes.{IsChangedAt}
+use Rattle.greatest_quorum.specs.Looks.{AreWaiting}
 
 -- a set with a node is a quorum, where it is the greatest
 is_quorum : (f : Fbas) (b g : Nodes) (v : ℕ) → IsGreatestQuorum f b (all_nodes f) g → v ∈ g → Quorum f b g
@@ -85,3 +86,27 @@ within_all f b w q x h = (and_parts (all_nodes f x) (not (b x)) (q.left x h)).0
 
 pub only_one_in : (w : Nodes) (v x : ℕ) → v ∈ w → x ∈ only v → x ∈ w
 only_one_in w v x here same = subst (λ (y : ℕ). y ∈ w) (sym (eqb-true x v same)) here
+
+-- ---- which nodes are looked at
+
+-- of a greatest quorum with the node all others have a slice inside it still
+pub waiting_inside : (f then : Fbas) (v : ℕ) (b g : Nodes) → IsChangedAt f then v → IsGreatestQuorum f b (all_nodes f) g → AreWaiting then b g (only v)
+waiting_inside f then v b g is greatest = record {
+  left = λ x at. and_from (g x) (not (b x)) at (and_parts (all_nodes f x) (not (b x)) (greatest.within x at)).1;
+  others = λ x at out. ⊎_elim (λ (none : g ≡ ∅). absurd (false≢true (sym (ap (λ (s : Nodes). s x) none) ∙ at)))
+      (λ q. forth f then v x b g is (λ e. both_ways (x == v) out (eq-eqb x v e)) (q.slices x at)) greatest.quorum;
+}
+
+-- and of all nodes those of a greatest quorum without it
+pub waiting_outside : (f then : Fbas) (v : ℕ) (b g wider again : Nodes) → IsChangedAt f then v → IsGreatestQuorum f b (all_nodes f) g → g v ≡ false → wider ≡ (all_nodes then ∖ b) → again ≡ (wider ∖ g) → AreWaiting then b wider again
+waiting_outside f then v b g wider again is greatest out all left = record {
+  left = λ x at. and_from (wider x) (not (b x)) at (and_parts (all_nodes then x) (not (b x)) (subst (λ (s : Nodes). x ∈ s) all at)).1;
+  others = λ x at done.
+      let in_g : x ∈ g = elim (cases_Bool (g x)) [
+        | inl e ↦ e
+        | inr e ↦ absurd (both_ways (again x) done (subst (λ (s : Nodes). x ∈ s) (sym left) (and_from (wider x) (not (g x)) at (not_from_false (g x) e))))
+      ] in
+      ⊎_elim (λ (none : g ≡ ∅). absurd (false≢true (sym (ap (λ (s : Nodes). s x) none) ∙ in_g)))
+      (λ q. slice_wider then b g wider x (λ y in_y. subst (λ (s : Nodes). y ∈ s) (sym all) (subst (λ (s : Nodes). y ∈ (s ∖ b)) (same_nodes f then v is) (greatest.within y in_y)))
+      (forth f then v x b g is (λ e. both_ways (g x) (ap g e ∙ out) in_g) (q.slices x in_g))) greatest.quorum;
+}

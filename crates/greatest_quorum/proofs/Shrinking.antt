@@ -9,7 +9,7 @@ use Rattle.fbas_model.specs.Trees.{QuorumSet}
 use Rattle.fbas_model.specs.QuorumSets.{mentioned}
 use Rattle.fbas_model.specs.Fbas.{Fbas, HasSliceWithin, Quorum, all_nodes, IsGreatestQuorum, MeetsQuorums}
 use Rattle.fbas_core.specs.Mentioning.{mentioning, stands_in}
-use Rattle.greatest_quorum.specs.Looks.{IsLook, IsKept, IsTaken, HasNoneWith, IsQuorumWith}
+use Rattle.greatest_quorum.specs.Looks.{AreWaiting, IsLook, IsKept, IsTaken, HasNoneWith, IsQuorumWith, IsSettled}
 use Rattle.fbas_model.proofs.Slices.{meets_or_outside}
 use Rattle.fbas_model.proofs.Unions.{slice_wider}
 use Rattle.fbas_model.proofs.Mentioned.{choice_mentioned}
@@ -52,13 +52,35 @@ pub record Shrinking (f : Fbas) (b : Nodes) (start now again : Table) : Type 0 w
   pub keeps : (w : Nodes) → Quorum f b w → w ⊆ members start → w ⊆ members now
   pub settled : (v : ℕ) → v ∈ members now → members again v ≡ false → HasSliceWithin f b v (members now)
 
-pub shrinking_first : (f : Fbas) (b : Nodes) (start now again : Table) → length now ≡ length start → members now ≡ (members start ∖ b) → again ≡ now → Shrinking f b start now again
-shrinking_first f b start now again e m all = record {
-  same_n = e;
-  same_again = ap length all ∙ e;
-  within = λ x at. subst (λ (t : Nodes). x ∈ t) m at;
-  keeps = λ w q h. subst (λ (t : Nodes). w ⊆ t) (sym m) (quorum_outside f b w (members start) q h);
-  settled = λ v here out. absurd (both_ways (members again v) out (subst (λ (t : Table). v ∈ members t) (sym all) here));
+pub shrinking_from : (f : Fbas) (b : Nodes) (start again : Table) → length again ≡ length start → AreWaiting f b (members start) (members again) → Shrinking f b start start again
+shrinking_from f b start again e waiting = record {
+  same_n = refl;
+  same_again = e;
+  within = waiting.left;
+  keeps = λ w q h. h;
+  settled = waiting.others;
+}
+
+-- at first all nodes are waiting that are not faulty
+pub all_waiting : (f : Fbas) (b u cut again : Nodes) → cut ≡ (u ∖ b) → again ≡ cut → AreWaiting f b cut again
+all_waiting f b u cut again m all = record {
+  left = λ x at. and_from (cut x) (not (b x)) at (and_parts (u x) (not (b x)) (subst (λ (t : Nodes). x ∈ t) m at)).1;
+  others = λ v at out. absurd (both_ways (again v) out (subst (λ (t : Nodes). v ∈ t) (sym all) at));
+}
+
+-- what is settled of those that are not faulty is settled of all
+pub settled_with : (f : Fbas) (b u cut needed r : Nodes) (whole : Bool) → cut ≡ (u ∖ b) → IsSettled whole f b cut needed r → IsSettled whole f b u needed r
+settled_with f b u cut needed r true m h =
+    let g = h.0 in
+    let greatest : IsGreatestQuorum f b u r = record {
+      within = λ x at. subst (λ (t : Nodes). x ∈ t) m (and_parts (cut x) (not (b x)) (g.within x at)).0;
+      quorum = g.quorum;
+      greatest = λ w q sub. g.greatest w q (subst (λ (t : Nodes). w ⊆ t) (sym m) (quorum_outside f b w u q sub));
+    } in
+    (greatest, h.1)
+settled_with f b u cut needed r false m h = record {
+  some = h.some;
+  none = λ w q sub holds. h.none w q (subst (λ (t : Nodes). w ⊆ t) (sym m) (quorum_outside f b w u q sub)) holds;
 }
 
 -- a slice of a node whose quorum set does not mention v has no v
@@ -123,14 +145,14 @@ module _ (f : Fbas) (b : Nodes) (start now next again later : Table) (v : ℕ) w
   shrinking_more false s l = stays s l.same_n l.same_again l.look
 
   -- fewer nodes are left, or as many, of which fewer are waiting
-  pub less_left : (taken : Bool) → Shrinking f b start now again → IsLook f b v now next again later taken → v ∈ members again → size next * suc (length start) + size later < size now * suc (length start) + size again
-  less_left true s l waits =
+  pub fewer_left : (taken : Bool) → length again ≡ length start → IsLook f b v now next again later taken → v ∈ members again → size next * suc (length start) + size later < size now * suc (length start) + size again
+  fewer_left true same l waits =
       let gone = l.look in
       let fewer = size_lt next now v l.same_n (left_within gone) gone.here (λ at. without_gone (members now) v (subst (λ (t : Nodes). v ∈ t) gone.taken at)) in
       let row = row_fits (size next) (suc (length start)) (size now) (suc (length start)) fewer (omega arith) in
       let few = size_le_length later in
-      omega (arith, row, few, l.same_again, s.same_again)
-  less_left false s l waits =
+      omega (arith, row, few, l.same_again, same)
+  fewer_left false same_again l waits =
       let kept = l.look in
       let left : members later ⊆ members again = λ x at. without_within (members again) v x (subst (λ (t : Nodes). x ∈ t) kept.waiting at) in
       let fewer = size_lt later again v l.same_again left waits (λ at. without_gone (members again) v (subst (λ (t : Nodes). v ∈ t) kept.waiting at)) in

@@ -1,7 +1,7 @@
 -- What a look at one node of a set does, and what many leave.
-use Rattle.std.specs.Prelude.{◌≡◌, ℕ, Bool, length, MatchBool}
+use Rattle.std.specs.Prelude.{◌≡◌, ℕ, Bool, false, length, MatchBool}
 use Rattle.fbas_model.specs.Nodes.{Nodes, Table, members, ◌∈◌, ◌⊆◌, only, ◌∪◌, ◌∩◌, ◌∖◌, IsInhabited}
-use Rattle.fbas_model.specs.Fbas.{Fbas, HasSliceWithin, Quorum}
+use Rattle.fbas_model.specs.Fbas.{Fbas, HasSliceWithin, Quorum, IsGreatestQuorum}
 use Rattle.fbas_core.specs.Mentioning.{mentioning}
 
 -- the set stays as it is, and v, where it is in the set, has a slice inside it
@@ -33,3 +33,12 @@ pub record IsQuorumWith (f : Fbas) (b u needed r : Nodes) : Type 0 where
   pub quorum : Quorum f b r
   pub within : r ⊆ u
   pub holds : needed ⊆ r
+
+-- no node of a set is faulty, and all but those that are waiting have a slice inside it
+pub record AreWaiting (f : Fbas) (b u again : Nodes) : Type 0 where
+  pub left : u ⊆ (u ∖ b)
+  pub others : (v : ℕ) → v ∈ u → again v ≡ false → HasSliceWithin f b v u
+
+-- the greatest quorum inside u is left, and holds the needed nodes; or there is none that does
+abbrev pub IsSettled : Bool → Fbas → Nodes → Nodes → Nodes → Nodes → Type 0
+IsSettled whole f b u needed r = MatchBool whole (IsGreatestQuorum f b u r × needed ⊆ r) (HasNoneWith f b u needed)

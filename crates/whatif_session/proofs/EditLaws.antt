@@ -11,7 +11,7 @@ use Rattle.fbas_model.specs.Trees.{QuorumSet, quorum_set, none}
 use Rattle.fbas_model.specs.QuorumSets.{all_entries}
 use Rattle.fbas_model.specs.Systems.{System, IsWithin, IsSystem, entries_in}
 use Rattle.fbas_core.specs.Replacing.{with_set}
-use Rattle.whatif_session.specs.Changes.{set_at, changed_at}
+use Rattle.whatif_session.specs.Changes.{set_at, changed_at, entries_if_any}
 use Rattle.whatif_session.specs.Edits.{Threshold, Add, Drop, Declare, Retire}
 use Rattle.whatif_session.specs.Names.{with_node}
 use Rattle.whatif_session.specs.Edited.{◌>>=◌, node_in, own_in, inner_in, validator_in, within_entries, appended, declared, has_set, owned, edited, IsOwnSet, IsAppended}
@@ -19,7 +19,7 @@ use Rattle.whatif_session.specs.declared.change.Change.{Change}
 use Rattle.whatif_session.specs.declared.change.Change.TheVariants as change
 use Rattle.whatif_session.specs.declared.faults.EditFault.{EditFault}
 use Rattle.whatif_session.specs.declared.faults.EditFault.TheVariants.{Memory, UnknownNode, NoSet, Already, TooManyEntries}
-use Rattle.whatif_session.proofs.Limits.{within_changed, grown, no_more, entries_set, cost, growth}
+use Rattle.whatif_session.proofs.Limits.{within_changed, grown, no_more, entries_set, growth}
 
 not_above : (m n : ℕ) → n ≤ m → nat_lt m n ≡ false
 not_above m n h = false_from_ne_true (nat_lt m n) (λ e. let less = ltb-true m n e in absurd (omega (arith, less, h)))
@@ -139,13 +139,13 @@ set_missing s v (Some d) at lacks = absurd cc
 
 pub few_without : (s : System) (name : Name) (v : ℕ) (d : QuorumSet) → IsSystem s.names s.sets → IsOwnSet s name v d → entries_in (set s.sets v None) ≤ MOST_ENTRIES
 few_without s name v d system is =
-    let fewer : cost None ≤ cost (slice_index_or s.sets v None) = omega arith in
+    let fewer : entries_if_any None ≤ entries_if_any (slice_index_or s.sets v None) = omega arith in
     omega (arith, no_more s.sets v None is.low fewer, system.entries)
 
 pub few_changed : (s : System) (name : Name) (v : ℕ) (d : QuorumSet) (path : List ℕ) (c : Change) → IsSystem s.names s.sets → IsOwnSet s name v d → growth c ≡ 0 → entries_in (set s.sets v (Some (changed_at path c d))) ≤ MOST_ENTRIES
 few_changed s name v d path c system is same =
-    let there : cost (slice_index_or s.sets v None) ≡ cost (Some d) = ap cost is.is in
-    let fewer : cost (Some (changed_at path c d)) ≤ cost (slice_index_or s.sets v None) = omega (arith, grown path c d, there, same) in
+    let there : entries_if_any (slice_index_or s.sets v None) ≡ entries_if_any (Some d) = ap entries_if_any is.is in
+    let fewer : entries_if_any (Some (changed_at path c d)) ≤ entries_if_any (slice_index_or s.sets v None) = omega (arith, grown path c d, there, same) in
     omega (arith, no_more s.sets v (Some (changed_at path c d)) is.low fewer, system.entries)
 
 -- a quorum set without entries is within all limits
@@ -159,11 +159,11 @@ few_bare s v system low = omega (arith, no_more s.sets v (Some (quorum_set 1 non
 
 -- no node has more entries than there are
 pub own_few : (s : System) (v : ℕ) (d : QuorumSet) → v < length s.sets → slice_index_or s.sets v None ≡ Some d → all_entries d ≤ entries_in s.sets
-own_few s v d low at = let there : cost (slice_index_or s.sets v None) ≡ all_entries d = ap cost at in omega (arith, entries_set s.sets v None low, there)
+own_few s v d low at = let there : entries_if_any (slice_index_or s.sets v None) ≡ all_entries d = ap entries_if_any at in omega (arith, entries_set s.sets v None low, there)
 
 -- how many there are with another quorum set
 pub entries_then : (s : System) (v : ℕ) (d c : QuorumSet) → v < length s.sets → slice_index_or s.sets v None ≡ Some d → entries_in (set s.sets v (Some c)) ≡ entries_in s.sets - all_entries d + all_entries c
-entries_then s v d c low at = let there : cost (slice_index_or s.sets v None) ≡ all_entries d = ap cost at in omega (arith, entries_set s.sets v (Some c) low, there, own_few s v d low at)
+entries_then s v d c low at = let there : entries_if_any (slice_index_or s.sets v None) ≡ all_entries d = ap entries_if_any at in omega (arith, entries_set s.sets v (Some c) low, there, own_few s v d low at)
 
 pub append_no : (s : System) (node : Name) (path : List ℕ) (name : Name) (e : EditFault) → owned s node ≡ Err e → appended s node path name ≡ Err e
 append_no s node path name e h = first_fault (node_in s node) (own_in s) (λ v d. node_in s name >>= (λ w. within_entries (with_set s v (Some (changed_at path (change.Add w) d))))) e h

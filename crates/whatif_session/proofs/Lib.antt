@@ -1,5 +1,7 @@
+mod LimitSamples
 pub mod ChangeLists
 pub mod Following
+pub mod KnownUnmet
 pub mod Limits
 pub mod EditLaws
 pub mod ScriptLaws

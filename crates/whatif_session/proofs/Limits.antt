@@ -5,7 +5,7 @@ use Rattle.fbas_model.specs.Trees.{QuorumSet, quorum_set, Entries, none, node, i
 use Rattle.fbas_model.specs.QuorumSets.{IsBelow, AreBelow, all_entries, all_entries_of, depth, depth_of}
 use Rattle.fbas_model.specs.Fbas.{Fbas}
 use Rattle.fbas_model.specs.Systems.{IsWithin, entries_in}
-use Rattle.whatif_session.specs.Changes.{with_inner, at_path, with_validator, without_validator, changed_here, changed_at}
+use Rattle.whatif_session.specs.Changes.{entries_if_any, with_inner, at_path, with_validator, without_validator, changed_here, changed_at}
 use Rattle.whatif_session.specs.declared.change.Change.{Change}
 use Rattle.whatif_session.specs.declared.change.Change.TheVariants.{Threshold, Add, Drop}
 
@@ -120,19 +120,19 @@ grown_here (Drop w) (quorum_set j es) = omega (arith, grown_dropped w es)
 pub grown : (path : List ℕ) (change : Change) (q : QuorumSet) → all_entries (changed_at path change q) ≤ all_entries q + growth change
 grown path change q = grown_path (growth change) path (changed_here change) (grown_here change) q
 
-abbrev pub cost : Option QuorumSet → ℕ
-cost None = 0
-cost (Some q) = all_entries q
-
-entries-cons : (o : Option QuorumSet) (sets : Fbas) → entries_in (o ∷ sets) ≡ cost o + entries_in sets
+entries-cons : (o : Option QuorumSet) (sets : Fbas) → entries_in (o ∷ sets) ≡ entries_if_any o + entries_in sets
 entries-cons None sets = omega arith
 entries-cons (Some q) sets = refl
 
-pub entries_set : (sets : Fbas) (v : ℕ) (o : Option QuorumSet) → v < length sets → entries_in (set sets v o) + cost (slice_index_or sets v None) ≡ entries_in sets + cost o
+pub entries_set : (sets : Fbas) (v : ℕ) (o : Option QuorumSet) → v < length sets → entries_in (set sets v o) + entries_if_any (slice_index_or sets v None) ≡ entries_in sets + entries_if_any o
 entries_set [] v o low = absurd (omega (arith, low))
 entries_set (p ∷ sets) zero o low = omega (arith, entries-cons o sets, entries-cons p sets)
 entries_set (p ∷ sets) (suc v) o low = omega (arith, entries_set sets v o (omega (arith, low)), entries-cons p sets, entries-cons p (set sets v o))
 
 -- a quorum set that has no more entries than the one in its place
-pub no_more : (sets : Fbas) (v : ℕ) (o : Option QuorumSet) → v < length sets → cost o ≤ cost (slice_index_or sets v None) → entries_in (set sets v o) ≤ entries_in sets
+pub no_more : (sets : Fbas) (v : ℕ) (o : Option QuorumSet) → v < length sets → entries_if_any o ≤ entries_if_any (slice_index_or sets v None) → entries_in (set sets v o) ≤ entries_in sets
 no_more sets v o low fewer = omega (arith, entries_set sets v o low, fewer)
+
+-- no quorum set has more entries than there are
+pub no_more_than_all : (sets : Fbas) (v : ℕ) → v < length sets → entries_if_any (slice_index_or sets v None) ≤ entries_in sets
+no_more_than_all sets v low = omega (arith, entries_set sets v None low)

@@ -1,6 +1,7 @@
 -- Changes of a quorum set, or of one inside it that a path leads to.
 use Rattle.std.specs.Prelude.{ℕ, zero, suc, ◌==◌, ◌||◌, Bool, false, List, [], ◌∷◌, ◌++◌, Option, Some, None, option_and_then, if◌then◌else◌}
 use Rattle.fbas_model.specs.Trees.{QuorumSet, quorum_set, Entries, none, node, inner}
+use Rattle.fbas_model.specs.QuorumSets.{all_entries}
 use Rattle.whatif_session.specs.declared.change.Change.{Change}
 use Rattle.whatif_session.specs.declared.change.Change.TheVariants.{Threshold, Add, Drop}
 
@@ -88,3 +89,8 @@ abbrev pub changed_item : ℕ → (QuorumSet → QuorumSet) → List QuorumSet �
 changed_item i c [] = []
 changed_item zero c (q ∷ qs) = c q ∷ qs
 changed_item (suc i) c (q ∷ qs) = q ∷ changed_item i c qs
+
+-- how many entries a quorum set has, or none
+abbrev pub entries_if_any : Option QuorumSet → ℕ
+entries_if_any None = 0
+entries_if_any (Some q) = all_entries q

@@ -20,6 +20,7 @@ mod numbers;
 mod parts;
 mod script;
 mod session;
+mod unmet;
 
 pub use faults::{EditFault, ScriptFault};
 pub use numbers::{MOST_PLACE, MOST_THRESHOLD};

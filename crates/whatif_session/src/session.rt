@@ -6,7 +6,7 @@ ghost use Rattle.fbas_model.specs.Fbas.{Available, AreUnmet};
 ghost use Rattle.fbas_model.specs.Names.{is_key};
 ghost use Rattle.fbas_model.specs.Systems.{IsWithin, entries_in};
 ghost use Rattle.fbas_core.specs.Replacing.{with_set};
-ghost use Rattle.greatest_quorum.specs.Unmet.{is_available};
+ghost use Rattle.greatest_quorum.specs.Unmet.{is_available, unmet_of};
 ghost use Rattle.node_json.specs.Configuration.{system_of};
 ghost use Rattle.config_text.specs.Written.{config_text};
 ghost use Rattle.whatif_session.specs.Edited.{edited, appended, declared};
@@ -18,12 +18,13 @@ ghost use Rattle.whatif_session.specs.Sessions.{asked, greatest_in, set_in, star
 use crate::change::{Change, changed_at, set_at};
 use crate::faults::EditFault;
 use crate::lines::{Edit, read_edit};
-use crate::lookups::{appended_set, bare_set, own_set, validator};
+use crate::lookups::{appended_set, bare_set, entries_after, own_set, validator};
 use crate::naming::{grown, marked};
+use crate::unmet::{ask, follow_unmet};
 use config_text::write_config;
 use fbas_core::System;
 use fbas_model::MOST_ENTRIES;
-use greatest_quorum::{available, follow, greatest};
+use greatest_quorum::{follow, greatest};
 use name_set::NodeSet;
 use quorum_set::QuorumSet;
 use std::alloc::{AllocError, Global};
@@ -31,16 +32,24 @@ use std::marker::Model;
 
 /// A system that is edited, the nodes of its greatest quorum, and those that were unmet when availability was asked for last.
 ///
-/// All sets have the numbers of the present system, which a new name moves.
+/// All sets have the numbers of the present system, which a new name moves. What is known of the system is followed from edit to
+/// edit, so that none of it is found anew for what an edit leaves as it is.
 #[derive(Drop)]
 pub struct Session {
     system: System,
+    /// How many entries its quorum sets have.
+    entries: u64,
     greatest: NodeSet,
     unmet: NodeSet,
+    /// A set, mostly the one that availability was asked for last, and the nodes that are unmet despite it.
+    asked: NodeSet,
+    known: NodeSet,
 }
 
 impl Model for Session {
     ghost use Rattle.std.specs.Prelude.{◌≡◌, length};
+    ghost use Rattle.fbas_model.specs.Systems.{entries_in};
+    ghost use Rattle.greatest_quorum.specs.Unmet.{unmet_of};
     ghost use Rattle.whatif_session.specs.Sessions.{Session as State, coded_session, greatest_in};
 
     ghost Value = { State };
@@ -49,7 +58,8 @@ impl Model for Session {
 
     ghost view = { λ s. record { system = s.system; unmet = s.unmet } };
 
-    ghost invariant = { λ s. (s.greatest ≡ greatest_in s.system) × (length s.unmet ≡ length s.system.sets) };
+    ghost invariant = { λ s. (s.greatest ≡ greatest_in s.system) × (length s.unmet ≡ length s.system.sets)
+        × (s.entries ≡ entries_in s.system.sets) × (length s.asked ≡ length s.system.sets) × (s.known ≡ unmet_of s.system.sets s.asked) };
 }
 
 impl Session {
@@ -59,10 +69,17 @@ impl Session {
     {
         let none = NodeSet::new(system.len());
         let greatest = greatest(&system, &none);
+        let entries = system.entries();
+        // Despite all nodes none is unmet.
+        let mut all = NodeSet::new(system.len());
+        all.fill();
         Session {
             system,
+            entries,
             greatest,
+            known: none.copy(),
             unmet: none,
+            asked: all,
         }
     }
 
@@ -100,7 +117,8 @@ impl Session {
     }
 
     /// Whether there is quorum availability despite the set (Mazières 2015): it holds all nodes, or those outside it are a
-    /// quorum. Then `unmet` has the nodes outside the set that have no slice outside it. Linear in the entries.
+    /// quorum. Then `unmet` has the nodes outside the set that have no slice outside it. Linear in the entries; O(n / 64) if the
+    /// set is the one that was asked for last, and no name has come since.
     pub fn available(&mut self, set: &NodeSet) -> bool
         requires same_n { length set.now ≡ length self.old.system.sets }
         ensures asked { self.new ≡ asked self.old set.now }
@@ -108,7 +126,9 @@ impl Session {
         ensures available { IsTrue result ↔ Available self.old.system.sets (members set.now) }
         ensures unmet { AreUnmet self.old.system.sets (members set.now) (members self.new.unmet) }
     {
-        available(&self.system, set, &mut self.unmet)
+        ask(&self.system, set, &mut self.asked, &mut self.known);
+        self.unmet.copy_from(&self.known);
+        self.unmet.is_empty()
     }
 
     /// The text of the configuration in which every name of the system is a node, as `serde_json` prints it without spaces.
@@ -128,9 +148,12 @@ impl Session {
         ensures exchanged { OnOk result (self.new ≡ started (with_set self.old.system v set)) }
         ensures unchanged { OnErr result (self.new ≡ self.old) }
     {
+        let entries = entries_after(&self.system, self.entries, v, &set);
         self.system.replace(v, set)?;
+        self.entries = entries;
         let none = NodeSet::new(self.system.len());
         follow(&self.system, v, &mut self.greatest, &none);
+        follow_unmet(&self.system, v, &self.asked, &mut self.known);
         self.unmet = none;
         Ok(())
     }
@@ -170,7 +193,7 @@ impl Session {
         ensures fresh { OnOk result (self.new ≡ started self.new.system) }
         ensures unchanged { OnErr result (self.new ≡ self.old) }
     {
-        let (v, set) = appended_set(alloc, &self.system, node, path, name)?;
+        let (v, set) = appended_set(alloc, &self.system, self.entries, node, path, name)?;
         self.exchange(v, Some(set))?;
         Ok(())
     }
@@ -300,8 +323,7 @@ impl Session {
     /// Does what a line of a script says, or refuses the line for its first fault; then the session is as it was.
     ///
     /// An edit of a node outside the greatest quorum, or after which the node still has a slice inside it, costs one look at
-    /// the node; one that changes the greatest quorum what `shrink` costs; one that brings a new name a copy of the system.
-    /// `add` counts the entries, which is linear in the nodes and their inner quorum sets.
+    /// the node; one that changes the greatest quorum what `follow` costs; one that brings a new name a copy of the system.
     pub fn edit(&mut self, alloc: Global, line: &[u8]) -> Result<(), EditFault>
         ensures ok { OnOk result (after_line self.old.system line.now ≡ Ok self.new.system) }
         ensures err { IfErr result (λ e. (e ≡ EditFault.Memory) ⊎ (after_line self.old.system line.now ≡ Err e)) }

@@ -6,7 +6,7 @@ use Rattle.serde_json.specs.Read.{max_depth, read}
 use Rattle.serde_json.specs.View.{view}
 use Rattle.serde_json.specs.Written.{has_float, compact_text}
 use Rattle.node_json.specs.Reading.{tree_of}
-use Rattle.config_text.specs.Written.{config_text, nodes_named}
+use Rattle.config_text.specs.Written.{config_data, config_text, nodes_named}
 use Rattle.config_text.proofs.Placed.{reads_back}
 use Rattle.config_text.proofs.Trees.{config_whole, config_shallow}
 use Rattle.config_text.proofs.write_config.Goals as goal
@@ -18,13 +18,16 @@ returns-clause-text c =
     let whole : has_float (view c.in_ok-config_tree.field-0) ≡ false = ap has_float is ∙ config_whole (nodes_named c.args.system.now) in
     IfOk-weaker c.to_string.result _ _ (λ s h. h whole ∙ ap compact_text is) c.to_string.ensures.text
 
-pub returns-clause-reads_back : goal.returns-clause-reads_back
+pub returns-clause-tree : goal.returns-clause-tree
 unfolding tree_of
-returns-clause-reads_back c =
-    let system = c.args.system.now in
+returns-clause-tree c =
     let is = c.in_ok-config_tree.ensures.tree in
-    let shallow : depth (view c.in_ok-config_tree.field-0) ≤ max_depth = rw is (let low = config_shallow system c.in_ok-config_tree.ensures.limits in omega (arith, low)) in
+    let shallow : depth (view c.in_ok-config_tree.field-0) ≤ max_depth = rw is (let low = config_shallow c.args.system.now c.in_ok-config_tree.ensures.limits in omega (arith, low)) in
     let d = view c.in_ok-config_tree.field-0 in
     IfOk-weaker c.to_string.result (λ (s : String Global). depth d ≤ max_depth → read (string_bytes s) ≡ Some d) _
-    (λ s h. reads_back system (string_bytes s) c.in_ok-config_tree.ensures.limits c.in_ok-config_tree.ensures.sorted c.in_ok-config_tree.ensures.listed
-    (rw (is_utf8-from_IsUtf8 (string_bytes s) (IsUtf8-string_bytes s)) (h shallow ∙ ap Some is))) c.to_string.ensures.reads_back
+    (λ s h. rw (is_utf8-from_IsUtf8 (string_bytes s) (IsUtf8-string_bytes s)) (h shallow ∙ ap Some is)) c.to_string.ensures.reads_back
+
+pub returns-clause-reads_back : goal.returns-clause-reads_back
+returns-clause-reads_back c =
+    IfOk-weaker c.to_string.result (λ (s : String Global). tree_of (string_bytes s) ≡ Some (config_data (nodes_named c.args.system.now))) _
+    (λ s h. reads_back c.args.system.now (string_bytes s) c.in_ok-config_tree.ensures.limits c.in_ok-config_tree.ensures.sorted c.in_ok-config_tree.ensures.listed h) (returns-clause-tree c)

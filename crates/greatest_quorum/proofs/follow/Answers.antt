@@ -1,31 +1,55 @@
-use Rattle.std.proofs.Common.{◌≡◌, ℕ, nat_lt, sym, ap, subst, ◌∙◌}
-use Rattle.fbas_model.specs.Nodes.{Nodes, Table, members, ◌∈◌, only, ◌∪◌}
+use Rattle.std.proofs.Common.{◌≡◌, ℕ, nat_lt, length, true, false, sym, ap, subst, ◌∙◌}
+use Rattle.std.proofs.lemmas.Bool.{both_ways, false≢true}
+use Rattle.fbas_model.specs.Nodes.{Nodes, Table, members, ◌∈◌, ◌⊆◌, only, ◌∪◌, ◌∖◌}
 use Rattle.fbas_model.specs.Fbas.{IsGreatestQuorum, all_nodes}
-use Rattle.greatest_quorum.proofs.Changing.{change_inside, change_kept, change_outside, within_all, only_one_in}
+use Rattle.greatest_quorum.specs.Looks.{AreWaiting}
+use Rattle.greatest_quorum.proofs.Changing.{change_inside, change_outside, within_all, only_one_in, waiting_inside, waiting_outside}
+use Rattle.greatest_quorum.proofs.Shrinking.{settled_with, shrunk_all}
 use Rattle.greatest_quorum.proofs.follow.Goals as goal
 
-pub returns-then-not-slice_in-clause-follows : goal.returns-then-not-slice_in-clause-follows
-returns-then-not-slice_in-clause-follows c = λ f is old.
-    change_inside f c.args.system.now.sets c.args.v (members c.args.faulty.now) (members c.args.greatest.now) (members c.shrink.new.u) is old (sym c.has.ensures ∙ c.if-has.true) c.shrink.ensures.greatest
-
-pub returns-else-not-slice_in-clause-follows : goal.returns-else-not-slice_in-clause-follows
-returns-else-not-slice_in-clause-follows c = λ f is old.
-    change_kept f c.args.system.now.sets c.args.v (members c.args.faulty.now) (members c.args.greatest.now) is old (sym c.has.ensures ∙ c.if-has.true) (c.slice_in.ensures.0 c.if-not-slice_in.false)
-
-pub returns-then-settle-clause-follows : goal.returns-then-settle-clause-follows
-returns-then-settle-clause-follows c = λ f is old.
-    let then = c.args.system.now.sets in
-    let all : members c.fill.new.self ≡ all_nodes then = c.fill.ensures.all ∙ ap {B = Nodes} (λ (n : ℕ) v. nat_lt v n) (c.new-wider.ensures.size ∙ c.len-2.ensures.sets) in
-    let new : IsGreatestQuorum then (members c.args.faulty.now) (all_nodes then) (members c.settle.new.u) = subst (λ (u : Nodes). IsGreatestQuorum then (members c.args.faulty.now) u (members c.settle.new.u)) all c.if-settle.ensures.settled.0 in
-    subst (λ (t : Table). IsGreatestQuorum then (members c.args.faulty.now) (all_nodes then) (members t)) (sym c.copy_from.ensures) new
-
-pub returns-else-settle-clause-follows : goal.returns-else-settle-clause-follows
-returns-else-settle-clause-follows c = λ f is old.
+pub returns-then-has-clause-follows : goal.returns-then-has-clause-follows
+returns-then-has-clause-follows c = λ f is old.
     let then = c.args.system.now.sets in
     let b = members c.args.faulty.now in
-    let all : members c.fill.new.self ≡ all_nodes then = c.fill.ensures.all ∙ ap {B = Nodes} (λ (n : ℕ) v. nat_lt v n) (c.new-wider.ensures.size ∙ c.len-2.ensures.sets) in
-    let one : members c.put.new.self ≡ only c.args.v = c.put.ensures.added ∙ ap (λ (t : Nodes). t ∪ only c.args.v) c.new-needed.ensures.empty in
+    let g = members c.args.greatest.now in
+    let one : members c.copy-waiting.result ≡ only c.args.v = ap members c.copy-waiting.ensures ∙ c.put.ensures.added ∙ ap (λ (t : Nodes). t ∪ only c.args.v) (ap members c.copy-one.ensures ∙ c.new-none.ensures.empty) in
+    let waiting : AreWaiting then b g (members c.copy-waiting.result) = subst (λ (t : Nodes). AreWaiting then b g t) (sym one) (waiting_inside f then c.args.v b g is old) in
+    let settled = c.settle_from.ensures.settled waiting (λ x at. absurd (false≢true (subst (λ (t : Nodes). x ∈ t) c.new-none.ensures.empty at))) in
+    change_inside f then c.args.v b g (members c.settle_from.new.u) is old (sym c.has.ensures ∙ c.if-has.true) (shrunk_all then b g (members c.settle_from.new.u) c.new-none.result c.settle_from.result c.new-none.ensures.empty settled)
+
+pub returns-then-not-has-clause-follows : goal.returns-then-not-has-clause-follows
+returns-then-not-has-clause-follows c = λ f is old.
+    let then = c.args.system.now.sets in
+    let b = members c.args.faulty.now in
+    let all : members c.minus.new.self ≡ (all_nodes then ∖ b) = c.minus.ensures.left ∙ ap (λ (t : Nodes). t ∖ b) (c.fill.ensures.all ∙ ap {B = Nodes} (λ (n : ℕ) v. nat_lt v n) (ap (λ (t : Table). length t) c.copy-wider.ensures ∙ c.new-none.ensures.size ∙ c.len.ensures.sets)) in
     change_outside f then c.args.v b (members c.args.greatest.now) is old (sym c.has.ensures ∙ c.if-has.false)
-    (λ w q here. c.if-settle.ensures.settled.none w q
-    (λ x h. subst (λ (s : Nodes). x ∈ s) (sym all) (within_all then b w q x h))
-    (λ x h. only_one_in w c.args.v x here (subst (λ (s : Nodes). x ∈ s) one h)))
+    (λ w q here. both_ways (members c.minus.new.self c.args.v) (sym c.has-2.ensures ∙ c.if-not-has.true) (subst (λ (s : Nodes). c.args.v ∈ s) (sym all) (q.left c.args.v here)))
+
+pub returns-then-settle_from-clause-follows : goal.returns-then-settle_from-clause-follows
+returns-then-settle_from-clause-follows c = λ f is old.
+    let then = c.args.system.now.sets in
+    let b = members c.args.faulty.now in
+    let g = members c.args.greatest.now in
+    let all : members c.minus.new.self ≡ (all_nodes then ∖ b) = c.minus.ensures.left ∙ ap (λ (t : Nodes). t ∖ b) (c.fill.ensures.all ∙ ap {B = Nodes} (λ (n : ℕ) v. nat_lt v n) (ap (λ (t : Table). length t) c.copy-wider.ensures ∙ c.new-none.ensures.size ∙ c.len.ensures.sets)) in
+    let one : members c.put.new.self ≡ only c.args.v = c.put.ensures.added ∙ ap (λ (t : Nodes). t ∪ only c.args.v) (ap members c.copy-one.ensures ∙ c.new-none.ensures.empty) in
+    let rest : members c.minus-2.new.self ≡ (members c.minus.new.self ∖ g) = c.minus-2.ensures.left ∙ ap (λ (t : Table). members t ∖ g) c.copy-waiting-2.ensures in
+    let here : c.args.v ∈ members c.minus.new.self = sym c.has-2.ensures ∙ c.if-not-has.false in
+    let within : members c.put.new.self ⊆ members c.minus.new.self = λ x at. only_one_in (members c.minus.new.self) c.args.v x here (subst (λ (t : Nodes). x ∈ t) one at) in
+    let settled = c.if-settle_from.ensures.settled (waiting_outside f then c.args.v b g (members c.minus.new.self) (members c.minus-2.new.self) is old (sym c.has.ensures ∙ c.if-has.false) all rest) within in
+    let new = (settled_with then b (all_nodes then) (members c.minus.new.self) (members c.put.new.self) (members c.settle_from-2.new.u) true all settled).0 in
+    subst (λ (t : Table). IsGreatestQuorum then b (all_nodes then) (members t)) (sym c.copy_from.ensures) new
+
+pub returns-else-settle_from-clause-follows : goal.returns-else-settle_from-clause-follows
+returns-else-settle_from-clause-follows c = λ f is old.
+    let then = c.args.system.now.sets in
+    let b = members c.args.faulty.now in
+    let g = members c.args.greatest.now in
+    let all : members c.minus.new.self ≡ (all_nodes then ∖ b) = c.minus.ensures.left ∙ ap (λ (t : Nodes). t ∖ b) (c.fill.ensures.all ∙ ap {B = Nodes} (λ (n : ℕ) v. nat_lt v n) (ap (λ (t : Table). length t) c.copy-wider.ensures ∙ c.new-none.ensures.size ∙ c.len.ensures.sets)) in
+    let one : members c.put.new.self ≡ only c.args.v = c.put.ensures.added ∙ ap (λ (t : Nodes). t ∪ only c.args.v) (ap members c.copy-one.ensures ∙ c.new-none.ensures.empty) in
+    let rest : members c.minus-2.new.self ≡ (members c.minus.new.self ∖ g) = c.minus-2.ensures.left ∙ ap (λ (t : Table). members t ∖ g) c.copy-waiting-2.ensures in
+    let here : c.args.v ∈ members c.minus.new.self = sym c.has-2.ensures ∙ c.if-not-has.false in
+    let within : members c.put.new.self ⊆ members c.minus.new.self = λ x at. only_one_in (members c.minus.new.self) c.args.v x here (subst (λ (t : Nodes). x ∈ t) one at) in
+    let settled = c.if-settle_from.ensures.settled (waiting_outside f then c.args.v b g (members c.minus.new.self) (members c.minus-2.new.self) is old (sym c.has.ensures ∙ c.if-has.false) all rest) within in
+    let none = settled_with then b (all_nodes then) (members c.minus.new.self) (members c.put.new.self) (members c.settle_from-2.new.u) false all settled in
+    change_outside f then c.args.v b g is old (sym c.has.ensures ∙ c.if-has.false)
+    (λ w q in_w. none.none w q (within_all then b w q) (λ x h. only_one_in w c.args.v x in_w (subst (λ (s : Nodes). x ∈ s) one h)))
