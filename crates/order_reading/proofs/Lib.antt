@@ -1,3 +1,4 @@
+mod LimitSamples
 pub mod Unions
 pub mod Cuts
 pub mod Told

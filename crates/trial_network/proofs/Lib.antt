@@ -1,5 +1,5 @@
 pub mod NodeNames
-pub mod Items
-pub mod Reading
-pub mod Placing
+pub mod InOrder
+pub mod Limits
+pub mod Trees
 pub mod Meeting

@@ -1,17 +1,11 @@
 -- The names of the nodes of a trial configuration: they are keys, and they rise with the numbers.
-use Rattle.std.proofs.Common.{◌≡◌, ℕ, zero, suc, ◌+◌, ◌-◌, ◌≤◌, ◌<◌, inl, inr, [], ◌∷◌, ◌++◌, Bool, true, false, ◌&&◌, ◌||◌, Ordering, Less, Equal, Greater, length, slice_index_or, refl, sym, ap, ◌∙◌, subst, arith}
-use Rattle.std.proofs.lemmas.Bool.{and_parts, cases_lt, both_ways}
+use Rattle.std.proofs.Common.{◌≡◌, ℕ, zero, suc, ◌+◌, ◌-◌, ◌≤◌, ◌<◌, inl, inr, [], ◌∷◌, ◌++◌, Bool, true, ◌&&◌, Ordering, Less, Equal, Greater, length, slice_index_or, refl, sym, ap, ◌∙◌, subst, arith}
+use Rattle.std.proofs.lemmas.Bool.{and_parts, cases_lt}
 use Rattle.std.proofs.lemmas.Cmp.{nat_list_cmp_total}
-use Rattle.std.proofs.lemmas.Slice.Eq.{bytes_eq-Decides}
 use Rattle.std.specs.List.{AllByRecursion}
 use Rattle.std.specs.List.Sorted.{IsStrictlySortedBy}
 use Rattle.std.specs.Ordering.{is_lt}
-use Rattle.std.specs.Str.{bytes_eq}
-use Rattle.std.proofs.Math.Bool.{or-true}
-use Rattle.fbas_model.specs.Names.{name_cmp, is_key, is_among}
-use Rattle.node_json.specs.Configuration.{number_of}
-use Rattle.node_json.proofs.NamesInOrder.{apart}
-use Rattle.fbas_model.proofs.SortedNames.{place-found}
+use Rattle.fbas_model.specs.Names.{name_cmp, is_key}
 use Rattle.trial_network.specs.Trial.{node_name, names_from}
 
 -- ---- tests of all numbers below a limit
@@ -85,30 +79,3 @@ names-more v zero = let e : v + 0 ≡ v = omega arith in ap (λ w. node_name w �
 names-more v (suc k) =
     let e : v + suc k ≡ v + 1 + k = omega arith in
     ap (λ w. node_name v ∷ (names_from (v + 1) k ++ node_name w ∷ [])) e ∙ ap (λ ns. node_name v ∷ ns) (names-more (v + 1) k)
-
--- a name is not among those before it
-pub new_name : (v w k : ℕ) → w + k ≤ v → v < 300 → is_among (node_name v) (names_from w k) ≡ false
-new_name v w zero before h = refl
-new_name v w (suc k) before h =
-    rw (other, new_name v (w + 1) k (omega arith) h) refl
-  where
-    swapped : bytes_eq (node_name w) (node_name v) ≡ false
-    swapped = apart (node_name w) (node_name v) (name_less w v (omega arith) h)
-
-    other : bytes_eq (node_name v) (node_name w) ≡ false
-    other = elim (bytes_eq (node_name v) (node_name w)) as (λ b. bytes_eq (node_name v) (node_name w) ≡ b → b ≡ false) [
-      | true ↦ λ e. absurd (both_ways (bytes_eq (node_name w) (node_name v)) swapped ((bytes_eq-Decides (node_name w) (node_name v)).1 (sym ((bytes_eq-Decides (node_name v) (node_name w)).0 e))))
-      | false ↦ λ _. refl
-    ] refl
-
--- a name is among those of its number
-pub among_names : (v w k : ℕ) → w ≤ v → v < w + k → is_among (node_name v) (names_from w k) ≡ true
-among_names v w zero from to = absurd (omega arith)
-among_names v w (suc k) from to = elim (cases_lt w v) [
-  | inl later ↦ ap (λ b. bytes_eq (node_name v) (node_name w) || b) (among_names v (w + 1) k (omega arith) (omega arith)) ∙ or-true (bytes_eq (node_name v) (node_name w))
-  | inr here ↦ let e : v ≡ w = omega arith in ap (λ b. b || is_among (node_name v) (names_from (w + 1) k)) ((bytes_eq-Decides (node_name v) (node_name w)).1 (ap node_name e))
-]
-
--- the number of a name is its place
-pub number_of-name : (n v : ℕ) → n ≤ 300 → v < n → number_of (names_from 0 n) (node_name v) ≡ v
-number_of-name n v few h = rw (place-found (names_from 0 n) (node_name v) v (names-sorted 0 n (omega arith)) (rw (length-names 0 n) h) (let e : 0 + v ≡ v = omega arith in names-at 0 n v h ∙ ap node_name e)) refl

@@ -7,9 +7,9 @@ ghost use Rattle.node_json.specs.Reading.{tree_of};
 ghost use Rattle.trial_network.specs.Trial.{trial_system};
 ghost use Rattle.trial_network.specs.Tree.{trial_tree, trial_text};
 
-use crate::tree::tree_of_trial;
+use crate::network::network;
+use config_text::write_config;
 use fbas_core::System;
-use node_json::read_config;
 use std::alloc::{AllocError, Global};
 
 /// The most organisations of a trial configuration: the names of their nodes have three digits.
@@ -22,17 +22,8 @@ pub struct Trial {
     pub system: System,
 }
 
-/// The text of the trial configuration of so many organisations, as `serde_json` prints its tree.
-fn text(alloc: Global, organisations: u32) -> Result<String, AllocError>
-    requires { organisations ≤ 100 }
-    ensures text { IfOk result (λ s. string_bytes s ≡ trial_text organisations) }
-    ensures reads_back { IfOk result (λ s. tree_of (string_bytes s) ≡ Some (trial_tree organisations)) }
-{
-    tree_of_trial(alloc, organisations)?.to_string(alloc)
-}
-
 impl Trial {
-    /// The trial configuration of so many organisations, read back from its text: 12 times the square of their number entries.
+    /// The trial configuration of so many organisations: 12 times the square of their number entries.
     ///
     /// Each organisation has three nodes, two of which speak for it, and every node wants more than two thirds of the
     /// organisations.
@@ -49,10 +40,8 @@ impl Trial {
         // Every two quorums share a node.
         ensures intersects { IfOk result (λ t. Intersects t.system.sets ∅) }
     {
-        let text = text(alloc, organisations)?;
-        match read_config(alloc, text.as_bytes()) {
-            Ok(system) => Ok(Trial { text, system }),
-            Err(_) => Err(AllocError),
-        }
+        let system = network(alloc, organisations)?;
+        let text = write_config(alloc, &system)?;
+        Ok(Trial { text, system })
     }
 }

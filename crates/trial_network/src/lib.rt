@@ -2,6 +2,6 @@
 #![tactic(auto)]
 
 mod configuration;
-mod tree;
+mod network;
 
 pub use configuration::{MOST_ORGANISATIONS, Trial};

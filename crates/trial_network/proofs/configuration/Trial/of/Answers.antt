@@ -1,18 +1,23 @@
-use Rattle.std.proofs.Common.{◌≡◌, Ok, ◌∙◌, ap, sym, subst, string_bytes}
+use Rattle.std.proofs.Common.{Some, ◌∙◌, ap, sym, subst}
 use Rattle.fbas_model.specs.Nodes.{∅}
 use Rattle.fbas_model.specs.Fbas.{Intersects}
 use Rattle.fbas_model.specs.Systems.{System}
 use Rattle.node_json.specs.Configuration.{system_of}
-use Rattle.trial_network.specs.Trial.{trial_system}
+use Rattle.node_json.specs.Reading.{tree_of}
+use Rattle.config_text.specs.Written.{config_data, config_text, nodes_named}
 use Rattle.trial_network.proofs.Meeting.{trial_intersects}
-use Rattle.trial_network.proofs.Placing.{trial_system_read}
+use Rattle.trial_network.proofs.Trees.{tree_is, text_is}
 use Rattle.trial_network.proofs.configuration.Trial.of.Goals as goal
 
-pub returns-in-Ok-clause-system : goal.returns-in-Ok-clause-system
-returns-in-Ok-clause-system c =
-    let read = trial_system_read c.args.organisations (string_bytes c.in_ok-text.text) c.requires.few c.in_ok-text.ensures.reads_back in
-    let same : Ok c.in-Ok.system ≡ Ok (trial_system c.args.organisations) = sym c.in-Ok.ensures.ok ∙ ap system_of c.as_bytes.ensures.value ∙ read in
-    cc
+pub returns-clause-text : goal.returns-clause-text
+returns-clause-text c = c.in_ok-text.ensures.text ∙ ap config_text c.in_ok-system.ensures ∙ text_is c.args.organisations
 
-pub returns-in-Ok-clause-intersects : goal.returns-in-Ok-clause-intersects
-returns-in-Ok-clause-intersects c = subst (λ (s : System). Intersects s.sets ∅) (sym (returns-in-Ok-clause-system c)) (trial_intersects c.args.organisations c.requires.some)
+pub returns-clause-tree : goal.returns-clause-tree
+returns-clause-tree c =
+    ap tree_of (sym (returns-clause-text c)) ∙ c.in_ok-text.ensures.tree ∙ ap (λ (s : System). Some (config_data (nodes_named s))) c.in_ok-system.ensures ∙ ap Some (tree_is c.args.organisations)
+
+pub returns-clause-read : goal.returns-clause-read
+returns-clause-read c = ap system_of (sym (returns-clause-text c)) ∙ c.in_ok-text.ensures.reads_back
+
+pub returns-clause-intersects : goal.returns-clause-intersects
+returns-clause-intersects c = subst (λ (s : System). Intersects s.sets ∅) (sym c.in_ok-system.ensures) (trial_intersects c.args.organisations c.requires.some)
