@@ -6,3 +6,4 @@ pub mod Headlines
 pub mod After
 pub mod Large
 pub mod Edited
+pub mod Ends

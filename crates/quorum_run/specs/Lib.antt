@@ -8,4 +8,5 @@ pub mod Showing
 pub mod Smallest
 pub mod Headline
 pub mod Running
+pub mod Ending
 pub mod Edits

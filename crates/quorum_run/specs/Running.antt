@@ -20,6 +20,7 @@ pub record Runs (words : List (List ℕ)) (old new : DeskState) (status : Status
   pub silent : (status ≡ ReadFault) ⊎ (status ≡ Memory) → new.out ≡ old.out
   pub untouched : (status ≡ ReadFault) ⊎ (status ≡ Memory) → new.files ≡ old.files
   pub files : (path : List ℕ) → (MayChange path (asked_of words old.files) → ⊥) → new.files path ≡ old.files path
+  pub unread : IsErr (order_of words) → new.left ≡ old.left
   pub plain_read : IsTrue old.plain → status ≡ ReadFault → asked_of words old.files ≡ Err Early.Read
 
 -- a run of the words, on any desk, took the counts of its faults from old to new and ended so

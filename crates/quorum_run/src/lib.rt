@@ -10,6 +10,7 @@ ghost use Rattle.order_reading.specs.Answers.{words_of, asked_of, FitsAsked};
 ghost use Rattle.quorum_run.specs.Headline.{Headline, MayChange};
 ghost use Rattle.quorum_run.specs.Printing.{PrintsAnswer, PrintsAnswerPart, PrintsAsked, PrintsAskedPart, Prints, PrintsPart, IsTooLarge};
 
+mod ending;
 mod found;
 mod printing;
 mod replies;
@@ -22,6 +23,7 @@ use crate::searching::search;
 use crate::solving::solve;
 use crate::trying::try_edits;
 use desk_io::Desk;
+pub use ending::end;
 pub use order_reading::Status;
 use order_reading::{Asked, Early, ask_by_words};
 use std::alloc::{AllocError, Global};
