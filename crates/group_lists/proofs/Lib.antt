@@ -1,0 +1,4 @@
+pub mod Clauses
+pub mod Lines
+pub mod Listings
+pub mod Shown

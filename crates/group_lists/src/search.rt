@@ -1,0 +1,179 @@
+//! The search for all minimal blocking sets of groups, line by line.
+ghost use Rattle.std.specs.Prelude.{◌≡◌, ℕ, true, false, Ok, ◌+◌, ◌<◌, ◌≤◌, ◌^◌, ◌++◌, [], ◌∷◌, length, All, OnOk};
+ghost use Rattle.fbas_model.specs.Nodes.{members, ◌⊆◌, size};
+ghost use Rattle.fbas_model.specs.Fbas.{Quorum};
+ghost use Rattle.lrat_model.specs.Clauses.{Satisfies, with_clause};
+ghost use Rattle.lrat_model.specs.Propagation.{Closes};
+ghost use Rattle.cdcl_core.specs.Solving.{assignment};
+ghost use Rattle.greatest_quorum.specs.Greatest.{greatest_of};
+ghost use Rattle.node_json.specs.Groups.{tables_of};
+ghost use Rattle.group_journal.specs.Groups.{touching};
+ghost use Rattle.group_journal.specs.Rules.{group_clause};
+ghost use Rattle.list_journal.specs.declared.kinds.Listed.TheVariants as listing;
+ghost use Rattle.group_lists.specs.Search.{IsGroupListing, IsWholeGroupListing};
+
+use blocking_lists::{ListedSet, list_set, tried_units};
+use cdcl_core::{Budget, Solver, Verdict};
+use fbas_core::System;
+use fbas_model::MOST_NODES;
+use greatest_quorum::{blocks, minimal_quorum, shrink};
+use group_journal::{MarkedGroups, block_clause, minimal_groups, quorum_clause};
+use list_journal::Listed;
+use name_set::{GROUP_WORDS, GroupSet, NodeSet, resized};
+use node_json::Groups;
+use std::alloc::{AllocError, Global};
+
+/// A set of groups or of nodes that was listed.
+pub(crate) type GroupLine = ListedSet<GROUP_WORDS>;
+
+/// Takes whole groups out of a quorum, one after another, as long as a quorum is left. `scratch` holds nothing of use afterwards. The
+/// cost is that of `shrink` for each group that has a member in the quorum.
+fn lose_groups(
+    system: &System,
+    groups: &Groups,
+    q: &mut NodeSet,
+    faulty: &NodeSet,
+    scratch: &mut NodeSet,
+)
+    requires sized { All (λ group. length group.members ≡ length system.now.sets) groups.now }
+    requires same_n { length q.old ≡ length system.now.sets }
+    requires same_faulty { length faulty.now ≡ length system.now.sets }
+    requires same_scratch { length scratch.old ≡ length system.now.sets }
+    requires quorum { Quorum system.now.sets (members faulty.now) (members q.old) }
+    ensures same_n { length q.new ≡ length q.old }
+    ensures same_scratch { length scratch.new ≡ length scratch.old }
+    ensures within { members q.new ⊆ members q.old }
+    ensures quorum { Quorum system.now.sets (members faulty.now) (members q.new) }
+{
+    for at in 0..groups.len() {
+        let members = groups.members(at);
+        if members.meets(q) {
+            scratch.copy_from(q);
+            scratch.minus(members);
+            shrink(system, scratch, faulty);
+            if !scratch.is_empty() {
+                q.copy_from(scratch);
+            }
+        }
+    }
+}
+
+/// Adds the clause of a quorum to the solver, and lists the quorum.
+fn add_quorum(
+    alloc: Global,
+    groups: &Groups,
+    touched: &GroupSet,
+    quorum: &NodeSet,
+    solver: &mut Solver,
+    listed: &mut Vec<GroupLine>,
+) -> Result<(), AllocError>
+    requires sized { All (λ group. length group.members ≡ length quorum.now) groups.now }
+    requires few { length quorum.now ≤ MOST_NODES }
+    requires places { length touched.now ≡ length groups.now }
+    requires within { members (touching (tables_of groups.now) quorum.now) ⊆ members touched.now }
+    requires vars { solver.old.vars ≡ size touched.now }
+    requires room { solver.old.database.last + 1 < 2 ^ 63 }
+    ensures listed { OnOk result (listed.new.items ≡ listed.old.items ++ record { after = length solver.old.log; which = listing.Quorum; id = solver.old.database.last + 1; set = quorum.now } ∷ []) }
+    ensures held { OnOk result (solver.new.database.held ≡ with_clause solver.old.database.held (solver.old.database.last + 1) (group_clause (tables_of groups.now) touched.now listing.Quorum quorum.now)) }
+    ensures last { OnOk result (solver.new.database.last ≡ solver.old.database.last + 1) }
+    ensures log { solver.new.log ≡ solver.old.log }
+    ensures vars { solver.new.vars ≡ solver.old.vars }
+{
+    let clause = quorum_clause(alloc, groups, touched, quorum)?;
+    list_set(Listed::Quorum, &clause, resized(quorum), solver, listed)
+}
+
+/// Adds the clause of a blocking set of groups to the solver, and lists the set.
+fn add_block(
+    alloc: Global,
+    groups: &Groups,
+    touched: &GroupSet,
+    set: &GroupSet,
+    solver: &mut Solver,
+    listed: &mut Vec<GroupLine>,
+) -> Result<(), AllocError>
+    requires places { length touched.now ≡ length groups.now }
+    requires same_n { length set.now ≡ length groups.now }
+    requires within { members set.now ⊆ members touched.now }
+    requires vars { solver.old.vars ≡ size touched.now }
+    requires room { solver.old.database.last + 1 < 2 ^ 63 }
+    ensures listed { OnOk result (listed.new.items ≡ listed.old.items ++ record { after = length solver.old.log; which = listing.Blocking; id = solver.old.database.last + 1; set = set.now } ∷ []) }
+    ensures held { OnOk result (solver.new.database.held ≡ with_clause solver.old.database.held (solver.old.database.last + 1) (group_clause (tables_of groups.now) touched.now listing.Blocking set.now)) }
+    ensures last { OnOk result (solver.new.database.last ≡ solver.old.database.last + 1) }
+    ensures log { solver.new.log ≡ solver.old.log }
+    ensures vars { solver.new.vars ≡ solver.old.vars }
+{
+    let clause = block_clause(alloc, groups, touched, set)?;
+    list_set(Listed::Blocking, &clause, set.copy(), solver, listed)
+}
+
+/// Lists a set whose clause is false in the solver's assignment, a set of groups: a quorum outside their members, of which first
+/// whole groups and then nodes are lost, or where there is none a minimal blocking set of groups inside it.
+fn turn(
+    alloc: Global,
+    system: &System,
+    groups: &Groups,
+    faulty: &NodeSet,
+    touched: &GroupSet,
+    solver: &mut Solver,
+    listed: &mut Vec<GroupLine>,
+) -> Result<(), AllocError>
+    requires sized { All (λ group. length group.members ≡ length system.now.sets) groups.now }
+    requires same_faulty { length faulty.now ≡ length system.now.sets }
+    requires touched { touched.now ≡ touching (tables_of groups.now) (greatest_of system.now.sets faulty.now) }
+    requires vars { solver.old.vars ≡ size touched.now }
+    requires room { solver.old.database.last + 1 < 2 ^ 63 }
+    requires solves { Satisfies (assignment solver.old) solver.old.database.held }
+    ensures goes_on { OnOk result ((total left : ℕ) → total < 2 ^ 63
+        → IsGroupListing system.now.sets faulty.now (tables_of groups.now) total (left + 1) listed.old.items solver.old → IsGroupListing system.now.sets faulty.now (tables_of groups.now) total left listed.new.items solver.new) }
+{
+    let n = system.len();
+    let tried = tried_units(solver, Listed::Blocking, groups.len(), touched);
+    let mut marked = MarkedGroups::none(alloc, groups, n)?;
+    marked.mark_all(&tried);
+    let mut outside = NodeSet::new(n);
+    let mut scratch = NodeSet::new(n);
+    if blocks(system, marked.nodes(), faulty, &mut outside) {
+        minimal_groups(system, faulty, &mut marked, &mut scratch);
+        return add_block(alloc, groups, touched, marked.marks(), solver, listed);
+    }
+    lose_groups(system, groups, &mut outside, faulty, &mut scratch);
+    minimal_quorum(system, &mut outside, faulty, &mut scratch);
+    add_quorum(alloc, groups, touched, &outside, solver, listed)
+}
+
+/// Lists a set for each assignment of the solver, until there is none more, which it answers by true, or no unit is left.
+pub(crate) fn run(
+    alloc: Global,
+    system: &System,
+    groups: &Groups,
+    faulty: &NodeSet,
+    touched: &GroupSet,
+    solver: &mut Solver,
+    listed: &mut Vec<GroupLine>,
+    budget: &mut Budget,
+) -> Result<bool, AllocError>
+    requires sized { All (λ group. length group.members ≡ length system.now.sets) groups.now }
+    requires same_faulty { length faulty.now ≡ length system.now.sets }
+    requires touched { touched.now ≡ touching (tables_of groups.now) (greatest_of system.now.sets faulty.now) }
+    requires room { budget.old + 1 < 2 ^ 63 }
+    requires start { IsGroupListing system.now.sets faulty.now (tables_of groups.now) budget.old budget.old listed.old.items solver.old }
+    ensures whole { result ≡ Ok true → IsWholeGroupListing system.now.sets faulty.now (tables_of groups.now) budget.old budget.new listed.new.items solver.new.log }
+    ensures part { result ≡ Ok false → IsGroupListing system.now.sets faulty.now (tables_of groups.now) budget.old budget.new listed.new.items solver.new }
+    ensures spent { result ≡ Ok false → budget.new ≡ 0 }
+    ensures unclosed { result ≡ Ok false → Closes solver.new.database.held → ⊥ }
+{
+    'lines: loop {
+        match solver.solve(budget)? {
+            Verdict::Unsat => return Ok(true),
+            Verdict::Spent => return Ok(false),
+            Verdict::Sat => {
+                if budget.left() == 0 {
+                    return Ok(false);
+                }
+                budget.take();
+                turn(alloc, system, groups, faulty, touched, solver, listed)?;
+            }
+        }
+    }
+}
