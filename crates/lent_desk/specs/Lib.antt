@@ -1,0 +1,5 @@
+pub mod Files
+pub mod Spans
+pub mod Left
+pub mod Room
+pub mod LentDesk

@@ -1,0 +1,11 @@
+//! A desk that lends the caller's files, without a copy, and writes the text and the certificate straight into the caller's room.
+#![tactic(auto)]
+
+mod bytes;
+mod desk;
+mod files;
+mod left;
+mod spans;
+
+pub use desk::{Lengths, LentDesk};
+pub use files::LentFiles;

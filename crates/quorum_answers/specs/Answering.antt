@@ -1,0 +1,42 @@
+-- What a caller is answered, in the terms of a run over a desk.
+use Rattle.std.specs.Prelude.{◌≡◌, ◌⊎◌, ◌==◌, ◌-◌, ◌<◌, ℕ, IsTrue, List, ◌++◌, length, take, drop, codes}
+use Rattle.std.specs.List.{slice_split}
+use Rattle.desk_io.specs.State.{DeskState, Files}
+use Rattle.lent_desk.specs.LentDesk.{at_start, made_in}
+use Rattle.order_reading.specs.declared.status.Status.{Status}
+use Rattle.order_reading.specs.declared.status.Status.TheVariants.{WriteFault}
+use Rattle.order_reading.specs.Status.{is_answer, code_of}
+use Rattle.quorum_run.specs.Running.{Runs}
+use Rattle.quorum_answers.specs.declared.answer.QuorumEnd.{QuorumEnd}
+
+-- the name of the program, which comes before its words
+abbrev pub program : List ℕ
+program = codes "quorum_cli"
+
+-- the words between the zero bytes
+abbrev pub words_in : List ℕ → List (List ℕ)
+words_in text = slice_split (λ b. b == 0) text
+
+-- the room begins with the certificate that was made, whole, and ends with the text that was put out after what stood there before
+pub record Holds (room before : List ℕ) (end : QuorumEnd) (new : DeskState) : Type 0 where
+  pub cert : take end.cert room ≡ made_in new
+  pub text : new.out ≡ before ++ drop (length room - end.text) room
+
+-- nothing is wanting, or more than the room has
+abbrev pub IsWanting : ℕ → ℕ → Type 0
+IsWanting room wanting = (wanting ≡ 0) ⊎ (room < wanting)
+
+-- a run of the words over the files ended so, with this in the room
+pub record Answers (words : List (List ℕ)) (files : Files) (room : List ℕ) (end : QuorumEnd) : Type 0 where
+  -- how the run ended, what stood on its output before, and what was on its desk at the end
+  pub status : Status
+  pub before : List ℕ
+  pub new : DeskState
+  pub status_is : end.status ≡ code_of status
+  -- all that `run` promises: the text is the defined one, its headline is so, and without an answer why there is none
+  pub ran : Runs words (at_start files before (length room)) new status
+  -- the text and the certificate are in the room
+  pub holds : IsTrue (is_answer status) → Holds room before end new
+  -- how much room was wanting
+  pub wanting : IsWanting (length room) end.wanting
+  pub enough : (status ≡ WriteFault → ⊥) → end.wanting ≡ 0
