@@ -5,14 +5,16 @@
 
 The networks are those of tests/watchers.py, each with a hundred watchers. At each width nothing is wider than the window, no two
 labels of the picture overlap, and the picture has two columns on a phone; in the dark the text stands out from its ground; each
-page is below 400 kB and on ten printed sheets at most; and the summary says what the certified answers say. With FOLDER the
-pages, screenshots and prints are kept there. The last line is 'browser: N passed, M failed', or says why it is skipped.
+page is below 400 kB and on ten printed sheets at most; and the summary, and who is left if an organisation leaves, is what the
+program answers to whoever asks it without the page. With FOLDER the pages, screenshots and prints are kept there. The last line
+is 'browser: N passed, M failed', or says why it is skipped; without Chromium the answers are tried all the same.
 """
 
 import base64
 import html
 import itertools
 import json
+import math
 import os
 import re
 import shutil
@@ -159,7 +161,9 @@ class Trial:
         watcher = next(it["publicKey"] for it in nodes if not it["isValidator"] and "quorumSet" in it and len(it["quorumSet"]["validators"]) == 5)
         for name, words in ((kind, ["--orgs", orgs]), (kind + "-node", ["--orgs", orgs, "--node", watcher])):
             page = self.path(name + ".html")
-            ended = subprocess.run([TOOL, config, *words, "--budget", BUDGET, "-o", page, "--program", PROGRAM], stdout=subprocess.PIPE, stderr=subprocess.PIPE, timeout=3000)
+            # Of one all sets of nodes are listed, which takes longest.
+            budget = [] if name == "seven" else ["--budget", BUDGET]
+            ended = subprocess.run([TOOL, config, *words, *budget, "-o", page, "--program", PROGRAM], stdout=subprocess.PIPE, stderr=subprocess.PIPE, timeout=3000)
             self.judge(name, ended.returncode == 0, ended.stderr)
             if ended.returncode == 0:
                 self.page(name, page)
@@ -178,36 +182,55 @@ class Trial:
         self.judge(name + ": can it fork", lines[0].split(",")[0] == {0: "No", 1: "Yes"}.get(forks), (lines, forks))
         said = lines[1].split("; ")[0]
         self.judge(name + ": with one lying", said.endswith(": " + ", ".join(lying)) if lying else said == "None can fork it", (lines, lying))
-        size, least = self.least(config, node, keys)
         first = lines[2].split("; ")[0]
-        if len(least) == 1:
-            right = first == " and ".join(sorted(least[0])) + (" alone" if size == 1 else " together")
-        else:
-            right = first.startswith("any %d of these" % size) or first.split(", or ")[0] in {" and ".join(sorted(some)) for some in least}
-        self.judge(name + ": who can stop it", right, (lines, least))
+        least = self.least(config, node, keys)
+        self.judge(name + ": who can stop it", first == together(least), (lines, least))
         inside = node in self.asked("greatest", config, "--from", node)[1].split()[1:]
         self.judge(name + ": the node", lines[3].startswith("none was given") or ("is in the greatest quorum" in lines[3]) == inside, lines)
+        self.leaving(name, text, config, node, keys)
+
+    def leaving(self, name, text, config, node, keys):
+        """Each row of an organisation that leaves is what `blocks` says of its keys, alone and with others."""
+        greatest = self.asked("greatest", config, "--from", node)[1].split()[1:]
+        part = text.partition('id="leaving"')[2].partition("</table>")[0]
+        rows = [[html.unescape(re.sub(r"<[^>]*>", "", it)) for it in re.findall(r"<t[hd][^>]*>(.*?)</t[hd]>", row)] for row in re.findall(r"<tr>(.*?)</tr>", part)[1:]]
+        self.judge(name + ": each leaves", [row[0] for row in rows] == list(keys), rows)
+        for org, goes_on, then in rows:
+            left = self.asked("blocks", config, "--from", node, "--set", ",".join(keys[org]))[1].split("\n")[1].split()[1:]
+            others = len(set(greatest) - set(keys[org]))
+            right = goes_on.startswith("%d of the other %d nodes go on" % (len(left), others)) if left else goes_on.startswith("No, it stops once")
+            self.judge("%s: %s leaves" % (name, org), right, (goes_on, left))
+            rest = {other: keys[other] for other in keys if other != org}
+            wanted = together(self.least(config, node, rest, keys[org]), len(rest)) if left else "it has stopped"
+            self.judge("%s: once %s has left" % (name, org), then == wanted, (then, wanted))
 
     def asked(self, *words):
         ended = subprocess.run([PROGRAM, *words], stdout=subprocess.PIPE, timeout=3000)
         return ended.returncode, ended.stdout.decode()
 
-    def least(self, config, node, keys):
-        """The smallest sets of organisations that stop the network, as one node sees it."""
+    def least(self, config, node, keys, gone=()):
+        """The smallest sets of organisations that stop the network once these keys are gone, as one node sees it."""
         for size in range(1, len(keys) + 1):
-            found = [some for some in itertools.combinations(keys, size) if self.asked("blocks", config, "--from", node, "--set", ",".join(sum((keys[org] for org in some), [])))[0] == 0]
+            found = [some for some in itertools.combinations(keys, size) if self.asked("blocks", config, "--from", node, "--set", ",".join(sum((keys[org] for org in some), [*gone])))[0] == 0]
             if found:
-                return size, found
-        return 0, []
+                return found
+        return []
 
     def page(self, name, page):
         self.judge(name + " is small enough", os.path.getsize(page) < MOST_BYTES, os.path.getsize(page))
+        if self.browser is not None:
+            self.looked_at(name, page)
+
+    def looked_at(self, name, page):
         for width, wide in WIDTHS.items():
             self.browser.open(page, wide, "light")
             found = self.browser.told(MEASURES)
             columns = 2 if width == "phone" else 4
             self.judge("%s, %s" % (name, width), not found["out"] and found["over"] == found["wide"] == 0 and found["columns"] == columns, found)
             self.browser.picture(self.path("%s-%s.png" % (name, width)), found["high"])
+            self.browser.told("document.querySelectorAll('details').forEach(it => it.open = true) || '0'")
+            found = self.browser.told(MEASURES)
+            self.judge("%s, %s, unfolded" % (name, width), not found["out"], found)
         for scheme in ("light", "dark"):
             self.browser.open(page, WIDTHS["desk"], scheme)
             least = self.browser.told(CONTRAST)
@@ -217,23 +240,40 @@ class Trial:
         self.judge(name + " printed", 1 <= sheets <= MOST_SHEETS, sheets)
 
 
+def together(least, others=None):
+    """How the page says that these smallest sets stop the network, if so many others are left."""
+    if not least:
+        return "nobody"
+    every, size = sorted(set().union(*least)), len(least[0])
+    ending = " alone" if size == 1 else " together"
+    if len(least) == 1:
+        return " and ".join(sorted(least[0])) + ending
+    if len(least) < math.comb(len(every), size):
+        shown = sorted(" and ".join(sorted(some)) for some in least)
+        return ", or ".join(shown[:3]) + (", or one of %d other sets of %d" % (len(shown) - 3, size) if len(shown) > 3 else ending)
+    if len(every) == others:
+        return "each of the %d others alone" % others if size == 1 else "any %d of the %d others together" % (size, others)
+    return "each of %s alone" % ", ".join(every) if size == 1 else "any %d of these %d organisations together: %s" % (size, len(every), ", ".join(every))
+
+
 def tried(folder, chromium):
     with tempfile.TemporaryDirectory() as profile:
-        browser = Browser(chromium, profile)
+        browser = Browser(chromium, profile) if chromium is not None else None
         trial = Trial(folder, browser)
         try:
             for kind, (config, orgs) in watchers.write(folder).items():
                 trial.network(kind, config, orgs)
         finally:
-            browser.end()
-    print("browser: %d passed, %d failed" % (trial.passed, trial.failed))
+            if browser is not None:
+                browser.end()
+    print("browser: %s%d passed, %d failed" % ("" if chromium is not None else "skipped on screen and paper, there is no Chromium: ", trial.passed, trial.failed))
     return 1 if trial.failed else 0
 
 
 def main():
     chromium = shutil.which("chromium")
-    if chromium is None or not os.path.exists(PROGRAM):
-        print("browser: skipped, %s" % ("there is no Chromium" if chromium is None else "the program is not built"))
+    if not os.path.exists(PROGRAM):
+        print("browser: skipped, the program is not built")
         return 0
     if len(sys.argv) == 2:
         os.makedirs(sys.argv[1], exist_ok=True)

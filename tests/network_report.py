@@ -19,6 +19,8 @@ import time
 
 TOP = os.path.dirname(os.path.dirname(os.path.abspath(__file__)))
 PROGRAM = os.environ.get("QUORUM_CLI", os.path.join(TOP, "crates", "quorum_cli", "out", "quorum_cli"))
+# Where it lies, a program that is compiled without proofs says so.
+PROVED = os.path.basename(os.path.dirname(os.path.realpath(PROGRAM))) != "unproved"
 NETWORK = os.path.join(TOP, "examples", "network.json")
 ORGS = os.path.join(TOP, "examples", "orgs.json")
 TOOL = os.path.join(TOP, "tools", "network-report")
@@ -120,22 +122,57 @@ class Trial:
         """The four lines, without markup."""
         return [re.sub(r"<[^>]*>", "", line) for line in re.findall(r"<dd>(.*?)</dd>", page)]
 
+    @staticmethod
+    def asked(*words):
+        """The lines that the program prints."""
+        return subprocess.run([PROGRAM, *words], stdout=subprocess.PIPE).stdout.decode().split("\n")[:-1]
+
+    def knows(self, command):
+        return any(line.startswith(command + " ") for line in self.asked())
+
+    def beside(self, config, word):
+        """A word of a command of the page, with the files where they lie here."""
+        option, path = ("--orgs=", word[7:]) if word.startswith("--orgs=") else ("", word)
+        return option + {os.path.basename(config): config, "orgs.json": ORGS}.get(path, self.path(path) if path.startswith("page-certificates/") else path)
+
     def certificates(self, config, page):
         """Each certificate of the page's list lies beside it, has the digest that the page says, is accepted, and is made anew by the command that stands there."""
-        row = r'<a href="(page-certificates/[^"]+)">[^<]+</a></th><td><code>([^<]*)</code></td><td>(\d+)</td><td><code>([0-9a-f]{64})</code></td><td><code>([^<]*)</code>'
+        row = r'<li><a href="(page-certificates/[^"]+)">[^<]+</a>: <code>([^<]*)</code>, (\d+) bytes<br>SHA-256 <code>([0-9a-f]{64})</code><br><code>([^<]*)</code></li>'
         listed = re.findall(row, page)
         for name, accepted, size, digest, command in listed:
             held = contents(self.path("page-certificates"))[os.path.basename(name)]
-            ended = subprocess.run([PROGRAM, "check", config, self.path(name)], stdout=subprocess.PIPE)
+            words = [self.beside(config, it) for it in shlex.split(html.unescape(command))]
+            orgs = [it for it in words if words[1] == "org-blocking" and it.startswith("--orgs=")]
+            ended = subprocess.run([PROGRAM, "check", config, self.path(name), *orgs], stdout=subprocess.PIPE)
             right = hashlib.sha256(held).hexdigest() == digest and len(held) == int(size) and ended.returncode in (0, 2)
             self.judge(name, right and ended.stdout.decode().split("\n")[0] == accepted, ended.stdout)
-            words = [{"network.json": config, "--orgs=orgs.json": "--orgs=" + ORGS, name: self.path("again.cert")}.get(it, it) for it in shlex.split(html.unescape(command))]
+            words[3] = self.path("again.cert")
             subprocess.run([PROGRAM, *words[1:]], stdout=subprocess.DEVNULL)
             with open(self.path("again.cert"), "rb") as it:
                 self.judge("made again: " + command, words[0] == "quorum_cli" and it.read() == held)
         named = re.findall(r'href="(page-certificates/[^"]+)"', page)
-        self.judge("each is in the list, and in the folder", set(named) == {it[0] for it in listed} == {"page-certificates/" + it for it in contents(self.path("page-certificates"))}, named)
+        held = {"page-certificates/" + it for it in contents(self.path("page-certificates")) if it.endswith(".cert")}
+        self.judge("each is in the list, and in the folder", set(named) == {it[0] for it in listed} == held, named)
         return len(listed)
+
+    def leaving(self, config, page):
+        """Each organisation that leaves: the script retires its keys, and of the greatest quorum just those are left that are without them. The rows of the table, without markup."""
+        asked = [shlex.split(html.unescape(it)) for it in re.findall(r"^(?:<pre>)?(quorum_cli whatif .*?)(?:</pre>|$)", page.partition(" without a certificate</summary>")[2], re.M)]
+        place = re.search(r"--from=([^\s<]+)", page)
+        of_node = ["--from=" + html.unescape(place.group(1))] if place else []
+        within = set(self.asked("closure", config, "--node=" + of_node[0][len("--from=") :])[0].split()) if place else None
+        rows = [re.sub(r"<[^>]*>", "|", it) for it in re.findall(r"<tr>(.*?)</tr>", page.partition('id="leaving"')[2].partition("</table>")[0])[1:]]
+        self.judge("a row and a script for each that leaves", len(rows) == len(asked) > 0, (rows, asked))
+        for row, words in zip(rows, asked):
+            words = [self.beside(config, it) for it in words]
+            keys = words[4][len("--set=") :].split(",")
+            with open(words[3]) as it:
+                self.judge("its keys retire", it.read().split() == [part for key in keys for part in ("retire", key)], keys)
+            last = set([line for line in self.asked(*words[1:]) if line.startswith("greatest")][-1].split()[1:])
+            blocks = self.asked("blocks", config, words[4], *of_node)
+            left = blocks[1].split()[1:] if blocks[0] == "blocks no" else []
+            self.judge("who goes on", set(left) == (last if within is None else last & within) and (("|%d of the other " % len(left)) in row if left else "|No|, it stops once" in row), (row, left))
+        return [[it for it in row.split("|") if it] for row in rows]
 
     def a_network(self):
         status, error, page = self.run(NETWORK, "--orgs", ORGS, "--node", "GAAA1")
@@ -143,15 +180,19 @@ class Trial:
         if page is None:
             return
         self.loads_nothing(page)
-        self.judge("the verdict in both views, each organisation, the list", self.certificates(NETWORK, page) == 6)
+        self.judge("the verdict in both views, each organisation, the lists", self.certificates(NETWORK, page) == 6 + self.knows("org-blocking"))
+        rows = self.leaving(NETWORK, page)
+        self.judge("each that leaves", rows == [[name, "6 of the other 6 nodes go on", "each of the 2 others alone"] for name in ("Alder", "Beech", "Cedar")], rows)
         lines = ["No", "Each organisation can fork it: Alder, Beech, Cedar", "any 2 of these 3 organisations together: Alder, Beech, Cedar; of single nodes, 4 are enough", "gaaa1 is in the greatest quorum; it goes on whichever other organisation is silent, and is stopped by Beech and Cedar together"]
         self.judge("the summary", self.summary(page) == lines, self.summary(page))
-        wanted = ["As your node sees it the network cannot fork.", "In the whole file the network cannot fork.", "10, of which 1 without a quorum set; 1 are watchers", "9 of the 10 nodes", "whose contract is proved", "it is one of its keys", "<li>Beech and Cedar</li>", "1 quorum set for the nodes", "Alder (2 of 3)"]
+        wanted = ["As your node sees it the network cannot fork.", "In the whole file the network cannot fork.", "10, of which 1 without a quorum set; 1 is a watcher", "9 of the 10 nodes", "whose contract is proved" if PROVED else "Nothing on this page is proved", "it is one of its keys", "<p>Beech and Cedar.</p>", "1 quorum set for the nodes", "Its quorum set is <b>2 of 3</b>: Alder (2 of 3), Beech (2 of 3), Cedar (2 of 3).</p>"]
         self.judge("what the page says", all(text in page for text in wanted), [text for text in wanted if text not in page])
+        with open(os.path.join(TOP, "VERSION"), encoding="utf-8") as it:
+            self.judge("the program's version", "<code>quorum_cli</code> %s, SHA-256" % it.read().strip() in page or not PROGRAM.startswith(TOP))
         self.judge("each organisation that lies lets it fork", page.count('<span class="bad">Yes</span>: ') == 3)
         self.judge("progress on standard error", "organisation 3 of 3: Cedar" in error, error)
-        usage = subprocess.run([PROGRAM], stdout=subprocess.PIPE).stdout.decode()
-        self.judge("the list stands there exactly where the program has it", ("The sets of nodes are left out" not in page) == ("\nblocking " in usage))
+        self.judge("sets of organisations have a certificate of their own exactly if the program has it", ("its certificate shows that" in page) == self.knows("org-blocking"))
+        self.judge("the list stands there exactly if the program has it", ("The sets of nodes are left out" not in page) == self.knows("blocking"))
 
     def a_watcher(self):
         """The node of one's own that is in no quorum is said to be so."""
@@ -160,6 +201,25 @@ class Trial:
         if page is not None:
             self.loads_nothing(page)
             self.judge("it is in no quorum", "in no quorum" in self.summary(page)[3] and "It is in no quorum" in page, self.summary(page))
+
+    def one_needed(self):
+        """Organisations by home domain, each of which all need, and one that nobody needs."""
+        orgs = {"a.example": ["a1", "a2", "a3"], "b.example": ["b1"], "c.example": ["c1"]}
+        inner = [{"threshold": 2, "validators": orgs["a.example"]}, {"threshold": 1, "validators": ["b1"]}]
+        nodes = [{"publicKey": key, "homeDomain": org, "quorumSet": {"threshold": 2, "innerQuorumSets": inner}} for org in orgs for key in orgs[org]]
+        nodes[0]["quorumSet"] = {"threshold": 3, "innerQuorumSets": [*inner, {"threshold": 1, "validators": ["c1", "b1"]}]}
+        config = self.written("needed.json", json.dumps(nodes))
+        status, error, page = self.run(config, "--node", "a1")
+        self.judge("a page of a network with one that all need", status == 0 and page is not None, error)
+        if page is None:
+            return
+        self.loads_nothing(page)
+        self.certificates(config, page)
+        lines = self.summary(page)
+        self.judge("each alone", lines[2] == "each of a.example, b.example alone; of single nodes, 1 is enough" and "it stops if b.example is silent" in lines[3], lines)
+        rows = self.leaving(config, page)
+        right = [["a.example", "No", ", it stops once 2 of its 3 keys have", "it has stopped"], ["b.example", "No", ", it stops once it has left", "it has stopped"], ["c.example", "4 of the other 4 nodes go on", "each of the 2 others alone"]]
+        self.judge("what stops as it leaves", rows == right, rows)
 
     def split_off(self):
         """A fork of the whole file that only splits off a watcher: said so, and not in red."""
@@ -300,6 +360,7 @@ def main():
         trial = Trial(folder)
         trial.a_network()
         trial.a_watcher()
+        trial.one_needed()
         trial.split_off()
         trial.spent()
         trial.odd_names()

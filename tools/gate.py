@@ -38,7 +38,7 @@ def crates():
     """Each crate of the repository, with those that it uses."""
     with open("crates.txt", encoding="utf-8") as it:
         lines = [line.partition(":") for line in it if ":" in line and not line.startswith("#")]
-    return {name.strip(): uses.split() for name, _, uses in lines}
+    return {name.split()[0]: uses.split() for name, _, uses in lines}
 
 
 def edits_of(crate):

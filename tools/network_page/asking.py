@@ -94,14 +94,14 @@ class Program:
         except OSError as why:
             raise Failed("the program could not be run: %s" % why) from None
         text = ended.stdout.decode("ascii", "replace")
-        if ended.returncode not in (0, 1, 2, 3, 4, 5, 9):
+        if ended.returncode not in (0, 1, 2, 3, 4, 5, 9, 10):
             raise Failed("`%s` gave no answer: %s" % (words[0], NO_ANSWER.get(ended.returncode, ended.stderr.decode("utf-8", "replace").strip())))
         return ended.returncode, text.split("\n")[:-1]
 
     def answer(self, *words):
         """The status and the lines of an answer; a refusal fails with the program's own line."""
         status, lines = self.run(*words)
-        if status in (3, 4, 5):
+        if status in (3, 4, 5, 10):
             raise Failed("`%s` was refused: %s" % (words[0], lines[0] if lines else status))
         return status, lines
 
@@ -112,11 +112,15 @@ class Program:
 
     def shown(self, words):
         """A command as whoever has the page and the files beside it can repeat it."""
-        names = {self.config: os.path.basename(self.config)}
-        if self.orgs is not None:
-            names["--orgs=" + self.orgs] = "--orgs=" + os.path.basename(self.orgs)
-        here = [os.path.join(self.beside.name, os.path.basename(word)) if word.startswith(self.beside.part + os.sep) else names.get(word, word) for word in words]
-        return " ".join(["quorum_cli", *map(shlex.quote, here)])
+        return " ".join(["quorum_cli", *(shlex.quote(self.here(word)) for word in words)])
+
+    def here(self, word):
+        """A word in which a file is named as it lies beside the page."""
+        option = "--orgs=" if word.startswith("--orgs=") else ""
+        path = word[len(option) :]
+        if path.startswith(self.beside.part + os.sep):
+            return option + os.path.join(self.beside.name, os.path.basename(path))
+        return option + os.path.basename(path) if path in (self.config, self.orgs) else word
 
     def knows(self, command):
         """Whether the program has a command, by its usage text."""
@@ -163,20 +167,34 @@ class Program:
         word = lines[0].split(" ")[1]
         sets = [line.split(" ")[1:] for line in lines[1:3]] if word == "no" else [(), ()]
         number = lines[0].split(" ")[2] if word == "unknown" else None
-        certificate = self.checked(path, KIND[word], view, org.keys if org is not None else (), words)
+        certificate, _ = self.checked(path, KIND[word], view, org.keys if org is not None else (), words)
         return Verdict(view, word, number, *sets, certificate=certificate)
 
     def blocking(self, view, name, most):
-        """The minimal blocking sets with their certificate; where the units were spent, the smallest ones of those found."""
+        """The minimal blocking sets as `check` accepts them; where the units were spent, the smallest ones of those found."""
         path = self.beside.certificate(view.file(name))
         words = self.searched("blocking", self.config, path, *view.words())
         status, lines = self.answer(*words)
-        certificate = self.checked(path, "blocking" if status == 0 else "partial-blocking", view, (), words)
+        certificate, sets = self.checked(path, "blocking" if status == 0 else "partial-blocking", view, (), words)
         if status == 0:
-            sets = [line.split(" ")[1:] for line in lines[1:]]
             return Blocking(sets, len(sets), None, certificate)
         found = self.found_in(path)
         return Blocking([keys for keys in found[:most] if self.is_minimal(view, keys)], len(found), lines[0].split(" ")[2], certificate)
+
+    def blocking_groups(self, view, name, orgs):
+        """The minimal blocking sets of organisations, and of nodes of none, as `check` accepts them; None where the units were spent."""
+        path = self.beside.certificate(view.file(name))
+        given = "--orgs=" + (self.orgs if self.orgs is not None else self.beside.organisations(orgs))
+        words = self.searched("org-blocking", self.config, path, given, *view.words())
+        status, _ = self.answer(*words)
+        certificate, sets = self.checked(path, "org-blocking" if status == 0 else "partial-org-blocking", view, (), words, given)
+        return (sets, certificate) if status == 0 else None
+
+    def retired(self, keys, name, scripted):
+        """The greatest quorum of the whole file at first, and after each of the scripted keys has retired."""
+        script = self.beside.script(name, ["retire " + key for key in scripted])
+        lines = self.noted("whatif", self.config, script, "--set=" + ",".join(keys))[1]
+        return [line.split(" ")[1:] for line in lines if line.split(" ")[0] == "greatest"]
 
     @staticmethod
     def found_in(path):
@@ -188,18 +206,18 @@ class Program:
         """Whether the keys stop every agreement, and without any one of them they do not."""
         return self.blocks(view, keys)[0] and not any(self.blocks(view, [it for it in keys if it != key])[0] for key in keys)
 
-    def checked(self, path, kind, view, faulty, words):
-        """The certificate where `check` accepts it as one of this kind, for this view and for exactly these faulty nodes."""
-        status, lines = self.run("check", self.config, path)
+    def checked(self, path, kind, view, faulty, words, *more):
+        """The certificate and the sets of it, where `check` accepts it as one of this kind, for this view and for exactly these faulty nodes."""
+        status, lines = self.run("check", self.config, path, *more)
         wanted = [" ".join(["from", *([view.node] if view.node is not None else [])]), " ".join(["faulty", *sorted(set(faulty) & view.keys)])]
         if status not in (0, 2) or lines[0].split(" ")[:2] != ["accepted", kind] or lines[1:3] != wanted:
             raise Failed("the certificate %s is not accepted: %s" % (os.path.basename(path), " / ".join(lines[:3])))
         self.certificates.append(Certificate(path, lines[0], self.shown(words)))
-        return self.certificates[-1]
+        return self.certificates[-1], [line.split(" ")[1:] for line in lines[3:]]
 
     def is_proved(self):
-        """Whether the script of this repository was not told to take the program that is compiled without proofs."""
-        return os.environ.get("QUORUM_CLI_UNPROVED") != "1"
+        """Whether the program is not the one that is compiled without proofs, which the script of this repository takes where it is told so."""
+        return os.environ.get("QUORUM_CLI_UNPROVED") != "1" and os.path.basename(os.path.dirname(os.path.realpath(self.path))) != "unproved"
 
     def digest(self):
         """The SHA-256 of the program: of what the script of this repository runs, where it is that script."""
@@ -209,11 +227,13 @@ class Program:
             return hashlib.sha256(it.read()).hexdigest()
 
     def version(self):
-        """What the file VERSION beside the program says, if there is one."""
-        path = os.path.join(os.path.dirname(os.path.realpath(self.path)), "VERSION")
-        if not os.path.isfile(path):
-            return None
-        with open(path, encoding="utf-8") as it:
+        """What the file VERSION of the repository says in which the program lies, if it lies in one."""
+        folder = os.path.dirname(os.path.realpath(self.path))
+        while not os.path.isfile(os.path.join(folder, "VERSION")):
+            if folder == os.path.dirname(folder):
+                return None
+            folder = os.path.dirname(folder)
+        with open(os.path.join(folder, "VERSION"), encoding="utf-8") as it:
             return it.read().strip()
 
 

@@ -22,12 +22,30 @@ class OrgTurn:
 
 
 class Together:
-    """The minimal sets of organisations that do a thing, where the key of a node of none stands for itself. All of them, or those of at most so many organisations."""
+    """The minimal sets of organisations that do a thing, where the key of a node of none stands for itself. All of them, or those of at most so many organisations. A certificate is that of these sets, or that of the sets of nodes from which they follow."""
 
-    def __init__(self, sets, most, certificate=None):
+    def __init__(self, sets, most, certificate=None, from_nodes=False):
         self.sets = sorted(sets, key=len)
         self.most = most
         self.certificate = certificate
+        self.from_nodes = from_nodes
+
+
+class Leaving:
+    """One organisation whose keys retire one after another: the greatest quorum before, and after each; and who can stop the network then (None: nothing is known)."""
+
+    def __init__(self, org, quorums, then):
+        self.org = org
+        self.quorums = quorums
+        self.then = then
+
+    def left(self):
+        """The greatest quorum once it has left."""
+        return self.quorums[-1]
+
+    def stopped_after(self):
+        """How many of its keys have retired when nothing is left."""
+        return next(at for at, keys in enumerate(self.quorums) if not keys)
 
 
 class OwnNode:
@@ -50,6 +68,7 @@ class Found:
         self.verdicts = []
         self.turns = []
         self.stopping = None
+        self.leaving = []
         self.blocking = None
         self.own = None
 
@@ -94,6 +113,9 @@ def find(program, network, node, closure):
         found.blocking = program.blocking(view, "blocking", MOST_OF_PART)
     program.say("organisations that stop the network together")
     found.stopping = stopping(program, network, found, orgs)
+    if program.knows("whatif"):
+        program.say("each organisation leaving")
+        found.leaving = [leaving(program, network, found, org) for org in orgs]
     if node is not None:
         program.say("what the node depends on")
         found.own = own_node(program, found, orgs, node, closure)
@@ -116,15 +138,39 @@ def turn_of(program, found, org):
     views = [view for view in found.views if view not in forks] if found.verdicts and not found.forks() else []
     view = found.views[0]
     stops, goes_on = program.blocks(view, org.keys, program.noted)
-    return OrgTurn(org, until_fork(program, views, org.file, org), stops, goes_on, program.available(view, org.keys)[1])
+    return OrgTurn(org, until_fork(program, views, "faulty-" + org.mark, org), stops, goes_on, program.available(view, org.keys)[1])
 
 
 def stopping(program, network, found, orgs):
-    """By the certified list of the sets of nodes, where it is whole and no node is in two organisations; else by asking."""
+    """By the certified list of sets of organisations; by that of the sets of nodes, where it is whole and no node is in two organisations; else by asking."""
+    listed = program.blocking_groups(found.views[0], "org-blocking", network.orgs) if orgs and program.knows("org-blocking") else None
+    if listed is not None:
+        by_id = {"org:" + org.id: org for org in network.orgs}
+        return Together([frozenset(by_id.get(text, text.partition(":")[2]) for text in texts) for texts in listed[0] if texts], None, listed[1])
     if found.blocking is None or not found.blocking.is_whole() or sum(len(org.keys) for org in network.orgs) > len(network.org_of):
         return together(orgs, lambda keys: program.blocks(found.views[0], keys)[0])
     called = {frozenset(network.org_of.get(key, key) for key in keys) for keys in found.blocking.sets if keys}
-    return Together([some for some in called if not any(other < some for other in called)], None, found.blocking.certificate)
+    return Together(least_of(called), None, found.blocking.certificate, True)
+
+
+def least_of(sets):
+    """Those sets of which none of the others is a part."""
+    return [some for some in sets if not any(other < some for other in sets)]
+
+
+def leaving(program, network, found, org):
+    """What the whole file's greatest quorum has of the first view is the greatest quorum of that, since nobody in it depends on anybody outside."""
+    scripted = [key for key in org.keys if network.sets.get(key)]
+    quorums = [set(keys) & found.views[0].keys for keys in program.retired(org.keys, "leaving-" + org.mark, scripted)]
+    return Leaving(org, quorums, stopping_without(found.stopping, org))
+
+
+def stopping_without(stopping, org):
+    """The sets that stop the network once an organisation has left: those that stop it together with that one."""
+    sets = least_of({some - {org} for some in stopping.sets} - {frozenset()})
+    if stopping.most is None:
+        return Together(sets, None, stopping.certificate, stopping.from_nodes)
+    return Together([some for some in sets if len(some) < stopping.most], stopping.most - 1) if stopping.most > 1 else None
 
 
 def together(orgs, holds):
@@ -135,7 +181,7 @@ def together(orgs, holds):
         asked += len(left)
         if asked > MOST_ASKED:
             return Together(found, size - 1)
-        found += [some for some in left if holds(sorted(set().union(*(org.keys for org in some))))]
+        found += [frozenset(some) for some in left if holds(sorted(set().union(*(org.keys for org in some))))]
     return Together(found, None)
 
 

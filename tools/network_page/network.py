@@ -2,6 +2,7 @@
 
 import hashlib
 import json
+import urllib.parse
 
 
 class Organisation:
@@ -11,7 +12,7 @@ class Organisation:
         self.id = its_id
         self.name = name if isinstance(name, str) and name else its_id
         self.keys = sorted(keys)
-        self.file = "faulty-%02d-%s" % (at + 1, self.id)
+        self.mark = "%02d-%s" % (at + 1, self.id)
 
 
 class QuorumSet:
@@ -67,7 +68,7 @@ class Network:
             domain = it.get("homeDomain")
             if isinstance(domain, str) and domain.strip() and it["publicKey"] in self.named:
                 domains.setdefault(domain.strip()[:60], []).append(it["publicKey"])
-        return [Organisation(at, domain, domain, domains[domain]) for at, domain in enumerate(sorted(domains))]
+        return [Organisation(at, id_of(domain), domain, domains[domain]) for at, domain in enumerate(sorted(domains))]
 
     def outside(self):
         """The keys that no organisation has."""
@@ -80,6 +81,12 @@ class Network:
             held = self.sets.get(key)
             having.setdefault(held.same_as() if held else "", (held, []))[1].append(key)
         return sorted(having.values(), key=lambda it: (-len(it[1]), it[1]))
+
+
+def id_of(domain):
+    """A home domain as the id of an organisation, for which it may have signs that a name lacks, or be too long."""
+    text = urllib.parse.quote(domain, safe="")
+    return text if len(text) <= 128 else hashlib.sha256(domain.encode()).hexdigest()
 
 
 def read_orgs(path, keys):

@@ -1,7 +1,9 @@
 """Writes the page: one file with its style and picture in it, which loads nothing."""
 
 import html
+import itertools
 import math
+import re
 import time
 import urllib.parse
 
@@ -37,6 +39,11 @@ def table(heads, rows, kind=""):
     return '<table class="%s">%s<tbody>%s</tbody></table>' % (kind, head, lines)
 
 
+def by_size(sets):
+    """The sets in groups, the smallest first."""
+    return [list(some) for _, some in itertools.groupby(sorted(sets, key=len), key=len)]
+
+
 class Names:
     """Nodes and organisations as the page shows them."""
 
@@ -52,7 +59,7 @@ class Names:
         return ", ".join(self.node(key) for key in sorted(keys, key=lambda key: self.network.names[key]))
 
     def nodes(self, keys):
-        """Nodes by their names, or where they are many by their organisations."""
+        """Nodes by their names, or if they are many by their organisations."""
         keys = set(keys)
         if len(keys) <= MOST_NAMED:
             return self.each(keys)
@@ -78,8 +85,8 @@ class Names:
 
     def quorum_set(self, held):
         """A quorum set in words: so many of these, with an organisation's name for its keys."""
-        parts = [self.inner(it) for it in held.inner] + [self.node(key) for key in sorted(held.validators, key=lambda key: self.network.names[key])]
-        return "<b>%d of %d</b>: %s" % (held.threshold, len(parts), ", ".join(sorted(parts, key=lambda part: part.lower())))
+        parts = [self.inner(it) for it in held.inner] + [self.node(key) for key in held.validators]
+        return "<b>%d of %d</b>: %s" % (held.threshold, len(parts), ", ".join(sorted(parts, key=lambda part: re.sub(r"<[^>]*>", "", part).lower())))
 
     def inner(self, held):
         orgs = {self.network.org_of.get(key) for key in held.validators}
@@ -186,30 +193,40 @@ class Page:
             return "no %d organisations together" % stopping.most if stopping.most else "see below"
         text = self.sets_in_short(stopping)
         if self.found.blocking and self.found.blocking.is_whole():
-            text += "; of single nodes, %d are enough" % min(map(len, self.found.blocking.sets))
+            least = min(map(len, self.found.blocking.sets))
+            text += "; of single nodes, %d %s enough" % (least, "is" if least == 1 else "are")
         return text
 
     def sets_in_short(self, sets):
-        """The smallest sets, in a few words."""
-        whole = self.any_of(sets)
+        """The sets of the two smallest sizes, in a few words; those that do it alone stand out."""
+        sizes = by_size(sets.sets)[:2]
+        texts = [self.size_in_short(some) for some in sizes]
+        if len(sizes[0][0]) == 1:
+            texts[0] = '<span class="bad">%s</span>' % texts[0]
+        return "; or ".join(texts)
+
+    def size_in_short(self, some):
+        """Sets of one size: any so many of some if they are just those, else the first few."""
+        whole = self.any_of(some)
         if whole:
             return whole
-        least = [some for some in sets.sets if len(some) == len(sets.sets[0])]
-        shown = ", or ".join(sorted(self.names.group(some) for some in least[:3]))
-        if len(least[0]) == 1:
-            return "%s alone" % shown
-        return shown + (", or one of %d other sets of %d" % (len(least) - 3, len(least[0])) if len(least) > 3 else "") + (" together" if len(least) == 1 else "")
-
-    def any_of(self, sets):
-        """Where the sets are just those of one size out of some: so in words."""
-        every = set().union(*sets.sets)
-        size = len(sets.sets[0])
-        if sets.most is not None or len(sets.sets[-1]) != size or len(every) <= size or len(sets.sets) != math.comb(len(every), size):
-            return None
-        kind = "organisations" if not any(isinstance(it, str) for it in every) else "organisations and nodes"
+        size = len(some[0])
+        shown = ", or ".join(sorted(self.names.group(it) for it in some)[:3])
         if size == 1:
-            return "each of %s alone" % ", ".join(self.names.one(it) for it in sorted(every, key=self.names.sort_name))
-        return "any %d of these %d %s together: %s" % (size, len(every), kind, ", ".join(self.names.one(it) for it in sorted(every, key=self.names.sort_name)))
+            return "%s alone" % shown
+        return shown + (", or one of %d other sets of %d" % (len(some) - 3, size) if len(some) > 3 else " together")
+
+    def any_of(self, some):
+        """If sets of one size are just all those out of some organisations: so in words."""
+        every = set().union(*some)
+        size = len(some[0])
+        if len(every) <= size or len(some) != math.comb(len(every), size):
+            return None
+        names = ", ".join(self.names.one(it) for it in sorted(every, key=self.names.sort_name))
+        if size == 1:
+            return "each of %s alone" % names
+        kind = "organisations and nodes" if any(isinstance(it, str) for it in every) else "organisations"
+        return "any %d of these %d %s together: %s" % (size, len(every), kind, names)
 
     def short_own(self):
         own = self.own
@@ -222,8 +239,8 @@ class Page:
         text = "%s is in the greatest quorum; " % self.names.node(own.key)
         if not others:
             return text + "no organisations are known"
-        text += '<span class="bad">it stops where %s is silent</span>' % " or ".join(stopped) if stopped else '<span class="good">it goes on whichever other organisation is silent</span>'
-        return text + (", and is stopped by %s" % self.sets_in_short(own.v_blocking) if own.v_blocking.sets and not stopped else "")
+        text += '<span class="bad">it stops if %s is silent</span>' % " or ".join(stopped) if stopped else '<span class="good">it goes on whichever other organisation is silent</span>'
+        return text + (", and is stopped by %s" % self.size_in_short(by_size(own.v_blocking.sets)[0]) if own.v_blocking.sets and not stopped else "")
 
     # The sections.
 
@@ -249,8 +266,10 @@ class Page:
         return '<div class="verdict %s"><b>%s %s %s</div>' % (kind, where, head, self.link(verdict.certificate))
 
     def drawing(self):
+        """Of a network that forks the two quorums, else a set that stops it too."""
         verdict = next((verdict for verdict in self.found.verdicts if verdict.word == "no"), None)
-        return picture.draw(self.network, picture.Paint(self.found.greatest, verdict, *self.found.marked(), self.view.keys))
+        marked = ([], "") if self.found.forks() else self.found.marked()
+        return picture.draw(self.network, picture.Paint(self.found.greatest, verdict, *marked, self.view.keys))
 
     def in_turn(self):
         if not self.found.turns:
@@ -260,7 +279,7 @@ class Page:
         if self.found.forks():
             text += "<p>It forks with no node lying, so nothing more is asked about lies.</p>"
         heads = ["Organisation", *(["If it lies, can the network fork?"] if asked else []), "If it is silent"]
-        return text + self.from_domain() + table(heads, [self.turn(turn, asked) for turn in self.found.turns]) + self.left_out()
+        return text + self.from_domain() + table(heads, [self.turn(turn, asked) for turn in self.found.turns], "thirds") + self.left_out()
 
     def from_domain(self):
         if self.network.has_orgs_file:
@@ -293,30 +312,44 @@ class Page:
     def silent(self, turn):
         if turn.stops:
             return '<span class="bad">Nothing goes on</span>: it stops the network'
-        text = "%d of %s go on" % (len(turn.goes_on), counted(len(self.found.greatest), "node"))
+        text = self.going_on(set(turn.goes_on), turn.org)
         lost = [key for key in turn.unmet if key in set(self.found.greatest)]
         return text + ("; %s %s every slice" % (self.names.nodes(lost), "loses" if len(lost) == 1 else "lose") if lost else "")
+
+    def going_on(self, left, org):
+        """How many of the greatest quorum are left without an organisation."""
+        others = set(self.found.greatest) - set(org.keys)
+        return "%d of the other %s go on" % (len(left & others), counted(len(others), "node"))
 
     def who_stops(self):
         if not self.found.greatest:
             return "<p>There is no quorum, so there is nothing to stop.</p>"
-        return "<p>These together stop every agreement where they fall silent, %s.</p>%s%s" % (self.asked(), self.stopping(), self.blocking())
+        return "<p>These together stop every agreement if they fall silent, %s.</p>%s%s" % (self.asked(), self.stopping(), self.blocking())
 
     def stopping(self):
-        stopping = self.found.stopping
-        how = "The list is whole: it is that of the %d minimal blocking sets of nodes, read by organisations, without those in which an organisation can be left out. %s" % (len(self.found.blocking.sets), self.link(stopping.certificate)) if stopping.certificate else "Asked by <code>blocks</code> of the keys of all of them."
-        return self.sets(stopping, "stop it") + '<p class="small">%s</p>' % how if self.network.orgs else ""
+        return self.sets(self.found.stopping, "stop it") + '<p class="small">%s</p>' % self.how_known(self.found.stopping) if self.network.orgs else ""
+
+    def how_known(self, sets):
+        if sets.certificate is None:
+            return "Asked by <code>blocks</code> of the keys of all of them."
+        if sets.from_nodes:
+            how = "it is that of the %s of nodes, read by organisations, without those in which an organisation can be left out" % counted(len(self.found.blocking.sets), "minimal blocking set")
+        else:
+            how = "its certificate shows that there is no other set in which none can be left out"
+        return "The list is whole: %s. %s" % (how, self.link(sets.certificate))
 
     def sets(self, sets, does):
-        """Minimal sets of organisations, the smallest first."""
+        """Minimal sets of organisations, the smallest first; those that are just any so many of some in one line."""
         upto = " More than %d were not asked about together." % sets.most if sets.most is not None else ""
         if not sets.sets:
             return "<p>None %s.%s</p>" % (does, upto)
-        whole = self.any_of(sets)
-        if whole:
-            return "<p>%s%s.%s</p>" % (whole[0].upper(), whole[1:], upto)
-        rows = sorted(sets.sets, key=lambda some: (len(some), sorted(map(self.names.sort_name, some))))
-        listed = "".join("<li>%s</li>" % self.names.group(some) for some in rows[:MOST_LISTED])
+        rows = []
+        for some in by_size(sets.sets):
+            whole, sorted_ = self.any_of(some), sorted(some, key=lambda it: sorted(map(self.names.sort_name, it)))
+            rows += [whole[0].upper() + whole[1:]] if whole else [self.names.group(it) + (" alone" if len(it) == 1 else "") for it in sorted_]
+        if len(rows) == 1:
+            return "<p>%s.%s</p>" % (rows[0], upto)
+        listed = "".join("<li>%s</li>" % row for row in rows[:MOST_LISTED])
         more = "<p>And %d others.</p>" % (len(rows) - MOST_LISTED) if len(rows) > MOST_LISTED else ""
         return "<ol>%s</ol>%s<p>In each of these none can be left out.%s</p>" % (listed, more, upto)
 
@@ -334,12 +367,46 @@ class Page:
             counted(len(blocking.sets), "set"), counted(min(map(len, blocking.sets)), "node"), self.link(blocking.certificate))
         return head + fold("The sets of nodes%s" % (", the %d smallest" % MOST_LISTED if len(blocking.sets) > MOST_LISTED else ""), listed)
 
+    def leaving(self):
+        if not self.found.leaving or not self.found.greatest:
+            return ""
+        text = "<p>Its keys retire one after another, for good, and the others keep their quorum sets (<code>whatif</code>). Who stops it then follows from the sets above.</p>"
+        return text + table(["Organisation that leaves", "Does the network go on?", "Who can stop it then?"], [self.leave(it) for it in self.found.leaving], "thirds")
+
+    def leave(self, leaving):
+        others, left = set(self.found.greatest) - set(leaving.org.keys), leaving.left()
+        if not left:
+            after, last = leaving.stopped_after(), len(leaving.quorums) - 1
+            when = "once it has left" if after == last else "once %d of its %d keys have" % (after, last)
+            return ["", escaped(leaving.org.name), '<span class="bad">No</span>, it stops %s' % when, "it has stopped"]
+        text = self.going_on(left, leaving.org)
+        if others - left:
+            text += "; %s can agree with nobody" % self.names.nodes(others - left)
+        if self.own is not None and self.own.key in others - left:
+            text += '; <span class="bad">your node stops</span>'
+        return ["", escaped(leaving.org.name), text, self.stopped_then(leaving)]
+
+    def stopped_then(self, leaving):
+        then = leaving.then
+        if then is None:
+            return "not asked"
+        if not then.sets:
+            return "no %d together" % then.most if then.most else "nobody"
+        others = {turn.org for turn in self.found.turns} - {leaving.org}
+        least = by_size(then.sets)[0]
+        size, text = len(least[0]), self.size_in_short(least)
+        if set().union(*least) == others and self.any_of(least):
+            text = "each of the %d others alone" % len(others) if size == 1 else "any %d of the %d others together" % (size, len(others))
+        return '<span class="warn">%s</span>' % text if size == 1 else text
+
     def own_node(self):
         own = self.own
         if own is None:
             return ""
         inside = "It is in the greatest quorum." if own.key in self.found.greatest else '<span class="bad">It is in no quorum: it never agrees with anyone on anything.</span>'
         text = '<p>%s <span class="key">%s</span></p><p>%s All on whom it depends: %s.</p>' % (escaped(self.network.names[own.key]), escaped(own.key), inside, self.names.nodes(own.closure))
+        held = self.network.sets.get(own.key)
+        text += "<p>Its quorum set is %s.</p>" % self.names.quorum_set(held) if held else "<p>It has no quorum set.</p>"
         if not self.found.turns:
             return text
         v_blocking = "<p>Which other organisations can stop this node, whatever the rest does (v-blocking: together they meet every slice of it):</p>" + self.sets(own.v_blocking, "can")
@@ -368,14 +435,15 @@ class Page:
 
     def having(self, keys):
         named, others = [key for key in keys if key in self.network.named], [key for key in keys if key not in self.network.named]
-        parts = ([self.names.nodes(named)] if named else []) + ([self.names.each(others) if len(others) <= 3 else counted(len(others), "watcher")] if others else [])
+        all_named = "all %d nodes that others name" % len(named) if len(named) == len(self.network.named) > MOST_NAMED else self.names.nodes(named)
+        parts = ([all_named] if named else []) + ([self.names.each(others) if len(others) <= 3 else counted(len(others), "watcher")] if others else [])
         return " and ".join(parts)
 
     def what_it_is(self):
         numbers = dict(line.split(" ") for line in self.shown[:3])
         watchers = len(self.network.keys) - len(self.network.named)
         rows = [
-            ["", "Nodes", "%s, of which %s without a quorum set; %d are watchers, which no other node's quorum set names" % (numbers["nodes"], numbers["unset"], watchers)],
+            ["", "Nodes", "%s, of which %s without a quorum set; %s, which no other node's quorum set names" % (numbers["nodes"], numbers["unset"], "1 is a watcher" if watchers == 1 else "%d are watchers" % watchers)],
             ["", "Entries of all quorum sets", numbers["entries"]],
             ["", "Nodes in the greatest quorum", "%d: those that can agree on anything at all (%s)" % (len(self.found.greatest), self.asked())],
             ["", "Organisations", "%d, with %s of the network" % (len(self.network.orgs), counted(len(self.network.org_of), "node")) if self.network.orgs else "none are known: there is no file of them, and no home domain"],
@@ -404,11 +472,18 @@ class Page:
         rows = [["", "Configuration", "%s, SHA-256 %s" % (escaped(self.title), config)]]
         rows.append(["", "Program", "<code>quorum_cli</code>%s, SHA-256 <code>%s</code>" % (" " + escaped(version) if version else "", self.program.digest())])
         rows.append(["", "Made on", time.strftime("%Y-%m-%d %H:%M UTC", time.gmtime())])
-        text = "<p>Each yes and no comes from the program%s. The names are those that the configuration gives, which nobody checks; this page itself is not proved. Whoever has the configuration can ask again: fetch it yourself, compare its digest, and check each certificate with <code>quorum_cli check CONFIG CERTIFICATE</code>, which prints the kind, of whom it speaks (<code>from</code>) and who lies (<code>faulty</code>).</p>"
-        text = text % (", whose contract is proved: a certificate is accepted only where what it says is so" if self.program.is_proved() else "") + table([], rows, "facts")
-        certificates = [["", '<a href="%s">%s</a>' % (escaped(urllib.parse.quote("%s/%s" % (self.program.beside.name, it.name))), escaped(it.name)), "<code>%s</code>" % escaped(it.accepted), "%d" % it.size, "<code>%s</code>" % it.digest, "<code>%s</code>" % escaped(it.command)] for it in self.program.certificates]
-        text += fold("%s, with what <code>check</code> answers" % counted(len(certificates), "certificate"), table(["File", "Check", "Bytes", "SHA-256", "Made by"], certificates, "loose"))
+        text = "<p>Each yes and no comes from the program%s. The names are those that the configuration gives, which nobody checks; this page itself is not proved. Whoever has the configuration can ask again: fetch it yourself, compare its digest, and check each certificate with <code>quorum_cli check CONFIG CERTIFICATE</code>%s, which prints the kind, of whom it speaks (<code>from</code>) and who lies (<code>faulty</code>).</p>"
+        groups = any(it.accepted.startswith(("accepted org-blocking", "accepted partial-org-blocking")) for it in self.program.certificates)
+        proved = ", whose contract is proved: a certificate is accepted only if what it says is so" if self.program.is_proved() else ""
+        text = text % (proved, " (that of sets of organisations with the <code>--orgs</code> of its command)" if groups else "") + table([], rows, "facts")
+        certificates = "".join("<li>%s</li>" % self.certified(it) for it in self.program.certificates)
+        text += fold("%s, with what <code>check</code> answers" % counted(len(self.program.certificates), "certificate"), '<ul class="certificates">%s</ul>' % certificates)
         return text + fold("%s without a certificate" % counted(len(self.program.commands), "command"), "<pre>%s</pre>" % escaped("\n".join(self.program.commands)))
+
+    def certified(self, it):
+        """A certificate with what `check` says of it, its size and digest, and the command that makes it."""
+        place = escaped(urllib.parse.quote("%s/%s" % (self.program.beside.name, it.name)))
+        return '<a href="%s">%s</a>: <code>%s</code>, %d bytes<br>SHA-256 <code>%s</code><br><code>%s</code>' % (place, escaped(it.name), escaped(it.accepted), it.size, it.digest, escaped(it.command))
 
     def keys(self):
         verdict = next((verdict for verdict in self.found.verdicts if verdict.word == "no"), None)
@@ -428,6 +503,7 @@ class Page:
             ("picture", "The network", self.drawing()),
             ("turns", "Each organisation in turn", self.in_turn()),
             ("stop", "Who can stop it?", self.who_stops()),
+            ("leaving", "What if an organisation leaves?", self.leaving()),
             ("own", "Your node", self.own_node()),
             ("sets", "Quorum sets", self.quorum_sets()),
             ("file", "What the file has", self.what_it_is()),

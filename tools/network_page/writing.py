@@ -1,5 +1,6 @@
 """Writes the page and its certificates beside those that are there, and puts them in their place at the end."""
 
+import json
 import os
 import re
 import shutil
@@ -7,8 +8,8 @@ import signal
 import sys
 import tempfile
 
-# What a certificate of this tool is called: one that an earlier run left is stale. Other files of the folder are kept.
-MADE = re.compile(r"(from-)?(intersect|blocking|faulty-[A-Za-z0-9._-]+)\.cert")
+# What the files of this tool are called: one that an earlier run left is stale. Other files of the folder are kept.
+MADE = re.compile(r"(from-)?(intersect|blocking|org-blocking|faulty-[A-Za-z0-9._-]+)\.cert|leaving-[A-Za-z0-9._-]+\.script|organisations\.json")
 
 
 class BadPage(ValueError):
@@ -44,9 +45,27 @@ class Beside:
         if os.path.exists(self.text):
             os.unlink(self.text)
 
+    def place(self, name, ending):
+        return os.path.join(self.part, re.sub(r"[^A-Za-z0-9._-]", "_", name)[:80] + ending)
+
     def certificate(self, name):
         """Where the certificate of this name is written."""
-        return os.path.join(self.part, re.sub(r"[^A-Za-z0-9._-]", "_", name)[:80] + ".cert")
+        return self.place(name, ".cert")
+
+    def script(self, name, lines):
+        """Writes a script of edits, and says where."""
+        path = self.place(name, ".script")
+        with open(path, "w", encoding="ascii") as it:
+            it.writelines(line + "\n" for line in lines)
+        return path
+
+    def organisations(self, orgs):
+        """Writes organisations that stand in no file, and says where."""
+        path = self.place("organisations", ".json")
+        with open(path, "w", encoding="utf-8") as it:
+            json.dump([{"id": org.id, "name": org.name, "validators": org.keys} for org in orgs], it, ensure_ascii=False, indent=1)
+            it.write("\n")
+        return path
 
     def exchange(self, text):
         """Puts the certificates and then the page in the place of the old ones; what of those is stale goes."""
