@@ -42,21 +42,19 @@ def organisations(count, needed, size, threshold):
 BLOCKING = {
     "7 organisations (5 needed), each 2 of 3": organisations(7, 5, 3, 2),
     "8 (6), each 2 of 3": organisations(8, 6, 3, 2),
-    "4 (3), each 5 of 6": organisations(4, 3, 6, 5),
     "4 (4), each 9 of 10": organisations(4, 4, 10, 9),
-    "3 (3), each 19 of 20": organisations(3, 3, 20, 19),
     "5 (3), each 3 of 5": organisations(5, 3, 5, 3),
 }
 QUORUMS = {
     "5 organisations (4 needed), each 2 of 3": organisations(5, 4, 3, 2),
     "6 (5), each 2 of 3": organisations(6, 5, 3, 2),
     "7 (5), each 2 of 3": organisations(7, 5, 3, 2),
-    "8 of 12 nodes": network(12, quorum_set(8, range(12))),
     "watchers:seven": watchers.Made("seven").nodes,
 }
 LEAST = {
     "5 organisations (4 needed), each 2 of 3": organisations(5, 4, 3, 2),
     "7 (5), each 2 of 3": organisations(7, 5, 3, 2),
+    "8 (6), each 2 of 3": organisations(8, 6, 3, 2),
     "10 (7), each 2 of 3": organisations(10, 7, 3, 2),
     "11 of 16 nodes": network(16, quorum_set(11, range(16))),
 }

@@ -1,5 +1,8 @@
 #!/usr/bin/env python3
-"""The table of memory: the program on the files of tests/memory.py without a limit, `show` beside `jq -c length`; and its stack."""
+"""The table of memory: the program on the files of tests/memory.py without a limit, `show` beside `jq -c length`; and its stack.
+
+A run that takes no more than SMALL megabytes has no row.
+"""
 import os
 import sys
 import tempfile
@@ -9,6 +12,8 @@ sys.path[:0] = [os.path.join(TOP, "tests"), os.path.join(TOP, "bench")]
 import malicious
 import memory
 import runs
+
+SMALL = 100
 
 
 def right(ended, answer, name):
@@ -21,14 +26,14 @@ def show(trial, name, data, text):
     ended = memory.Ended([trial.program, "show", "config"], trial.folder)
     right(ended, (0, text), name)
     its = runs.run(["jq", "-c", "length", os.path.join(trial.folder, "config")])
-    return runs.row(["`show`, " + name, "%.0f" % ended.memory, "%.2f" % ended.time, its.memory, "%.2f" % its.seconds])
+    return ended.memory, runs.row(["`show`, " + name, "%.0f" % ended.memory, "%.2f" % ended.time, its.memory, "%.2f" % its.seconds])
 
 
 def check(trial, name, pieces, answer):
     trial.put("config", malicious.TWO)
     ended = memory.Ended([trial.program, "check", "config", "/dev/stdin"], trial.folder, pieces=pieces)
     right(ended, answer, name)
-    return runs.row(["`check`, " + name, "%.0f" % ended.memory, "%.2f" % ended.time, "-", "-"])
+    return ended.memory, runs.row(["`check`, " + name, "%.0f" % ended.memory, "%.2f" % ended.time, "-", "-"])
 
 
 def stack_line(trial):
@@ -40,15 +45,21 @@ def stack_line(trial):
     return "Under a stack of %d kB every file is answered." % memory.STACKS[-1]
 
 
+def measured(trial, quick):
+    """The largest memory of each run, and its row."""
+    configurations = list(memory.configurations())
+    for name, data, text in configurations[-1:] if quick else configurations:
+        yield show(trial, name, data, text)
+    for name, pieces, answer in [] if quick else memory.certificates():
+        yield check(trial, name, pieces, answer)
+
+
 def made(program, quick):
     """The lines of the table, one by one."""
     yield from runs.head(["run", "memory, MB", "s", "`jq`: MB", "s"])
     with tempfile.TemporaryDirectory() as folder:
         trial = memory.Trial(folder, program)
-        configurations = list(memory.configurations())
-        for name, data, text in configurations[-1:] if quick else configurations:
-            yield show(trial, name, data, text)
-        for name, pieces, answer in [] if quick else memory.certificates():
-            yield check(trial, name, pieces, answer)
+        yield from (row for most, row in measured(trial, quick) if most > SMALL or quick)
         yield ""
+        yield "All others take at most %d MB." % SMALL
         yield stack_line(trial)

@@ -7,7 +7,7 @@ import tempfile
 import configurations
 import runs
 
-FILES = ["half", "whole", "long-keys", "chain-up", "zigzag-even", "behind"]
+FILES = ["whole", "long-keys", "zigzag-even", "behind"]
 
 
 def counted(path):

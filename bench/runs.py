@@ -42,9 +42,9 @@ def run(words, limit=MOST_SECONDS, given="", out=None):
     return Run(text, used.ru_utime + used.ru_stime, used.ru_maxrss // 1024, not os.WIFSIGNALED(status), limit)
 
 
-def least(words, times=5):
+def least(words, times=5, out=None):
     """The run of least processor time of some, which other work on the machine hardly changes."""
-    return min((run(words) for _ in range(times)), key=lambda it: it.seconds)
+    return min((run(words, out=out) for _ in range(times)), key=lambda it: it.seconds)
 
 
 def has(tool):
@@ -61,13 +61,13 @@ def seconds(it):
 
 
 def beside(ours, its):
-    """Another program's time, and in brackets how many times it ours is; nothing is said of times too short to compare."""
+    """Another program's time, and in brackets how many times it ours is, unless one did not end or both are too short to compare."""
     if its is None:
         return "-"
-    if max(ours.seconds, its.seconds) < 0.02 or not ours.ended:
+    if max(ours.seconds, its.seconds) < 0.02 or not (ours.ended and its.ended):
         return seconds(its)
     ratio = ours.seconds / its.seconds
-    return "%s (%s%s)" % (seconds(its), "" if its.ended else "under ", "%.0f" % ratio if ratio >= 10 else "%.2g" % ratio)
+    return "%s (%s)" % (seconds(its), "%.0f" % ratio if ratio >= 10 else "%.2g" % ratio)
 
 
 def megabytes(count):

@@ -10,6 +10,8 @@ The parts, with the minutes that each takes of one processor at rest:
     networks  9   the same on networks of organisations, and docs/growth.svg
     lists     2   `blocking`, `quorums` and `least` beside clasp
     check     2   `check` beside sha256sum
+    parts     3   `check` of a part of a search, by the byte
+    whatif    2   scripts of edits
     memory    4   memory beside jq, and the stack
 
 Without a part all are made, one after another. Each figure is the processor time of one run, or the least of several where its
@@ -23,8 +25,10 @@ import sys
 import time
 
 import certificates
+import edits
 import lists
 import memory_use
+import parts
 import reading
 import runs
 import trials
@@ -35,6 +39,8 @@ PARTS = {
     "networks": trials.networks,
     "lists": lists.made,
     "check": certificates.made,
+    "parts": parts.made,
+    "whatif": edits.made,
     "memory": memory_use.made,
 }
 DOCUMENT = os.path.join(runs.TOP, "docs", "PERFORMANCE.md")
@@ -53,13 +59,14 @@ def write(path, text):
 def machine():
     """The processor and how many there are."""
     names = re.findall(r"^model name\s*: (.*)$", text_of("/proc/cpuinfo"), re.M)
-    return "%d × %s" % (os.cpu_count(), names[0].strip() if names else os.uname().machine)
+    name = re.sub(r"\(R\)|\(TM\)|\b(CPU|Processor)\b|@", "", names[0]) if names else os.uname().machine
+    return "%d × %s" % (os.cpu_count(), " ".join(name.split()))
 
 
 def caption(part):
     """The command, the version, the day, the machine and its load."""
     return "`bench/tables.py %s`: version %s, %s, %s, load %.1f." % (
-        part, text_of(os.path.join(runs.TOP, "VERSION")).strip(), time.strftime("%-d %B %Y"), machine(), os.getloadavg()[0])
+        part, text_of(os.path.join(runs.TOP, "VERSION")).strip(), time.strftime("%Y-%m-%d"), machine(), os.getloadavg()[0])
 
 
 def made(part, quick):
@@ -85,11 +92,11 @@ def put(part, text):
 
 def main(words):
     quick = words[:1] == ["--quick"]
-    parts = words[quick:] or list(PARTS)
-    if not set(parts) <= set(PARTS):
+    asked = words[quick:] or list(PARTS)
+    if not set(asked) <= set(PARTS):
         print(__doc__.split("\n\n")[1], file=sys.stderr)
         return 2
-    for part in parts:
+    for part in asked:
         text, pictures = made(part, quick)
         if not quick:
             put(part, text)

@@ -26,13 +26,13 @@ import runs
 import watchers
 
 SEARCHES = (
-    "16 50 100 watchers:seven watchers:needed watchers:old watchers:split random:40:10:6:1 random:40:12:7:1 random:50:10:6:1 "
-    "random:40:8:5:1 random:50:8:5:1 random:60:8:5:1 random:70:8:5:1 random:80:8:5:1"
+    "16 watchers:seven watchers:split random:40:10:6:1 random:40:12:7:1 random:50:10:6:1 "
+    "random:60:8:5:1 random:70:8:5:1 random:80:8:5:1"
 ).split()
 # what the mean of the ratios to minisat is taken over
 RANDOM = ["random:%s:%d" % (form, seed) for form in ("40:10:6", "40:12:7", "50:10:6", "60:8:5", "70:8:5", "80:8:5") for seed in range(1, 5)]
 NETWORKS = (
-    "50 75 100 150 200 250 apart:30 beside:30 rotated:30 apart:60 tiers:50:50 mixed:40:5:1 sizes:60:2 flat:50:34 flat:100:67 "
+    "50 100 150 200 250 apart:30 beside:30 rotated:30 apart:60 tiers:50:50 mixed:40:5:1 flat:50:34 flat:100:67 "
     "flat:300:201 shuffled:16:16:1"
 ).split()
 SOLVERS = {
