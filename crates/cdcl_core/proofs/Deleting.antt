@@ -13,6 +13,7 @@ use Rattle.lrat_model.proofs.Runs.{clause_at-without, clause_at-filter}
 use Rattle.lrat_text.specs.Texts.{IsId, HasNumbers}
 use Rattle.cdcl_core.specs.declared.search.Search.{Search}
 use Rattle.cdcl_core.specs.Log.{HasNoEmptyLemma, IsBoundedLog, IsEarned, least_live, most_live, live_in, count_from}
+use Rattle.cdcl_core.specs.declared.memory.TheConstants.{FEWEST_DELETED}
 use Rattle.cdcl_core.specs.Remembering.{HasDeletion, IsChosen, IsRemembering}
 use Rattle.cdcl_core.specs.Search.{Searched}
 use Rattle.cdcl_core.specs.Searching.{IsHolding, IsLogging, database_in}
@@ -37,7 +38,7 @@ deletion_none held before (id ∷ ids) rise below some =
 passes : (p : ℕ → Bool) (xs : List ℕ) (k : ℕ) → has_id (filter p xs) k ≡ true → p k ≡ true
 passes p xs k h = named_in (λ j. p j ≡ true) (filter p xs) k (filter_passes p xs) h
 
-module _ (s n : Search) (needed gone : List ℕ) (made : HasDeletion s n gone) (logging : IsLogging s) (remembering : IsRemembering s) (chosen : IsChosen s.memory.ids.items needed gone) (fewest : 500 ≤ length gone) (earned : least_live s.memory.deletions ≤ length s.memory.ids.items) where
+module _ (s n : Search) (needed gone : List ℕ) (made : HasDeletion s n gone) (logging : IsLogging s) (remembering : IsRemembering s) (chosen : IsChosen s.memory.ids.items needed gone) (fewest : FEWEST_DELETED ≤ length gone) (earned : least_live s.memory.deletions ≤ length s.memory.ids.items) where
   abbrev pub live : List ℕ
   live = s.memory.ids.items
 

@@ -11,6 +11,7 @@ use Rattle.std.proofs.lemmas.List.Folds.{list_any-append, list_any_more, list_an
 use Rattle.std.proofs.lemmas.List.Quantifiers.{all_pairs_push}
 use Rattle.std.proofs.Math.Bool.{or-true, or-false}
 use Rattle.lrat_model.specs.Clauses.{has_id}
+use Rattle.cdcl_core.specs.declared.memory.TheConstants.{MOST_DELETED}
 use Rattle.cdcl_core.specs.Remembering.{IsChosen}
 
 abbrev pub Rises : List ℕ → Type 0
@@ -137,7 +138,7 @@ module _ (live needed gone : List ℕ) (place : ℕ) (rise : Rises live) (part :
       let k = get_or (take place live) i d in
       ap not (has_id-push gone id k ∙ ap (λ b. has_id gone k || b) (ne_eqb id k (λ e. absurd (omega (arith, e, smaller)))) ∙ or-false (has_id gone k))
 
-  pub part_goes : length gone < 1000 → has_id needed id ≡ false → IsPart live needed (gone ++ id ∷ []) (place + 1)
+  pub part_goes : length gone < MOST_DELETED → has_id needed id ≡ false → IsPart live needed (gone ++ id ∷ []) (place + 1)
   part_goes few spare = record {
     within = omega (arith, inside);
     chosen = record {
@@ -175,7 +176,7 @@ part_at_first live needed = record {
   below = λ j from less. All-nil (λ k. k < get_or live j 0);
 }
 
-pub part_next : (live needed gone : List ℕ) (place : ℕ) → Rises live → IsPart live needed gone place → place < length live → (goes : Bool) → (goes ≡ true → (length gone < 1000) × (has_id needed (get_or live place 0) ≡ false))
+pub part_next : (live needed gone : List ℕ) (place : ℕ) → Rises live → IsPart live needed gone place → place < length live → (goes : Bool) → (goes ≡ true → (length gone < MOST_DELETED) × (has_id needed (get_or live place 0) ≡ false))
     → IsPart live needed (gone ++ cond goes (get_or live place 0 ∷ []) []) (place + 1)
 part_next live needed gone place rise part inside true fine = part_goes live needed gone place rise part inside (get_or live place 0) refl (fine refl).0 (fine refl).1
 part_next live needed gone place rise part inside false fine = subst (λ (ls : List ℕ). IsPart live needed ls (place + 1)) (sym (append-nil gone)) (part_stays live needed gone place rise part inside (get_or live place 0) refl)

@@ -3,13 +3,14 @@ use Rattle.std.specs.Prelude.{◌≡◌, ℕ, ◌+◌, ◌<◌, ◌≤◌, ◌�
 use Rattle.lrat_model.specs.Literal.{Literal}
 use Rattle.lrat_model.specs.Clauses.{clause_at, has_id, without}
 use Rattle.lrat_model.specs.Steps.{Deletion}
+use Rattle.cdcl_core.specs.declared.memory.TheConstants.{MOST_DELETED}
 use Rattle.cdcl_core.specs.declared.search.Search.{Search}
 use Rattle.cdcl_core.specs.Log.{live_in, count_from, most_live}
 
--- of the live lemmas these go, at most 1,000, each once and none that is needed
+-- of the live lemmas these go, at most as many as a deletion may take, each once and none that is needed
 pub record IsChosen (live needed gone : List ℕ) : Type 0 where
   pub rise : AllPairs (λ j k. j < k) gone
-  pub most : length gone ≤ 1000
+  pub most : length gone ≤ MOST_DELETED
   pub named : All (λ k. has_id live k ≡ true) gone
   pub fewer : length (filter (λ k. not (has_id gone k)) live) + length gone ≡ length live
   pub spared : All (λ k. has_id needed k ≡ false) gone

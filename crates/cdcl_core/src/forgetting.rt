@@ -6,6 +6,7 @@ ghost use Rattle.lrat_model.specs.Clauses.{has_id, without, IsUnsatisfiable};
 ghost use Rattle.lrat_model.specs.Propagation.{Closes};
 ghost use Rattle.gate_counts.specs.Counts.{IsCounting};
 ghost use Rattle.cdcl_core.specs.Guides.{IsGuide};
+ghost use Rattle.cdcl_core.specs.declared.memory.TheConstants.{FEWEST_DELETED};
 ghost use Rattle.cdcl_core.specs.Log.{EndsEmpty, HasNoEmptyLemma, least_live, most_live};
 ghost use Rattle.cdcl_core.specs.Remembering.{HasDeletion, IsChosen, IsRemembering};
 ghost use Rattle.cdcl_core.specs.Search.{IsLearntClause, IsState, Searched};
@@ -125,7 +126,7 @@ fn forget(search: &mut Search, gone: &[u64]) -> Result<(), AllocError>
     requires remembering { IsRemembering search.old }
     requires unclosed { Closes search.old.clauses → ⊥ }
     requires chosen { IsChosen search.old.memory.ids.items search.old.reasons.items gone.now }
-    requires fewest { 500 ≤ length gone.now }
+    requires fewest { FEWEST_DELETED ≤ length gone.now }
     requires earned { least_live search.old.memory.deletions ≤ length search.old.memory.ids.items }
     requires counting { IsCounting search.old.gates search.old.assignment.trues }
     requires gate_vars { search.old.gates.vars ≡ search.old.vars }

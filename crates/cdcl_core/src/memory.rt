@@ -5,15 +5,24 @@ ghost use Rattle.std.specs.Prelude.{◌≡◌, ◌⊎◌, ℕ, ◌+◌, ◌<◌,
 ghost use Rattle.std.specs.List.{AllWithin};
 ghost use Rattle.std.specs.List.Sorted.{IsNonDecreasingBy};
 ghost use Rattle.lrat_model.specs.Clauses.{has_id};
+ghost use Rattle.cdcl_core.specs.declared.memory.TheConstants.{FEWEST_DELETED, MOST_DELETED};
 ghost use Rattle.cdcl_core.specs.Log.{least_live, most_live};
 ghost use Rattle.cdcl_core.specs.Remembering.{IsChosen};
 
 use search_guide::{Uses, entry_or};
 use std::alloc::{AllocError, Global};
 
-const FEWEST: usize = 500;
+/// The fewest lemmas that a deletion takes.
+pub const FEWEST_DELETED: usize = 500;
 
-const MOST: usize = 1000;
+/// The most lemmas that a deletion takes.
+pub const MOST_DELETED: usize = 1000;
+
+/// So many lemmas are live at least where the first deletion comes.
+pub const FEWEST_LIVE: u64 = 2000;
+
+/// So many lemmas may be live before the first deletion, and one more for each variable.
+pub const MOST_LIVE: u64 = 8000;
 
 /// A lemma of less cost stays while others have more.
 const LEAST_COST: u32 = 3;
@@ -72,7 +81,7 @@ impl Memory {
         ensures deletions { self.new.deletions ≡ self.old.deletions }
         ensures none { result ≡ Ok None → length self.new.ids.items < most_live vars self.new.deletions }
         ensures chosen { IfOk result (λ found. IfSome found (λ gone. IsChosen self.new.ids.items reasons.now gone.items)) }
-        ensures fewest { IfOk result (λ found. IfSome found (λ gone. 500 ≤ length gone.items)) }
+        ensures fewest { IfOk result (λ found. IfSome found (λ gone. FEWEST_DELETED ≤ length gone.items)) }
         ensures earned { IfOk result (λ found. IfSome found (λ gone. least_live self.new.deletions ≤ length self.new.ids.items)) }
     {
         if !self.is_due(vars) {
@@ -97,10 +106,10 @@ impl Memory {
         ensures deletions { self.new.deletions ≡ self.old.deletions }
         ensures none { result ≡ Ok None → length self.new.ids.items < most_live vars self.new.deletions }
         ensures chosen { IfOk result (λ found. IfSome found (λ gone. IsChosen self.new.ids.items needed.now gone.items)) }
-        ensures fewest { IfOk result (λ found. IfSome found (λ gone. 500 ≤ length gone.items)) }
+        ensures fewest { IfOk result (λ found. IfSome found (λ gone. FEWEST_DELETED ≤ length gone.items)) }
     {
         let gone = self.dearest(alloc, needed)?;
-        let are_enough = gone.len() >= FEWEST;
+        let are_enough = gone.len() >= FEWEST_DELETED;
         if are_enough {
             return Ok(Some(gone));
         }
@@ -109,11 +118,11 @@ impl Memory {
             let gone = self.part(alloc, needed, 0)?;
             return Ok(Some(gone));
         }
-        self.due = self.ids.len() + FEWEST;
+        self.due = self.ids.len() + FEWEST_DELETED;
         Ok(None)
     }
 
-    /// The lemmas of great cost that are not needed, the oldest of these, at most 1,000.
+    /// The lemmas of great cost that are not needed, the oldest of these, at most `MOST_DELETED`.
     fn dearest(&self, alloc: Global, needed: &[u64]) -> Result<Vec<u64>, AllocError>
         requires rise { AllPairs (λ j k. j < k) self.now.ids.items }
         requires sorted { IsNonDecreasingBy (λ k. k) needed.now }
@@ -136,7 +145,7 @@ impl Memory {
         ensures { MatchBool result (least_live self.now.deletions ≤ length self.now.ids.items) (length self.now.ids.items < least_live self.now.deletions) }
     {
         let live = self.ids.len() as u64;
-        live >= 2000 && (live - 2000) / 500 >= self.deletions
+        live >= FEWEST_LIVE && (live - FEWEST_LIVE) / FEWEST_DELETED as u64 >= self.deletions
     }
 
     /// Whether no more lemma has room.
@@ -144,8 +153,8 @@ impl Memory {
         ensures { MatchBool result (most_live vars self.now.deletions ≤ length self.now.ids.items) (length self.now.ids.items < most_live vars self.now.deletions) }
     {
         let live = self.ids.len() as u64;
-        let least = vars as u64 + 8000;
-        live >= least && (live - least) / 500 >= self.deletions
+        let least = vars as u64 + MOST_LIVE;
+        live >= least && (live - least) / FEWEST_DELETED as u64 >= self.deletions
     }
 
     /// The cost from which on a lemma goes: the greatest from which on there are enough lemmas.
@@ -153,7 +162,7 @@ impl Memory {
         let counts = self.counts(alloc)?;
         let mut least = MOST_COST;
         let mut count = entry_or(&counts, least as usize, 0);
-        while least > LEAST_COST && count < MOST {
+        while least > LEAST_COST && count < MOST_DELETED {
             least -= 1;
             count = count.saturating_add(entry_or(&counts, least as usize, 0));
         }
@@ -180,12 +189,12 @@ impl Memory {
         }
     }
 
-    /// The oldest lemmas that cost this or more and are not needed, at most 1,000.
+    /// The oldest lemmas that cost this or more and are not needed, at most `MOST_DELETED`.
     fn part(&self, alloc: Global, needed: &[u64], least: u32) -> Result<Vec<u64>, AllocError>
         requires rise { AllPairs (λ j k. j < k) self.now.ids.items }
         requires sorted { IsNonDecreasingBy (λ k. k) needed.now }
         ensures chosen { IfOk result (λ gone. IsChosen self.now.ids.items needed.now gone.items) }
-        ensures all { least ≡ 0 → IfOk result (λ gone. length gone.items < 1000 → All (λ k. (has_id gone.items k ≡ true) ⊎ (has_id needed.now k ≡ true)) self.now.ids.items) }
+        ensures all { least ≡ 0 → IfOk result (λ gone. length gone.items < MOST_DELETED → All (λ k. (has_id gone.items k ≡ true) ⊎ (has_id needed.now k ≡ true)) self.now.ids.items) }
     {
         let mut gone = Vec::new(alloc);
         let mut place = 0;
@@ -201,10 +210,10 @@ impl Memory {
     fn goes(&self, place: usize, count: usize, needed: &[u64], least: u32) -> bool
         requires place { place < length self.now.ids.items }
         requires sorted { IsNonDecreasingBy (λ k. k) needed.now }
-        ensures yes { result ≡ true → (count < 1000) × (has_id needed.now (slice_index self.now.ids.items place) ≡ false) }
-        ensures no { result ≡ false → least ≡ 0 → count < 1000 → has_id needed.now (slice_index self.now.ids.items place) ≡ true }
+        ensures yes { result ≡ true → (count < MOST_DELETED) × (has_id needed.now (slice_index self.now.ids.items place) ≡ false) }
+        ensures no { result ≡ false → least ≡ 0 → count < MOST_DELETED → has_id needed.now (slice_index self.now.ids.items place) ≡ true }
     {
-        count < MOST && self.has_from(place, least) && !is_among(needed, self.ids[place])
+        count < MOST_DELETED && self.has_from(place, least) && !is_among(needed, self.ids[place])
     }
 
     /// Whether the lemma at a place costs this or more.

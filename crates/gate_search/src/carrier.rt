@@ -7,7 +7,7 @@ ghost use Rattle.lrat_text.specs.Texts.{IsId};
 ghost use Rattle.gate_search.specs.Carriers.{AreLitsNowhere, IsReady, Shows, HasChecked, HasLemma, HasDeletion};
 ghost use Rattle.gate_search.specs.Moved.{AreMoved};
 
-use crate::hints::{Bases, Hints, MOST_ID};
+use crate::hints::{Bases, END_OF_IDS, Hints};
 use clause_store::Store;
 use lrat_checker::{Checker, Rule, Step, StepFault};
 use lrat_model::Lit;
@@ -63,7 +63,7 @@ impl Carrier {
         ensures log { self.new.log ≡ self.old.log }
     {
         let last = self.checker.last();
-        if last >= MOST_ID || !are_outer(&written.cells, lits) {
+        if last >= END_OF_IDS || !are_outer(&written.cells, lits) {
             return Ok(None);
         }
         self.hints
@@ -107,7 +107,7 @@ impl Carrier {
         let Some(news) = moved(alloc, bases, ids)? else {
             return Ok(false);
         };
-        if last == 0 || last >= MOST_ID || self.checker.delete(&news).is_err() {
+        if last == 0 || last >= END_OF_IDS || self.checker.delete(&news).is_err() {
             return Ok(false);
         }
         self.log.push_deletion(last, &news)?;
@@ -194,7 +194,7 @@ fn moved(alloc: Global, bases: Bases, ids: &[u64]) -> Result<Option<Vec<u64>>, A
 {
     let mut news = Vec::with_capacity(alloc, ids.len())?;
     for id in ids {
-        if *id <= bases.written || *id >= MOST_ID || bases.formula >= MOST_ID {
+        if *id <= bases.written || *id >= END_OF_IDS || bases.formula >= END_OF_IDS {
             return Ok(None);
         }
         news.push(*id - bases.written + bases.formula)?;

@@ -10,8 +10,8 @@ use lrat_text::HintsRef;
 use std::alloc::{AllocError, Global};
 use written_gates::{Counter, Origin, Written};
 
-/// No id that is given out here is greater.
-pub const MOST_ID: u64 = 1 << 62;
+/// Each id that is given out here is below it.
+pub const END_OF_IDS: u64 = 1 << 62;
 
 /// The ids that were found for a lemma, the values that they lead to, and whether they lead to a clause with all literals
 /// false.
@@ -301,7 +301,7 @@ impl Hints {
         requires { AreNamed checker.now.database.held self.old.ids.items }
         ensures { AreNamed checker.now.database.held self.new.ids.items }
     {
-        if id == 0 || id >= MOST_ID {
+        if id == 0 || id >= END_OF_IDS {
             return Ok(());
         }
         let Some(_clause) = checker.lits(id) else {

@@ -14,8 +14,8 @@ use lrat_text::Log;
 use std::alloc::{AllocError, Global};
 use written_gates::{Written, write_out};
 
-/// So far ids of clauses may go before a search begins.
-const MOST_ID: u64 = 1 << 61;
+/// The ids of what is written out are below it, so that the ids of lemmas have room after them.
+const END_OF_WRITTEN_IDS: u64 = 1 << 61;
 
 /// What a search finds over a formula.
 #[derive(Drop)]
@@ -66,7 +66,7 @@ fn search_over(
     requires out { IsWrittenOut vars formula.now.held written.now }
     ensures { IfOk result (λ found. IfSome found (IsFound vars formula.now budget)) }
 {
-    if written.store.last() >= MOST_ID {
+    if written.store.last() >= END_OF_WRITTEN_IDS {
         return Ok(None);
     }
     let gates = counted_gates(alloc, written)?;

@@ -7,6 +7,7 @@ use Rattle.std.specs.Str.Parse.{digits_value, digits_value_after}
 use Rattle.std.proofs.Math.Seq.{drop-cons}
 use Rattle.std.proofs.lemmas.Bool.{and_parts, leb-true, le-ltb, lt-ltb}
 use Rattle.std.proofs.lemmas.Bool.Decides.{nat_tests}
+use Rattle.lrat_text.specs.declared.numbers.TheConstants.{MOST_ID, MOST_TENTH}
 use Rattle.lrat_text.specs.Words.{Word}
 use Rattle.lrat_text.specs.Numbers.{digits_in, positive_in}
 
@@ -44,7 +45,7 @@ module _ (word : Word) (i b : ℕ) (within : i < length word) (here : b ≡ get_
       ap (λ t. cond (t && nat_le (digits_value 10 word) most) (Some (digits_value 10 word)) None) (sym none)
 
   -- a number to which no digit may be put
-  pub too_great : (most n : ℕ) → most ≤ 9223372036854775807 → 922337203685477580 < n → digits_value_after 10 n (drop i word) ≡ digits_value 10 word → None ≡ digits_in most word
+  pub too_great : (most n : ℕ) → most ≤ MOST_ID → MOST_TENTH < n → digits_value_after 10 n (drop i word) ≡ digits_value 10 word → None ≡ digits_in most word
   too_great most n small great so_far =
       let more : n * 10 + digit_value b ≤ digits_value_after 10 (n * 10 + digit_value b) (drop (i + 1) word) = grows (n * 10 + digit_value b) (drop (i + 1) word) in
       let same : digits_value_after 10 (n * 10 + digit_value b) (drop (i + 1) word) ≡ digits_value 10 word = sym (ap (digits_value_after 10 n) split) ∙ so_far in

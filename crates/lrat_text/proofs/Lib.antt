@@ -1,3 +1,4 @@
+mod LimitSamples
 pub mod WordLaws
 pub mod ListLaws
 pub mod NumberLaws

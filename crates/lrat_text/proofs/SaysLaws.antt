@@ -8,6 +8,7 @@ use borrow.Author.Tests.{leb-true}
 use Rattle.std.proofs.lemmas.Fmt.{decimal-digits_value}
 use Rattle.lrat_model.specs.Literal.{Literal, Plus, Minus}
 use Rattle.lrat_model.specs.Steps.{ProofStep, Addition, Deletion}
+use Rattle.lrat_text.specs.declared.numbers.TheConstants.{MOST_ID, MOST_VARIABLE}
 use Rattle.lrat_text.specs.Words.{Word, words_of}
 use Rattle.lrat_text.specs.Numbers.{is_numeral, positive_in, signed_in, id_in, hint_in, literal_in}
 use Rattle.lrat_text.specs.Lines.{and_then, is_zero, is_mark, onto_list, closed_list, ended, addition, deletion, after_id, with_id, step_of_words, step_in}
@@ -64,23 +65,23 @@ abbrev IsSaid : {A : Type 0} → (Word → Option A) → (A → Word) → (A →
 IsSaid {A} number_in text P = (word : Word) (a : A) → number_in word ≡ Some a → (word ≡ text a) × P a
 
 id_said : IsSaid id_in decimal IsId
-id_said word id e = let s : Says 9223372036854775807 id word = positive_says 9223372036854775807 id word (lit< tt) e in (s.text, (s.positive, let f : id ≤ 9223372036854775807 = s.fits in omega arith))
+id_said word id e = let s : Says MOST_ID id word = positive_says MOST_ID id word (lit< tt) e in (s.text, (s.positive, let f : id ≤ MOST_ID = s.fits in omega arith))
 
-hint_from : (word : Word) (z : ℤ) → Signed pos (λ n. neg_ℤ (pos n)) 9223372036854775807 word z → (word ≡ signed_decimal z) × IsHint z
-hint_from word z (without n e s) = rw e (s.text, (s.positive, let f : n ≤ 9223372036854775807 = s.fits in omega arith))
+hint_from : (word : Word) (z : ℤ) → Signed pos (λ n. neg_ℤ (pos n)) MOST_ID word z → (word ≡ signed_decimal z) × IsHint z
+hint_from word z (without n e s) = rw e (s.text, (s.positive, let f : n ≤ MOST_ID = s.fits in omega arith))
 hint_from word z (behind zero digits e w s) = absurd (let p : 0 < 0 = s.positive in omega arith)
-hint_from word z (behind (suc n) digits e w s) = rw e (w ∙ ap (λ (ds : Word). 45 ∷ ds) s.text, let f : suc n ≤ 9223372036854775807 = s.fits in omega arith)
+hint_from word z (behind (suc n) digits e w s) = rw e (w ∙ ap (λ (ds : Word). 45 ∷ ds) s.text, let f : suc n ≤ MOST_ID = s.fits in omega arith)
 
 hint_said : IsSaid hint_in signed_decimal IsHint
-hint_said word z e = hint_from word z (signed_says pos (λ n. neg_ℤ (pos n)) 9223372036854775807 word z (lit< tt) e)
+hint_said word z e = hint_from word z (signed_says pos (λ n. neg_ℤ (pos n)) MOST_ID word z (lit< tt) e)
 
-literal_from : (word : Word) (l : Literal) → Signed Plus Minus 2147483647 word l → (word ≡ literal_text l) × IsLiteral l
-literal_from word l (without n e s) = rw e (s.text, (s.positive, let f : n ≤ 2147483647 = s.fits in omega arith))
+literal_from : (word : Word) (l : Literal) → Signed Plus Minus MOST_VARIABLE word l → (word ≡ literal_text l) × IsLiteral l
+literal_from word l (without n e s) = rw e (s.text, (s.positive, let f : n ≤ MOST_VARIABLE = s.fits in omega arith))
 literal_from word l (behind zero digits e w s) = absurd (let p : 0 < 0 = s.positive in omega arith)
-literal_from word l (behind (suc n) digits e w s) = rw e (w ∙ ap (λ (ds : Word). 45 ∷ ds) s.text, (omega arith, let f : suc n ≤ 2147483647 = s.fits in omega arith))
+literal_from word l (behind (suc n) digits e w s) = rw e (w ∙ ap (λ (ds : Word). 45 ∷ ds) s.text, (omega arith, let f : suc n ≤ MOST_VARIABLE = s.fits in omega arith))
 
 literal_said : IsSaid literal_in literal_text IsLiteral
-literal_said word l e = literal_from word l (signed_says Plus Minus 2147483647 word l (lit< tt) e)
+literal_said word l e = literal_from word l (signed_says Plus Minus MOST_VARIABLE word l (lit< tt) e)
 
 ok_of : {B : Type 0} (r : Result B LineFault) (a b : B) → r ≡ Ok a → r ≡ Ok b → a ≡ b
 ok_of r a b e f = cc

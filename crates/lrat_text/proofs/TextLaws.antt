@@ -9,6 +9,7 @@ use Rattle.std.proofs.lemmas.Bool.Decides.{nat_tests}
 use Rattle.std.proofs.lemmas.Str.Parse.{digit_from_value}
 use Rattle.std.proofs.lemmas.Fmt.{decimal_is_IsNumeral, first_decimal}
 use Rattle.lrat_model.specs.Literal.{Literal, Plus, Minus}
+use Rattle.lrat_text.specs.declared.numbers.TheConstants.{MOST_ID, MOST_VARIABLE}
 use Rattle.lrat_text.specs.Words.{Word, is_blank}
 use Rattle.lrat_text.specs.Numbers.{is_numeral, positive_in, signed_in, id_in, hint_in, literal_in}
 use Rattle.lrat_text.specs.Lines.{is_zero, is_mark}
@@ -84,17 +85,17 @@ abbrev pub IsReadBack : {A : Type 0} → (Word → Option A) → (A → Word) �
 IsReadBack number_in text a = (number_in (text a) ≡ Some a) × IsText (text a)
 
 pub id_back : (id : ℕ) → IsId id → IsReadBack id_in decimal id
-id_back id is = let d : IsDecimal id (decimal id) = decimal_text id is.0 (omega (arith, is.1)) in (positive_in-decimal 9223372036854775807 id (decimal id) d (omega (arith, is.1)), d.text)
+id_back id is = let d : IsDecimal id (decimal id) = decimal_text id is.0 (omega (arith, is.1)) in (positive_in-decimal MOST_ID id (decimal id) d (omega (arith, is.1)), d.text)
 
 pub hint_back : (hint : ℤ) → IsHint hint → IsReadBack hint_in signed_decimal hint
-hint_back (pos n) is = let d : IsDecimal n (decimal n) = decimal_text n is.0 (omega (arith, is.1)) in (signed_in-plus pos (λ k. neg_ℤ (pos k)) 9223372036854775807 n (decimal n) d (omega (arith, is.1)), d.text)
+hint_back (pos n) is = let d : IsDecimal n (decimal n) = decimal_text n is.0 (omega (arith, is.1)) in (signed_in-plus pos (λ k. neg_ℤ (pos k)) MOST_ID n (decimal n) d (omega (arith, is.1)), d.text)
 hint_back (negsuc n) is =
     let d : IsDecimal (suc n) (decimal (suc n)) = decimal_text (suc n) (omega arith) (omega (arith, is)) in
-    (signed_in-minus pos (λ k. neg_ℤ (pos k)) 9223372036854775807 (suc n) (decimal (suc n)) d (omega (arith, is)), minus_text (suc n) (decimal (suc n)) d)
+    (signed_in-minus pos (λ k. neg_ℤ (pos k)) MOST_ID (suc n) (decimal (suc n)) d (omega (arith, is)), minus_text (suc n) (decimal (suc n)) d)
 
 pub literal_back : (l : Literal) → IsLiteral l → IsReadBack literal_in literal_text l
-literal_back (Plus n) is = let d : IsDecimal n (decimal n) = decimal_text n is.0 (omega (arith, is.1)) in (signed_in-plus Plus Minus 2147483647 n (decimal n) d (omega (arith, is.1)), d.text)
+literal_back (Plus n) is = let d : IsDecimal n (decimal n) = decimal_text n is.0 (omega (arith, is.1)) in (signed_in-plus Plus Minus MOST_VARIABLE n (decimal n) d (omega (arith, is.1)), d.text)
 literal_back (Minus zero) is = absurd (omega (arith, is.0))
 literal_back (Minus (suc n)) is =
     let d : IsDecimal (suc n) (decimal (suc n)) = decimal_text (suc n) (omega arith) (omega (arith, is.1)) in
-    (signed_in-minus Plus Minus 2147483647 (suc n) (decimal (suc n)) d (omega (arith, is.1)), minus_text (suc n) (decimal (suc n)) d)
+    (signed_in-minus Plus Minus MOST_VARIABLE (suc n) (decimal (suc n)) d (omega (arith, is.1)), minus_text (suc n) (decimal (suc n)) d)

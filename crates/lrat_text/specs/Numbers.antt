@@ -4,6 +4,7 @@ use Rattle.std.specs.List.{list_all}
 use Rattle.std.specs.Char.{is_ascii_digit}
 use Rattle.std.specs.Str.Parse.{digits_value}
 use Rattle.lrat_model.specs.Literal.{Literal, Plus, Minus}
+use Rattle.lrat_text.specs.declared.numbers.TheConstants.{MOST_ID, MOST_VARIABLE}
 use Rattle.lrat_text.specs.Words.{Word}
 
 -- the number that decimal digits say, if it is not above this one
@@ -30,14 +31,14 @@ abbrev pub IsSigned : Word → Bool → Word → Type 0
 IsSigned word true digits = word ≡ 45 ∷ digits
 IsSigned word false digits = (digits ≡ word) × ((slice_index word 0 == 45) ≡ false)
 
--- an id: from 1 to 2^63 - 1
+-- an id: from 1 on
 abbrev pub id_in : Word → Option ℕ
-id_in word = positive_in 9223372036854775807 word
+id_in word = positive_in MOST_ID word
 
 -- a hint: an id, or its negation
 abbrev pub hint_in : Word → Option ℤ
-hint_in word = signed_in pos (λ n. neg_ℤ (pos n)) 9223372036854775807 word
+hint_in word = signed_in pos (λ n. neg_ℤ (pos n)) MOST_ID word
 
--- a literal: a variable from 1 to 2^31 - 1, or its negation
+-- a literal: a variable, or its negation
 abbrev pub literal_in : Word → Option Literal
-literal_in word = signed_in Plus Minus 2147483647 word
+literal_in word = signed_in Plus Minus MOST_VARIABLE word

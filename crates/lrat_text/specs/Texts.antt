@@ -1,9 +1,10 @@
 -- The line that says a step.
-use Rattle.std.specs.Prelude.{ℕ, List, [], ◌∷◌, ◌++◌, ◌<◌, map, codes, ℤ, pos, negsuc}
+use Rattle.std.specs.Prelude.{ℕ, suc, List, [], ◌∷◌, ◌++◌, ◌<◌, map, codes, ℤ, pos, negsuc}
 use Rattle.std.specs.List.{join_with_byte, AllByRecursion}
 use Rattle.std.specs.Fmt.{decimal, signed_decimal}
 use Rattle.lrat_model.specs.Literal.{Literal, number_of, variable_of}
 use Rattle.lrat_model.specs.Steps.{ProofStep, Addition, Deletion}
+use Rattle.lrat_text.specs.declared.numbers.TheConstants.{MOST_ID, MOST_VARIABLE}
 use Rattle.lrat_text.specs.Words.{Word}
 
 -- the number of a literal, in digits
@@ -19,18 +20,18 @@ words_for (Deletion id ids) = decimal id ∷ codes "d" ∷ (map decimal ids ++ c
 abbrev pub line_of : ProofStep → List ℕ
 line_of step = join_with_byte 32 (words_for step)
 
--- from 1 to 2^63 - 1
+-- from 1 to the greatest id
 abbrev pub IsId : ℕ → Type 0
-IsId id = (0 < id) × (id < 9223372036854775808)
+IsId id = (0 < id) × (id < suc MOST_ID)
 
 -- an id, or its negation
 abbrev pub IsHint : ℤ → Type 0
 IsHint (pos n) = IsId n
-IsHint (negsuc n) = n < 9223372036854775807
+IsHint (negsuc n) = n < MOST_ID
 
--- a variable from 1 to 2^31 - 1, or its negation
+-- a variable from 1 to the greatest, or its negation
 abbrev pub IsLiteral : Literal → Type 0
-IsLiteral l = (0 < variable_of l) × (variable_of l < 2147483648)
+IsLiteral l = (0 < variable_of l) × (variable_of l < suc MOST_VARIABLE)
 
 -- the numbers of a step other than literals are in range
 abbrev pub HasNumbers : ProofStep → Type 0

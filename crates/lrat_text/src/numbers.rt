@@ -5,13 +5,13 @@ ghost use Rattle.lrat_text.specs.Numbers.{digits_in, positive_in, IsSigned, id_i
 use lrat_model::Lit;
 
 /// The greatest id, and the greatest magnitude of a hint.
-const MOST_ID: u64 = 9_223_372_036_854_775_807;
+pub const MOST_ID: u64 = 9_223_372_036_854_775_807;
 
 /// The greatest number behind which one more digit may give a number that is not above the greatest id.
-const MOST_TENTH: u64 = 922_337_203_685_477_580;
+pub const MOST_TENTH: u64 = 922_337_203_685_477_580;
 
 /// The greatest variable.
-const MOST_VARIABLE: u64 = 2_147_483_647;
+pub const MOST_VARIABLE: u64 = 2_147_483_647;
 
 /// A number that stands in a list of a step line.
 pub trait Number: Copy {

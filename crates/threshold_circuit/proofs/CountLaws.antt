@@ -44,8 +44,12 @@ mutual
   inputs_at_most end_of_gate s = omega arith
   inputs_at_most (input c others) s = squares (all_inputs c) (all_inputs_of others) (input_count others) (gate_variables c) (gate_variables_of others) (size_at_most c s.0) (inputs_at_most others s.1) (count_within others)
 
-pub size_fits : (c : Circuit) → HasThresholds c → all_inputs c ≤ MOST_ENTRIES → gate_variables c ≤ 1000000000000
-size_fits c w few = omega (arith, size_at_most c w, times_at_most (all_inputs c) (all_inputs c) 1000000 1000000 few few)
+-- so many variables the gates of a circuit have at most
+abbrev pub most_gate_variables : ℕ
+most_gate_variables = MOST_ENTRIES * MOST_ENTRIES
+
+pub size_fits : (c : Circuit) → HasThresholds c → all_inputs c ≤ MOST_ENTRIES → gate_variables c ≤ most_gate_variables
+size_fits c w few = omega (arith, size_at_most c w, times_at_most (all_inputs c) (all_inputs c) MOST_ENTRIES MOST_ENTRIES few few)
 
 own_count_by : (k n : ℕ) (every one : Bool) → (k == n) ≡ every → (k == 1) ≡ one → (k ≡ n → ⊥) → (k ≡ 1 → ⊥) → k ≤ n → k * (k + 1) / 2 + (n - k) * k ≡ own_variables k n
 own_count_by k n true one e f g h within = absurd (g (eqb-true k n e))
@@ -59,7 +63,7 @@ pub record GateFacts (k : ℕ) (self : Rust.Circuit) (items : List Rust.Circuit)
   pub within : k ≤ length items
   pub few : length items ≤ MOST_ENTRIES
   pub size : gate_variables (circuit_view self) ≡ gate_variables_of (inputs_view items) + own_variables k (length items)
-  pub fits : gate_variables (circuit_view self) ≤ 1000000000000
+  pub fits : gate_variables (circuit_view self) ≤ most_gate_variables
   pub all : all_inputs_of (inputs_view items) ≤ MOST_ENTRIES
   pub thresholds : HaveThresholds (inputs_view items)
 
@@ -78,7 +82,7 @@ gate_facts k self items is w few =
     }
 
 pub one_counted : (count result i k : ℕ) (self x : Rust.Circuit) (items : List Rust.Circuit) → GateFacts k self items → x ≡ get_or items i x → i < length items → result ≡ gate_variables (circuit_view x) →
-    count + gate_variables_of (inputs_view (drop i items)) ≡ gate_variables_of (inputs_view items) → count + result ≤ 1000000000000
+    count + gate_variables_of (inputs_view (drop i items)) ≡ gate_variables_of (inputs_view items) → count + result ≤ most_gate_variables
 one_counted count result i k self x items facts is low e counted =
     let cut = cut_circuits i items x is low in
     let split : count + (gate_variables (circuit_view x) + gate_variables_of (inputs_view (drop (i + 1) items))) ≡ gate_variables_of (inputs_view items) = ap (λ (cs : List Rust.Circuit). count + gate_variables_of (inputs_view cs)) (sym cut) ∙ counted in

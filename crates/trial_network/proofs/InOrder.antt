@@ -1,5 +1,5 @@
 -- Lists that are made one after another: the names of the nodes, and the inner sets.
-use Rattle.std.proofs.Common.{◌≡◌, ℕ, zero, suc, ◌+◌, ◌≤◌, List, [], ◌∷◌, ◌++◌, map, replicate, refl, sym, ap, ◌∙◌, arith}
+use Rattle.std.proofs.Common.{◌≡◌, ℕ, zero, suc, ◌+◌, ◌*◌, ◌≤◌, List, [], ◌∷◌, ◌++◌, map, replicate, refl, sym, ap, ◌∙◌, arith}
 use Rattle.std.specs.Global.{Vec}
 use Rattle.std.specs.List.Sorted.{IsStrictlySortedBy}
 use Rattle.std.proofs.lemmas.List.{map-append}
@@ -8,6 +8,7 @@ use Rattle.fbas_model.specs.Lists.{inner_entries}
 use Rattle.fbas_model.specs.Trees.{QuorumSet, inner}
 use Rattle.node_json.specs.NamesInOrder.{in_order}
 use Rattle.node_json.proofs.NamesInOrder.{is_among-in_order, in_order-sorted, names_in_order, same_names}
+use Rattle.trial_network.specs.declared.configuration.TheConstants.{MOST_ORGANISATIONS}
 use Rattle.trial_network.specs.Trial.{node_name, names_from, organisation_set, organisation_sets}
 use Rattle.trial_network.proofs.NodeNames.{names-more, names-sorted}
 
@@ -28,7 +29,7 @@ name_listed list one at are is = map-append items_of_name list (one ∷ []) ∙ 
 pub in_order_already : (given names : List Name) → IsStrictlySortedBy name_cmp given → AreNamesOf given names → names ≡ given
 in_order_already given names sorted are = names_in_order given names are ∙ same_names (in_order given) given (in_order-sorted given) sorted (λ k. is_among-in_order k given)
 
-pub all_names : (given names : List Name) (k : ℕ) → k ≤ 300 → given ≡ names_from 0 k → AreNamesOf given names → names ≡ names_from 0 k
+pub all_names : (given names : List Name) (k : ℕ) → k ≤ 3 * MOST_ORGANISATIONS → given ≡ names_from 0 k → AreNamesOf given names → names ≡ names_from 0 k
 all_names given names k few is are = in_order_already given names (rw is (names-sorted 0 k (omega (arith, few)))) are ∙ is
 
 -- the inner sets of k organisations, from o on

@@ -1,3 +1,4 @@
+mod LimitSamples
 pub mod NodeNames
 pub mod InOrder
 pub mod Limits

@@ -8,10 +8,11 @@ use Rattle.fbas_model.specs.Names.{is_key}
 use Rattle.fbas_model.specs.QuorumSets.{AreBelow, all_entries, all_entries_of, depth_of}
 use Rattle.fbas_model.specs.Systems.{IsWithin, IsSystem, entries_in}
 use Rattle.fbas_model.specs.Trees.{QuorumSet}
+use Rattle.trial_network.specs.declared.configuration.TheConstants.{MOST_ORGANISATIONS}
 use Rattle.trial_network.specs.Trial.{node_name, names_from, organisation_sets, trial_set}
 use Rattle.trial_network.proofs.NodeNames.{name_key, length-names}
 
-keys : (v k : ℕ) → v + k ≤ 300 → All (λ name. IsTrue (is_key name)) (names_from v k)
+keys : (v k : ℕ) → v + k ≤ 3 * MOST_ORGANISATIONS → All (λ name. IsTrue (is_key name)) (names_from v k)
 keys v zero few = All-nil (λ name. IsTrue (is_key name))
 keys v (suc k) few = All-cons (λ name. IsTrue (is_key name)) (node_name v) (names_from (v + 1) k) (name_key v (omega (arith, few))) (keys (v + 1) k (omega (arith, few)))
 
@@ -27,7 +28,7 @@ entries_of_organisations : (o k : ℕ) → all_entries_of (organisation_sets o k
 entries_of_organisations o zero = refl
 entries_of_organisations o (suc k) = rw (entries_of_organisations (o + 1) k) (omega arith)
 
-entries_below : (q : QuorumSet) (k : ℕ) → all_entries q ≤ 400 → entries_in (replicate k (Some q)) ≤ 400 * k
+entries_below : (q : QuorumSet) (k : ℕ) → all_entries q ≤ 4 * MOST_ORGANISATIONS → entries_in (replicate k (Some q)) ≤ 4 * MOST_ORGANISATIONS * k
 entries_below q zero h = omega arith
 entries_below q (suc k) h = let later = entries_below q k h in omega (arith, later, h)
 
@@ -37,7 +38,7 @@ set_within n = record {
   shallow = let low = shallow 0 n in omega (arith, low);
 }
 
-pub within_limits : (n : ℕ) → n ≤ 100 → IsSystem (names_from 0 (3 * n)) (replicate (3 * n) (Some (trial_set n)))
+pub within_limits : (n : ℕ) → n ≤ MOST_ORGANISATIONS → IsSystem (names_from 0 (3 * n)) (replicate (3 * n) (Some (trial_set n)))
 within_limits n few =
     let named = length-names 0 (3 * n) in
     record {
@@ -46,7 +47,7 @@ within_limits n few =
       few = omega (arith, named, few);
       within = rw named (All-replicate (λ o. IfSome o (IsWithin (3 * n))) (3 * n) (Some (trial_set n)) (set_within n));
       entries =
-          let set : all_entries (trial_set n) ≤ 400 = rw (entries_of_organisations 0 n) (omega (arith, few)) in
+          let set : all_entries (trial_set n) ≤ 4 * MOST_ORGANISATIONS = rw (entries_of_organisations 0 n) (omega (arith, few)) in
           let all = entries_below (trial_set n) (3 * n) set in
           omega (arith, all, few);
     }

@@ -2,6 +2,7 @@
 
 ghost use Rattle.std.specs.Prelude.{◌≡◌, ◌+◌, ◌*◌, ◌≤◌, ◌<◌, ◌%◌, IfOk, Some, replicate};
 ghost use Rattle.fbas_model.specs.Lists.{inner_entries};
+ghost use Rattle.trial_network.specs.declared.configuration.TheConstants.{MOST_ORGANISATIONS};
 ghost use Rattle.trial_network.specs.Trial.{names_from, node_name, organisation_set, organisation_sets, trial_set, trial_system};
 
 use fbas_core::System;
@@ -28,7 +29,7 @@ fn node_name(alloc: Global, node: u32) -> Result<Vec<u8>, AllocError>
 
 /// The names of so many nodes.
 fn node_names(alloc: Global, nodes: u32) -> Result<Names, AllocError>
-    requires { nodes ≤ 300 }
+    requires { nodes ≤ 3 * MOST_ORGANISATIONS }
     ensures { IfOk result (λ names. names ≡ names_from 0 nodes) }
 {
     let mut list = Vec::with_capacity(alloc, nodes as usize)?;
@@ -40,7 +41,7 @@ fn node_names(alloc: Global, nodes: u32) -> Result<Names, AllocError>
 
 /// The inner set of an organisation: two of its three nodes.
 fn organisation(alloc: Global, at: u32) -> Result<QuorumSet, AllocError>
-    requires { at < 100 }
+    requires { at < MOST_ORGANISATIONS }
     ensures { IfOk result (λ set. set ≡ organisation_set at) }
 {
     let validators = Vec::from_slice(alloc, &[3 * at, 3 * at + 1, 3 * at + 2])?;
@@ -53,7 +54,7 @@ fn organisation(alloc: Global, at: u32) -> Result<QuorumSet, AllocError>
 
 /// The inner sets of so many organisations.
 fn organisations(alloc: Global, n: u32) -> Result<Vec<QuorumSet>, AllocError>
-    requires { n ≤ 100 }
+    requires { n ≤ MOST_ORGANISATIONS }
     ensures { IfOk result (λ sets. inner_entries sets.items ≡ organisation_sets 0 n) }
 {
     let mut sets = Vec::with_capacity(alloc, n as usize)?;
@@ -65,7 +66,7 @@ fn organisations(alloc: Global, n: u32) -> Result<Vec<QuorumSet>, AllocError>
 
 /// The quorum set of every node: more than two thirds of the organisations.
 fn quorum_set(alloc: Global, n: u32) -> Result<QuorumSet, AllocError>
-    requires { n ≤ 100 }
+    requires { n ≤ MOST_ORGANISATIONS }
     ensures { IfOk result (λ set. set ≡ trial_set n) }
 {
     let wanted = (n - n.saturating_sub(1) / 3) as u64;
@@ -79,7 +80,7 @@ fn quorum_set(alloc: Global, n: u32) -> Result<QuorumSet, AllocError>
 
 /// The quorum sets of all nodes of so many organisations.
 fn quorum_sets(alloc: Global, n: u32) -> Result<Vec<Option<QuorumSet>>, AllocError>
-    requires { n ≤ 100 }
+    requires { n ≤ MOST_ORGANISATIONS }
     ensures { IfOk result (λ sets. sets.items ≡ replicate (3 * n) (Some (trial_set n))) }
 {
     let mut sets = Vec::with_capacity(alloc, 3 * n as usize)?;
@@ -92,7 +93,7 @@ fn quorum_sets(alloc: Global, n: u32) -> Result<Vec<Option<QuorumSet>>, AllocErr
 
 /// The system of the trial configuration of so many organisations.
 pub(crate) fn network(alloc: Global, n: u32) -> Result<System, AllocError>
-    requires { n ≤ 100 }
+    requires { n ≤ MOST_ORGANISATIONS }
     ensures { IfOk result (λ system. system ≡ trial_system n) }
 {
     let names = node_names(alloc, 3 * n)?;

@@ -6,6 +6,7 @@ use Rattle.fbas_model.specs.Nodes.{members}
 use Rattle.fbas_model.specs.Names.{Name}
 use Rattle.fbas_model.specs.Trees.{QuorumSet}
 use Rattle.fbas_model.specs.Fbas.{Fbas}
+use Rattle.fbas_model.specs.declared.TheConstants.{MOST_ENTRIES}
 use Rattle.fbas_model.specs.Systems.{System, IsWithin, entries_in}
 use Rattle.fbas_core.proofs.OtherSets.{mentions_was, still_mentioning, now_mentioning}
 use Rattle.fbas_core.proofs.System.replace.Goals as goal
@@ -41,7 +42,7 @@ invariant_of-self-2 c =
         keys = is.keys;
         few = is.few;
         within = All-set (λ (o : Option QuorumSet). IfSome o (IsWithin (length c.self.inside.names))) f v c.args.set fits is.within;
-        entries = omega (arith, subst (λ (s : Fbas). entries_in (set s v c.args.set) ≤ 1000000) (sym sets_are) c.requires.few);
+        entries = omega (arith, subst (λ (s : Fbas). entries_in (set s v c.args.set) ≤ MOST_ENTRIES) (sym sets_are) c.requires.few);
       },
       now_mentioning f c.self.inside.mentioning c.exchange.new.lists v c.args.set (members c.mentioned_in-after.result) low c.mentioned_in-after.ensures.nodes c.self.invariant.1 c.in_ok-exchange.ensures.exchanged,
     )

@@ -1,5 +1,6 @@
 use Rattle.std.proofs.Common.{◌≡◌, ◌+◌, ◌<◌, ◌++◌, ◌∷◌, [], List, ℕ, cond, ◌∙◌, sym, ap, subst, arith, length, get_or, take, length-append}
 use Rattle.std.proofs.lemmas.List.{get_or_default}
+use Rattle.cdcl_core.specs.declared.memory.TheConstants.{MOST_DELETED}
 use Rattle.cdcl_core.proofs.Parts.{IsPart, AreGone, part_next, gone_next}
 use Rattle.cdcl_core.proofs.memory.Memory.part.Goals as goal
 
@@ -18,7 +19,7 @@ loop-place-preserved c =
     record {
       part = subst (λ (ls : List ℕ). IsPart live needed ls (place + 1)) (sym items) (part_next live needed gone place c.requires.rise inv.part inside goes (λ is. let yes = c.goes-goes.ensures.yes is in (omega (arith, yes.0, count), yes.1)));
       all = λ none few.
-          let before : length gone < 1000 = omega (arith, few, long) in
+          let before : length gone < MOST_DELETED = omega (arith, few, long) in
           subst (λ (ls : List ℕ). AreGone (take (place + 1) live) ls needed) (sym items)
           (gone_next live needed gone place inside goes (inv.all none before) (λ no. c.goes-goes.ensures.no no none (omega (arith, before, count))));
     }
