@@ -20,7 +20,7 @@ use crate::count::count_vars;
 use crate::limits::MOST_VARS;
 use crate::marks::Marks;
 use crate::nodes::{members_of, variables_of};
-use crate::sides::formula_clauses;
+use crate::sides::{ClauseWriter, formula_clauses};
 use crate::var_map::VarMap;
 use crate::version::Version;
 use clause_store::Store;
@@ -76,21 +76,24 @@ fn encode_within(
     let members = nodes.len() as u32;
     let first = variables_of(alloc, greatest, n, 1)?;
     let second = variables_of(alloc, greatest, n, 1 + members)?;
-    let mut marks = Marks::new(alloc, vars + 2)?;
+    let marks = Marks::new(alloc, vars + 2)?;
     let start = 1 + members + members;
-    let mut clauses = Clauses::new(alloc);
-    formula_clauses(
+    let clauses = Clauses::new(alloc);
+    let mut writer = ClauseWriter {
         alloc,
+        clauses,
+        marks,
+    };
+    formula_clauses(
         version,
-        &mut clauses,
-        &mut marks,
+        &mut writer,
         &first,
         &second,
         start,
         nodes,
         circuits,
     )?;
-    Ok(clauses.into_store())
+    Ok(writer.clauses.into_store())
 }
 
 /// The formula over these nodes and circuits, and what its variables stand for: O(n and the formula).

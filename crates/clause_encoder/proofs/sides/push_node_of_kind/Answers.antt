@@ -12,29 +12,29 @@ use Rattle.clause_encoder.proofs.sides.push_node_of_kind.Goals as goal
 
 pub overflow_cast-gate : goal.overflow_cast-gate
 overflow_cast-gate c =
-    let low = known_low c.args.next (gates_in c.args.shared.now) (circuit_of_kind c.args.circuits.now c.args.kind) c.in-Some.gate c.requires.gates (c.requires.known c.args.kind c.in-Some.gate (sym c.gate.ensures ∙ c.in-Some.is)) in
-    let grows = node_grows c.args.shared.now.version (variable_in c.args.variables.now) (place_of c.args.next c.args.shared.now) c.args.node (circuit_of_kind c.args.circuits.now c.args.kind) in
+    let low = known_low c.args.next (gates_in c.args.gates.now.shared) (circuit_of_kind c.args.circuits.now c.args.kind) c.in-Some.gate c.requires.gates (c.requires.known c.args.kind c.in-Some.gate (sym c.gate.ensures ∙ c.in-Some.is)) in
+    let grows = node_grows c.args.gates.now.shared.version (variable_in c.args.variables.now) (place_of c.args.next c.args.gates.now.shared) c.args.node (circuit_of_kind c.args.circuits.now c.args.kind) in
     omega (arith, low.1, grows, c.requires.room, c.requires.small)
 
 pub of-requires-clause-some : goal.of-requires-clause-some
 of-requires-clause-some c =
-    let low = known_low c.args.next (gates_in c.args.shared.now) (circuit_of_kind c.args.circuits.now c.args.kind) c.in-Some.gate c.requires.gates (c.requires.known c.args.kind c.in-Some.gate (sym c.gate.ensures ∙ c.in-Some.is)) in
+    let low = known_low c.args.next (gates_in c.args.gates.now.shared) (circuit_of_kind c.args.circuits.now c.args.kind) c.in-Some.gate c.requires.gates (c.requires.known c.args.kind c.in-Some.gate (sym c.gate.ensures ∙ c.in-Some.is)) in
     low.0
 
 pub of-requires-clause-small : goal.of-requires-clause-small
 of-requires-clause-small c =
-    let low = known_low c.args.next (gates_in c.args.shared.now) (circuit_of_kind c.args.circuits.now c.args.kind) c.in-Some.gate c.requires.gates (c.requires.known c.args.kind c.in-Some.gate (sym c.gate.ensures ∙ c.in-Some.is)) in
-    let grows = node_grows c.args.shared.now.version (variable_in c.args.variables.now) (place_of c.args.next c.args.shared.now) c.args.node (circuit_of_kind c.args.circuits.now c.args.kind) in
+    let low = known_low c.args.next (gates_in c.args.gates.now.shared) (circuit_of_kind c.args.circuits.now c.args.kind) c.in-Some.gate c.requires.gates (c.requires.known c.args.kind c.in-Some.gate (sym c.gate.ensures ∙ c.in-Some.is)) in
+    let grows = node_grows c.args.gates.now.shared.version (variable_in c.args.variables.now) (place_of c.args.next c.args.gates.now.shared) c.args.node (circuit_of_kind c.args.circuits.now c.args.kind) in
     omega (arith, low.1, grows, c.requires.room, c.requires.small)
 
 pub returns-clause-known : goal.returns-clause-known
 returns-clause-known c =
     let gates = gates_in c.push_node.new.shared in
     let circuits = c.args.circuits.now in
-    let known = c.args.known.now in
-    let version = c.args.shared.now.version in
+    let known = c.args.gates.now.known in
+    let version = c.args.gates.now.shared.version in
     let p = variable_in c.args.variables.now in
-    let place = place_of c.args.next c.args.shared.now in
+    let place = place_of c.args.next c.args.gates.now.shared in
     let d = circuit_view c.of_kind-circuit.result.now in
     let after = c.in_ok-free.ensures.after ∙ node_after_circuit version p place c.args.node d in
     let kept = known_kept version p place d gates circuits known (ap (λ (at : Place). at.gates) after) c.requires.known in

@@ -12,7 +12,7 @@ pub loop-node-init : goal.loop-node-init
 loop-node-init c =
     let none = c.requires.no_gates in
     record {
-      writing = rw none (side_none c.args.shared.now.version (variable_in c.args.variables.now) (circuit_in c.args.circuits.now) (side_from c.args.next) c.args.nodes.now c.args.clauses.now c.requires.some tt);
+      writing = rw none (side_none c.args.gates.now.shared.version (variable_in c.args.variables.now) (circuit_in c.args.circuits.now) (side_from c.args.next) c.args.nodes.now c.args.writer.now.clauses c.requires.some tt);
       version = refl;
       marks = refl;
       same_kinds = c.requires.same_kinds;
@@ -22,17 +22,17 @@ loop-node-init c =
 pub push_node_of_kind-requires-clause-room : goal.push_node_of_kind-requires-clause-room
 push_node_of_kind-requires-clause-room c =
     let p = variable_in c.args.variables.now in
-    let place = place_of c.loop-node.free c.loop-node.shared in
+    let place = place_of c.loop-node.free c.loop-node.gates.shared in
     let i = c.loop-node.node-index in
     let v = get_or c.args.nodes.now c.loop-node.node-index 0 in
     let here = ap (circuit_of_kind c.args.circuits.now) c.kind-kind.ensures.kind in
-    let room = node_room c.args.shared.now.version p (circuit_in c.args.circuits.now) (side_from c.args.next) place i v c.args.nodes.now c.args.clauses.now c.loop-node.clauses c.loop-node-test.true refl c.loop-node.invariant.writing c.args.marks.now c.requires.room in
-    rw (c.loop-node.invariant.marks, c.loop-node.invariant.version) (subst (λ (d : Circuit). (node_clauses c.args.shared.now.version p place v d).after.next < c.args.marks.now) (sym here) room)
+    let room = node_room c.args.gates.now.shared.version p (circuit_in c.args.circuits.now) (side_from c.args.next) place i v c.args.nodes.now c.args.writer.now.clauses c.loop-node.writer.clauses c.loop-node-test.true refl c.loop-node.invariant.writing c.args.writer.now.marks c.requires.room in
+    rw (c.loop-node.invariant.marks, c.loop-node.invariant.version) (subst (λ (d : Circuit). (node_clauses c.args.gates.now.shared.version p place v d).after.next < c.args.writer.now.marks) (sym here) room)
 
 pub loop-node-preserved : goal.loop-node-preserved
 loop-node-preserved c =
     let p = variable_in c.args.variables.now in
-    let place = place_of c.loop-node.free c.loop-node.shared in
+    let place = place_of c.loop-node.free c.loop-node.gates.shared in
     let i = c.loop-node.node-index in
     let v = get_or c.args.nodes.now c.loop-node.node-index 0 in
     let d = circuit_of_kind c.args.circuits.now c.kind-kind.result in
@@ -40,8 +40,8 @@ loop-node-preserved c =
     let thresholds : HasThresholds d = (writable_at (length c.args.variables.now) c.args.circuits.now c.kind-kind.result c.requires.writable).thresholds in
     let is = c.loop-node.invariant.version in
     record {
-      writing = side_more c.args.shared.now.version p (circuit_in c.args.circuits.now) (side_from c.args.next) place i v c.args.nodes.now c.args.clauses.now c.loop-node.clauses c.loop-node-test.true refl c.loop-node.invariant.writing
-          (place_of c.in_ok-free.free c.push_node_of_kind.new.shared) c.push_node_of_kind.new.clauses d here thresholds (rw is at c.in_ok-free.ensures.after) (rw is at c.in_ok-free.ensures.clauses);
+      writing = side_more c.args.gates.now.shared.version p (circuit_in c.args.circuits.now) (side_from c.args.next) place i v c.args.nodes.now c.args.writer.now.clauses c.loop-node.writer.clauses c.loop-node-test.true refl c.loop-node.invariant.writing
+          (place_of c.in_ok-free.free c.push_node_of_kind.new.gates.shared) c.push_node_of_kind.new.writer.clauses d here thresholds (rw is at c.in_ok-free.ensures.after) (rw is at c.in_ok-free.ensures.clauses);
       version = c.in_ok-free.ensures.version ∙ is;
       marks = c.in_ok-free.ensures.marks ∙ c.loop-node.invariant.marks;
       same_kinds = c.in_ok-free.ensures.same_kinds ∙ c.loop-node.invariant.same_kinds;
@@ -50,8 +50,8 @@ loop-node-preserved c =
 
 pub returns-clause-clauses : goal.returns-clause-clauses
 returns-clause-clauses c =
-    (side_all c.args.shared.now.version (variable_in c.args.variables.now) (circuit_in c.args.circuits.now) (side_from c.args.next) (place_of c.loop-node.free c.loop-node.shared) c.loop-node.node-index c.args.nodes.now c.args.clauses.now c.loop-node.clauses c.loop-node-test.false c.loop-node.invariant.writing).0
+    (side_all c.args.gates.now.shared.version (variable_in c.args.variables.now) (circuit_in c.args.circuits.now) (side_from c.args.next) (place_of c.loop-node.free c.loop-node.gates.shared) c.loop-node.node-index c.args.nodes.now c.args.writer.now.clauses c.loop-node.writer.clauses c.loop-node-test.false c.loop-node.invariant.writing).0
 
 pub returns-clause-next : goal.returns-clause-next
 returns-clause-next c =
-    ap (λ (at : Place). at.next) (side_all c.args.shared.now.version (variable_in c.args.variables.now) (circuit_in c.args.circuits.now) (side_from c.args.next) (place_of c.loop-node.free c.loop-node.shared) c.loop-node.node-index c.args.nodes.now c.args.clauses.now c.loop-node.clauses c.loop-node-test.false c.loop-node.invariant.writing).1
+    ap (λ (at : Place). at.next) (side_all c.args.gates.now.shared.version (variable_in c.args.variables.now) (circuit_in c.args.circuits.now) (side_from c.args.next) (place_of c.loop-node.free c.loop-node.gates.shared) c.loop-node.node-index c.args.nodes.now c.args.writer.now.clauses c.loop-node.writer.clauses c.loop-node-test.false c.loop-node.invariant.writing).1
