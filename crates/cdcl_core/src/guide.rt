@@ -7,7 +7,7 @@ ghost use Rattle.cdcl_core.specs.Guides.{IsGuide};
 use crate::clauses::Clauses;
 use crate::marks::Marks;
 use lrat_model::Lit;
-use search_guide::{Order, Restarts, entry_or};
+use search_guide::{DecisionOrder, Restarts, entry_or};
 use std::alloc::{AllocError, Global};
 
 const FEW_LEVELS: u32 = 3;
@@ -20,7 +20,7 @@ const MANY_LITERALS: usize = 400;
 /// of literals that may be derived.
 #[derive(Drop)]
 pub struct Guide {
-    pub order: Order,
+    pub order: DecisionOrder,
     pub marks: Marks,
     pub base: usize,
     pub minimiser: Minimiser,
@@ -34,7 +34,7 @@ impl Guide {
         ensures { IfOk result (λ guide. IsGuide vars guide) }
     {
         let marks = Marks::new(alloc, vars)?;
-        let order = Order::new(alloc, vars)?;
+        let order = DecisionOrder::new(alloc, vars)?;
         let minimiser = Minimiser::new(alloc, vars)?;
         Ok(Guide {
             order,

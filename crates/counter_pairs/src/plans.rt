@@ -5,7 +5,7 @@ use crate::matches::Matcher;
 use crate::rivals::has_own_rival;
 use crate::sides::{Side, range_of, read_side};
 use clause_store::Store;
-use search_guide::{Counter, Groups, Plan};
+use search_guide::{CounterRows, Plan, PlannedGroups};
 use std::alloc::{AllocError, Global};
 use written_gates::has_gates;
 
@@ -38,7 +38,7 @@ pub fn plan_of(alloc: Global, formula: &Store, vars: u64) -> Result<Option<Plan>
     let parts = matcher.into_parts();
     let counters = counters_of(alloc, first, other)?;
     let lemmas = formula.last() / CLAUSES_PER_LEMMA;
-    Ok(Some(Plan::of(alloc, Groups::of(counters, parts), left, lemmas)))
+    Ok(Some(Plan::of(alloc, PlannedGroups::of(counters, parts), left, lemmas)))
 }
 
 /// Whether so many pairs of members, one of each side, are half of all.
@@ -48,10 +48,10 @@ fn is_half(pairs: u64, members: u32) -> bool {
 }
 
 /// The counters of both sides' gates, those of side a first.
-fn counters_of(alloc: Global, first: Side, other: Side) -> Result<Vec<Counter>, AllocError> {
+fn counters_of(alloc: Global, first: Side, other: Side) -> Result<Vec<CounterRows>, AllocError> {
     let mut counters = Vec::new(alloc);
     for gate in first.gates.into_iter().chain(other.gates) {
-        counters.push(Counter {
+        counters.push(CounterRows {
             wanted: gate.wanted,
             rows: gate.rows,
         })?;

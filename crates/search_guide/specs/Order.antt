@@ -1,6 +1,6 @@
 -- What an order of variables is seen as.
 use Rattle.std.specs.Prelude.{◌≡◌, ℕ, ◌+◌, ◌<◌, ◌^◌, length}
-use Rattle.search_guide.specs.declared.order.Order.TheInside.{Inside}
+use Rattle.search_guide.specs.declared.order.DecisionOrder.TheInside.{Inside}
 
 -- the number of variables
 abbrev pub shown : Inside → ℕ

@@ -15,7 +15,7 @@ pub enum Part {
 /// A counter: how many of its inputs have to be true, and the first variable of each row. The variable behind it by j - 1
 /// says that at least j of the row's first inputs are true.
 #[derive(Drop)]
-pub struct Counter {
+pub struct CounterRows {
     pub wanted: usize,
     pub rows: Vec<u32>,
 }
@@ -38,18 +38,18 @@ pub struct Rows {
 
 /// The parts one after another: which of them is next, which of its groups or pairs of rows, and which group of that pair.
 #[derive(Drop)]
-pub struct Groups {
-    counters: Vec<Counter>,
+pub struct PlannedGroups {
+    counters: Vec<CounterRows>,
     parts: Vec<Part>,
     part: usize,
     at: usize,
     turn: usize,
 }
 
-impl Groups {
+impl PlannedGroups {
     /// The groups of these parts, over these counters.
-    pub fn of(counters: Vec<Counter>, parts: Vec<Part>) -> Groups {
-        Groups {
+    pub fn of(counters: Vec<CounterRows>, parts: Vec<Part>) -> PlannedGroups {
+        PlannedGroups {
             counters,
             parts,
             part: 0,
@@ -108,13 +108,13 @@ fn give(groups: &[Vec<Lit>], at: usize, group: &mut Vec<Lit>) -> Result<Made, Al
 /// Two counters and a pair of their rows.
 #[derive(Clone, Copy)]
 struct Pair<'a> {
-    first: &'a Counter,
-    other: &'a Counter,
+    first: &'a CounterRows,
+    other: &'a CounterRows,
     rows: RowPair,
 }
 
 /// The pair of rows at a place, with the counters.
-fn pair_at<'a>(counters: &'a [Counter], rows: &Rows, at: usize) -> Option<Pair<'a>> {
+fn pair_at<'a>(counters: &'a [CounterRows], rows: &Rows, at: usize) -> Option<Pair<'a>> {
     Some(Pair {
         first: counters.get(rows.first)?,
         other: counters.get(rows.other)?,
@@ -153,7 +153,7 @@ impl Pair<'_> {
     }
 }
 
-impl Counter {
+impl CounterRows {
     /// How many of a row's inputs are counted.
     fn most(&self, row: u32) -> usize {
         self.wanted.min(row as usize)

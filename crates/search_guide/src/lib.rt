@@ -14,8 +14,8 @@ mod turns;
 mod uses;
 
 pub use entries::entry_or;
-pub use groups::{Counter, Groups, Part, RowPair, Rows};
-pub use order::Order;
+pub use groups::{CounterRows, Part, PlannedGroups, RowPair, Rows};
+pub use order::DecisionOrder;
 pub use plan::Plan;
 pub use restarts::Restarts;
 pub use uses::Uses;

@@ -32,7 +32,7 @@ const CONFLICTS_OF_A_CLAUSE: u64 = 32;
 /// The variables by when a conflict saw them last; scores that conflicts raise, late ones more than early ones; which of
 /// the two decides; the value that each variable had last; and the plan that goes before both.
 #[derive(Drop)]
-pub struct Order {
+pub struct DecisionOrder {
     vars: u32,
     scores: Vec<u64>,
     phases: Vec<bool>,
@@ -43,7 +43,7 @@ pub struct Order {
     plan: Plan,
 }
 
-impl Model for Order {
+impl Model for DecisionOrder {
     ghost use Rattle.std.specs.Prelude.{ℕ};
 
     ghost Value = { ℕ };
@@ -55,14 +55,14 @@ impl Model for Order {
     ghost invariant = { IsOrder };
 }
 
-impl Order {
+impl DecisionOrder {
     /// All scores are alike, and all phases false.
-    pub fn new(alloc: Global, vars: u32) -> Result<Order, AllocError>
+    pub fn new(alloc: Global, vars: u32) -> Result<DecisionOrder, AllocError>
         requires { vars < 2 ^ 31 }
         ensures { IfOk result (λ o. o ≡ vars) }
     {
         let places = vars as usize + 1;
-        Ok(Order {
+        Ok(DecisionOrder {
             vars,
             scores: vec![in alloc; 0; places]?,
             phases: vec![in alloc; false; places]?,

@@ -5,7 +5,7 @@ ghost use Rattle.std.specs.Prelude.{◌≡◌, ◌<◌, IfSome};
 ghost use Rattle.lrat_model.specs.Literal.{variable_of};
 
 use crate::entries::entry_or;
-use crate::groups::Groups;
+use crate::groups::PlannedGroups;
 use lrat_model::Lit;
 use partial_assignment::Assignment;
 use std::alloc::{AllocError, Global};
@@ -14,7 +14,7 @@ use std::alloc::{AllocError, Global};
 /// lemmas come before the plan is dropped; what was decided of it and stands on the trail, and what is to be decided now.
 #[derive(Drop)]
 pub struct Plan {
-    groups: Groups,
+    groups: PlannedGroups,
     group: Vec<Lit>,
     at: usize,
     left: usize,
@@ -34,11 +34,16 @@ enum Turn {
 impl Plan {
     /// No plan.
     pub fn none(alloc: Global) -> Plan {
-        Plan::of(alloc, Groups::of(Vec::new(alloc), Vec::new(alloc)), 0, 0)
+        Plan::of(
+            alloc,
+            PlannedGroups::of(Vec::new(alloc), Vec::new(alloc)),
+            0,
+            0,
+        )
     }
 
     /// These groups, as long as no more are looked at and no more lemmas come than so many.
-    pub fn of(alloc: Global, groups: Groups, left: usize, lemmas: u64) -> Plan {
+    pub fn of(alloc: Global, groups: PlannedGroups, left: usize, lemmas: u64) -> Plan {
         Plan {
             groups,
             group: Vec::new(alloc),
