@@ -89,7 +89,7 @@ none_below [] x all = refl
 none_below (y ∷ ids) x all =
     ap (λ b. b || has_id ids x) (ne_eqb y x (λ e. absurd (omega (arith, e, All-head (λ k. k < x) y ids all)))) ∙ none_below ids x (All-tail (λ k. k < x) y ids all)
 
--- of the first so many those that are gone, and all that are gone are before the rest
+-- of the lemmas before a place those that are gone, and all that are gone are before the rest
 pub record IsPart (live needed gone : List ℕ) (place : ℕ) : Type 0 where
   pub within : place ≤ length live
   pub chosen : IsChosen (take place live) needed gone
@@ -159,7 +159,7 @@ module _ (live needed gone : List ℕ) (place : ℕ) (rise : Rises live) (part :
     below = λ j from less. All-push (λ k. k < get_or live j 0) gone id (part.below j (omega (arith, from)) less) (omega (arith, id_is, rise place j 0 (omega (arith, from)) less));
   }
 
--- each of the first so many is gone or needed
+-- each that was seen is gone or needed
 abbrev pub AreGone : List ℕ → List ℕ → List ℕ → Type 0
 AreGone seen gone needed = All (λ k. (has_id gone k ≡ true) ⊎ (has_id needed k ≡ true)) seen
 

@@ -19,7 +19,7 @@ pub struct Place {
     pub end: u32,
 }
 
-/// Clauses, seen as the list of their ids and literals. The first of them, so many as `dense` says, have the
+/// Clauses, seen as the list of their ids and literals. The first of them, as many as `dense` says, have the
 /// ids from 1 on: these ids are told without a look at the places. Where ids have gaps, the place of most of
 /// them is guessed by a table.
 #[derive(Drop)]
@@ -55,7 +55,7 @@ impl Clauses {
         }
     }
 
-    /// No clause, with a table of guesses for so many.
+    /// No clause, with a table of guesses for this many.
     fn with_guesses(alloc: Global, count: usize) -> Result<Clauses, AllocError>
         ensures { IfOk result (λ clauses. clauses ≡ []) }
     {
@@ -191,7 +191,7 @@ fn place_between(id: u64, start: usize, end: usize) -> Result<Place, AllocError>
     })
 }
 
-/// How many clauses from the first on have the ids from 1 on, now that there are so many, the last under an id.
+/// How many clauses from the first on have the ids from 1 on, now that there are this many, the last under an id.
 fn dense_with(dense: usize, count: usize, id: u64) -> usize
     requires { dense < count }
     ensures { (result ≡ dense) ⊎ ((result ≡ count) × (dense + 1 ≡ count) × (id ≡ count)) }
@@ -203,7 +203,7 @@ fn dense_with(dense: usize, count: usize, id: u64) -> usize
     }
 }
 
-/// Writes down the place of an id, now that there are so many.
+/// Writes down the place of an id, now that there are this many.
 fn note(guesses: &mut Vec<u32>, id: u64, count: usize) {
     let room = guesses.len() as u64;
     if 0 < room && 0 < count && count <= u32::MAX as usize {

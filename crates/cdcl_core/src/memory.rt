@@ -18,10 +18,10 @@ pub const FEWEST_DELETED: usize = 500;
 /// The most lemmas that a deletion takes.
 pub const MOST_DELETED: usize = 1000;
 
-/// So many lemmas are live at least where the first deletion comes.
+/// This many lemmas are live at least where the first deletion comes.
 pub const FEWEST_LIVE: u64 = 2000;
 
-/// So many lemmas may be live before the first deletion, and one more for each variable.
+/// This many lemmas may be live before the first deletion, and one more for each variable.
 pub const MOST_LIVE: u64 = 8000;
 
 /// A lemma of less cost stays while others have more.
@@ -132,7 +132,7 @@ impl Memory {
         self.part(alloc, needed, least)
     }
 
-    /// Whether a deletion is tried: where so many lemmas are live as it asks, and always where no more has room.
+    /// Whether a deletion is tried: where as many lemmas are live as it asks, and always where no more has room.
     fn is_due(&self, vars: u32) -> bool
         ensures yes { result ≡ true → least_live self.now.deletions ≤ length self.now.ids.items }
         ensures no { result ≡ false → length self.now.ids.items < most_live vars self.now.deletions }
@@ -140,7 +140,7 @@ impl Memory {
         self.is_earned() && (self.ids.len() >= self.due || self.is_full(vars))
     }
 
-    /// Whether so many lemmas are live as the next deletion asks.
+    /// Whether as many lemmas are live as the next deletion asks.
     fn is_earned(&self) -> bool
         ensures { MatchBool result (least_live self.now.deletions ≤ length self.now.ids.items) (length self.now.ids.items < least_live self.now.deletions) }
     {
@@ -206,7 +206,7 @@ impl Memory {
         Ok(gone)
     }
 
-    /// Whether the lemma at a place goes, after so many others.
+    /// Whether the lemma at a place goes, after this many others.
     fn goes(&self, place: usize, count: usize, needed: &[u64], least: u32) -> bool
         requires place { place < length self.now.ids.items }
         requires sorted { IsNonDecreasingBy (λ k. k) needed.now }
@@ -253,7 +253,7 @@ impl Memory {
     }
 }
 
-/// Puts an id behind others, if it is one of them.
+/// Puts an id after others, if it is one of them.
 fn put(ids: &mut Vec<u64>, id: u64, is_one: bool) -> Result<(), AllocError>
     ensures { OnOk result (ids.new.items ≡ ids.old.items ++ (if is_one then id ∷ [] else [])) }
 {

@@ -17,7 +17,7 @@ use lrat_model::Lit;
 use partial_assignment::Assignment;
 use std::alloc::AllocError;
 
-/// From so many literals on a clause is long.
+/// From this many literals on a clause is long.
 const LONG: usize = 32;
 
 /// The other literal that is watched, where this one is and differs from it.

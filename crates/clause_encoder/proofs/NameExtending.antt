@@ -39,7 +39,7 @@ between_is i (suc n) = moved i (between (i + 1) n) (cells_before i) ∙ ap (λ (
     later : (i n : ℕ) → i + 1 + n ≡ i + suc n
     later i n = omega arith
 
--- the value at the j-th place of the row that is n rows behind row i
+-- the value at the j-th place of the row that is n rows after row i
 value_there : (v : ℕ → Bool) (left i n j : ℕ) → n < left → 0 < j → j ≤ i + n → cell_value v left i (between i n + j) ≡ nat_le j (true_count v (i + n))
 unfolding between
 value_there v zero i n j low some here = absurd (omega arith)

@@ -15,7 +15,7 @@ next_cells i = ap cells_before (next i)
     next : (i : ℕ) → i + 1 ≡ suc i
     next i = omega arith
 
--- the variable of t(i + 1, j + 1), behind those of row i
+-- the variable of t(i + 1, j + 1), after those of row i
 cell_place : (g i above j : ℕ) → above ≡ g + cells_before i → above + i + (j + 1) ≡ counted g (i + 1) (j + 1)
 cell_place g i above j at = omega (arith, at, next_cells i)
 

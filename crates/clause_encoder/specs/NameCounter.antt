@@ -7,7 +7,7 @@ abbrev pub cells_before : ℕ → ℕ
 cells_before zero = 0
 cells_before (suc i) = cells_before i + i
 
--- the variable t(i, j), behind those of the g names, which are 1 to g
+-- the variable t(i, j), after those of the g names, which are 1 to g
 abbrev pub counted : ℕ → ℕ → ℕ → ℕ
 counted g i j = g + cells_before i + j
 

@@ -37,7 +37,7 @@ impl Clauses {
         }
     }
 
-    /// One more clause behind the others: O(literals), amortised. Above `MOST_CLAUSES` there is no memory for it either.
+    /// One more clause after the others: O(literals), amortised. Above `MOST_CLAUSES` there is no memory for it either.
     pub fn push(&mut self, lits: &[Lit]) -> Result<(), AllocError>
         ensures { OnOk result (self.new ≡ self.old ++ lits.now ∷ []) }
     {

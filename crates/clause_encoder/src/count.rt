@@ -79,7 +79,7 @@ fn count_node(
     Ok(free)
 }
 
-/// The same of these nodes in order, behind which no gate stands yet.
+/// The same of these nodes in order, after which no gate stands yet.
 fn count_nodes(
     alloc: Global,
     shared: &mut SharedGates,

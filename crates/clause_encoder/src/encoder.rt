@@ -32,7 +32,7 @@ use thiserror::Error;
 /// Why there is no formula.
 #[derive(Clone, Copy, Debug, Error)]
 pub enum EncodeError {
-    /// It would have so many variables, more than `MOST_VARS`.
+    /// It would have this many variables, more than `MOST_VARS`.
     #[error("the formula has {0} variables")]
     TooLarge(u64),
     /// No memory for it.
@@ -129,7 +129,7 @@ fn encode_over(
 /// satisfiable exactly where two quorums share no node; a satisfying assignment tells two such quorums, and every two such
 /// quorums are told by one.
 ///
-/// The members of the greatest quorum in order have the variables from 1 on, and behind them those of side b. The clauses
+/// The members of the greatest quorum in order have the variables from 1 on, and after them those of side b. The clauses
 /// have the ids from 1 on: some node of side a, some of side b, for each member that it is not on both, then on each side
 /// for each member whose circuit is not always true its gates, and that it is only true with them. A circuit's gates are
 /// written after those of their entries: where all inputs are wanted a clause for each, where one is wanted one clause, and

@@ -22,7 +22,7 @@ impl Model for Known {
 }
 
 impl Known {
-    /// Of so many kinds none.
+    /// Of this many kinds none.
     pub fn new(alloc: Global, kinds: usize) -> Result<Known, AllocError>
         ensures kinds { IfOk result (λ k. length k ≡ kinds) }
         ensures none { (gates : List Gate) (circuits : CircuitTable) → IfOk result (AreKnown gates circuits) }

@@ -31,13 +31,13 @@ length-literals_of arena (e ∷ es) within =
       | false ↦ rest
     ]
 
--- the clause that is moved behind what comes before it
+-- the clause that is moved after what comes before it
 moved_clause : (before clause rest : List Literal) (e : Entry) → length clause ≡ size_of e → clause_in (before ++ (clause ++ rest)) (moved (length before) e) ≡ clause
 moved_clause before clause rest e size =
     let count : length before + size_of e - length before ≡ length clause = omega (arith, size) in
     rw (count, drop-append_seam before (clause ++ rest)) (take-append_seam clause rest)
 
--- what is packed behind some literals
+-- what is packed after some literals
 pub held_in-packed : (arena before : List Literal) (es : List Entry) → All (IsWithin (length arena)) es → held_in (before ++ literals_of arena es) (packed (length before) es) ≡ held_in arena es
 held_in-packed arena before [] within = refl
 held_in-packed arena before (e ∷ es) within =

@@ -1,4 +1,4 @@
-//! Clauses that are lent, whatever their width: no literal is copied.
+//! Clauses that are borrowed, whatever their width: no literal is copied.
 ghost use Rattle.std.specs.Prelude.{◌≡◌, ◌<◌, length, slice_index_or};
 
 use lrat_model::Lit;

@@ -9,7 +9,7 @@ use lrat_model::Lit;
 use search_guide::{Part, RowPair, Rows};
 use std::alloc::{AllocError, Global};
 
-/// Two gates of so many inputs in all are gone through by pairs: these lemmas have two literals, and are never forgotten.
+/// Two gates of this many inputs in all are gone through by pairs: these lemmas have two literals, and are never forgotten.
 const FEW_INPUTS: usize = 16;
 
 /// Both sides, what is known of the places that exclude each other, the parts so far, and how many more pairs of rows there

@@ -18,7 +18,7 @@ impl Row<'_> {
         self.row.min(self.gate.wanted.min(1 << 31) as u32)
     }
 
-    /// That so many inputs up to this row are true.
+    /// That this many inputs up to this row are true.
     fn literal(&self, count: u32) -> Option<Lit> {
         let first = *self.gate.rows.get((self.row as usize).checked_sub(1)?)?;
         let x = first.saturating_add(count.checked_sub(1)?);
@@ -64,7 +64,7 @@ pub fn pairs_along(
     Ok(pairs)
 }
 
-/// The pairs of counts of two rows that come to so many.
+/// The pairs of counts of two rows that come to this many.
 fn push_pairs(
     first: Row<'_>,
     other: Row<'_>,
@@ -80,7 +80,7 @@ fn push_pairs(
     Ok(())
 }
 
-/// The pairs of a literal with each count of a row that is at least so many.
+/// The pairs of a literal with each count of a row that is at least this many.
 fn push_with(
     l: Lit,
     other: Row<'_>,

@@ -9,10 +9,10 @@ use search_guide::{CounterRows, Plan, PlannedGroups};
 use std::alloc::{AllocError, Global};
 use written_gates::has_gates;
 
-/// So many groups for each clause of the formula are looked at, and no more.
+/// This many groups for each clause of the formula are looked at, and no more.
 const GROUPS_PER_CLAUSE: u64 = 16;
 
-/// For so many clauses a lemma may come before the plan is dropped.
+/// For this many clauses a lemma may come before the plan is dropped.
 const CLAUSES_PER_LEMMA: u64 = 4;
 
 /// Whether some pair of members, one of each side, has gates that exclude each other. Linear in the clauses.
@@ -21,7 +21,7 @@ pub fn has_rivals(alloc: Global, formula: &Store, vars: u64) -> Result<bool, All
     has_own_rival(alloc, &side)
 }
 
-/// The plan for an intersection formula of version 2 among so many variables, if it is worth following: where half of all pairs
+/// The plan for an intersection formula of version 2 among this many variables, if it is worth following: where half of all pairs
 /// of members, one of each side, have gates that exclude each other; or any, if there are no gates worth writing out.
 pub fn plan_of(alloc: Global, formula: &Store, vars: u64) -> Result<Option<Plan>, AllocError> {
     let first = read_side(alloc, formula, range_of(formula, vars, true))?;
@@ -41,7 +41,7 @@ pub fn plan_of(alloc: Global, formula: &Store, vars: u64) -> Result<Option<Plan>
     Ok(Some(Plan::of(alloc, PlannedGroups::of(counters, parts), left, lemmas)))
 }
 
-/// Whether so many pairs of members, one of each side, are half of all.
+/// Whether this many pairs of members, one of each side, are half of all.
 fn is_half(pairs: u64, members: u32) -> bool {
     let all = u64::from(members).saturating_mul(u64::from(members));
     pairs.saturating_mul(2) >= all

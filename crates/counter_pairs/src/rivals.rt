@@ -10,7 +10,7 @@ pub struct Rivals {
 }
 
 impl Rivals {
-    /// Each of so many members excludes itself on the other side.
+    /// Each of this many members excludes itself on the other side.
     pub fn of_members(alloc: Global, members: u32) -> Result<Rivals, AllocError> {
         let mut of = Vec::new(alloc);
         for member in 0..members {
@@ -36,7 +36,7 @@ impl Rivals {
     }
 }
 
-/// Whether some member's gate excludes itself on the other side, where both sides have the same gates: then so many of its inputs
+/// Whether some member's gate excludes itself on the other side, where both sides have the same gates: then this many of its inputs
 /// have to be true on the one side or the other as there are, and more. Where none does, no two gates of members exclude each
 /// other, since these want half of their inputs at most. Linear in the gates' inputs.
 pub fn has_own_rival(alloc: Global, side: &Side) -> Result<bool, AllocError> {

@@ -20,7 +20,7 @@ pub struct Gate {
     pub rows: Vec<u32>,
 }
 
-/// Which variables a side has: so many members' behind the first, and those of gates behind one and up to another.
+/// Which variables a side has: those of this many members after the first, and those of gates after one and up to another.
 #[derive(Clone, Copy)]
 pub struct Range {
     pub members: u32,

@@ -40,7 +40,7 @@ pub struct Walker {
 }
 
 impl Walker {
-    /// A walker over so many places of side b.
+    /// A walker over this many places of side b.
     pub fn new(alloc: Global, places: usize) -> Result<Walker, AllocError> {
         let mut rows = Vec::new(alloc);
         rows.resize(places, 0)?;
@@ -182,7 +182,7 @@ struct Steps {
     at: RowPair,
 }
 
-/// The steps along a chain, of two gates that want so many inputs more than there are.
+/// The steps along a chain, of two gates that want this many inputs more than there are.
 fn steps_of(
     alloc: Global,
     first: &Gate,
@@ -218,7 +218,7 @@ impl Steps {
         self.repeat(other.saturating_sub(self.at.other), 0, 1)
     }
 
-    /// Makes a step so many times.
+    /// Makes a step this many times.
     fn repeat(&mut self, times: u32, rows: u32, others: u32) -> Result<(), AllocError> {
         for _ in 0..times {
             self.step(rows, others)?;
@@ -226,7 +226,7 @@ impl Steps {
         Ok(())
     }
 
-    /// Meets one more input, by so many rows in both counters.
+    /// Meets one more input, by this many rows in both counters.
     fn step(&mut self, rows: u32, others: u32) -> Result<(), AllocError> {
         self.at = RowPair {
             row: self.at.row.saturating_add(rows),

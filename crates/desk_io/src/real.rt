@@ -67,7 +67,7 @@ fn read_begun<F: Read>(begun: &mut Option<F>, buf: &mut [u8]) -> Option<usize>
 }
 
 /// Writes, and tries at most 1,000 times where it's interrupted: `None` where it fails, or where none of some bytes is taken. Where
-/// the bytes that the file holds are known, those that are taken are behind them, and after a failure none.
+/// the bytes that the file holds are known, those that are taken are after them, and after a failure none.
 pub fn write_some<F: Write>(file: &mut F, bytes: &[u8]) -> Option<usize>
     ensures bound { IfSome result (λ count. count ≤ length bytes.now) }
     ensures some { IfSome result (λ count. 0 < length bytes.now → 0 < count) }

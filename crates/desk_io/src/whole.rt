@@ -42,7 +42,7 @@ impl From<AllocError> for ReadError {
 /// Bytes that are asked of the desk at once.
 const PIECE: usize = 16_384;
 
-// How many bytes are asked for where so many may still come: one more, at most a piece.
+// How many bytes are asked for where this many may still come: one more, at most a piece.
 fn asked(left: u64) -> usize
     ensures some { 0 < result }
     ensures piece { result ≤ PIECE }

@@ -10,7 +10,7 @@ use Rattle.fbas_model.proofs.Kept.{length-kept}
 use Rattle.fbas_model.proofs.Listed.{kept_listed}
 use Rattle.fbas_model.proofs.Tables.{table_ext}
 
--- the first of the kept nodes are cut, and so many they are
+-- the first of the kept nodes are cut, and that is their number
 pub record Cutting (t s part : Table) (at : ℕ) (ws : List ℕ) : Type 0 where
   pub size : length part ≡ size t
   pub now : at ≡ length ws

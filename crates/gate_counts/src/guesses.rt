@@ -45,7 +45,7 @@ impl Guesses {
         })
     }
 
-    /// Sees that an input of these gates became false. Those that had so many before are passed over: their heads are false.
+    /// Sees that an input of these gates became false. Those that had this many before are passed over: their heads are false.
     pub fn see_inputs(&mut self, list: &[u32], counts: &[u32]) -> Result<(), AllocError> {
         for g in list {
             see(&mut self.due, &self.limits, *g, counts, 1)?;
@@ -82,7 +82,7 @@ impl Guesses {
     }
 }
 
-/// Sees a gate: it is due where so many inputs are false that it may force something, and no more than so many beyond.
+/// Sees a gate: it is due where so many inputs are false that it may force something, and no more than this many beyond.
 fn see(
     due: &mut Vec<u32>,
     limits: &[u32],
@@ -159,7 +159,7 @@ fn value_of(assignment: &Assignment, variable: u32) -> Option<bool> {
     }
 }
 
-/// The ids of a gate's clauses that may be false or force something, where so many of its inputs are false.
+/// The ids of a gate's clauses that may be false or force something, where this many of its inputs are false.
 fn guess_of(
     ids: &mut Vec<u64>,
     ways: &[u64],

@@ -27,7 +27,7 @@ impl Gates {
     }
 }
 
-/// Whether so many false inputs show that of a gate: fewer than all but one of a set's; or the head is false; or they are fewer
+/// Whether this many false inputs show that of a gate: fewer than all but one of a set's; or the head is false; or they are fewer
 /// than a set has, and the head is not true, or no other input is open.
 fn is_quiet(gate: &Gate, falses: u32, assignment: &Assignment) -> bool
     requires small { IsGate (2 ^ 31 - 1) gate.now }

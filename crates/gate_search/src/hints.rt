@@ -312,7 +312,7 @@ impl Hints {
     }
 }
 
-/// The column of the last row's place that is true where the head is. So many inputs are true then, and a set has one more than
+/// The column of the last row's place that is true where the head is. This many inputs are true then, and a set has one more than
 /// may be false.
 fn column_of(counter: &Counter, set: &[Lit]) -> usize {
     counter
@@ -330,7 +330,7 @@ fn is_at(set: &[Lit], place: usize, input: u32) -> bool {
     }
 }
 
-/// The input after so many others; 0 past the last, which is none.
+/// The input after this many others; 0 past the last, which is none.
 fn input_at(counter: &Counter, before: usize) -> u32 {
     match counter.inputs.get(before) {
         Some(input) => *input,

@@ -103,7 +103,7 @@ no_group_needed : step_fault_by Rat 36 two_of_three (Addition 54 (Minus 10 ∷ [
 unfolding two_of_three clauses
 no_group_needed = refl
 
--- a conflict before the first group ends the step, whatever comes behind it
+-- a conflict before the first group ends the step, whatever comes after it
 conflict_first : step_fault_by Rat 36 two_of_three (Addition 54 (Minus 7 ∷ Plus 1 ∷ []) (pos 6 ∷ negsuc 98 ∷ [])) ≡ None
 unfolding two_of_three clauses
 conflict_first = refl

@@ -53,7 +53,7 @@ solid_texts : {A : Type 0} (number_in : Word → Option A) (text : A → Word) (
 solid_texts number_in text [] words all rest = rest
 solid_texts number_in text (n ∷ numbers) words all rest = (solid (text n) all.0.1, solid_texts number_in text numbers words all.1 rest)
 
--- a list of numbers and the 0 behind it are read back
+-- a list of numbers and the 0 after it are read back
 list_back : {A : Type 0} (number_in : Word → Option A) (text : A → Word) (numbers : List A) (words : List Word) → AllByRecursion (IsReadBack number_in text) numbers → closed_list number_in (map text numbers ++ codes "0" ∷ words) ≡ Ok (numbers, words)
 list_back number_in text [] words all = refl
 list_back number_in text (n ∷ numbers) words all =
@@ -70,7 +70,7 @@ addition_back id lits hints ls hs =
 deletion_back : (id : ℕ) (ids : List ℕ) → AllByRecursion (IsReadBack id_in decimal) ids → deletion id (map decimal ids ++ codes "0" ∷ []) ≡ Ok (Deletion id ids)
 deletion_back id ids is = rw (list_back id_in decimal ids [] is) refl
 
--- an addition's words behind its id do not begin with `d`
+-- an addition's words after its id do not begin with `d`
 after_back : (id : ℕ) (lits : List Literal) (words : List Word) → AllByRecursion (IsReadBack literal_in literal_text) lits → after_id id (map literal_text lits ++ codes "0" ∷ words) ≡ addition id (map literal_text lits ++ codes "0" ∷ words)
 after_back id [] words all = refl
 after_back id (l ∷ lits) words all = rw all.0.1.not_mark refl

@@ -31,7 +31,7 @@ module _ (word : Word) (i b : ℕ) (within : i < length word) (here : b ≡ get_
       let one : suc i ≡ i + 1 = omega arith in
       drop-cons word i 0 within ∙ ap (λ (n : ℕ). get_or word i 0 ∷ drop n word) one ∙ ap (λ (k : ℕ). k ∷ drop (i + 1) word) (sym here)
 
-  -- the value behind one digit more
+  -- the value after one digit more
   pub value_more : (n : ℕ) → is_ascii_digit b ≡ true → digits_value_after 10 n (drop i word) ≡ digits_value 10 word → digits_value_after 10 (n * 10 + (b - 48)) (drop (i + 1) word) ≡ digits_value 10 word
   value_more n is so_far = ap (λ v. digits_value_after 10 (n * 10 + v) (drop (i + 1) word)) (sym (digit_is b is).2) ∙ sym (ap (digits_value_after 10 n) split) ∙ so_far
 

@@ -26,7 +26,7 @@ wide_more ids i d old new hint within so_far is pushed =
 pub wide_all : (ids : List ℕ) (i : ℕ) (hints : List ℤ) → hints ≡ map pos (take i ids) → length ids ≤ i → hints ≡ map pos ids
 wide_all ids i hints so_far end = so_far ∙ ap (map pos) (take_all i ids end)
 
--- a hint more as an id behind the others
+-- a hint more as an id after the others
 pub short_more : (hints : List ℤ) (i : ℕ) (d : ℤ) (first ids old new : List ℕ) (id : ℕ) → i < length hints → map pos ids ≡ take i hints → old ≡ first ++ ids → pos id ≡ get_or hints i d → new ≡ old ++ id ∷ []
     → (more : List ℕ) × (map pos more ≡ take (i + 1) hints) × (new ≡ first ++ more)
 short_more hints i d first ids old new id within so_far behind is pushed = (

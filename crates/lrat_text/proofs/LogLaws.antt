@@ -1,4 +1,4 @@
--- What a log shows still, where numbers are put behind others.
+-- What a log shows still, where numbers are put after others.
 use Rattle.std.proofs.Common.{◌≡◌, ℕ, zero, ◌-◌, ◌<◌, ◌≤◌, List, [], ◌∷◌, ◌++◌, length, drop, map, get_or, refl, sym, ap, ◌∙◌, subst, arith, ℤ, pos, Result, Ok, Err, OnErr}
 use Rattle.std.specs.Prelude.{All}
 use Rattle.std.proofs.lemmas.List.{append-nil, map-append, length-append, length-drop, drop-append-le, take-append-le, drop_all, take_all, length-map, get_or-map}
@@ -29,7 +29,7 @@ part_longer xs ys span inside =
 part_kept : {A : Type 0} (old new : List A) (span : Span) → IsFront old new → IsSpan (length old) span → part new span ≡ part old span
 part_kept old new span front inside = ap (λ xs. part xs span) front.1 ∙ part_longer old front.0 span inside
 
--- what was put behind the others stands there
+-- what was put after the others stands there
 pub part_pushed : {A : Type 0} (old new items : List A) (span : Span) → IsPushed old new items span → part new span ≡ items
 part_pushed old new items span pushed =
     let cut : drop (length old) (old ++ items) ≡ drop (length old) old ++ items = drop-append-le (length old) old items (omega arith) in

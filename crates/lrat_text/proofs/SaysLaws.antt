@@ -86,7 +86,7 @@ literal_said word l e = literal_from word l (signed_says Plus Minus MOST_VARIABL
 ok_of : {B : Type 0} (r : Result B LineFault) (a b : B) → r ≡ Ok a → r ≡ Ok b → a ≡ b
 ok_of r a b e f = cc
 
--- a list that is read is its numbers' texts, with a 0 behind them
+-- a list that is read is its numbers' texts, with a 0 after them
 list_says : {A : Type 0} (number_in : Word → Option A) (text : A → Word) (P : A → Type 0) → IsSaid number_in text P → (words : List Word) (l : List A × List Word) → closed_list number_in words ≡ Ok l → (words ≡ map text l.0 ++ codes "0" ∷ l.1) × AllByRecursion P l.0
 list_says number_in text P said [] l e = cc
 list_says {A} number_in text P said (word ∷ words) l e =
@@ -113,7 +113,7 @@ ended_ok : (step s : ProofStep) (words : List Word) → ended step words ≡ Ok 
 ended_ok step s [] e = (refl, cc)
 ended_ok step s (w ∷ words) e = cc
 
--- a step whose words behind its id are these
+-- a step whose words after its id are these
 abbrev IsAfter : ℕ → List Word → ProofStep → Type 0
 IsAfter id words step = (words_for step ≡ decimal id ∷ words) × (IsId id → HasNumbers step) × HasLiterals step
 

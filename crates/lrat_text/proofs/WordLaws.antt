@@ -68,7 +68,7 @@ first_word b line is =
     let all : (rest : List Word) × (slice_split is_blank (b ∷ line) ≡ take (position_or_len is_blank (b ∷ line)) (b ∷ line) ∷ rest) × (filter has_byte rest ≡ words_of (drop (position_or_len is_blank (b ∷ line)) (b ∷ line))) = parts (b ∷ line) in
     ap (filter has_byte) all.1 ∙ kept (take (position_or_len is_blank (b ∷ line)) (b ∷ line)) all.0 (long b line is) ∙ ap (λ (ws : List Word). take (position_or_len is_blank (b ∷ line)) (b ∷ line) ∷ ws) all.2
 
--- a line whose bytes behind the first blanks begin with this word
+-- a line whose bytes after the first blanks begin with this word
 pub next_word : (line cut word rest : List ℕ) (n m : ℕ) → n ≡ prefix_len is_blank line → cut ≡ drop n line → 0 < length cut → m ≡ position_or_len is_blank cut → word ≡ take m cut → rest ≡ drop m cut → words_of line ≡ word ∷ words_of rest
 next_word line [] word rest n m a b c d e f = absurd (omega arith)
 next_word line (x ∷ cut) word rest n m a b c d e f =

@@ -1,4 +1,4 @@
--- Where numbers stand that were put behind others.
+-- Where numbers stand that were put after others.
 use Rattle.std.specs.Prelude.{◌≡◌, ℕ, List, ◌++◌, length, map, ℤ, pos}
 use Rattle.lrat_text.specs.declared.arena.Span.{Span}
 
@@ -6,7 +6,7 @@ use Rattle.lrat_text.specs.declared.arena.Span.{Span}
 abbrev pub IsFront : {A : Type 0} → List A → List A → Type 0
 IsFront {A} old new = (more : List A) × (new ≡ old ++ more)
 
--- the items were put behind the others, and stand there
+-- the items were put after the others, and stand there
 abbrev pub IsPushed : {A : Type 0} → List A → List A → List A → Span → Type 0
 IsPushed old new items span = (new ≡ old ++ items) × (span.start ≡ length old) × (span.end ≡ length new)
 

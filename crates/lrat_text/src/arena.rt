@@ -11,7 +11,7 @@ pub struct Span {
     pub end: usize,
 }
 
-/// Puts items behind the others, and gives where they stand. O(items), amortised.
+/// Puts items after the others, and gives where they stand. O(items), amortised.
 pub fn push_all<T: Copy>(arena: &mut Vec<T>, items: &[T]) -> Result<Span, AllocError>
     ensures pushed { IfOk result (λ span. IsPushed arena.old.items arena.new.items items.now span) }
     ensures unchanged { OnErr result (arena.new.items ≡ arena.old.items) }
@@ -24,7 +24,7 @@ pub fn push_all<T: Copy>(arena: &mut Vec<T>, items: &[T]) -> Result<Span, AllocE
     })
 }
 
-/// Puts hints behind the others, where each of them is an id below 2^32, and gives where they stand. O(hints), amortised.
+/// Puts hints after the others, where each of them is an id below 2^32, and gives where they stand. O(hints), amortised.
 pub fn push_short(arena: &mut Vec<u32>, hints: &[i64]) -> Result<Option<Span>, AllocError>
     ensures pushed { IfOk result (λ short. IfSome short (λ span. IsPushedShort arena.old.items arena.new.items hints.now span)) }
     ensures front { IsFront arena.old.items arena.new.items }

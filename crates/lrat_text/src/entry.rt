@@ -16,7 +16,7 @@ pub enum Entry {
     Deletion { id: u64, ids: Span },
 }
 
-/// Puts the numbers of a lemma behind the others of their kinds, and gives its entry. Linear in them, amortised.
+/// Puts the numbers of a lemma after the others of their kinds, and gives its entry. Linear in them, amortised.
 pub fn push_lemma(
     all_lits: &mut Vec<Lit>,
     short: &mut Vec<u32>,

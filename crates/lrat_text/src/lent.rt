@@ -1,4 +1,4 @@
-//! Steps that are lent, where they are not kept as a `Step` each.
+//! Steps that are borrowed, where they are not kept as a `Step` each.
 ghost use Rattle.std.specs.Prelude.{◌≡◌, map, pos, IfOk};
 ghost use Rattle.lrat_model.specs.Steps.{step_of};
 ghost use Rattle.lrat_text.specs.Lent.{lent_hints, lent_step};

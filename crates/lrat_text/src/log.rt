@@ -50,7 +50,7 @@ impl Log {
         }
     }
 
-    /// Adds a step behind the others. Where memory runs out the log is as it was. Linear in its numbers, amortised.
+    /// Adds a step after the others. Where memory runs out the log is as it was. Linear in its numbers, amortised.
     pub fn push(&mut self, step: Step) -> Result<(), AllocError>
         ensures pushed { OnOk result (self.new ≡ self.old ++ step_of step ∷ []) }
         ensures unchanged { OnErr result (self.new ≡ self.old) }
@@ -61,7 +61,7 @@ impl Log {
         }
     }
 
-    /// Adds a lemma behind the other steps, as `push` does.
+    /// Adds a lemma after the other steps, as `push` does.
     pub fn push_addition(&mut self, id: u64, lits: &[Lit], hints: &[i64]) -> Result<(), AllocError>
         ensures pushed { OnOk result (self.new ≡ self.old ++ Addition id lits.now hints.now ∷ []) }
         ensures unchanged { OnErr result (self.new ≡ self.old) }
@@ -78,7 +78,7 @@ impl Log {
         Ok(())
     }
 
-    /// Adds a deletion behind the other steps, as `push` does.
+    /// Adds a deletion after the other steps, as `push` does.
     pub fn push_deletion(&mut self, id: u64, ids: &[u64]) -> Result<(), AllocError>
         ensures pushed { OnOk result (self.new ≡ self.old ++ Deletion id ids.now ∷ []) }
         ensures unchanged { OnErr result (self.new ≡ self.old) }

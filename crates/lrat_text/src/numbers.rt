@@ -7,7 +7,7 @@ use lrat_model::Lit;
 /// The greatest id, and the greatest magnitude of a hint.
 pub const MOST_ID: u64 = 9_223_372_036_854_775_807;
 
-/// The greatest number behind which one more digit may give a number that is not above the greatest id.
+/// The greatest number after which one more digit may give a number that is not above the greatest id.
 pub const MOST_TENTH: u64 = 922_337_203_685_477_580;
 
 /// The greatest variable.

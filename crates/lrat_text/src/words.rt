@@ -102,7 +102,7 @@ pub fn word_len(text: &[u8]) -> usize
     text.len()
 }
 
-/// The place behind the last blank, 0 where there is none.
+/// The place after the last blank, 0 where there is none.
 pub fn blank_end(text: &[u8]) -> usize
     ensures within { result ≤ length text.now }
     ensures ends { 0 < result → is_blank (slice_index text.now (result - 1)) ≡ true }

@@ -25,7 +25,7 @@ pub fn write_step(step: &Step) -> StepBytes<'_>
     write_lent(StepRef::of(step))
 }
 
-/// The line of a step that is lent, as `write_step` makes it.
+/// The line of a step that is borrowed, as `write_step` makes it.
 pub fn write_lent(step: StepRef<'_>) -> StepBytes<'_>
     requires { HasNumbers (lent_step step) }
     ensures line { result ≡ line_of (lent_step step.entry) }

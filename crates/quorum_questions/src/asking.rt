@@ -21,14 +21,14 @@ use std::alloc::{AllocError, Global};
 /// The most units that a question may have.
 pub const MOST_UNITS: u64 = 4_000_000_000;
 
-/// Where there is another way, at least so many lemmas with a literal a search over the formula itself learns before: a system
+/// Where there is another way, at least this many lemmas with a literal a search over the formula itself learns before: a system
 /// that fewer decide needs neither plan nor writing, and each of them costs as much as five over gates written out.
 const FEWEST_UNITS: u64 = 64;
 
-/// So many it learns at most: what writing out costs goes by the formula.
+/// It learns this many at most: what writing out costs goes by the formula.
 const FEW_UNITS: u64 = 200;
 
-/// So many clauses of the formula bring one lemma.
+/// This many clauses of the formula bring one lemma.
 const CLAUSES_PER_UNIT: u64 = 200;
 
 /// Whether every two quorums (Mazières 2015) share a node once the faulty nodes are deleted, with the evidence: a log that
@@ -90,7 +90,7 @@ fn has_other_way(alloc: Global, formula: &Formula) -> Result<bool, AllocError> {
     has_rivals(alloc, &formula.store, formula.size.vars)
 }
 
-/// How many lemmas over a formula of so many clauses are learnt before it is searched another way.
+/// How many lemmas over a formula of this many clauses are learnt before it is searched another way.
 fn first_units(clauses: u64) -> u64 {
     (clauses / CLAUSES_PER_UNIT).clamp(FEWEST_UNITS, FEW_UNITS)
 }

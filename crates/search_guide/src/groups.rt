@@ -12,7 +12,7 @@ pub enum Part {
     Rows(Rows),
 }
 
-/// A counter: how many of its inputs have to be true, and the first variable of each row. The variable behind it by j - 1
+/// A counter: how many of its inputs have to be true, and the first variable of each row. The variable after it by j - 1
 /// says that at least j of the row's first inputs are true.
 #[derive(Drop)]
 pub struct CounterRows {
@@ -123,7 +123,7 @@ fn pair_at<'a>(counters: &'a [CounterRows], rows: &Rows, at: usize) -> Option<Pa
 }
 
 impl Pair<'_> {
-    /// Makes a group: not more than so many of the first row's inputs, which fall with each turn, and fewer than the rest of
+    /// Makes a group: not more than this many of the first row's inputs, which fall with each turn, and fewer than the rest of
     /// the other's.
     fn make(&self, turn: usize, group: &mut Vec<Lit>) -> Result<Made, AllocError> {
         let few = self.first.most(self.rows.row).saturating_sub(turn);
@@ -165,7 +165,7 @@ impl CounterRows {
         self.wanted.saturating_sub(later).saturating_sub(1)
     }
 
-    /// The variable that at least so many of a row's inputs are true.
+    /// The variable that at least this many of a row's inputs are true.
     fn variable(&self, row: usize, count: usize) -> Option<u32>
         ensures { IfSome result (λ x. (0 < x) × (x < 2 ^ 31)) }
     {
@@ -186,7 +186,7 @@ impl CounterRows {
         Ok(())
     }
 
-    /// Puts into a group that not more than so many of a row's inputs are true, from the most down, as far as those that
+    /// Puts into a group that not more than this many of a row's inputs are true, from the most down, as far as those that
     /// come later can make them enough.
     fn put_row(&self, row: u32, few: usize, group: &mut Vec<Lit>) -> Result<(), AllocError> {
         let least = few.max(self.least(row));

@@ -10,7 +10,7 @@ pub struct Mean {
 }
 
 impl Mean {
-    /// No value came; so many count alike.
+    /// No value came; this many count alike.
     pub fn new(most: u64) -> Mean {
         Mean {
             value: 0,

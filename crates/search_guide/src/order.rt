@@ -126,7 +126,7 @@ impl DecisionOrder {
         self.turns.by_scores() && !self.turns.is_settled()
     }
 
-    /// Counts a lemma of so many literals.
+    /// Counts a lemma of this many literals.
     pub fn count(&mut self, literals: usize)
         ensures { self.new ≡ self.old }
     {

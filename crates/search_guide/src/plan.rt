@@ -42,7 +42,7 @@ impl Plan {
         )
     }
 
-    /// These groups, as long as no more are looked at and no more lemmas come than so many.
+    /// These groups, as long as no more are looked at and no more lemmas come than this many.
     pub fn of(alloc: Global, groups: PlannedGroups, left: usize, lemmas: u64) -> Plan {
         Plan {
             groups,

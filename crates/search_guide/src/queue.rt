@@ -50,7 +50,7 @@ impl Queue {
         }
     }
 
-    /// The open variable that was seen last, where the queue finds one: O(1) for each that is not open and stands behind
+    /// The open variable that was seen last, where the queue finds one: O(1) for each that is not open and stands after
     /// it, once each until it is reopened.
     pub fn take_last_open(&mut self, assignment: &Assignment, vars: u32) -> Option<u32>
         requires few { vars < 2 ^ 31 }
@@ -81,7 +81,7 @@ impl Queue {
 }
 
 /// What stands before and after each variable, 0 before the first and after the last; stamps, which are the greater the
-/// later the variable was seen; the last variable, and one behind which none is open.
+/// later the variable was seen; the last variable, and one after which none is open.
 #[derive(Drop)]
 struct Links {
     before: Vec<u32>,

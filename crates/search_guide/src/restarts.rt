@@ -40,7 +40,7 @@ impl Restarts {
         }
     }
 
-    /// A lemma of so many levels came.
+    /// A lemma of this many levels came.
     pub fn note(&mut self, levels: u32) {
         self.since = self.since.saturating_add(1);
         self.late.add(levels);

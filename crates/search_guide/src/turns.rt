@@ -10,7 +10,7 @@ const SHORT: u64 = 500;
 
 const LONG: u64 = 1000;
 
-/// In one turn of so many the order is tried whose lemmas had more literals.
+/// In one of this many turns the order is tried whose lemmas had more literals.
 const TURNS: u64 = 24;
 
 /// Over how many lemmas a mean goes.
@@ -65,7 +65,7 @@ impl Turns {
         self.is_settled = true;
     }
 
-    /// Counts a lemma of so many literals.
+    /// Counts a lemma of this many literals.
     pub fn count(&mut self, length: u32) {
         if self.by_scores {
             self.of_scores.add(length);

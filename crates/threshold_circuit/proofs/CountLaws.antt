@@ -44,7 +44,7 @@ mutual
   inputs_at_most end_of_gate s = omega arith
   inputs_at_most (input c others) s = squares (all_inputs c) (all_inputs_of others) (input_count others) (gate_variables c) (gate_variables_of others) (size_at_most c s.0) (inputs_at_most others s.1) (count_within others)
 
--- so many variables the gates of a circuit have at most
+-- the gates of a circuit have no more variables
 abbrev pub most_gate_variables : ℕ
 most_gate_variables = MOST_ENTRIES * MOST_ENTRIES
 

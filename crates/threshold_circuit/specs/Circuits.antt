@@ -3,7 +3,7 @@ use Rattle.std.specs.Prelude.{ℕ, ◌+◌, ◌<◌, ◌≤◌}
 use Rattle.fbas_model.specs.Nodes.{Nodes, ◌∈◌}
 
 mutual
-  -- true, false, whether a node is present, or whether so many inputs are true
+  -- true, false, whether a node is present, or whether this many inputs are true
   pub data Circuit : Type 0 where
     always : Circuit
     never : Circuit

@@ -24,7 +24,7 @@ undecided (input never others) = undecided others
 undecided (input (leaf v) others) = input (leaf v) (undecided others)
 undecided (input (at_least k inputs) others) = input (at_least k inputs) (undecided others)
 
--- so many of these inputs, which is decided where none is wanted, or more than there are
+-- this many of these inputs, which is decided where none is wanted, or more than there are
 abbrev pub threshold_over : ℕ → Inputs → Circuit
 threshold_over k inputs = if k == 0 then always else (if nat_lt (input_count inputs) k then never else at_least k inputs)
 

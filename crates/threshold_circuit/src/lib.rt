@@ -32,7 +32,7 @@ pub enum Circuit {
     Never,
     /// Whether the node is present.
     Node(u32),
-    /// Whether at least so many of the entries are true.
+    /// Whether at least this many of the entries are true.
     AtLeast(u64, Vec<Circuit>),
 }
 

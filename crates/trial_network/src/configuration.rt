@@ -23,7 +23,7 @@ pub struct Trial {
 }
 
 impl Trial {
-    /// The trial configuration of so many organisations: 12 times the square of their number entries.
+    /// The trial configuration of this many organisations: 12 times the square of their number entries.
     ///
     /// Each organisation has three nodes, two of which speak for it, and every node wants more than two thirds of the
     /// organisations.

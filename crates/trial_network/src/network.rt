@@ -27,7 +27,7 @@ fn node_name(alloc: Global, node: u32) -> Result<Vec<u8>, AllocError>
     )
 }
 
-/// The names of so many nodes.
+/// The names of this many nodes.
 fn node_names(alloc: Global, nodes: u32) -> Result<Names, AllocError>
     requires { nodes ≤ 3 * MOST_ORGANISATIONS }
     ensures { IfOk result (λ names. names ≡ names_from 0 nodes) }
@@ -52,7 +52,7 @@ fn organisation(alloc: Global, at: u32) -> Result<QuorumSet, AllocError>
     })
 }
 
-/// The inner sets of so many organisations.
+/// The inner sets of this many organisations.
 fn organisations(alloc: Global, n: u32) -> Result<Vec<QuorumSet>, AllocError>
     requires { n ≤ MOST_ORGANISATIONS }
     ensures { IfOk result (λ sets. inner_entries sets.items ≡ organisation_sets 0 n) }
@@ -78,7 +78,7 @@ fn quorum_set(alloc: Global, n: u32) -> Result<QuorumSet, AllocError>
     })
 }
 
-/// The quorum sets of all nodes of so many organisations.
+/// The quorum sets of all nodes of this many organisations.
 fn quorum_sets(alloc: Global, n: u32) -> Result<Vec<Option<QuorumSet>>, AllocError>
     requires { n ≤ MOST_ORGANISATIONS }
     ensures { IfOk result (λ sets. sets.items ≡ replicate (3 * n) (Some (trial_set n))) }
@@ -91,7 +91,7 @@ fn quorum_sets(alloc: Global, n: u32) -> Result<Vec<Option<QuorumSet>>, AllocErr
     Ok(sets)
 }
 
-/// The system of the trial configuration of so many organisations.
+/// The system of the trial configuration of this many organisations.
 pub(crate) fn network(alloc: Global, n: u32) -> Result<System, AllocError>
     requires { n ≤ MOST_ORGANISATIONS }
     ensures { IfOk result (λ system. system ≡ trial_system n) }

@@ -53,7 +53,7 @@ fn entries_if_any(set: Option<&QuorumSet>) -> u64
     }
 }
 
-/// How many entries a system of so many has once the node has this quorum set, or none: linear in both quorum sets.
+/// How many entries a system of this many has once the node has this quorum set, or none: linear in both quorum sets.
 pub(crate) fn entries_after(system: &System, entries: u64, v: u32, set: &Option<QuorumSet>) -> u64
     requires node { v < length system.now.sets }
     requires entries { entries ≡ entries_in system.now.sets }
@@ -66,7 +66,7 @@ pub(crate) fn entries_after(system: &System, entries: u64, v: u32, set: &Option<
 }
 
 /// The node of a name, and its quorum set with another name after the validators of the set that the path leads to,
-/// in a system of so many entries.
+/// in a system of this many entries.
 pub(crate) fn appended_set(
     alloc: Global,
     system: &System,

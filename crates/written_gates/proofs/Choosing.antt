@@ -100,7 +100,7 @@ popped chosen more old left l len more_is old_is len_is left_is =
 abbrev pub AreChosen : Gate → Held → Literal → ℕ → Type 0
 AreChosen gate held h t = (ps : List ℕ) → Rises 0 gate.n ps → length ps + t ≡ suc gate.n → IsNeedless held (negated h ∷ map gate.x ps)
 
--- what was chosen of the same inputs, behind the same literal
+-- what was chosen of the same inputs, after the same literal
 pub choices_are : (c : Counter) (held : Held) (mine : List ℕ) (start : List Literal) (head t size : ℕ) → mine ≡ c.inputs.items → start ≡ Minus head ∷ [] → size + t ≡ suc (length c.inputs.items)
     → ((ps : List ℕ) → Rises 0 (length mine) ps → length ps ≡ size → IsNeedless held (start ++ map (λ i. Plus (number_at mine i)) ps))
     → AreChosen (gate_of c) held (Plus head) t

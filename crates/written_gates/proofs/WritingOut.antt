@@ -25,7 +25,7 @@ module _ (gate : Gate) (P : Literal → Type 0) where
   abbrev AreAll : List Literal → Type 0
   AreAll ls = (m : Literal) → has ls m ≡ true → P m
 
-  -- P says which literals are false: so many inputs up to i that s i t is
+  -- P says which literals are false: this many inputs up to i that s i t is
   abbrev Low : ℕ → ℕ → Type 0
   Low i t = (ps : List ℕ) × Rises 0 i ps × (length ps + t ≡ suc i) × AreAll (map gate.x ps)
 

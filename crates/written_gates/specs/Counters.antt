@@ -9,7 +9,7 @@ use Rattle.written_gates.specs.declared.cells.Cell.{Cell}
 abbrev pub number_at : List ℕ → ℕ → ℕ
 number_at numbers i = slice_index_or numbers (i - 1) 0
 
--- so many rows go where the counter is written out
+-- this many rows go where the counter is written out
 abbrev pub rows_of : Counter → ℕ
 rows_of c = length c.inputs.items - cond c.keeps_last 1 0
 

@@ -1,4 +1,4 @@
--- Gates that say that at least so many of some inputs are true where a head is, by a counter each, and with the sets of their
+-- Gates that say that at least this many of some inputs are true where a head is, by a counter each, and with the sets of their
 -- inputs written out.
 use Rattle.std.specs.Prelude.{◌≡◌, ◌≢◌, ◌⊎◌, ℕ, suc, true, ◌+◌, ◌<◌, ◌≤◌, List, [], ◌∷◌, length, map}
 use Rattle.lrat_model.specs.Literal.{Literal, negated, has}

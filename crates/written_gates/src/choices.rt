@@ -28,7 +28,7 @@ fn denies_its_first(clause: &[Lit]) -> bool
     false
 }
 
-/// Holds a clause that is no tautology under the id behind the last.
+/// Holds a clause that is no tautology under the id after the last.
 fn push_choice(
     written: &mut Store,
     origins: &mut Vec<Origin>,

@@ -14,7 +14,7 @@ pub struct Counter {
     pub inputs: Vec<u32>,
     /// The first variable of each row.
     pub rows: Vec<u32>,
-    /// Whether the last row stays where the gate is written out, since the counter goes on behind it. Then each of its
+    /// Whether the last row stays where the gate is written out, since the counter goes on after it. Then each of its
     /// variables is a head of as many inputs as its column says.
     pub keeps_last: bool,
     /// The variables of the heads.

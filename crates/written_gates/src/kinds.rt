@@ -133,7 +133,7 @@ fn is_second(counter: &Counter, row: usize, column: usize, clause: &[Lit]) -> bo
     has_positive(clause, variable_at(counter, row - 1, column - 1))
 }
 
-/// Whether the clause says: where one of the heads is true, so many inputs are as the gate wants.
+/// Whether the clause says: where one of the heads is true, as many inputs are true as the gate wants.
 fn is_head(counter: &Counter, clause: &[Lit]) -> bool
     ensures { result ≡ true → IsHead (gate_of counter.now) clause.now }
 {

@@ -4,7 +4,7 @@ use crate::counters::Counter;
 use clause_store::{Lit, Store};
 use std::alloc::{AllocError, Global};
 
-/// The row of a counter after so many inputs: its first variable, and how many it has.
+/// The row of a counter after this many inputs: its first variable, and how many it has.
 #[derive(Clone, Copy)]
 struct Row {
     inputs: u32,
@@ -132,7 +132,7 @@ fn first_place(formula: &Store, start: u64) -> Option<u32> {
 }
 
 /// The counter whose first clause is that of this id, without heads, where it wants at least two of more inputs. No more than
-/// `most` inputs are read: where there are so many, it may go on behind its end. O(the clauses that are read).
+/// `most` inputs are read: where there are as many, it may go on after its end. O(the clauses that are read).
 pub fn read_counter(
     alloc: Global,
     formula: &Store,

@@ -14,7 +14,7 @@ const MOST_SETS: u64 = 1 << 14;
 /// The most clauses that the sets of all whole gates may take, for all their heads.
 const MOST_CLAUSES: u64 = 1 << 20;
 
-/// So many rows are written out of the counter of a gate whose sets are too many: that takes fewer than 128 clauses.
+/// This many rows are written out of the counter of a gate whose sets are too many: that takes fewer than 128 clauses.
 const FIRST_ROWS: usize = 7;
 
 /// What a variable is to the counters that were found.
@@ -80,7 +80,7 @@ fn end_of_rows(counter: &Counter, rows: usize) -> u64 {
     end
 }
 
-/// The counter, if so many clauses are left as its gate takes; else its first rows.
+/// The counter, if as many clauses are left as its gate takes; else its first rows.
 fn part_of(alloc: Global, counter: Counter, left: &mut u64) -> Counter {
     if let Some(behind) = left_behind(&counter, *left) {
         *left = behind;
@@ -151,7 +151,7 @@ fn set_role(roles: &mut [Role], variable: u32, role: Role) {
     }
 }
 
-/// Marks so many variables from the first on as places.
+/// Marks this many variables from the first on as places.
 fn mark_row(roles: &mut [Role], first: u32, width: u32) {
     for j in 0..width {
         set_role(roles, first.saturating_add(j), Role::Inner);

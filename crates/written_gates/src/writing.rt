@@ -203,7 +203,7 @@ fn write_clause(
     }
 }
 
-/// Holds a clause under the id behind the last.
+/// Holds a clause under the id after the last.
 fn push_next(
     store: &mut Store,
     origins: &mut Vec<Origin>,
@@ -308,7 +308,7 @@ fn write_last_row(
     Ok(())
 }
 
-/// The variable of the last row behind so many others. O(1).
+/// The variable of the last row after this many others. O(1).
 fn variable_in_last(counter: &Counter, before: usize) -> u32
     requires { IsVariable (2 ^ 31) (number_at counter.now.rows.items (length counter.now.inputs.items) + before) }
     ensures value { result ≡ number_at counter.now.rows.items (length counter.now.inputs.items) + before }
