@@ -31,7 +31,7 @@ range-literal_fault vars before (l ∷ ls) none =
     ] refl none
 
 -- want of memory is no fault of a lemma
-literal_fault-not_memory : (vars : ℕ) (before ls : List Literal) → literal_fault vars before ls ≡ Some Memory → ⊥
+pub literal_fault-not_memory : (vars : ℕ) (before ls : List Literal) → literal_fault vars before ls ≡ Some Memory → ⊥
 literal_fault-not_memory vars before [] is = cc
 literal_fault-not_memory vars before (l ∷ ls) is =
     elim (nat_lt vars (variable_of l)) as (λ b. cond b (Some (BadLiteral l)) (cond (has before (negated l)) (Some (Tautology l)) (literal_fault vars (before ++ l ∷ []) ls)) ≡ Some Memory → ⊥) [

@@ -1,8 +1,8 @@
 //! Additions whose hints come one after another, so that no list of them is kept.
-ghost use Rattle.std.specs.Prelude.{◌≡◌, ◌≢◌, ℤ, List, [], false, Some, None, Err, IsSome, IfSome, IfOk, IfErr, OnErr, OnOk};
+ghost use Rattle.std.specs.Prelude.{◌≡◌, ◌≢◌, ◌<◌, ℤ, List, [], false, Some, None, Err, IsSome, IfSome, IfOk, IfErr, OnErr, OnOk};
 ghost use Rattle.lrat_model.specs.Literal.{Literal};
 ghost use Rattle.lrat_model.specs.Clauses.{with_clause};
-ghost use Rattle.lrat_model.specs.Steps.{progress_at};
+ghost use Rattle.lrat_model.specs.Steps.{literal_fault, progress_at};
 ghost use Rattle.lrat_model.specs.Rules.{addition_fault_by};
 ghost use Rattle.lrat_model.specs.declared.step.Rule.TheVariants.{Rat};
 ghost use Rattle.lrat_model.specs.declared.step.StepFault.TheVariants.{Memory};
@@ -55,13 +55,14 @@ fn keep_group(clauses: &CountedStore, lits: &[Lit], groups: &mut KeptHints, hint
 
 impl Checker {
     /// Begins an addition, whose hints then come by `hint` in order, and which `finish_add` ends: the three together are one
-    /// addition step. Answers the first fault of its id and of its literals in order, or want of memory: for a copy of these,
-    /// and under `Rat` for a hint for each time that the negation of the first stands in the clauses. A checker that answered an
-    /// `Err` is as it was. O(literals), and that room.
+    /// addition step. Answers the first fault of its id and of its literals in order, or, where these have none, want of memory:
+    /// for a copy of the literals, and under `Rat` for a hint for each time that the negation of the first stands in the clauses.
+    /// A checker that answered an `Err` is as it was. O(literals), and that room.
     pub fn begin_add(&mut self, id: u64, lits: &[Lit]) -> Result<(), StepFault>
         requires { self.old.open_addition ≡ None }
         ensures opened { OnOk result (IsBegun self.old.rule self.old.vars self.old.database id lits.now self.new.open_addition) }
         ensures refused { IfErr result (λ fault. fault ≢ Memory → (hints : List ℤ) → addition_fault_by self.old.rule self.old.vars self.old.database id lits.now hints ≡ Some fault) }
+        ensures memory { result ≡ Err Memory → (self.old.database.last < id) × (literal_fault self.old.vars [] lits.now ≡ None) }
         ensures unchanged { OnErr result (self.new ≡ self.old) }
         ensures database { self.new.database ≡ self.old.database }
         ensures vars { self.new.vars ≡ self.old.vars }

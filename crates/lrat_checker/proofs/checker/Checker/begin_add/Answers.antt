@@ -1,4 +1,4 @@
-use Rattle.std.proofs.Common.{◌≡◌, List, [], refl, sym, ap, ◌∙◌, subst, arith, Option, None}
+use Rattle.std.proofs.Common.{◌≡◌, ◌<◌, List, [], refl, sym, ap, ◌∙◌, subst, arith, Option, None}
 use Rattle.lrat_model.specs.Literal.{Literal}
 use Rattle.lrat_model.specs.Steps.{Database, literal_fault}
 use Rattle.lrat_model.specs.Rules.{addition_fault_by}
@@ -6,7 +6,7 @@ use Rattle.lrat_checker.specs.Adding.{unit_fault}
 use Rattle.lrat_model.specs.Ranges.{IsInRange, AreInRange}
 use Rattle.std.proofs.Common.{ℕ}
 use Rattle.lrat_checker.specs.Checking.{Stepping}
-use Rattle.lrat_checker.proofs.FaultLaws.{range-literal_fault, where_ok}
+use Rattle.lrat_checker.proofs.FaultLaws.{range-literal_fault, literal_fault-not_memory, where_ok}
 use Rattle.std.specs.Prelude.{IfNone, IfSome}
 use Rattle.lrat_checker.specs.declared.opened.Opened.{Opened}
 use Rattle.lrat_checker.specs.Courses.{Suits, HasGroupRoom}
@@ -29,6 +29,16 @@ invariant_of-self-2 c =
       in_range = subst (λ (n : ℕ). AreInRange n inside.clauses.held) (sym c.assume_negations.ensures.vars) c.self.invariant.in_range;
       found = c.self.invariant.found;
     }
+
+pub returns-in-Some-clause-memory : goal.returns-in-Some-clause-memory
+returns-in-Some-clause-memory c = λ is. absurd (literal_fault-not_memory c.self.inside.assignment.vars [] c.args.lits.now (sym c.in-Some.ensures.fault ∙ cc))
+
+pub returns-then-is_err-clause-memory : goal.returns-then-is_err-clause-memory
+returns-then-is_err-clause-memory c = λ _.
+    let inside = c.self.inside in
+    let above : inside.clauses.last < c.args.id = omega (arith, c.if-id-last.false, c.last-last.ensures.value, ap (λ (d : Database). d.last) c.store.ensures) in
+    let none : literal_fault inside.assignment.vars [] c.args.lits.now ≡ None = sym c.in_default.ensures.fault in
+    subst (λ (s : Stepping). (s.database.last < c.args.id) × (literal_fault s.vars [] c.args.lits.now ≡ None)) c.self.view_is (above, none)
 
 pub returns-clause-opened : goal.returns-clause-opened
 returns-clause-opened c =
