@@ -1,4 +1,5 @@
 pub mod Outline
 pub mod Ahead
+pub mod Wants
 pub mod Solid
 pub mod Said

@@ -1,5 +1,5 @@
 //! The words of a step line, one after another.
-ghost use Rattle.std.specs.Prelude.{◌≡◌, ◌∷◌, [], ℕ, ℤ, None, Option, List, OnOk};
+ghost use Rattle.std.specs.Prelude.{◌≡◌, ◌≤◌, ◌∷◌, [], ℕ, ℤ, None, Option, List, IfSome, OnErr, OnOk};
 ghost use Rattle.lrat_model.specs.Literal.{Literal};
 ghost use Rattle.lrat_model.specs.Steps.{Database};
 ghost use Rattle.lrat_model.specs.Rules.{addition_fault_by};
@@ -11,6 +11,7 @@ ghost use Rattle.lrat_text.specs.Lines.{after_id, closed_list, step_of_words};
 ghost use Rattle.lrat_text.specs.Numbers.{hint_in};
 ghost use Rattle.step_stream.specs.Outline.{outline_in};
 ghost use Rattle.step_stream.specs.Ahead.{ahead, ahead_at, added, fault_then, addition_from, deletion_from, IsOpen, IsClear, FitsAt, Fits};
+ghost use Rattle.step_stream.specs.Wants.{IsSound, LiteralWants, HintWants, IdWants, WantsMemory};
 
 use crate::spelled::SpelledWord;
 use lrat_checker::Checker;
@@ -79,11 +80,14 @@ impl StepWords {
         self.fault = None;
     }
 
-    /// Takes a word of the line. O(its bytes), and what the checker does with a hint or with the literals.
+    /// Takes a word of the line. Wants memory only for a literal, for an id of a deletion, for the 0 behind literals that have no
+    /// fault, under an id above the last, and for a hint behind 10^12 of an addition that has no fault so far. O(its bytes), and
+    /// what the checker does with a hint or with the literals.
     pub fn word(&mut self, checker: &mut Checker, word: &SpelledWord<'_>) -> Result<(), AllocError>
         requires { Fits self.old checker.old.open_addition }
         ensures fits { OnOk result (Fits self.new checker.new.open_addition) }
         ensures ahead { OnOk result ((rest : List Word) → ahead checker.old.rule checker.old.vars checker.old.database self.old checker.old.open_addition (word.now ∷ rest) ≡ ahead checker.old.rule checker.old.vars checker.old.database self.new checker.new.open_addition rest) }
+        ensures memory { OnErr result (WantsMemory checker.old.vars checker.old.database self.old checker.old.open_addition word.now) }
         ensures database { checker.new.database ≡ checker.old.database }
         ensures rule { checker.new.rule ≡ checker.old.rule }
         ensures vars { checker.new.vars ≡ checker.old.vars }
@@ -116,6 +120,7 @@ impl StepWords {
         requires ids { self.old.ids.items ≡ [] }
         ensures fits { OnOk result (Fits self.new checker.new.open_addition) }
         ensures ahead { OnOk result ((rest : List Word) → outline_in checker.old.rule checker.old.vars checker.old.database (after_id id (word.now ∷ rest)) ≡ ahead checker.old.rule checker.old.vars checker.old.database self.new checker.new.open_addition rest) }
+        ensures memory { OnErr result (LiteralWants checker.old.vars checker.old.database id self.old.lits.items word.now) }
         ensures database { checker.new.database ≡ checker.old.database }
         ensures rule { checker.new.rule ≡ checker.old.rule }
         ensures vars { checker.new.vars ≡ checker.old.vars }
@@ -137,6 +142,7 @@ impl StepWords {
         requires { IsClear self.old.fault checker.old.open_addition }
         ensures fits { OnOk result (Fits self.new checker.new.open_addition) }
         ensures ahead { OnOk result ((rest : List Word) → outline_in checker.old.rule checker.old.vars checker.old.database (addition_from id self.old.lits.items (word.now ∷ rest)) ≡ ahead checker.old.rule checker.old.vars checker.old.database self.new checker.new.open_addition rest) }
+        ensures memory { OnErr result (LiteralWants checker.old.vars checker.old.database id self.old.lits.items word.now) }
         ensures database { checker.new.database ≡ checker.old.database }
         ensures rule { checker.new.rule ≡ checker.old.rule }
         ensures vars { checker.new.vars ≡ checker.old.vars }
@@ -166,6 +172,7 @@ impl StepWords {
         ensures stage { self.new.stage ≡ self.old.stage }
         ensures lits { self.new.lits ≡ self.old.lits }
         ensures ids { self.new.ids ≡ self.old.ids }
+        ensures memory { OnErr result (IsSound checker.old.vars checker.old.database id self.old.lits.items) }
         ensures database { checker.new.database ≡ checker.old.database }
         ensures rule { checker.new.rule ≡ checker.old.rule }
         ensures vars { checker.new.vars ≡ checker.old.vars }
@@ -190,6 +197,7 @@ impl StepWords {
         requires { IsOpen id self.old.lits.items self.old.fault checker.old.open_addition }
         ensures fits { OnOk result (Fits self.new checker.new.open_addition) }
         ensures ahead { OnOk result ((rest : List Word) → added id self.old.lits.items (fault_then checker.old.rule checker.old.database.held self.old.fault checker.old.open_addition) (closed_list hint_in (word.now ∷ rest)) ≡ ahead checker.old.rule checker.old.vars checker.old.database self.new checker.new.open_addition rest) }
+        ensures memory { OnErr result (HintWants self.old.fault checker.old.open_addition word.now) }
         ensures database { checker.new.database ≡ checker.old.database }
         ensures rule { checker.new.rule ≡ checker.old.rule }
         ensures vars { checker.new.vars ≡ checker.old.vars }
@@ -211,6 +219,7 @@ impl StepWords {
         requires { (id : ℕ) × IsOpen id self.old.lits.items self.old.fault checker.old.open_addition }
         ensures opened { (id : ℕ) → IsOpen id self.old.lits.items self.old.fault checker.old.open_addition → OnOk result (IsOpen id self.new.lits.items self.new.fault checker.new.open_addition) }
         ensures fault { (id : ℕ) → IsOpen id self.old.lits.items self.old.fault checker.old.open_addition → OnOk result ((hints : List ℤ) → fault_then checker.old.rule checker.old.database.held self.old.fault checker.old.open_addition (hint ∷ hints) ≡ fault_then checker.old.rule checker.old.database.held self.new.fault checker.new.open_addition hints) }
+        ensures memory { OnErr result ((self.old.fault ≡ None) × IfSome checker.old.open_addition (λ a. 1000000000000 ≤ a.hints)) }
         ensures stage { self.new.stage ≡ self.old.stage }
         ensures lits { self.new.lits ≡ self.old.lits }
         ensures ids { self.new.ids ≡ self.old.ids }
@@ -237,6 +246,7 @@ impl StepWords {
     fn listed(&mut self, id: u64, word: &SpelledWord<'_>) -> Result<(), AllocError>
         ensures ahead { (rule : Rule) (vars : ℕ) (database : Database) (now : Option Adding) → OnOk result ((rest : List Word) → outline_in rule vars database (deletion_from id self.old.ids.items (word.now ∷ rest)) ≡ ahead rule vars database self.new now rest) }
         ensures fits { (now : Option Adding) → OnOk result (now ≡ None → Fits self.new now) }
+        ensures memory { OnErr result (IdWants word.now) }
     {
         if word.is_zero() {
             self.stage = Stage::Deleted(id);
