@@ -1,7 +1,7 @@
 //! The order in which variables are decided, each with the value that it had last (phase saving, of Pipatsrisawat and
 //! Darwiche): by turns those first that a conflict saw last, or by scores that conflicts raise, late ones more than early
-//! ones (VSIDS, of Chaff and MiniSat); in a search for many models, and where a caller says so, by scores alone. A plan,
-//! where there is one, goes first. No answer depends on it, and only that the variable is open is proved.
+//! ones (VSIDS, of Chaff and MiniSat); in a search for many models, and where a caller says so, by scores alone; or in the
+//! order of their numbers, each false first. A plan, where there is one, goes first. No answer depends on it, and only that the variable is open is proved.
 ghost use Rattle.std.specs.Prelude.{◌≡◌, ◌⊎◌, ◌||◌, not, ℕ, ◌+◌, ◌<◌, ◌≤◌, ◌^◌, true, false, None, Some, IfOk, IfSome, length, slice_index_or};
 ghost use Rattle.lrat_model.specs.Literal.{Literal, Plus, Minus, has, variable_of};
 ghost use Rattle.search_guide.specs.Open.{open_count};
@@ -109,6 +109,15 @@ impl DecisionOrder {
         self.turns.fix();
     }
 
+    /// From here on variables are decided in the order of their numbers, and each is made false first. Scores, the queue and
+    /// phases rest. So a search whose models are to have few true variables comes to a model with none to spare, and from one
+    /// to the next the trail keeps all but its end.
+    pub fn go_by_number(&mut self)
+        ensures { self.new ≡ self.old }
+    {
+        self.turns.number();
+    }
+
     /// From here on variables are decided by their scores, and there are no turns.
     pub fn use_scores(&mut self)
         ensures { self.new ≡ self.old }
@@ -137,7 +146,7 @@ impl DecisionOrder {
         }
     }
 
-    /// An open variable, the one that was seen last or of the greatest score. O(1) for each that was seen later, and
+    /// An open variable, the one that was seen last, of the greatest score or of the least number. O(1) for each that was seen later, and
     /// O(log n) for each of a greater score, which is taken out; linear in the variables where none is found so.
     pub fn best_open(&mut self, assignment: &Assignment) -> Option<u32>
         requires { assignment.now.vars ≡ self.old }
@@ -147,6 +156,9 @@ impl DecisionOrder {
     {
         if let Some(x) = self.planned(assignment) {
             return Some(x);
+        }
+        if self.turns.by_number() {
+            return first_open(assignment, self.vars);
         }
         match self.first_choice(assignment) {
             Some(x) => Some(x),
@@ -189,7 +201,7 @@ impl DecisionOrder {
         if let Some(l) = self.plan.literal_of(x) {
             return l;
         }
-        if self.phases[x as usize] {
+        if self.phases[x as usize] && !self.turns.by_number() {
             Lit::positive(x)
         } else {
             Lit::negative(x)
@@ -202,6 +214,9 @@ impl DecisionOrder {
     pub fn overtaken(&self, assignment: &Assignment, reasons: &[u64]) -> usize
         requires { assignment.now.vars ≡ self.now }
     {
+        if self.turns.by_number() {
+            return assignment.trail().len();
+        }
         if !self.turns.by_scores() {
             return self.queue.overtaken(assignment, reasons, self.vars);
         }
@@ -213,6 +228,9 @@ impl DecisionOrder {
     pub fn reopen(&mut self, undone: &[Lit])
         ensures { self.new ≡ self.old }
     {
+        if self.turns.by_number() {
+            return;
+        }
         if self.plan.is_on() {
             insert_all(&mut self.heap, &self.scores, undone);
         } else {
@@ -225,7 +243,7 @@ impl DecisionOrder {
     pub fn raise(&mut self, seen: &[u32]) -> Result<(), AllocError>
         ensures { self.new ≡ self.old }
     {
-        if self.plan.is_on() {
+        if self.plan.is_on() || self.turns.by_number() {
             return Ok(());
         }
         if !self.turns.by_scores() {
@@ -243,6 +261,9 @@ impl DecisionOrder {
     pub fn raise_clause(&mut self, lits: &[Lit])
         ensures { self.new ≡ self.old }
     {
+        if self.turns.by_number() {
+            return;
+        }
         let by = self.increment.saturating_mul(CONFLICTS_OF_A_CLAUSE);
         raise_lits(&mut self.scores, &mut self.heap, lits, by);
         self.grow(1);

@@ -16,13 +16,15 @@ const TURNS: u64 = 24;
 /// Over how many lemmas a mean goes.
 const LEMMAS: u64 = 1000;
 
-/// Whether scores decide, whether they do in each turn, and whether the turns are over; the turns so far, and the lemmas
+/// Whether scores decide, whether they do in each turn, and whether the turns are over; whether the numbers of the variables
+/// decide in place of both; the turns so far, and the lemmas
 /// that are left of this one; the mean length of lemmas in both orders.
 #[derive(Drop)]
 pub struct Turns {
     by_scores: bool,
     is_fixed: bool,
     is_settled: bool,
+    is_by_number: bool,
     turn: u64,
     left: u64,
     of_seen: Mean,
@@ -36,6 +38,7 @@ impl Turns {
             by_scores: false,
             is_fixed: false,
             is_settled: false,
+            is_by_number: false,
             turn: 0,
             left: SHORT,
             of_seen: Mean::new(LEMMAS),
@@ -57,6 +60,16 @@ impl Turns {
     pub fn fix(&mut self) {
         self.by_scores = true;
         self.is_fixed = true;
+    }
+
+    /// Whether neither of both orders decides, but the numbers of the variables do.
+    pub fn by_number(&self) -> bool {
+        self.is_by_number
+    }
+
+    /// The numbers of the variables decide from here on.
+    pub fn number(&mut self) {
+        self.is_by_number = true;
     }
 
     /// The turns are over, and scores decide from here on.
