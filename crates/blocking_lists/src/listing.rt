@@ -44,6 +44,7 @@ pub fn list_all(
     let mut listed = Vec::new(alloc);
     match solver_over(alloc, greatest.count()) {
         Ok(mut solver) => {
+            guide(sought, &mut solver);
             let found = found_sets(
                 alloc,
                 sought,
@@ -101,6 +102,16 @@ pub fn solver_over(alloc: Global, vars: u32) -> Result<Solver, AllocError>
 {
     let store = Store::new(alloc);
     Solver::start(alloc, &store, u64::from(vars))
+}
+
+/// Has the solver decide which nodes are not tried as suits the sets that are sought. A model of a search for quorums then has
+/// few nodes to spare, and the next begins where this one ended.
+fn guide(sought: Listed, solver: &mut Solver)
+    ensures { solver.new ≡ solver.old }
+{
+    if matches!(sought, Listed::Quorum) {
+        solver.decide_by_number();
+    }
 }
 
 /// What was found, with the listed sets among the steps of the solver's log.
