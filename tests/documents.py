@@ -17,14 +17,18 @@ NAMED = re.compile(r"`([a-z_0-9]+/(?:src|specs|proofs|must-fail)/[\w./]+)`((?:: 
 # Names as the code has them: words joined by `_` or `::`, or with a capital inside, or a file's name.
 CODED = re.compile(r"`((?:[A-Za-z]\w*::)*[A-Za-z]\w*(?:\.antt|\.rt|\.py|\.edit)?)`")
 # The most words of a document, so that it stays one that is read.
-BUDGETS = {"README.md": 900, "CHANGELOG.md": 300, "CONTRIBUTING.md": 1200, "docs/DECISIONS.md": 4500, "docs/DEFINITIONS.md": 3200, "docs/FORMATS.md": 6500, "docs/GLOSSARY.md": 300, "docs/GUIDE.md": 1800, "docs/MAP.md": 1800, "docs/PERFORMANCE.md": 2000, "docs/PROVED.md": 2500, "docs/PROVING.md": 1200}
+BUDGETS = {"README.md": 900, "CHANGELOG.md": 300, "CONTRIBUTING.md": 1200, "docs/DECISIONS.md": 4500, "docs/DEFINITIONS.md": 3200, "docs/FORMATS.md": 6500, "docs/GLOSSARY.md": 300, "docs/GUIDE.md": 1800, "docs/LIBRARY.md": 600, "docs/MAP.md": 1800, "docs/PERFORMANCE.md": 2000, "docs/PROVED.md": 2500, "docs/PROVING.md": 1200}
 # A sentence has fewer words than this.
 MOST_WORDS = 40
 # Words for which the documents have plainer ones: after, given, borrowed, the number of.
 UNUSUAL = re.compile(r"\b(behind|told|lent|so many)\b", re.I)
 # Names of the toolchain that the documents cite.
 FOREIGN = {"TheConstants"}
-PATH = re.compile(r"`((?:crates|docs|tools|tests|bench|examples|\.ci)/[\w./-]+)`")
+PATH = re.compile(r"`((?:crates|docs|tools|tests|bench|examples|library|\.ci)/[\w./-]+)`")
+# What is built where a document names it.
+BUILT = {"crates/quorum_library/out/libquorum_library.a", "library/out"}
+# The types of C for those of the code.
+TYPES = {"u8": "uint8_t", "usize": "size_t"}
 
 
 def text_of(name):
@@ -44,12 +48,12 @@ def anchors(text):
 def held_words():
     """Every word of the repository's code, tools and names of files."""
     words = set()
-    for part in ("crates", "tools", "tests", "bench"):
+    for part in ("crates", "tools", "tests", "bench", "library"):
         for folder, inner, files in os.walk(os.path.join(TOP, part)):
             inner[:] = [it for it in inner if it not in ("out", "__pycache__")]
             for name in files:
                 words |= {name, *name.split(".")}
-                if re.search(r"\.(rt|antt|py)$", name) or part == "tools":
+                if re.search(r"\.(rt|antt|py|h|c|cpp)$", name) or part == "tools":
                     words |= set(re.findall(r"\w+", text_of(os.path.join(folder, name))))
     return words | set(text_of("crates.txt").replace(":", " ").split())
 
@@ -101,7 +105,7 @@ class Trial:
                 for word in re.findall(r"`([^`]+)`", words):
                     self.judge(re.search(r"(?<![\w-])%s(?![\w-])" % re.escape(word), held), "%s names %s of %s, where it is not" % (name, word, path))
         for path in PATH.findall(text):
-            self.judge(os.path.exists(os.path.join(TOP, path)), "%s names %s, which is not there" % (name, path))
+            self.judge(path in BUILT or os.path.exists(os.path.join(TOP, path)), "%s names %s, which is not there" % (name, path))
 
     def names(self, name, text):
         """Each name of the code, wherever it is cited, is there."""
@@ -138,6 +142,23 @@ class Trial:
             without = {it for it in crates if not os.path.isdir(os.path.join(TOP, "crates", it, folder))}
             self.judge(without == set(re.findall(r"`(\w+)`", lacking)), "docs/MAP.md names other crates without %s/ than %s" % (folder, " ".join(sorted(without))))
 
+    def header(self):
+        """The header for C has the fields and parameters of the code, and the Python package the same fields."""
+        header = text_of("library/quorum.h")
+        self.sentences("library/quorum.h", "\n\n".join(re.sub(r"(?m)^ \* ?", "", it) for it in re.findall(r"/\*(.*?)\*/", header, re.S)))
+        code = re.search(r"pub struct QuorumEnd \{(.*?)\n\}", text_of("crates/quorum_answers/src/answer.rt"), re.S)[1]
+        fields = [(TYPES[kind], name) for name, kind in re.findall(r"pub (\w+): (\w+),", code)]
+        struct = re.search(r"typedef struct quorum_end \{(.*?)\}", header, re.S)[1]
+        self.judge(re.findall(r"(?m)^ *(\w+) (\w+);", struct) == fields, "library/quorum.h has other fields than QuorumEnd")
+        bound = re.search(r"_fields_ = \[(.*)\]", text_of("library/python/quorums/binding.py"))[1]
+        python = [("uint8_t" if kind == "uint8" else kind, name) for name, kind in re.findall(r'\("(\w+)", ctypes\.c_(\w+)\)', bound)]
+        self.judge(python == fields, "library/python/quorums/binding.py has other fields than QuorumEnd")
+        wanted = []
+        for name, kind in re.findall(r"(?m)^    (\w+): (.*),$", text_of("crates/quorum_library/src/lib.rt")):
+            wanted += {"Global": [], "&mut QuorumEnd": ["quorum_end *" + name], "&[u8]": ["const uint8_t *" + name, "size_t %s_len" % name], "&mut [u8]": ["uint8_t *" + name, "size_t %s_len" % name]}[kind]
+        called = re.search(r"void quorum_answer\((.*?)\)", header, re.S)[1]
+        self.judge([" ".join(it.split()) for it in called.split(",")] == wanted, "library/quorum.h has other parameters than quorum_answer")
+
     def crates(self):
         """The picture is the one of crates.txt, and the map has each crate once, in the order of the layers."""
         drawn = subprocess.run([sys.executable, os.path.join(TOP, "tools", "crates-picture"), "--print"], stdout=subprocess.PIPE).stdout.decode()
@@ -171,6 +192,7 @@ def main():
         trial.links(name, text)
         trial.budget(name, text)
         trial.sentences(name, text)
+    trial.header()
     trial.crates()
     print("documents: %d passed, %d failed" % (trial.passed, trial.failed))
     return 1 if trial.failed else 0

@@ -445,31 +445,36 @@ class Trial:
                 os.remove(os.path.join(self.folder, "front"))
 
 
+def rows(trial):
+    """The files made to break the program, each with its one answer."""
+    for name, config, status, text in CONFIGURATIONS:
+        trial.put("config", config)
+        trial.row("configuration: " + name, status, text, "show", "config")
+    trial.put("config", TWO)
+    for name, orgs, status, text in ORGANISATIONS:
+        trial.put("orgs", orgs)
+        trial.row("organisations: " + name, status, text, "greatest", "config", "--orgs", "orgs", "--faulty-orgs", "A")
+    for name, config, cert, status, text in CERTIFICATES + LISTS:
+        trial.put("config", config)
+        trial.put("cert", cert)
+        trial.row("certificate: " + name, status, text, "check", "config", "cert")
+    trial.put("config", TWO)
+    for name, proof, status, text in PROOFS:
+        trial.put("cert", proof)
+        trial.row("proof: " + name, status, text, "check-lrat", "config", "cert")
+    for name, script, status, text in SCRIPTS:
+        trial.put("script", script)
+        trial.row("script: " + name, status, text, "whatif", "config", "script", "--set", "p")
+    for name, config, script, text in LIMITS:
+        trial.put("config", config)
+        trial.put("script", script)
+        trial.row("script: " + name, 10, text, "whatif", "config", "script", "--set=")
+
+
 def main(program=BUILT):
     with tempfile.TemporaryDirectory() as folder:
         trial = Trial(folder, program)
-        for name, config, status, text in CONFIGURATIONS:
-            trial.put("config", config)
-            trial.row("configuration: " + name, status, text, "show", "config")
-        trial.put("config", TWO)
-        for name, orgs, status, text in ORGANISATIONS:
-            trial.put("orgs", orgs)
-            trial.row("organisations: " + name, status, text, "greatest", "config", "--orgs", "orgs", "--faulty-orgs", "A")
-        for name, config, cert, status, text in CERTIFICATES + LISTS:
-            trial.put("config", config)
-            trial.put("cert", cert)
-            trial.row("certificate: " + name, status, text, "check", "config", "cert")
-        trial.put("config", TWO)
-        for name, proof, status, text in PROOFS:
-            trial.put("cert", proof)
-            trial.row("proof: " + name, status, text, "check-lrat", "config", "cert")
-        for name, script, status, text in SCRIPTS:
-            trial.put("script", script)
-            trial.row("script: " + name, status, text, "whatif", "config", "script", "--set", "p")
-        for name, config, script, text in LIMITS:
-            trial.put("config", config)
-            trial.put("script", script)
-            trial.row("script: " + name, 10, text, "whatif", "config", "script", "--set=")
+        rows(trial)
         trial.full_files("intersect", "config", "made")
         trial.full_files("intersect", "config", "made", "--faulty", "a")
         trial.full_files("blocking", "config", "made")

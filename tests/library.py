@@ -1,0 +1,410 @@
+#!/usr/bin/env python3
+"""Calls the library from C, C++ and Python, and compares it with the program: status, text and certificate are the same bytes.
+
+First tools/library builds it. Then: what it exports and calls; the callers of library/; questions on the examples; the rows of
+tests/malicious.py; rooms of every size; memory that is refused at each place; threads; stacks; words that are no UTF-8; the classes
+of the Python package, installed by pip; and mutated files and words. What needs a tool that is not there is skipped, and it says so.
+
+tests/library.py [--cases N] [--seed S] [PROGRAM]; its last line is 'library: N passed, M failed, K skipped'.
+"""
+
+import argparse
+import ctypes
+import os
+import random
+import resource
+import shutil
+import subprocess
+import sys
+import tempfile
+import threading
+
+TOP = os.path.dirname(os.path.dirname(os.path.abspath(__file__)))
+sys.path[:0] = [os.path.join(TOP, "tests"), os.path.join(TOP, "bench"), os.path.join(TOP, "library", "python")]
+import fail_alloc
+import fuzz
+import malicious
+import process
+from quorums import binding
+
+OUT = os.path.join(TOP, "library", "out")
+FILES = ("config", "orgs", "script", "cert")
+STRICT = ["-Wall", "-Wextra", "-Werror", "-pedantic", "-O2"]
+# All that the shared library may call.
+CALLS = {"malloc", "realloc", "free", "memcpy", "memmove", "memset", "memcmp", "bcmp", "strlen", "__cxa_finalize", "__gmon_start__", "_ITM_deregisterTMCloneTable", "_ITM_registerTMCloneTable", "__stack_chk_fail"}
+# Bytes of the smallest stack on which the examples are asked.
+STACK = 1 << 20
+
+# A heap that refuses some growths, counted from 1, and says whether it refused one.
+REFUSING_HEAP = r"""
+#include <stdbool.h>
+#include <stddef.h>
+#include <stdlib.h>
+
+static unsigned long count, first, last;
+static char no_memory;
+
+struct tried { bool ok; void *at; };
+
+void refuse(unsigned long from, unsigned long to) { count = 0, first = from, last = to; }
+unsigned long growths(void) { return count; }
+
+static bool is_refused(void) { count++; return first <= count && count <= last; }
+static struct tried tried(void *at) { struct tried found = {at != NULL, at ? at : &no_memory}; return found; }
+
+struct tried rattle_alloc(size_t size, size_t align) { (void)align; return tried(is_refused() ? NULL : malloc(size ? size : 1)); }
+struct tried rattle_realloc(void *at, size_t kept, size_t size, size_t align) { (void)kept, (void)align; return tried(is_refused() ? NULL : realloc(at, size ? size : 1)); }
+void rattle_dealloc(void *at) { free(at); }
+"""
+
+
+def held(*names):
+    with open(os.path.join(TOP, *names), "rb") as it:
+        return it.read()
+
+
+def example(name):
+    return held("examples", name)
+
+
+def questions():
+    """Words and the files that they name: each command, refusals among them, over the examples and the files of three nodes."""
+    three, two = {"config": example("three.json")}, {"config": example("two.json")}
+    network = {"config": example("network.json"), "orgs": example("orgs.json"), "script": example("leaving.script")}
+    trial = {"config": example("trial.json")}
+    yield from [([], {}), (["--help"], {}), (["show"], {}), (["show", "config"], {}), (["show", "missing"], three)]
+    yield from [(["show", "config"], it) for it in (three, network, trial, {"config": b"[{}]"}, {"config": b"\xff"})]
+    yield from [(["show", "config", "--node", "\u00e9"], three), (["closure", "config", "--node", "\u00e9"], three)]
+    for cert, files in (("pair.cert", three), ("blocking.cert", three), ("least.cert", three), ("two.cert", two)):
+        yield ["check", "config", "cert"], {**files, "cert": example(cert)}
+        yield ["check", "config", "cert"], {**files, "cert": example(cert)[:-9]}
+    yield ["check-lrat", "config", "cert"], {**two, "cert": example("two.lrat")}
+    yield ["trial", "4", "made"], {}
+    yield ["trial", "101", "made"], {}
+    for search in (["intersect", "config", "made"], ["blocking", "config", "made"], ["quorums", "config", "made"], ["least", "config", "made"]):
+        for files in (three, two, network):
+            yield search, files
+            yield [*search, "--budget", "2"], files
+    yield ["intersect", "config", "made", "--faulty", "a"], three
+    yield ["intersect", "config", "made", "--orgs", "orgs", "--faulty-orgs", "alder"], network
+    yield ["whatif", "config", "script", "--set", "GWATCH"], network
+    for line, config, cert in fail_alloc.RUNS:
+        if " faulty" not in line.replace("--faulty", ""):
+            yield line.split(), {"config": config, "cert": cert, "orgs": fail_alloc.ORGS, "script": fail_alloc.SCRIPT}
+
+
+class Program:
+    """The program, over the library's four files in a folder."""
+
+    def __init__(self, program, folder):
+        self.program, self.folder = os.path.abspath(program), os.path.join(folder, "program")
+        os.mkdir(self.folder)
+
+    def answer(self, words, files):
+        """The status, the text, and the certificate that is made, if any."""
+        for name in os.listdir(self.folder):
+            os.remove(os.path.join(self.folder, name))
+        given = {name: files.get(name, b"") for name in FILES}
+        for name, data in given.items():
+            with open(os.path.join(self.folder, name), "wb") as it:
+                it.write(data)
+        ended = subprocess.run([self.program, *words], cwd=self.folder, stdin=subprocess.DEVNULL, stdout=subprocess.PIPE, stderr=subprocess.DEVNULL, timeout=300)
+        made = {}
+        for name in os.listdir(self.folder):
+            with open(os.path.join(self.folder, name), "rb") as it:
+                data = it.read()
+            if data != given.get(name) and not name.endswith("~"):
+                made[name] = data
+        # the library makes no file of another name
+        if made and not set(made) <= {"made", *FILES}:
+            return 7, b"", b""
+        return ended.returncode, ended.stdout, b"".join(made.values())
+
+
+class Trial:
+    def __init__(self, folder, program, asked):
+        self.folder, self.asked = folder, asked
+        self.program = Program(program, folder)
+        self.passed = self.failed = self.skipped = 0
+        self.path = os.path.join(OUT, "libquorum.so")
+        binding.PATH, self.call = self.path, binding.load(self.path)
+        self.wanted = []
+
+    def judge(self, right, what):
+        if right:
+            self.passed += 1
+        else:
+            self.failed += 1
+            if self.failed <= 40:
+                print("library: " + what[:600], flush=True)
+
+    def same(self, name, found, wanted):
+        self.judge(found == wanted, "%s: found %r, wanted %r" % (name, short(found), short(wanted)))
+
+    def skip(self, what):
+        self.skipped += 1
+        print("library: skipped: " + what, flush=True)
+
+    def answer(self, words, files, **how):
+        return binding.answer(words, **{name: data for name, data in files.items() if name in FILES}, call=self.call, **how)
+
+    def compile(self, compiler, *words):
+        made = os.path.join(self.folder, "made_by_" + compiler)
+        ran = subprocess.run([compiler, *STRICT, *words, "-I", OUT, "-o", made, os.path.join(OUT, "libquorum.a")], stderr=subprocess.PIPE)
+        self.judge(ran.returncode == 0, "%s: %s" % (compiler, ran.stderr.decode("latin-1")))
+        return made if ran.returncode == 0 else None
+
+    # ---- The parts
+
+    def symbols(self):
+        """The shared library exports one function, and calls nothing that reads, writes or waits."""
+        if not shutil.which("nm"):
+            return self.skip("what the shared library exports: there is no nm")
+        listed = lambda *words: {line.split()[-1].split("@")[0] for line in subprocess.run(["nm", "-D", *words, os.path.join(OUT, "libquorum.so")], stdout=subprocess.PIPE).stdout.decode().splitlines()}
+        self.same("exports", listed("--defined-only"), {"quorum_answer"})
+        self.judge(listed("--undefined-only") <= CALLS, "calls %s" % sorted(listed("--undefined-only") - CALLS))
+
+    def examples(self):
+        """Questions by Python, each beside the program; then by the caller in C."""
+        for words, files in questions():
+            wanted = self.program.answer(words, files)
+            self.wanted.append((words, files, wanted))
+            self.same("Python: " + " ".join(words), self.answer(words, files), wanted)
+        if not shutil.which("gcc"):
+            return self.skip("the caller in C: there is no gcc")
+        caller = self.compile("gcc", "-std=c99", os.path.join(TOP, "library", "ask.c"))
+        for words, files, wanted in self.wanted if caller else []:
+            for room in ("1", str(1 << 26)):
+                self.same("C: " + " ".join(words), self.by_caller(caller, words, files, room), wanted)
+
+    def by_caller(self, caller, words, files, room):
+        folder = os.path.join(self.folder, "caller")
+        shutil.rmtree(folder, ignore_errors=True)
+        os.mkdir(folder)
+        for name, data in files.items():
+            with open(os.path.join(folder, name), "wb") as it:
+                it.write(data)
+        ended = subprocess.run([caller, *words], cwd=folder, env=dict(os.environ, ROOM=room), stdin=subprocess.DEVNULL, stdout=subprocess.PIPE, timeout=300)
+        made = os.path.join(folder, "made")
+        return ended.returncode, ended.stdout, held(made) if os.path.exists(made) else b""
+
+    def cpp(self):
+        if not shutil.which("g++"):
+            return self.skip("the caller in C++: there is no g++")
+        caller = self.compile("g++", "-std=c++17", os.path.join(TOP, "library", "ask.cpp"))
+        if caller:
+            ran = subprocess.run([caller], stdout=subprocess.PIPE)
+            config = b"[" + b",".join(b'{"publicKey":"%s","quorumSet":{"threshold":2,"validators":["a","b","c"]}}' % it for it in (b"a", b"b", b"c")) + b"]"
+            _, text, cert = self.program.answer(["intersect", "config", "made", "--faulty", "a"], {"config": config})
+            _, said, _ = self.program.answer(["check", "config", "cert"], {"config": config, "cert": cert})
+            self.same("C++", (ran.returncode, ran.stdout), (0, text + cert + said))
+
+    def malicious(self):
+        """The files made to break the program."""
+        by_library = ByLibrary(self)
+        malicious.rows(by_library)
+        self.passed += by_library.passed
+        self.failed += by_library.failed
+
+    def no_text(self):
+        """Words that are no UTF-8, and odd ones."""
+        files = {"config": malicious.THREE}
+        for words in ([b"\xff"], [b"show", b"\xff"], [b"\xff", b"config"], [b"show", b"config", b"\xc3"], [b"show", b"config", b"--node=\xed\xa0\x80"], ["", "show", "config"], ["show", "config", ""], [""]):
+            self.same("words %r" % words, self.answer(words, files), self.program.answer(words, files))
+        # text that ends with a zero byte ends with an empty word
+        self.same("a zero byte at the end", self.answer(["show", "config", ""], files)[0], 3)
+
+    def rooms(self):
+        """In a room of each size there is the whole answer, or none and how much is wanting; nothing beside it is written."""
+        asked = ["show config", "intersect config made", "intersect config made --faulty a", "blocking config made", "least config cert", "intersect config config", "trial 1 made", "greatest config --faulty z"]
+        for line in asked:
+            words, files = line.split(), {"config": malicious.THREE}
+            wanted = self.answer(words, files)
+            needed = len(wanted[1]) + len(wanted[2])
+            for room in range(needed + 3):
+                status, text, cert, wanting, beside = self.in_room(words, files, room)
+                right = (status, text, cert, wanting) == (*wanted, 0) if room >= needed else (status, text, cert) == (7, b"", b"") and room < wanting <= needed
+                self.judge(right and beside, "%s in a room of %d: %r" % (line, room, (status, len(text), len(cert), wanting, beside)))
+
+    def in_room(self, words, files, room):
+        """A call in the middle of a larger buffer, and whether the rest of that stayed as it was."""
+        beside, end, given = 64, binding.End(), []
+        buffer = ctypes.create_string_buffer(b"\xa5" * (room + 2 * beside), room + 2 * beside)
+        for data in ("\0".join(words).encode(), *(files.get(name, b"") for name in FILES)):
+            given += [data, len(data)]
+        self.call(*given, ctypes.addressof(buffer) + beside, room, end)
+        inside = buffer.raw[beside : beside + room]
+        rest = buffer.raw[:beside] + buffer.raw[beside + room :]
+        return end.status, inside[room - end.text :], inside[: end.cert], end.wanting, rest == b"\xa5" * 2 * beside
+
+    def refused_memory(self):
+        """Each growth of memory is refused, by itself and with all later ones: the answer is as with ample memory, or status 8 and nothing."""
+        compiler = os.environ.get("CC", "cc")
+        source, library = os.path.join(self.folder, "heap.c"), os.path.join(self.folder, "refusing.so")
+        with open(source, "w") as it:
+            it.write(REFUSING_HEAP)
+        archive = os.path.join(TOP, "crates", "quorum_library", "out", "libquorum_library.a")
+        subprocess.run([compiler, "-shared", "-fPIC", "-O1", "-o", library, source, "-Wl,-u,quorum_answer", archive], check=True)
+        call, heap, most = binding.load(library), ctypes.CDLL(library), 2**63
+        for words, files, wanted in self.wanted:
+            ask = lambda first, last: (heap.refuse(ctypes.c_ulong(first), ctypes.c_ulong(last)), binding.answer(words, **files, call=call, room=1 << 20))[1]
+            if len(files.get("config", b"")) > 2000 or ask(most, 0) != wanted:
+                continue
+            number = heap.growths()
+            for last in (0, most):
+                for first in range(1, number + 1):
+                    found = ask(first, last or first)
+                    self.judge(found in (wanted, (8, b"", b"")), "%s with growth %d refused: %r" % (" ".join(words), first, short(found)))
+            self.same("with no growth at all: " + " ".join(words), ask(1, most)[0], 8)
+            self.same("with ample memory again: " + " ".join(words), ask(most, 0), wanted)
+
+    def little_memory(self):
+        """A limit of the process, under a large file."""
+        config = malicious.one(b'{"threshold":1,"validators":[' + b'"a",' * 999999 + b'"a"]}')
+        code = "import sys\nsys.path[:0] = %r\nfrom quorums import binding\nprint(binding.answer(['show', 'config'], sys.stdin.buffer.read(), room=4096, call=binding.load(%r)))" % ([os.path.join(TOP, "library", "python")], self.path)
+        for most in (100, 4000):
+            limit = lambda: resource.setrlimit(resource.RLIMIT_AS, (most << 20, most << 20))
+            ran = subprocess.run([sys.executable, "-c", code], input=config, stdout=subprocess.PIPE, stderr=subprocess.PIPE, preexec_fn=limit)
+            wanted = (8, b"", b"") if most == 100 else self.program.answer(["show", "config"], {"config": config})
+            self.same("%d MiB" % most, ran.stdout.decode().strip(), repr(wanted))
+
+    def threads(self):
+        """Eight threads ask all questions at once, each in another order."""
+        wrong = []
+
+        def ask_all(number):
+            order = random.Random(number)
+            for words, files, wanted in order.sample(self.wanted, len(self.wanted)) * 3:
+                if self.answer(words, files, room=1 << 20) != wanted:
+                    wrong.append(" ".join(words))
+
+        running = [threading.Thread(target=ask_all, args=(number,)) for number in range(8)]
+        for it in running:
+            it.start()
+        for it in running:
+            it.join()
+        self.same("eight threads", wrong, [])
+
+    def stacks(self):
+        """On a small stack, nested files among the questions."""
+        deep = [(["show", "config"], {"config": it}) for it in (b"[" * 127 + b"]" * 127, malicious.one(malicious.nested(32)), malicious.one(malicious.nested(33)))]
+        deep += [([it, "config", "made"], {"config": malicious.one(malicious.nested(32))}) for it in ("intersect", "least", "quorums")]
+        wrong, asked = [], [*deep, *((words, files) for words, files, _ in self.wanted)]
+        threading.stack_size(STACK)
+        try:
+            for words, files in asked:
+                it = threading.Thread(target=lambda: wrong.append(words) if self.answer(words, files) != self.program.answer(words, files) else None)
+                it.start()
+                it.join()
+        finally:
+            threading.stack_size(0)
+        self.same("a stack of %d bytes" % STACK, wrong, [])
+
+    def installed(self):
+        """The package as pip installs it, with nothing fetched; else as it lies in the folder."""
+        place = os.path.join(self.folder, "installed")
+        words = [sys.executable, "-m", "pip", "install", "--quiet", "--no-index", "--disable-pip-version-check", "--no-deps", "--target", place, os.path.join(OUT, "python")]
+        if subprocess.run([sys.executable, "-m", "pip", "--version"], stdout=subprocess.DEVNULL, stderr=subprocess.DEVNULL).returncode:
+            self.skip("the package as pip installs it: there is no pip")
+            place = os.path.join(OUT, "python")
+        else:
+            ran = subprocess.run(words, stdout=subprocess.PIPE, stderr=subprocess.STDOUT)
+            self.judge(ran.returncode == 0, "pip: " + ran.stdout.decode("latin-1"))
+            self.judge(os.path.isdir(os.path.join(place, "quorums-%s.dist-info" % held("VERSION").decode().strip())), "pip installed another version")
+        env = {name: value for name, value in os.environ.items() if name != "QUORUM_LIBRARY"}
+        ran = subprocess.run([sys.executable, os.path.join(TOP, "library", "ask.py"), os.path.join(TOP, "examples", "three.json"), "a"], env=dict(env, PYTHONPATH=place), stdout=subprocess.PIPE, stderr=subprocess.STDOUT)
+        self.same("ask.py", (ran.returncode, ran.stdout.decode()), (0, "it can fork: b / c\nthe checker: accepted pair\n"))
+
+    def classes(self):
+        """What the classes of the package make of the answers."""
+        from quorums import Quorums, Refused, TooLarge, trial
+
+        three, network = Quorums(example("three.json")), Quorums(example("network.json"), orgs=example("orgs.json"))
+        forked = three.intersect(faulty=["a"])
+        self.same("no", (forked.yes, forked.status, forked["first"], forked["second"]), (False, 1, ("b",), ("c",)))
+        self.same("its certificate", (forked.certificate, three.check(forked.certificate)["accepted"]), (example("pair.cert").replace(b"cert 1", b"cert 2"), ("pair",)))
+        self.same("yes", (three.intersect().yes, three.intersect(budget=0).yes, three.intersect(faulty="").yes), (True, None, True))
+        self.same("lists", (three.blocking().sets, three.quorums().sets, three.least().sets), ([("a", "b"), ("a", "c"), ("b", "c")], [("a", "b"), ("a", "c"), ("b", "c")], [("a", "b")]))
+        self.same("plain", (three.closure("a")["closure"], three.greatest(faulty="a,b")["greatest"], three.show()["nodes"]), (("a", "b", "c"), ("c",), ("3",)))
+        self.same("sets", (three.available("a").yes, three.dset(["a"]).yes, three.blocks(["a", "b"]).yes, three.vblocks("a", ["b"]).yes, three.splits("a").yes), (True, False, True, False, True))
+        self.same("organisations", network.intersect(faulty_orgs=["alder"]).status, self.program.answer(["intersect", "config", "made", "--orgs=orgs", "--faulty-orgs=alder"], {"config": network.config, "orgs": network.orgs})[0])
+        self.same("edits", len(network.whatif(example("leaving.script"), nodes=["GWATCH"]).all("edit")) > 1, True)
+        self.same("a proof", Quorums(example("two.json")).check_lrat(example("two.lrat")).lines[0], ("verified",))
+        self.same("a formula", Quorums(example("two.json")).export()["p"], ("cnf", "6", "12"))
+        self.same("a trial", trial(2).yes, True)
+        self.same("a small room", Quorums(example("three.json"), room=1).blocking().sets, three.blocking().sets)
+        for name, asked, status in (("a name", lambda: three.greatest(faulty=["z"]), 3), ("a configuration", lambda: Quorums(b"{}").show(), 4), ("a certificate", lambda: three.check(b""), 5), ("a script", lambda: three.whatif(b"x"), 10)):
+            try:
+                found = asked()
+            except Refused as refused:
+                found = refused.status
+            self.same(name + " is refused", found, status)
+        for asked, error in ((lambda: three.greatest(node="a"), Refused), (lambda: three.greatest(other="a"), TypeError), (lambda: forked["third"], KeyError), (lambda: Quorums(process.WIDE).intersect(), TooLarge)):
+            try:
+                asked()
+                found = type(None)
+            except Exception as raised:
+                found = type(raised)
+            self.same("what is raised", found, error)
+
+    def mutated(self):
+        """Mutated files and words, each beside the program."""
+        folder = os.path.join(self.folder, "fuzz")
+        os.mkdir(folder)
+        program = fuzz.Program(self.program.program, folder)
+        maker = fuzz.Maker(random.Random(self.asked.seed), program)
+        for number in range(self.asked.cases):
+            case = maker.case()
+            wanted = self.program.answer(case.words, case.files)
+            found = self.answer(case.words, case.files, room=self.asked.rooms[number % len(self.asked.rooms)])
+            self.same("case %d: %r over %r" % (number, case.words, case.files), found, wanted)
+            if case.kind == "search" and wanted[2]:
+                with open(os.path.join(folder, "cert"), "wb") as it:
+                    it.write(wanted[2])
+                maker.keep(case)
+
+
+class ByLibrary(malicious.Trial):
+    """The rows of tests/malicious.py, over files in memory."""
+
+    def __init__(self, trial):
+        super().__init__("", "")
+        self.trial, self.files = trial, {}
+
+    def put(self, name, data):
+        self.files[name] = data() if callable(data) else data
+
+    def run(self, *words):
+        status, text, _ = self.trial.answer(words, self.files)
+        return status, text.decode("latin-1"), ""
+
+
+def short(found):
+    """An answer with its bytes cut."""
+    return tuple(it if not isinstance(it, bytes) or len(it) < 200 else it[:200] + b".. of %d" % len(it) for it in found) if isinstance(found, tuple) else found
+
+
+def main():
+    parser = argparse.ArgumentParser()
+    parser.add_argument("--cases", type=int, default=2000)
+    parser.add_argument("--seed", type=int, default=53)
+    parser.add_argument("program", nargs="?", default=malicious.BUILT)
+    asked = parser.parse_args()
+    asked.rooms = [1 << 16, 1 << 20, 16, 0]
+    for tool in (os.environ.get("CC", "cc"), "ar"):
+        if not shutil.which(tool):
+            print("library: skipped: there is no %s" % tool)
+            return 0
+    if subprocess.run([os.path.join(TOP, "tools", "library")]).returncode:
+        print("library: 0 passed, 1 failed, 0 skipped")
+        return 1
+    with tempfile.TemporaryDirectory(dir="/dev/shm" if os.path.isdir("/dev/shm") else None) as folder:
+        trial = Trial(folder, asked.program, asked)
+        for part in (trial.symbols, trial.examples, trial.cpp, trial.no_text, trial.rooms, trial.refused_memory, trial.little_memory, trial.threads, trial.stacks, trial.installed, trial.classes, trial.malicious, trial.mutated):
+            part()
+    print("library: %d passed, %d failed, %d skipped" % (trial.passed, trial.failed, trial.skipped))
+    return 1 if trial.failed else 0
+
+
+if __name__ == "__main__":
+    sys.exit(main())
