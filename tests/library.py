@@ -12,6 +12,7 @@ import argparse
 import ctypes
 import os
 import random
+import re
 import resource
 import shutil
 import subprocess
@@ -313,6 +314,9 @@ class Trial:
             self.judge(os.path.isdir(os.path.join(place, "quorums-%s.dist-info" % held("VERSION").decode().strip())), "pip installed another version")
         env = {name: value for name, value in os.environ.items() if name != "QUORUM_LIBRARY"}
         ran = subprocess.run([sys.executable, os.path.join(TOP, "library", "ask.py"), os.path.join(TOP, "examples", "three.json"), "a"], env=dict(env, PYTHONPATH=place), stdout=subprocess.PIPE, stderr=subprocess.STDOUT)
+        code = re.search(r"```python\n(.*?)```", held("docs", "LIBRARY.md").decode(), re.S)[1]
+        shown = subprocess.run([sys.executable, "-c", code + "print(found.yes, found['first'], found['second'])"], cwd=TOP, env=dict(env, PYTHONPATH=place), stdout=subprocess.PIPE, stderr=subprocess.STDOUT)
+        self.same("docs/LIBRARY.md", (shown.returncode, shown.stdout.decode()), (0, "False ('b',) ('c',)\n"))
         self.same("ask.py", (ran.returncode, ran.stdout.decode()), (0, "it can fork: b / c\nthe checker: accepted pair\n"))
 
     def classes(self):
