@@ -328,7 +328,8 @@ class Trial:
         self.same("no", (forked.yes, forked.status, forked["first"], forked["second"]), (False, 1, ("b",), ("c",)))
         self.same("its certificate", (forked.certificate, three.check(forked.certificate)["accepted"]), (example("pair.cert").replace(b"cert 1", b"cert 2"), ("pair",)))
         self.same("yes", (three.intersect().yes, three.intersect(budget=0).yes, three.intersect(faulty="").yes), (True, None, True))
-        self.same("lists", (three.blocking().sets, three.quorums().sets, three.least().sets), ([("a", "b"), ("a", "c"), ("b", "c")], [("a", "b"), ("a", "c"), ("b", "c")], [("a", "b")]))
+        self.same("lists", (three.blocking().sets, three.quorums().sets), ([("a", "b"), ("a", "c"), ("b", "c")],) * 2)
+        self.same("a smallest quorum", (three.least()["least"], len(three.least()["set"])), (("2",), 2))
         self.same("plain", (three.closure("a")["closure"], three.greatest(faulty="a,b")["greatest"], three.show()["nodes"]), (("a", "b", "c"), ("c",), ("3",)))
         self.same("sets", (three.available("a").yes, three.dset(["a"]).yes, three.blocks(["a", "b"]).yes, three.vblocks("a", ["b"]).yes, three.splits("a").yes), (True, False, True, False, True))
         self.same("organisations", network.intersect(faulty_orgs=["alder"]).status, self.program.answer(["intersect", "config", "made", "--orgs=orgs", "--faulty-orgs=alder"], {"config": network.config, "orgs": network.orgs})[0])
@@ -343,7 +344,7 @@ class Trial:
             except Refused as refused:
                 found = refused.status
             self.same(name + " is refused", found, status)
-        for asked, error in ((lambda: three.greatest(node="a"), Refused), (lambda: three.greatest(other="a"), TypeError), (lambda: forked["third"], KeyError), (lambda: Quorums(process.WIDE).intersect(), TooLarge)):
+        for asked, error in ((lambda: three.greatest(node="a"), Refused), (lambda: three.greatest(other="a"), TypeError), (lambda: forked["third"], KeyError), (lambda: Quorums(process.WIDE.encode()).intersect(), TooLarge)):
             try:
                 asked()
                 found = type(None)
