@@ -91,7 +91,12 @@ def questions():
     yield ["whatif", "config", "script", "--set", "GWATCH"], network
     for line, config, cert in fail_alloc.RUNS:
         if " faulty" not in line.replace("--faulty", ""):
-            yield line.split(), {"config": config, "cert": cert, "orgs": fail_alloc.ORGS, "script": fail_alloc.SCRIPT}
+            yield named_as_made(line.split()), {"config": config, "cert": cert, "orgs": fail_alloc.ORGS, "script": fail_alloc.SCRIPT}
+
+
+def named_as_made(words):
+    """The words, by which a search makes its certificate under the one name that the library gives back."""
+    return words if words and words[0].startswith("check") else ["made" if it == "cert" else it for it in words]
 
 
 class Program:
@@ -217,7 +222,7 @@ class Trial:
 
     def rooms(self):
         """In a room of each size there is the whole answer, or none and how much is wanting; nothing beside it is written."""
-        asked = ["show config", "intersect config made", "intersect config made --faulty a", "blocking config made", "least config cert", "intersect config config", "trial 1 made", "greatest config --faulty z"]
+        asked = ["show config", "intersect config made", "intersect config made --faulty a", "blocking config made", "least config made", "intersect config config", "trial 1 made", "greatest config --faulty z"]
         for line in asked:
             words, files = line.split(), {"config": malicious.THREE}
             wanted = self.answer(words, files)
@@ -263,10 +268,10 @@ class Trial:
         """A limit of the process, under a large file."""
         config = malicious.one(b'{"threshold":1,"validators":[' + b'"a",' * 999999 + b'"a"]}')
         code = "import sys\nsys.path[:0] = %r\nfrom quorums import binding\nprint(binding.answer(['show', 'config'], sys.stdin.buffer.read(), room=4096, call=binding.load(%r)))" % ([os.path.join(TOP, "library", "python")], self.path)
-        for most in (100, 4000):
+        for most in (60, 4000):
             limit = lambda: resource.setrlimit(resource.RLIMIT_AS, (most << 20, most << 20))
             ran = subprocess.run([sys.executable, "-c", code], input=config, stdout=subprocess.PIPE, stderr=subprocess.PIPE, preexec_fn=limit)
-            wanted = (8, b"", b"") if most == 100 else self.program.answer(["show", "config"], {"config": config})
+            wanted = (8, b"", b"") if most == 60 else self.program.answer(["show", "config"], {"config": config})
             self.same("%d MiB" % most, ran.stdout.decode().strip(), repr(wanted))
 
     def threads(self):
@@ -360,9 +365,10 @@ class Trial:
         maker = fuzz.Maker(random.Random(self.asked.seed), program)
         for number in range(self.asked.cases):
             case = maker.case()
-            wanted = self.program.answer(case.words, case.files)
-            found = self.answer(case.words, case.files, room=self.asked.rooms[number % len(self.asked.rooms)])
-            self.same("case %d: %r over %r" % (number, case.words, case.files), found, wanted)
+            words = named_as_made(case.words)
+            wanted = self.program.answer(words, case.files)
+            found = self.answer(words, case.files, room=self.asked.rooms[number % len(self.asked.rooms)])
+            self.same("case %d: %r over %r" % (number, words, case.files), found, wanted)
             if case.kind == "search" and wanted[2]:
                 with open(os.path.join(folder, "cert"), "wb") as it:
                     it.write(wanted[2])
