@@ -5,7 +5,8 @@ First tools/library builds it. Then: what it exports and calls; the callers of l
 tests/malicious.py; rooms of every size; memory that is refused at each place; threads; stacks; words that are no UTF-8; the classes
 of the Python package, installed by pip; and mutated files and words. What needs a tool that is not there is skipped, and it says so.
 
-tests/library.py [--cases N] [--seed S] [PROGRAM]; its last line is 'library: N passed, M failed, K skipped'.
+tests/library.py [--built] [--cases N] [--seed S] [PROGRAM]; with --built an archive that is not of these sources is not built, and all is
+skipped. Its last line is 'library: N passed, M failed, K skipped'.
 """
 
 import argparse
@@ -397,6 +398,7 @@ def short(found):
 
 def main():
     parser = argparse.ArgumentParser()
+    parser.add_argument("--built", action="store_true")
     parser.add_argument("--cases", type=int, default=2000)
     parser.add_argument("--seed", type=int, default=53)
     parser.add_argument("program", nargs="?", default=malicious.BUILT)
@@ -406,7 +408,11 @@ def main():
         if not shutil.which(tool):
             print("library: skipped: there is no %s" % tool)
             return 0
-    if subprocess.run([os.path.join(TOP, "tools", "library")]).returncode:
+    status = subprocess.run([os.path.join(TOP, "tools", "library"), *["--built"] * asked.built]).returncode
+    if asked.built and status == 3:
+        print("library: skipped: no archive is built of these sources, which tools/library does")
+        return 0
+    if status:
         print("library: 0 passed, 1 failed, 0 skipped")
         return 1
     with tempfile.TemporaryDirectory(dir="/dev/shm" if os.path.isdir("/dev/shm") else None) as folder:
