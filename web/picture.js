@@ -1,0 +1,68 @@
+// The picture of the network: organisations as boxes, each node as a circle with its name, painted by the sets of an answer.
+
+// Above so many nodes of no organisation their circles have no names below them; above so many nodes there is no picture.
+const MOST_CAPTIONS = 36, MOST_DRAWN = 3000;
+
+// The sets that are painted, the first that has a node decides its circle: its class, the letter in it, and what both say.
+const CIRCLES = [
+  ['lying', 'lie', 'L', 'lies'],
+  ['silent', 'still', '–', 'is silent'],
+  ['first', 'one', '1', 'in one quorum of the two'],
+  ['second', 'two', '2', 'in the other quorum of the two'],
+  ['greatest', 'q', '', 'in the greatest quorum'],
+];
+
+class Paint {
+  constructor(sets) {
+    for (const [name] of CIRCLES) this[name] = new Set(sets[name]);
+    this.marked = new Set(sets.marked);
+    this.markedAs = sets.markedAs ?? '';
+    this.within = sets.within ? new Set(sets.within) : null;
+  }
+
+  circle(key) {
+    for (const [name, kind, letter, says] of CIRCLES) if (this[name].has(key)) return [kind, letter, says];
+    return this.within && !this.within.has(key) ? ['x', '', 'outside of what is asked about'] : ['n', '', 'in no quorum'];
+  }
+
+  says(key) {
+    return this.circle(key)[2] + (this.marked.has(key) ? `, ${this.markedAs}` : '');
+  }
+}
+
+const dot = (kind, letter, ring) => make('span', { class: `dot ${kind}${ring ? ' ring' : ''}`, 'aria-hidden': 'true' }, letter);
+
+// The name of a node without that of the organisation in whose box it stands, cut in the middle if it is long.
+function caption(network, key) {
+  const org = network.orgOf.get(key)?.name;
+  let name = network.name(key);
+  if (org && name.startsWith(org) && name !== org) name = name.slice(org.length).replace(/^[\s\-_.:]+/, '') || name;
+  return name.length <= 20 ? name : `${name.slice(0, 11)}…${name.slice(-8)}`;
+}
+
+function drawnNode(network, paint, key, captioned) {
+  const [kind, letter] = paint.circle(key), name = network.name(key), says = paint.says(key);
+  const shown = captioned ? make('span', { class: 'node' }, caption(network, key)) : make('span', { class: 'hidden' }, name);
+  return make('li', { title: `${name}, ${key}: ${says}` }, dot(kind, letter, paint.marked.has(key)), shown, make('span', { class: 'hidden' }, `: ${says}`));
+}
+
+function drawnBox(network, paint, title, keys, captioned) {
+  const rank = (key) => ('nx'.includes(paint.circle(key)[0]) ? 1 : 0);
+  const shown = network.sorted(keys).sort((a, b) => rank(a) - rank(b));
+  return make('div', { class: `org${captioned ? '' : ' rest'}` }, make('h3', { class: 'node' }, title), make('ul', {}, shown.map((key) => drawnNode(network, paint, key, captioned))));
+}
+
+function legend(network, paint) {
+  const there = new Map(network.keys.map((key) => [paint.circle(key)[0], paint.circle(key)]));
+  const rows = ['lie', 'still', 'one', 'two', 'q', 'n', 'x'].filter((kind) => there.has(kind)).map((kind) => make('li', {}, dot(kind, there.get(kind)[1]), there.get(kind)[2]));
+  if (network.keys.some((key) => paint.marked.has(key))) rows.push(make('li', {}, dot('', '', true), paint.markedAs));
+  return make('ul', { class: 'legend' }, rows);
+}
+
+function draw(network, paint) {
+  if (network.keys.length > MOST_DRAWN) return [make('p', {}, `${network.keys.length} nodes are too many for a picture.`)];
+  const boxes = network.orgs.filter((org) => org.keys.length).map((org) => drawnBox(network, paint, org.name, org.keys, true));
+  const outside = network.outside(), title = network.orgs.length ? `Of no organisation: ${outside.length}` : 'Nodes';
+  const rest = outside.length ? drawnBox(network, paint, title, outside, outside.length <= MOST_CAPTIONS) : null;
+  return [boxes.length ? make('div', { class: 'orgs' }, boxes) : null, rest, legend(network, paint)].filter(Boolean);
+}
