@@ -40,7 +40,7 @@ EXAMPLES = os.path.join(TOP, "examples")
 MOST_BYTES = 700_000
 WIDTHS = {"phone": 360, "tablet": 768, "desk": 1280}
 MIB = 1 << 20
-SHOWN = "document.body.dataset.state === 'idle'"
+SHOWN = "document.body?.dataset.state === 'idle'"
 
 
 def held(*path):
@@ -89,6 +89,11 @@ def limited(module, mebibytes):
             body = b"\x01\x01" + number(least) + number(mebibytes * 16)
             return module[:at] + b"\x05" + number(len(body)) + body + module[start + size :]
         at = start + size
+
+
+def few_units(config):
+    """The budget of a list of a whole network, which may take long: the first few sets show the same."""
+    return "3000" if len(json.loads(config)) < 150 else "1000"
 
 
 class Judge:
@@ -151,7 +156,7 @@ def node_cases(networks):
         yield ["greatest", "config"], files
         yield ["intersect", "config", "made"], files
         yield ["intersect", "config", "made", "--orgs=orgs", "--faulty-orgs=" + first], files
-        yield ["blocking", "config", "made", "--budget", "5000"], files
+        yield ["blocking", "config", "made", "--budget", few_units(files["config"])], files
 
 
 def in_node(judge, node, module, networks, folder):
@@ -362,16 +367,16 @@ class Trial:
         org, other = own[0], own[1]
         one = sorted(set(org["validators"]) & keys)[0]
         cert = None
-        # Lists of a whole network may take long: their budget is small, as the first few of them show the same.
+        few = {"budget": few_units(files[os.path.basename(config)])}
         asked = [
             ("show", {}), ("greatest", {}), ("greatest", {"faulty": [org["id"]], "from": one}), ("closure", {"node": one}), ("intersect", {}),
             ("intersect", {"faulty": [org["id"]]}), ("intersect", {"faulty": [one], "from": one}), ("splits", {"set": [org["id"]], "budget": "20000"}), ("blocks", {"set": [org["id"], other["id"]]}),
             ("blocks", {"set": [one], "faulty": [other["id"]]}), ("available", {"set": [org["id"]]}), ("available", {"set": [one], "from": one}), ("dset", {"set": [org["id"]]}), ("vblocks", {"node": one, "set": [org["id"]]}),
-            ("blocking", {"budget": "3000"}), ("quorums", {"budget": "3000"}), ("least", {"budget": "3000"}), ("export", {}), ("whatif", {"set": [one], "leaves": other["id"]}),
+            ("blocking", few), ("quorums", few), ("least", few), ("export", {}), ("whatif", {"set": [one], "leaves": other["id"]}),
         ]
         offered = tab.js("[...$('question').options].map(it => it.value)")
         if "org-blocking" in offered:
-            asked.append(("org-blocking", {"budget": "3000"}))
+            asked.append(("org-blocking", few))
         for question, fields in asked:
             tab.choose(question, **fields)
             script = tab.js("$('script').value").encode() if question == "whatif" else b""
