@@ -761,23 +761,24 @@ class Trial:
         self.judge("heard: the language", tab.js("document.documentElement.lang") == "en")
 
     def times(self, data):
-        """How long a question of a large network takes, and the made-up one of 100 organisations."""
-        tab = self.tab
-        tab.show(self.page)
-        tab.give("config", os.path.join(data, "network-large.json"))
-        for question, fields in (("intersect", {}), ("greatest", {}), ("blocks", {"set": [tab.js("network.keys[0]")]})):
-            tab.choose(question, **fields)
-            began = time.monotonic()
-            tab.ask()
-            whole = time.monotonic() - began
-            self.judge("within a second: " + question, whole < 1, whole)
-            print("web_page: large network, %s: %.2f s in all; %s" % (question, whole, tab.js("$('times').textContent")))
-        tab.choose("trial", organisations="100")
-        tab.ask()
-        took, unit = re.match(r"([\d.]+) (m?s)", tab.js("$('times').textContent")).groups()
-        took = float(took) / (1000 if unit == "ms" else 1)
-        self.judge("trial 100 within two seconds", took < 2, took)
-        print("web_page: trial 100: %s Load: %s" % (tab.js("$('times').textContent"), open("/proc/loadavg").read().split(" ")[0]))
+        """How long a question of a large network takes, and the made-up one of 100 organisations, on a page just opened. Of three
+        times the least counts: other work on the machine only adds to it."""
+        asked, bounds = [("intersect", {}), ("greatest", {}), ("blocks", {}), ("trial", {"organisations": "100"})], {"trial": 2}
+        took = {question: [] for question, _ in asked}
+        for _ in range(3):
+            self.tab.show(self.page)
+            self.tab.give("config", os.path.join(data, "network-large.json"))
+            for question, fields in asked:
+                self.tab.choose(question, **({"set": [self.tab.js("network.keys[0]")]} if question == "blocks" else fields))
+                began = time.monotonic()
+                self.tab.ask()
+                took[question].append(time.monotonic() - began)
+                print("web_page: large, %s: %.2f s in all; %s" % (question, took[question][-1], self.tab.js("$('times').textContent")))
+        load = open("/proc/loadavg").read().split(" ")[0]
+        for question, all_times in took.items():
+            bound = bounds.get(question, 1)
+            self.judge("%s within %d s, at a load of %s" % (question, bound, load), min(all_times) < bound, all_times)
+        print("web_page: load: %s" % load)
 
 
 def in_chromium(judge, tab, asked, page, module, networks, folder):
