@@ -19,8 +19,14 @@ pub enum CertError {
     /// The certificate is for the configuration of the first digest, and not for that of the second.
     #[error("the certificate is for another configuration")]
     Digest([u8; 32], [u8; 32]),
-    /// This line names a node that the system doesn't have.
-    #[error("line {0} names a node that the system does not have")]
+    /// The certificate is of organisations, and no file of them was given.
+    #[error("no organisations were given")]
+    NoOrgs,
+    /// The certificate is for the organisations of the first digest, and not for those of the second.
+    #[error("the certificate is for other organisations")]
+    OrgsDigest([u8; 32], [u8; 32]),
+    /// This line names a node that the system doesn't have, or a group that has no variable.
+    #[error("line {0} names a node or a group that the system does not have")]
     UnknownNode(u64),
     /// The nodes of this line are no quorum once the faulty ones are deleted.
     #[error("the nodes of line {0} are no quorum")]

@@ -14,6 +14,6 @@ pub use faults::CertError;
 pub use lines::{Lines, MAX_LINE_BYTES, MAX_LINES};
 pub use lrat_model::{Step, StepFault};
 pub use proof::{ProofLine, proof_line};
-pub use saying::{Counts, counter_in, counts_in, digits_in, step_in};
+pub use saying::{Counts, counter_in, counts_in, digits_in, orgs_digits_in, step_in};
 pub use steps::line_or_step;
 pub use words::{Words, begins, follows, is_name};

@@ -3,7 +3,7 @@ ghost use Rattle.std.specs.Prelude.{◌≡◌, ◌⊎◌, None, IfOk, IfErr, IfS
 ghost use Rattle.digest_text.specs.Digits.{digest_of};
 ghost use Rattle.lrat_model.specs.Steps.{step_of};
 ghost use Rattle.lrat_text.specs.Lines.{step_in};
-ghost use Rattle.cert_lines.specs.Words.{digest_in};
+ghost use Rattle.cert_lines.specs.Words.{digest_behind, digest_in, orgs_digest_in, words_of};
 ghost use Rattle.cert_lines.specs.Saying.{number_in, counts_in, counter_in, or_bad_line};
 
 use crate::faults::CertError;
@@ -19,16 +19,32 @@ pub struct Counts {
     pub clauses: u64,
 }
 
+/// The word behind this one, where there is one and nothing else.
+fn digits_behind<'a>(name: &str, text: &'a [u8]) -> Option<&'a [u8]>
+    ensures some { IfSome result (λ digits. digest_behind name.now (words_of text.now) ≡ digest_of digits.now) }
+    ensures none { result ≡ None → digest_behind name.now (words_of text.now) ≡ None }
+{
+    let mut words = Words::of(text);
+    match (words.next(), words.next(), words.next()) {
+        (Some(word), Some(digits), None) if word == name.as_bytes() => Some(digits),
+        _ => None,
+    }
+}
+
 /// The word behind the word `config`, where there is one and nothing else.
 pub fn digits_in(text: &[u8]) -> Option<&[u8]>
     ensures some { IfSome result (λ digits. digest_in text.now ≡ digest_of digits.now) }
     ensures none { result ≡ None → digest_in text.now ≡ None }
 {
-    let mut words = Words::of(text);
-    match (words.next(), words.next(), words.next()) {
-        (Some(word), Some(digits), None) if word == b"config".as_slice() => Some(digits),
-        _ => None,
-    }
+    digits_behind("config", text)
+}
+
+/// The word behind the word `orgs`, where there is one and nothing else.
+pub fn orgs_digits_in(text: &[u8]) -> Option<&[u8]>
+    ensures some { IfSome result (λ digits. orgs_digest_in text.now ≡ digest_of digits.now) }
+    ensures none { result ≡ None → orgs_digest_in text.now ≡ None }
+{
+    digits_behind("orgs", text)
 }
 
 /// A number of variables or of clauses: 0, or what is written as an id is.

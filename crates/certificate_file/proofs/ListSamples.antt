@@ -6,6 +6,7 @@ use Rattle.fbas_model.specs.Trees.{QuorumSet, quorum_set, none, node}
 use Rattle.fbas_model.specs.Systems.{System}
 use Rattle.lrat_model.specs.declared.step.StepFault.TheVariants.{IdOrder}
 use Rattle.greatest_quorum.specs.Greatest.{greatest_of}
+use Rattle.certificate_file.specs.declared.given.Given.{Given}
 use Rattle.certificate_file.specs.Acceptance.{checked, take_line}
 use Rattle.certificate_file.specs.declared.places.Accepted.{Accepted}
 use Rattle.certificate_file.specs.declared.places.Answer.{Answer}
@@ -18,8 +19,8 @@ two_of_three = Some (quorum_set 2 (node 0 (node 1 (node 2 none))))
 three : System
 three = record { names = codes "a" ∷ codes "b" ∷ codes "c" ∷ []; sets = two_of_three ∷ two_of_three ∷ two_of_three ∷ [] }
 
-zeros : List ℕ
-zeros = replicate 32 0
+zeros : Given
+zeros = record { digest = replicate 32 0; orgs = None }
 
 whole : List ℕ
 whole = codes "fbas-cert 1\nconfig 0000000000000000000000000000000000000000000000000000000000000000\nfrom\nfaulty\nkind blocking\n"

@@ -6,6 +6,7 @@ use Rattle.fbas_model.specs.Systems.{System}
 use Rattle.lrat_model.specs.declared.step.StepFault.TheVariants.{NotUnit}
 use Rattle.clause_encoder.specs.Formula.{formula}
 use Rattle.greatest_quorum.specs.Greatest.{greatest_of}
+use Rattle.certificate_file.specs.declared.given.Given.{Given}
 use Rattle.certificate_file.specs.Formulas.{formula_of}
 use Rattle.certificate_file.specs.Acceptance.{checked, take_line}
 use Rattle.certificate_file.specs.declared.places.Accepted.{Accepted}
@@ -19,8 +20,8 @@ both = Some (quorum_set 2 (node 0 (node 1 none)))
 two : System
 two = record { names = codes "p" ∷ codes "q" ∷ []; sets = both ∷ both ∷ [] }
 
-zeros : List ℕ
-zeros = replicate 32 0
+zeros : Given
+zeros = record { digest = replicate 32 0; orgs = None }
 
 header : List ℕ
 header = codes "fbas-cert 1\nconfig 0000000000000000000000000000000000000000000000000000000000000000\nfrom\nfaulty\nkind partial\n"

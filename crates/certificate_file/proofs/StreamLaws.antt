@@ -24,6 +24,7 @@ use Rattle.cert_lines.specs.Saying.{or_bad_line}
 use Rattle.cert_lines.specs.declared.faults.CertError.{CertError}
 use Rattle.cert_lines.specs.Limits.{unless}
 use Rattle.cert_lines.specs.declared.faults.CertError.TheVariants.{NotNew}
+use Rattle.certificate_file.specs.declared.given.Given.{Given}
 use Rattle.certificate_file.specs.Acceptance.{in_reach, step_unless, take_step, step_line, lemma_unless, take_lemma, lemma_line, after_progress, take_line}
 use Rattle.reach_kinds.specs.Bodies.{and_then, holding, is_covered, adds_covered, counted, with_literal, listed_by, literal_in, list_step_unless, list_step, list_line, list_text, after_list_step}
 use Rattle.certificate_file.specs.Known.{IsKnown, IsKnownState}
@@ -33,10 +34,13 @@ use Rattle.certificate_file.specs.declared.places.Proof.{Proof}
 use Rattle.certificate_file.specs.declared.places.Proof.TheVariants as proof
 use Rattle.certificate_file.specs.declared.places.Header.{Header}
 use Rattle.certificate_file.specs.declared.places.Subject.{Subject}
+use Rattle.reach_kinds.specs.GroupBodies.{group_step_unless, group_step, group_line, group_text, after_group_step}
 use Rattle.reach_kinds.specs.declared.places.ListPart.{ListPart}
+use Rattle.reach_kinds.specs.declared.places.GroupPart.{GroupPart}
+use Rattle.reach_kinds.specs.declared.places.GroupListing.{GroupListing}
 use Rattle.reach_kinds.specs.declared.places.Listing.{Listing}
 use Rattle.certificate_file.specs.declared.places.Place.TheVariants.{AtSteps, AtLemmas, AtReach}
-use Rattle.reach_kinds.specs.declared.places.ReachPlace.TheVariants.{AtList}
+use Rattle.reach_kinds.specs.declared.places.ReachPlace.TheVariants.{AtList, AtGroups}
 use Rattle.reach_kinds.specs.declared.places.ReachState.{ReachState}
 use Rattle.list_journal.specs.declared.kinds.Listed.{Listed}
 use Rattle.list_journal.specs.declared.kinds.Listed.TheVariants as listed
@@ -84,17 +88,21 @@ taken_lemma l h c now n units step right is_new count rule vars database =
     rw (right, is_new, same, count) refl
 
 -- the places of steps, where lines are taken so
-pub at_steps : (f : System) (d : List ℕ) (h : Header) (c : Checking) (l : ℕ) (text : List ℕ) → take_line f d (AtSteps h c) l text ≡ step_line h c l text
+pub at_steps : (f : System) (given : Given) (h : Header) (c : Checking) (l : ℕ) (text : List ℕ) → take_line f given (AtSteps h c) l text ≡ step_line h c l text
 unfolding take_line
-at_steps f d h c l text = refl
+at_steps f given h c l text = refl
 
-pub at_lemmas : (f : System) (d : List ℕ) (h : Header) (c : Checking) (n l : ℕ) (text : List ℕ) → take_line f d (AtLemmas h c n) l text ≡ lemma_line h c n l text
+pub at_lemmas : (f : System) (given : Given) (h : Header) (c : Checking) (n l : ℕ) (text : List ℕ) → take_line f given (AtLemmas h c n) l text ≡ lemma_line h c n l text
 unfolding take_line
-at_lemmas f d h c n l text = refl
+at_lemmas f given h c n l text = refl
 
-pub at_list : (f : System) (d : List ℕ) (s : Subject) (k : Listing) (l : ℕ) (text : List ℕ) → take_line f d (AtReach s (AtList k)) l text ≡ and_then (λ r. Ok (in_reach s r)) (list_line f s.nodes k l text)
+pub at_list : (f : System) (given : Given) (s : Subject) (k : Listing) (l : ℕ) (text : List ℕ) → take_line f given (AtReach s (AtList k)) l text ≡ and_then (λ r. Ok (in_reach s r)) (list_line f s.nodes k l text)
 unfolding take_line
-at_list f d s k l text = refl
+at_list f given s k l text = refl
+
+pub at_groups : (f : System) (given : Given) (s : Subject) (k : GroupListing) (l : ℕ) (text : List ℕ) → take_line f given (AtReach s (AtGroups k)) l text ≡ and_then (λ r. Ok (in_reach s r)) (group_line f s.nodes k l text)
+unfolding take_line
+at_groups f given s k l text = refl
 
 -- ---- steps that were read
 
@@ -119,6 +127,10 @@ list_progress_so s sought kind part sets c n going = refl
 list_progress_so s listed.Quorum kind part sets c n Refuted = refl
 list_progress_so s listed.Blocking kind part sets c n Refuted = refl
 list_progress_so s listed.Smaller kind part sets c n Refuted = refl
+
+group_progress_so : (s : Subject) (kind : ListKind) (over : GroupPart) (sets : List Table) (c : Checking) (n : ℕ) (p : Progress) → in_reach s (after_group_step (record { kind = kind; over = over; checker = c; sets = sets; units = n }) p) ≡ after_step_of (proof.Groups s kind over sets) c n p
+group_progress_so s kind over sets c n going = refl
+group_progress_so s kind over sets c n Refuted = refl
 
 module _ (l : ℕ) (h : Header) (c : Checking) (n : ℕ) where
   step_taken : (r : Result ProofStep LineFault) → and_then (take_step l h c) (or_bad_line l r) ≡ and_then (next_of (proof.Refutation h)) (read l false c.rule c.vars c.database n (outline_in c.rule c.vars c.database r))
@@ -166,23 +178,49 @@ module _ (l : ℕ) (s : Subject) (sought : Listed) (part : ListPart) (c : Checki
     | None ↦ refl
   ]
 
+module _ (l : ℕ) (s : Subject) (over : GroupPart) (c : Checking) (sets : List Table) (n : ℕ) where
+  group_taken : (kind : ListKind) (r : Result ProofStep LineFault) → and_then (λ x. Ok (in_reach s x)) (and_then (group_step (record { kind = kind; over = over; checker = c; sets = sets; units = n }) l) (and_then (literal_in kind l) (or_bad_line l r))) ≡ and_then (next_of (proof.Groups s kind over sets)) (read l (is_part_kind kind) c.rule c.vars c.database n (outline_in c.rule c.vars c.database r))
+  group_taken Whole (Err e) = refl
+  group_taken Part (Err e) = refl
+  group_taken Whole (Ok (Addition id lits hints)) = elim (addition_fault_by c.rule c.vars c.database id lits hints) as (λ o. and_then (λ x. Ok (in_reach s x)) (group_step_unless l (record { kind = Whole; over = over; checker = c; sets = sets; units = n }) (Addition id lits hints) o) ≡ and_then (next_of (proof.Groups s Whole over sets)) (read l false c.rule c.vars c.database n (Some (Adds id lits o)))) [
+    | Some fault ↦ refl
+    | None ↦ ap (λ (s : State). Ok s) (group_progress_so s Whole over sets (record { rule = c.rule; vars = c.vars; database = record { held = with_clause c.database.held id lits; last = id } }) (n + 1) (progress_at lits))
+  ]
+  group_taken Part (Ok (Addition id [] hints)) = refl
+  group_taken Part (Ok (Addition id (x ∷ xs) hints)) = elim (addition_fault_by c.rule c.vars c.database id (x ∷ xs) hints) as (λ o. and_then (λ x. Ok (in_reach s x)) (group_step_unless l (record { kind = Part; over = over; checker = c; sets = sets; units = n }) (Addition id (x ∷ xs) hints) o) ≡ and_then (next_of (proof.Groups s Part over sets)) (read l true c.rule c.vars c.database n (Some (Adds id (x ∷ xs) o)))) [
+    | Some fault ↦ refl
+    | None ↦ unless_both (λ (x : ReachState). Ok (in_reach s x)) (next_of (proof.Groups s Part over sets)) (NotNew l) (not (is_covered c.database.held id (x ∷ xs))) _ ((record { rule = c.rule; vars = c.vars; database = record { held = with_clause c.database.held id (x ∷ xs); last = id } }, going), n + 1) refl
+  ]
+  group_taken Whole (Ok (Deletion id ids)) = elim (deletion_fault c.database.held [] ids) as (λ o. and_then (λ x. Ok (in_reach s x)) (group_step_unless l (record { kind = Whole; over = over; checker = c; sets = sets; units = n }) (Deletion id ids) o) ≡ and_then (next_of (proof.Groups s Whole over sets)) (and_then (λ t. Ok (t, n)) (after_deletion l c.rule c.vars c.database ids o))) [
+    | Some fault ↦ refl
+    | None ↦ refl
+  ]
+  group_taken Part (Ok (Deletion id ids)) = elim (deletion_fault c.database.held [] ids) as (λ o. and_then (λ x. Ok (in_reach s x)) (group_step_unless l (record { kind = Part; over = over; checker = c; sets = sets; units = n }) (Deletion id ids) o) ≡ and_then (next_of (proof.Groups s Part over sets)) (and_then (λ t. Ok (t, n)) (after_deletion l c.rule c.vars c.database ids o))) [
+    | Some fault ↦ refl
+    | None ↦ refl
+  ]
+
 -- a step line is taken as its outline is
-read_so : (f : System) (d : List ℕ) (p : Proof) (c : Checking) (n l : ℕ) (text : List ℕ) → is_other text ≡ false → take_line f d (place_of p c n) l text ≡ and_then (next_of p) (read l (is_part p) c.rule c.vars c.database n (outline_in c.rule c.vars c.database (step_in text)))
-read_so f d (proof.Refutation h) c n l text is = at_steps f d h c l text ∙ rw (not_end text is) (step_taken l h c n (step_in text))
-read_so f d (proof.Partial h) c n l text is = at_lemmas f d h c n l text ∙ rw (not_end text is) (lemma_taken l h c n (step_in text))
-read_so f d (proof.List s sought kind part sets) c n l text is =
-    at_list f d s (record { sought = sought; kind = kind; part = part; checker = c; sets = sets; units = n }) l text
+read_so : (f : System) (given : Given) (p : Proof) (c : Checking) (n l : ℕ) (text : List ℕ) → is_other text ≡ false → take_line f given (place_of p c n) l text ≡ and_then (next_of p) (read l (is_part p) c.rule c.vars c.database n (outline_in c.rule c.vars c.database (step_in text)))
+read_so f given (proof.Refutation h) c n l text is = at_steps f given h c l text ∙ rw (not_end text is) (step_taken l h c n (step_in text))
+read_so f given (proof.Partial h) c n l text is = at_lemmas f given h c n l text ∙ rw (not_end text is) (lemma_taken l h c n (step_in text))
+read_so f given (proof.List s sought kind part sets) c n l text is =
+    at_list f given s (record { sought = sought; kind = kind; part = part; checker = c; sets = sets; units = n }) l text
     ∙ rw (not_end text is)
     (ap (λ (o : Option Listed). and_then (λ x. Ok (in_reach s x)) (list_text f s.nodes (record { sought = sought; kind = kind; part = part; checker = c; sets = sets; units = n }) l text o)) (not_listed sought text is) ∙ list_taken l s sought part c sets n kind (step_in text))
+read_so f given (proof.Groups s kind over sets) c n l text is =
+    at_groups f given s (record { kind = kind; over = over; checker = c; sets = sets; units = n }) l text
+    ∙ rw (not_end text is)
+    (ap (λ (o : Option Listed). and_then (λ x. Ok (in_reach s x)) (group_text f s.nodes (record { kind = kind; over = over; checker = c; sets = sets; units = n }) l text o)) (not_listed listed.Blocking text is) ∙ group_taken l s over c sets n kind (step_in text))
 
 -- a step line that was read as a stream, before and after which the checkers were these, is taken so
-pub read_line : (f : System) (d : List ℕ) (p : Proof) (part : Bool) (now later : Stepping) (n l line : ℕ) (words : StepWords) (text : List ℕ) (r : Result (Finished × ℕ) CertError)
+pub read_line : (f : System) (given : Given) (p : Proof) (part : Bool) (now later : Stepping) (n l line : ℕ) (words : StepWords) (text : List ℕ) (r : Result (Finished × ℕ) CertError)
     → later.rule ≡ now.rule → later.vars ≡ now.vars → later.database ≡ now.database → line ≡ l → part ≡ is_part p → is_other text ≡ false
     → outline_in now.rule now.vars now.database (step_in text) ≡ ahead now.rule now.vars now.database words later.open_addition []
     → read line part later.rule later.vars later.database n (ahead later.rule later.vars later.database words later.open_addition []) ≡ r
-    → take_line f d (place_of p (checking_of now) n) l text ≡ and_then (next_of p) r
-read_line f d p part now later n l line words text r rule vars database number is other told came =
-    read_so f d p (checking_of now) n l text other
+    → take_line f given (place_of p (checking_of now) n) l text ≡ and_then (next_of p) r
+read_line f given p part now later n l line words text r rule vars database number is other told came =
+    read_so f given p (checking_of now) n l text other
     ∙ ap (and_then (next_of p)) (
     ap (read l (is_part p) now.rule now.vars now.database n) told
     ∙ sym (ap (λ (u : Rule). read l (is_part p) u now.vars now.database n (ahead u now.vars now.database words later.open_addition [])) rule)
@@ -194,15 +232,19 @@ read_line f d p part now later n l line words text r rule vars database number i
     )
 
 -- the sets of a proof's list have places for the system's nodes
-pub sized_sets : (f : System) (p : Proof) (c : Checking) (n : ℕ) → IsKnown f (place_of p c n) → HasSizedSets p
-sized_sets f (proof.Refutation h) c n is = tt
-sized_sets f (proof.Partial h) c n is = tt
-sized_sets f (proof.List s sought kind part sets) c n is = (length f.sets, λ k t low. (is.1.sets k t low).places)
+pub sized_sets : (f : System) (given : Given) (p : Proof) (c : Checking) (n : ℕ) → IsKnown f given (place_of p c n) → HasSizedSets p
+sized_sets f given (proof.Refutation h) c n is = tt
+sized_sets f given (proof.Partial h) c n is = tt
+sized_sets f given (proof.List s sought kind part sets) c n is = (length f.sets, λ k t low. (is.1.sets k t low).places)
+sized_sets f given (proof.Groups s kind over sets) c n is = (length over.groups, is.1.sets)
 
 -- what is known behind a line of a proof by steps
-pub known_after : (f : System) (d : List ℕ) (p : Proof) (c : Checking) (n l : ℕ) (text : List ℕ) (state : State) → IsKnown f (place_of p c n) → take_line f d (place_of p c n) l text ≡ Ok state → IsKnownState f state
-known_after f d (proof.Refutation h) c n l text state is e = known_step f h c l text is state (sym (at_steps f d h c l text) ∙ e)
-known_after f d (proof.Partial h) c n l text state is e = known_lemma f h c n l text is state (sym (at_lemmas f d h c n l text) ∙ e)
-known_after f d (proof.List s sought kind part sets) c n l text state is e =
+pub known_after : (f : System) (given : Given) (p : Proof) (c : Checking) (n l : ℕ) (text : List ℕ) (state : State) → IsKnown f given (place_of p c n) → take_line f given (place_of p c n) l text ≡ Ok state → IsKnownState f given state
+known_after f given (proof.Refutation h) c n l text state is e = known_step f given h c l text is state (sym (at_steps f given h c l text) ∙ e)
+known_after f given (proof.Partial h) c n l text state is e = known_lemma f given h c n l text is state (sym (at_lemmas f given h c n l text) ∙ e)
+known_after f given (proof.List s sought kind part sets) c n l text state is e =
     let k : Listing = record { sought = sought; kind = kind; part = part; checker = c; sets = sets; units = n } in
-    known_reach f s (AtList k) l text is state (sym (at_list f d s k l text) ∙ e)
+    known_reach f given s (AtList k) l text is state (sym (at_list f given s k l text) ∙ e)
+known_after f given (proof.Groups s kind over sets) c n l text state is e =
+    let k : GroupListing = record { kind = kind; over = over; checker = c; sets = sets; units = n } in
+    known_reach f given s (AtGroups k) l text is state (sym (at_groups f given s k l text) ∙ e)

@@ -43,8 +43,8 @@ subject_is f h faulty nodes same part = rw (same, part) refl
 
 lemma_known : (f : System) (h : Header) (c : Checking) (step : ProofStep) (p : Progress) → AreSteps f h c → step_fault_by c.rule c.vars c.database step ≡ None → progress_of step ≡ p
     → IsKnownLeft f h (after_lemma (holding c (after_step c.database step)) p)
-lemma_known f h c step going k at is = after_known f h c step going k at is
-lemma_known f h c step Refuted k at is = (after_known f h c step Refuted k at is).1
+lemma_known f h c step going k at is = after_known f (record { digest = []; orgs = None }) h c step going k at is
+lemma_known f h c step Refuted k at is = (after_known f (record { digest = []; orgs = None }) h c step Refuted k at is).1
 
 step_known : (f : System) (h : Header) (l : ℕ) (c : Checking) (step : ProofStep) (left : Option Checking) → AreSteps f h c → taken l c step ≡ Ok left → IsKnownLeft f h left
 step_known f h l c step left k e = elim (step_fault_by c.rule c.vars c.database step) as (λ (o : Option StepFault). step_fault_by c.rule c.vars c.database step ≡ o → taken_unless l c step o ≡ Ok left → IsKnownLeft f h left) [

@@ -8,12 +8,14 @@ use Rattle.lrat_model.specs.declared.step.Progress.{Progress}
 use Rattle.lrat_model.specs.declared.step.Progress.TheVariants.{Going as going, Refuted}
 use Rattle.lrat_checker.specs.Checking.{Checking, Stepping}
 use Rattle.step_stream.specs.Outline.{StepOutline, Adds, Deletes}
+use Rattle.list_journal.specs.Order.{ordered}
 use Rattle.list_journal.specs.declared.kinds.ListKind.{ListKind}
 use Rattle.list_journal.specs.declared.kinds.ListKind.TheVariants.{Whole, Partial as Part}
 use Rattle.cert_lines.specs.Limits.{unless}
 use Rattle.reach_kinds.specs.Bodies.{and_then, is_covered}
 use Rattle.certificate_file.specs.declared.places.Answer.TheVariants.{Refutation}
-use Rattle.reach_kinds.specs.declared.places.ReachPlace.TheVariants.{AtList, AtEnd as Ended}
+use Rattle.reach_kinds.specs.declared.places.ReachPlace.TheVariants.{AtList, AtGroups, AtEnd as Ended}
+use Rattle.reach_kinds.specs.declared.places.Reached.TheVariants as reached
 use Rattle.reach_kinds.specs.Bodies.{in_order, whole_of}
 use Rattle.certificate_file.specs.declared.places.Place.{Place}
 use Rattle.certificate_file.specs.declared.places.Place.TheVariants.{AtSteps, AtLemmas, AtReach, AtEnd}
@@ -81,18 +83,21 @@ abbrev pub is_part : Proof → Bool
 is_part (proof.Refutation h) = false
 is_part (proof.Partial h) = true
 is_part (proof.List s sought kind part sets) = is_part_kind kind
+is_part (proof.Groups s kind over sets) = is_part_kind kind
 
 -- the place of its next line, where this is held and there are so many units
 abbrev pub place_of : Proof → Checking → ℕ → Place
 place_of (proof.Refutation h) c n = AtSteps h c
 place_of (proof.Partial h) c n = AtLemmas h c n
 place_of (proof.List s sought kind part sets) c n = AtReach s (AtList (record { sought = sought; kind = kind; part = part; checker = c; sets = sets; units = n }))
+place_of (proof.Groups s kind over sets) c n = AtReach s (AtGroups (record { kind = kind; over = over; checker = c; sets = sets; units = n }))
 
 -- the place behind the empty lemma
 abbrev pub end_of : Proof → Place
 end_of (proof.Refutation h) = AtEnd (record { header = h; answer = Refutation })
 end_of (proof.Partial h) = AtEnd (record { header = h; answer = Refutation })
 end_of (proof.List s sought kind part sets) = AtReach s (Ended (whole_of sought (in_order sought sets)))
+end_of (proof.Groups s kind over sets) = AtReach s (Ended (reached.OrgBlocking over.groups (ordered sets)))
 
 -- what is so after a step, by where it led
 abbrev pub after_step_of : Proof → Checking → ℕ → Progress → State
@@ -104,3 +109,4 @@ abbrev pub HasSizedSets : Proof → Type 0
 HasSizedSets (proof.Refutation h) = Unit {0}
 HasSizedSets (proof.Partial h) = Unit {0}
 HasSizedSets (proof.List s sought kind part sets) = (n : ℕ) × All (λ t. length t ≡ n) sets
+HasSizedSets (proof.Groups s kind over sets) = (n : ℕ) × All (λ t. length t ≡ n) sets

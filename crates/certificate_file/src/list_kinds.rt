@@ -4,8 +4,8 @@ ghost use Rattle.certificate_file.specs.Acceptance.{list_named, quorum_list, lis
 ghost use Rattle.certificate_file.specs.Known.{IsSubject};
 ghost use Rattle.reach_kinds.specs.Bodies.{body_begins};
 
+use crate::organisations::group_kind_line;
 use crate::places::{ListTitle, Place, State, Subject};
-use crate::taking::kind_line;
 use cert_lines::CertError;
 use clause_encoder::Version;
 use fbas_core::System;
@@ -100,6 +100,6 @@ pub fn any_kind_line(
 {
     match list_kind(subject.version, text) {
         Some(title) => list_from(alloc, system, title.sought, title.kind, subject),
-        None => kind_line(line, text, subject),
+        None => group_kind_line(line, text, subject),
     }
 }

@@ -5,8 +5,10 @@ ghost use Rattle.desk_io.specs.Faults.{ReadFails};
 ghost use Rattle.cert_lines.specs.Lines.{lines_of};
 ghost use Rattle.cert_lines.specs.declared.lines.TheConstants.{MAX_LINES};
 ghost use Rattle.certificate_file.specs.Acceptance.{check_lines};
+ghost use Rattle.certificate_file.specs.Organisations.{FitsGiven};
 ghost use Rattle.certificate_file.specs.Known.{IsKnown, IsKnownState};
 
+use crate::given::Given;
 use crate::places::{Place, State};
 use crate::stepping::{Steps, next_steps};
 use crate::taking::take_line;
@@ -22,26 +24,27 @@ fn next_line<D: Desk>(
     lines: &mut Lines,
     desk: &mut D,
     system: &System,
-    digest: &[u8; 32],
+    given: &Given,
     place: Place,
 ) -> Result<State, CertError>
     requires fresh { lines.old.taken ≡ 0 }
-    requires known { IsKnown system.now place }
-    ensures known { IfOk result (IsKnownState system.now) }
+    requires fits { FitsGiven system.now given.now }
+    requires known { IsKnown system.now given.now place }
+    ensures known { IfOk result (IsKnownState system.now given.now) }
     ensures few { OnOk result (lines.new.number ≤ MAX_LINES + 1) }
     ensures number { OnOk result (lines.old.number < lines.new.number) }
     ensures taken { OnOk result (lines.new.taken ≡ 0) }
-    ensures ok { IfOk result (λ s. IsTrue D.tells → check_lines system.now digest.now lines.old.number (State.Going place) (lines_of (lines.old.unread ++ left_of Which.Cert (D.state desk.old)))
-        ≡ check_lines system.now digest.now lines.new.number s (lines_of (lines.new.unread ++ left_of Which.Cert (D.state desk.new)))) }
+    ensures ok { IfOk result (λ s. IsTrue D.tells → check_lines system.now given.now lines.old.number (State.Going place) (lines_of (lines.old.unread ++ left_of Which.Cert (D.state desk.old)))
+        ≡ check_lines system.now given.now lines.new.number s (lines_of (lines.new.unread ++ left_of Which.Cert (D.state desk.new)))) }
     ensures err { IfErr result (λ e. IsTrue D.tells → (e ≡ CertError.Memory) ⊎ (e ≡ CertError.Read)
-        ⊎ (check_lines system.now digest.now lines.old.number (State.Going place) (lines_of (lines.old.unread ++ left_of Which.Cert (D.state desk.old))) ≡ Err e)) }
+        ⊎ (check_lines system.now given.now lines.old.number (State.Going place) (lines_of (lines.old.unread ++ left_of Which.Cert (D.state desk.old))) ≡ Err e)) }
     ensures plain { IsErrOf result CertError.Read → IsTrue D.tells → IsTrue (D.state desk.old).plain → ⊥ }
     ensures rest { IsTrue D.tells → D.state desk.new ≡ with_left Which.Cert (left_of Which.Cert (D.state desk.new)) (D.state desk.old) }
     ensures faults { ReadFails (D.faults desk.old) (D.faults desk.new) (IsErrOf result CertError.Read) }
 {
     let line = lines.number();
     match lines.line(alloc, desk) {
-        Ok(text) => take_line(alloc, system, digest, place, line, &text),
+        Ok(text) => take_line(alloc, system, given, place, line, &text),
         Err(fault) => {
             drop(place);
             Err(fault)
@@ -57,25 +60,26 @@ pub fn next_state<D: Desk>(
     desk: &mut D,
     reader: &mut StepReader,
     system: &System,
-    digest: &[u8; 32],
+    given: &Given,
     place: Place,
 ) -> Result<State, CertError>
     requires fresh { lines.old.taken ≡ 0 }
-    requires known { IsKnown system.now place }
-    ensures known { IfOk result (IsKnownState system.now) }
+    requires fits { FitsGiven system.now given.now }
+    requires known { IsKnown system.now given.now place }
+    ensures known { IfOk result (IsKnownState system.now given.now) }
     ensures few { OnOk result (lines.new.number ≤ MAX_LINES + 1) }
     ensures number { OnOk result (lines.old.number < lines.new.number) }
     ensures taken { OnOk result (lines.new.taken ≡ 0) }
-    ensures ok { IfOk result (λ s. IsTrue D.tells → check_lines system.now digest.now lines.old.number (State.Going place) (lines_of (lines.old.unread ++ left_of Which.Cert (D.state desk.old)))
-        ≡ check_lines system.now digest.now lines.new.number s (lines_of (lines.new.unread ++ left_of Which.Cert (D.state desk.new)))) }
+    ensures ok { IfOk result (λ s. IsTrue D.tells → check_lines system.now given.now lines.old.number (State.Going place) (lines_of (lines.old.unread ++ left_of Which.Cert (D.state desk.old)))
+        ≡ check_lines system.now given.now lines.new.number s (lines_of (lines.new.unread ++ left_of Which.Cert (D.state desk.new)))) }
     ensures err { IfErr result (λ e. IsTrue D.tells → (e ≡ CertError.Memory) ⊎ (e ≡ CertError.Read)
-        ⊎ (check_lines system.now digest.now lines.old.number (State.Going place) (lines_of (lines.old.unread ++ left_of Which.Cert (D.state desk.old))) ≡ Err e)) }
+        ⊎ (check_lines system.now given.now lines.old.number (State.Going place) (lines_of (lines.old.unread ++ left_of Which.Cert (D.state desk.old))) ≡ Err e)) }
     ensures plain { IsErrOf result CertError.Read → IsTrue D.tells → IsTrue (D.state desk.old).plain → ⊥ }
     ensures rest { IsTrue D.tells → D.state desk.new ≡ with_left Which.Cert (left_of Which.Cert (D.state desk.new)) (D.state desk.old) }
     ensures faults { ReadFails (D.faults desk.old) (D.faults desk.new) (IsErrOf result CertError.Read) }
 {
     match Steps::of(place) {
-        Ok(steps) => next_steps(alloc, lines, desk, reader, system, digest, steps),
-        Err(other) => next_line(alloc, lines, desk, system, digest, other),
+        Ok(steps) => next_steps(alloc, lines, desk, reader, system, given, steps),
+        Err(other) => next_line(alloc, lines, desk, system, given, other),
     }
 }

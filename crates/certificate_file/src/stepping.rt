@@ -7,9 +7,12 @@ ghost use Rattle.cert_lines.specs.Lines.{lines_of};
 ghost use Rattle.cert_lines.specs.declared.lines.TheConstants.{MAX_LINES};
 ghost use Rattle.certificate_file.specs.Acceptance.{take_line, check_lines};
 ghost use Rattle.reach_kinds.specs.Bodies.{and_then};
+ghost use Rattle.certificate_file.specs.Organisations.{FitsGiven};
+ghost use Rattle.certificate_file.specs.declared.given.Given.{Given};
 ghost use Rattle.certificate_file.specs.Known.{IsKnown, IsKnownState};
 ghost use Rattle.certificate_file.specs.Streamed.{is_part, is_part_kind, place_of, end_of, checking_of, HasSizedSets};
 
+use crate::given::Given;
 use crate::places::{Accepted, Answer, Place, Proof, State};
 use crate::streaming::take_read;
 use crate::taking::take_line;
@@ -19,7 +22,7 @@ use fbas_core::System;
 use list_journal::ListKind;
 use lrat_checker::{Checker, IdleChecker};
 use lrat_model::Progress;
-use reach_kinds::{Listing, ReachPlace, whole_of};
+use reach_kinds::{GroupListing, Listing, ReachPlace, group_whole, whole_of};
 use std::alloc::Global;
 use step_stream::StepReader;
 
@@ -65,6 +68,21 @@ impl Steps {
                         units,
                     })
                 }
+                ReachPlace::AtGroups(listing) => {
+                    let GroupListing {
+                        kind,
+                        over,
+                        checker,
+                        sets,
+                        units,
+                    } = listing;
+                    let proof = Proof::Groups(subject, kind, over, sets);
+                    Ok(Steps {
+                        proof,
+                        checker,
+                        units,
+                    })
+                }
                 other => Err(Place::AtReach(subject, other)),
             },
             other => Err(other),
@@ -81,6 +99,7 @@ impl Proof {
             Proof::Refutation(_) => false,
             Proof::Partial(_) => true,
             Proof::List(_, _, kind, _, _) => is_part_kind(*kind),
+            Proof::Groups(_, kind, _, _) => is_part_kind(*kind),
         }
     }
 
@@ -102,6 +121,16 @@ impl Proof {
                 };
                 Place::AtReach(subject, ReachPlace::AtList(listing))
             }
+            Proof::Groups(subject, kind, over, sets) => {
+                let listing = GroupListing {
+                    kind,
+                    over,
+                    checker,
+                    sets,
+                    units,
+                };
+                Place::AtReach(subject, ReachPlace::AtGroups(listing))
+            }
         }
     }
 
@@ -122,6 +151,9 @@ impl Proof {
             Proof::List(subject, sought, _, part, sets) => {
                 drop(part);
                 Place::AtReach(subject, ReachPlace::AtEnd(whole_of(sought, sets)))
+            }
+            Proof::Groups(subject, _, over, sets) => {
+                Place::AtReach(subject, ReachPlace::AtEnd(group_whole(over, sets)))
             }
         }
     }
@@ -151,17 +183,17 @@ fn take_steps<D: Desk>(
     requires fresh { lines.old.taken ≡ 0 }
     requires closed { checker.old.open_addition ≡ None }
     ensures closed { OnOk result (checker.new.open_addition ≡ None) }
-    ensures known { IfOk result (λ o. IfSome o (λ _. (f : System) → IsKnown f (place_of proof.now (checking_of checker.old) units.old) → IsKnown f (place_of proof.now (checking_of checker.new) units.new))) }
-    ensures shown { result ≡ Ok None → (f : System) → IsKnown f (place_of proof.now (checking_of checker.old) units.old) → IsKnown f (end_of proof.now) }
-    ensures text { IfOk result (λ o. IfSome o (λ t. IsTrue D.tells → (f : System) (d : List ℕ) → check_lines f d lines.old.number (State.Going (place_of proof.now (checking_of checker.old) units.old)) (lines_of (lines.old.unread ++ left_of Which.Cert (D.state desk.old)))
-        ≡ and_then (λ s. check_lines f d lines.new.number s (lines_of (lines.new.unread ++ left_of Which.Cert (D.state desk.new)))) (take_line f d (place_of proof.now (checking_of checker.new) units.new) t.0 t.1.items))) }
-    ensures end { result ≡ Ok None → IsTrue D.tells → (f : System) (d : List ℕ) → check_lines f d lines.old.number (State.Going (place_of proof.now (checking_of checker.old) units.old)) (lines_of (lines.old.unread ++ left_of Which.Cert (D.state desk.old)))
-        ≡ check_lines f d lines.new.number (State.Going (end_of proof.now)) (lines_of (lines.new.unread ++ left_of Which.Cert (D.state desk.new))) }
+    ensures known { IfOk result (λ o. IfSome o (λ _. (f : System) (given : Given) → IsKnown f given (place_of proof.now (checking_of checker.old) units.old) → IsKnown f given (place_of proof.now (checking_of checker.new) units.new))) }
+    ensures shown { result ≡ Ok None → (f : System) (given : Given) → IsKnown f given (place_of proof.now (checking_of checker.old) units.old) → IsKnown f given (end_of proof.now) }
+    ensures text { IfOk result (λ o. IfSome o (λ t. IsTrue D.tells → (f : System) (given : Given) → check_lines f given lines.old.number (State.Going (place_of proof.now (checking_of checker.old) units.old)) (lines_of (lines.old.unread ++ left_of Which.Cert (D.state desk.old)))
+        ≡ and_then (λ s. check_lines f given lines.new.number s (lines_of (lines.new.unread ++ left_of Which.Cert (D.state desk.new)))) (take_line f given (place_of proof.now (checking_of checker.new) units.new) t.0 t.1.items))) }
+    ensures end { result ≡ Ok None → IsTrue D.tells → (f : System) (given : Given) → check_lines f given lines.old.number (State.Going (place_of proof.now (checking_of checker.old) units.old)) (lines_of (lines.old.unread ++ left_of Which.Cert (D.state desk.old)))
+        ≡ check_lines f given lines.new.number (State.Going (end_of proof.now)) (lines_of (lines.new.unread ++ left_of Which.Cert (D.state desk.new))) }
     ensures few { OnOk result (lines.new.number ≤ MAX_LINES + 1) }
     ensures number { OnOk result (lines.old.number < lines.new.number) }
     ensures taken { OnOk result (lines.new.taken ≡ 0) }
     ensures err { IfErr result (λ e. IsTrue D.tells → (e ≡ CertError.Memory) ⊎ (e ≡ CertError.Read)
-        ⊎ ((f : System) (d : List ℕ) → check_lines f d lines.old.number (State.Going (place_of proof.now (checking_of checker.old) units.old)) (lines_of (lines.old.unread ++ left_of Which.Cert (D.state desk.old))) ≡ Err e)) }
+        ⊎ ((f : System) (given : Given) → check_lines f given lines.old.number (State.Going (place_of proof.now (checking_of checker.old) units.old)) (lines_of (lines.old.unread ++ left_of Which.Cert (D.state desk.old))) ≡ Err e)) }
     ensures plain { IsErrOf result CertError.Read → IsTrue D.tells → IsTrue (D.state desk.old).plain → ⊥ }
     ensures rest { IsTrue D.tells → D.state desk.new ≡ with_left Which.Cert (left_of Which.Cert (D.state desk.new)) (D.state desk.old) }
     ensures faults { ReadFails (D.faults desk.old) (D.faults desk.new) (IsErrOf result CertError.Read) }
@@ -186,19 +218,20 @@ pub fn next_steps<D: Desk>(
     desk: &mut D,
     reader: &mut StepReader,
     system: &System,
-    digest: &[u8; 32],
+    given: &Given,
     steps: Steps,
 ) -> Result<State, CertError>
     requires fresh { lines.old.taken ≡ 0 }
-    requires known { IsKnown system.now (place_of steps.proof steps.checker steps.units) }
-    ensures known { IfOk result (IsKnownState system.now) }
+    requires fits { FitsGiven system.now given.now }
+    requires known { IsKnown system.now given.now (place_of steps.proof steps.checker steps.units) }
+    ensures known { IfOk result (IsKnownState system.now given.now) }
     ensures few { OnOk result (lines.new.number ≤ MAX_LINES + 1) }
     ensures number { OnOk result (lines.old.number < lines.new.number) }
     ensures taken { OnOk result (lines.new.taken ≡ 0) }
-    ensures ok { IfOk result (λ s. IsTrue D.tells → check_lines system.now digest.now lines.old.number (State.Going (place_of steps.proof steps.checker steps.units)) (lines_of (lines.old.unread ++ left_of Which.Cert (D.state desk.old)))
-        ≡ check_lines system.now digest.now lines.new.number s (lines_of (lines.new.unread ++ left_of Which.Cert (D.state desk.new)))) }
+    ensures ok { IfOk result (λ s. IsTrue D.tells → check_lines system.now given.now lines.old.number (State.Going (place_of steps.proof steps.checker steps.units)) (lines_of (lines.old.unread ++ left_of Which.Cert (D.state desk.old)))
+        ≡ check_lines system.now given.now lines.new.number s (lines_of (lines.new.unread ++ left_of Which.Cert (D.state desk.new)))) }
     ensures err { IfErr result (λ e. IsTrue D.tells → (e ≡ CertError.Memory) ⊎ (e ≡ CertError.Read)
-        ⊎ (check_lines system.now digest.now lines.old.number (State.Going (place_of steps.proof steps.checker steps.units)) (lines_of (lines.old.unread ++ left_of Which.Cert (D.state desk.old))) ≡ Err e)) }
+        ⊎ (check_lines system.now given.now lines.old.number (State.Going (place_of steps.proof steps.checker steps.units)) (lines_of (lines.old.unread ++ left_of Which.Cert (D.state desk.old))) ≡ Err e)) }
     ensures plain { IsErrOf result CertError.Read → IsTrue D.tells → IsTrue (D.state desk.old).plain → ⊥ }
     ensures rest { IsTrue D.tells → D.state desk.new ≡ with_left Which.Cert (left_of Which.Cert (D.state desk.new)) (D.state desk.old) }
     ensures faults { ReadFails (D.faults desk.old) (D.faults desk.new) (IsErrOf result CertError.Read) }
@@ -212,7 +245,7 @@ pub fn next_steps<D: Desk>(
     match take_steps(alloc, lines, desk, reader, &proof, &mut checker, &mut units) {
         Ok(Some((line, text))) => {
             let place = proof.place(IdleChecker::closing(checker), units);
-            take_line(alloc, system, digest, place, line, &text)
+            take_line(alloc, system, given, place, line, &text)
         }
         Ok(None) => {
             drop(checker);

@@ -1,9 +1,9 @@
 -- Ever smaller quorums: the last of them, in the part and in the whole system.
-use Rattle.std.proofs.Common.{◌≡◌, ℕ, ◌<◌, List, [], ◌∷◌, ◌++◌, map, length, Bool, true, false, nat_lt, Option, Some, None, option_map, slice_get, IfSome, refl, sym, ap, ◌∙◌, subst, arith}
-use Rattle.std.specs.Prelude.{All, ◌-◌, suc}
+use Rattle.std.proofs.Common.{◌≡◌, ℕ, List, [], ◌∷◌, ◌++◌, map, length, true, nat_lt, Option, Some, None, option_map, slice_get, IfSome, refl, sym, ap, ◌∙◌, arith}
+use Rattle.std.specs.Prelude.{All, ◌-◌}
 use Rattle.std.proofs.lemmas.Bool.{ltb-true}
 use Rattle.std.proofs.lemmas.List.Elements.{All-head, All-tail}
-use Rattle.fbas_model.specs.Nodes.{Table, members, size}
+use Rattle.fbas_model.specs.Nodes.{Table, size}
 use Rattle.fbas_model.specs.Restriction.{kept}
 use Rattle.fbas_model.specs.Systems.{System}
 use Rattle.least_journal.specs.Least.{AreSmaller, FallFrom, last_of}

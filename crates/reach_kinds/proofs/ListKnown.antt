@@ -14,7 +14,6 @@ use Rattle.fbas_model.specs.Systems.{System}
 use Rattle.fbas_model.specs.Restriction.{kept}
 use Rattle.lrat_model.specs.Literal.{Literal, IsSubset}
 use Rattle.lrat_model.specs.Clauses.{clause_at, numbered}
-use Rattle.lrat_model.specs.Runs.{formula_database}
 use Rattle.lrat_model.specs.Steps.{ProofStep, Addition, Deletion, Database, step_fault, after_step, progress_of}
 use Rattle.lrat_model.specs.Rules.{step_fault_by}
 use Rattle.lrat_model.proofs.RatRuns.{rup_is_the_first_rule}
@@ -26,7 +25,7 @@ use Rattle.lrat_model.specs.declared.step.Progress.{Progress}
 use Rattle.lrat_model.specs.declared.step.Progress.TheVariants.{Going as going, Refuted}
 use Rattle.lrat_text.specs.Lines.{step_in}
 use Rattle.list_journal.specs.Kinds.{is_sought}
-use Rattle.list_journal.specs.Journals.{JournalLine, SetLine, StepLine, Rules, IsNewIf, JournalRun, IsNewLine, IsOpen, line_progress, nothing_held, put_if, sets_in}
+use Rattle.list_journal.specs.Journals.{JournalLine, SetLine, StepLine, Rules, IsNewIf, JournalRun, IsNewLine, IsOpen, line_progress, put_if, sets_in}
 use Rattle.list_journal.specs.Tests.{is_within, is_kind, is_minimal}
 use Rattle.list_journal.specs.declared.kinds.ListKind.{ListKind}
 use Rattle.list_journal.specs.declared.kinds.ListKind.TheVariants.{Whole, Partial as Part}
@@ -40,25 +39,23 @@ use Rattle.list_journal.proofs.TestLaws.{is_kind_to, minimal_to, within_to}
 use Rattle.cert_lines.specs.Limits.{unless}
 use Rattle.cert_lines.specs.Words.{words_of}
 use Rattle.cert_lines.specs.Saying.{counter_in, or_bad_line}
-use Rattle.cert_lines.specs.declared.saying.Counts.{Counts}
 use Rattle.cert_lines.specs.declared.faults.CertError.{CertError}
 use Rattle.cert_lines.specs.declared.faults.CertError.TheVariants.{BadLine, UnknownNode, NotMinimal, NotSmaller, NotNew, TooLarge, Formula, Step}
 use Rattle.clause_encoder.specs.NameCounter.{counter_vars, counter_of}
 use Rattle.clause_encoder.specs.declared.limits.TheConstants.{MOST_VARS}
 use Rattle.least_journal.specs.Least.{FallFrom, last_of}
-use Rattle.reach_kinds.specs.Bodies.{and_then, all_among, nodes_of, others, within, adds_covered, is_covered, rules_of, list_part, list_checking, listing_on, no_listing, counted_listing, counter_sized, counter_line, body_begins, asks_inside, is_listed_for, asks_minimal, asks_smaller, is_below, not_of, asks_steps, part_of, listed_by, Numbered, numbered_in, right_set, is_old, new_set, put_last, with_sought, with_listed, list_set, set_line, literal_in, is_old_step, with_step, after_list_step, list_step_unless, list_step, list_end, list_text, list_line, reach_line}
+use Rattle.reach_kinds.specs.Bodies.{and_then, all_among, nodes_of, others, within, adds_covered, is_covered, rules_of, list_part, list_checking, listing_on, counted_listing, counter_sized, counter_line, body_begins, asks_inside, is_listed_for, asks_minimal, asks_smaller, is_below, not_of, asks_steps, part_of, listed_by, Numbered, numbered_in, right_set, is_old, new_set, put_last, with_sought, with_listed, list_set, set_line, literal_in, is_old_step, with_step, after_list_step, list_step_unless, list_step, list_end, list_text, list_line}
 use Rattle.reach_kinds.specs.Shown.{IsReached}
 use Rattle.reach_kinds.specs.declared.places.Reached.{Reached}
 use Rattle.reach_kinds.specs.Known.{IsPartNodes, IsPartSet, FallsIf, IsSmallIf, IsList, IsReachPlace, IsReachState}
 use Rattle.reach_kinds.specs.declared.places.Listing.{Listing}
 use Rattle.reach_kinds.specs.declared.places.ListPart.{ListPart}
-use Rattle.reach_kinds.specs.declared.places.ReachPlace.{ReachPlace}
-use Rattle.reach_kinds.specs.declared.places.ReachPlace.TheVariants.{AtCounter, AtList, AtEnd}
+use Rattle.reach_kinds.specs.declared.places.ReachPlace.TheVariants.{AtCounter, AtList}
 use Rattle.reach_kinds.specs.declared.places.ReachState.{ReachState}
 use Rattle.reach_kinds.specs.declared.places.ReachState.TheVariants.{Going, Done}
 use Rattle.reach_kinds.proofs.CoverLaws.{covered-from}
 use Rattle.reach_kinds.proofs.ListShown.{part_faulty_size, cut_size, part_greatest, list_shown, part_shown}
-use Rattle.reach_kinds.proofs.Falling.{falls_more, size_in_part, below_in_part}
+use Rattle.reach_kinds.proofs.Falling.{falls_more, below_in_part}
 use Rattle.reach_kinds.proofs.Inside.{inside}
 use Rattle.reach_kinds.proofs.Results.{got, passed, within_part}
 
@@ -105,11 +102,11 @@ new_where_uncovered d id clause below above off k other at subset = elim (cases_
   | inr high ↦ (let none = below k (omega arith) in absurd cc)
 ]
 
-new_clause : (asked : Bool) (d : Database) (id : ℕ) (clause : List Literal) → AreBelow d → d.last < id → (asked && is_covered d.held id clause) ≡ false → IsNewIf asked d.held clause
+pub new_clause : (asked : Bool) (d : Database) (id : ℕ) (clause : List Literal) → AreBelow d → d.last < id → (asked && is_covered d.held id clause) ≡ false → IsNewIf asked d.held clause
 new_clause true d id clause below above off = new_where_uncovered d id clause below above off
 new_clause false d id clause below above off = tt
 
-new_step : (r : Rules) (kind : ListKind) (d : Database) (step : ProofStep) → AreBelow d → step_fault r.vars d step ≡ None → (asks_steps kind && adds_covered d.held step) ≡ false → IsNewLine r kind d.held (StepLine step)
+pub new_step : (r : Rules) (kind : ListKind) (d : Database) (step : ProofStep) → AreBelow d → step_fault r.vars d step ≡ None → (asks_steps kind && adds_covered d.held step) ≡ false → IsNewLine r kind d.held (StepLine step)
 new_step r Whole d step below none off = tt
 new_step r Part d (Addition id lits hints) below none off = elim (cases_Bool (nat_le id d.last)) [
   | inl low ↦ let refused = rw low at none in absurd cc
@@ -213,11 +210,11 @@ falls_with listed.Smaller listed.Blocking f nodes sets u places all falls smalle
 falls_with listed.Smaller listed.Smaller f nodes sets u places all falls smaller =
     subst FallFrom (sym (map-append (kept nodes) sets (u ∷ []))) (falls_more (map (kept nodes) sets) (kept nodes u) falls (below_in_part f nodes (size (kept nodes u)) sets places all ∙ smaller))
 
-sets_more : (P : Table → Type 0) (b : Bool) (sets : List Table) (u : Table) → All P sets → P u → All P (put_last b sets u)
+pub sets_more : (P : Table → Type 0) (b : Bool) (sets : List Table) (u : Table) → All P sets → P u → All P (put_last b sets u)
 sets_more P false sets u all one = all
 sets_more P true sets u all one = All-append P sets (u ∷ []) all (All-cons P u [] one (All-nil P))
 
-open_more : (journal : List JournalLine) (line : JournalLine) → IsOpen journal → line_progress line ≡ going → IsOpen (journal ++ line ∷ [])
+pub open_more : (journal : List JournalLine) (line : JournalLine) → IsOpen journal → line_progress line ≡ going → IsOpen (journal ++ line ∷ [])
 open_more journal line opens is = open_append journal (line ∷ []) opens (All-cons (λ l. line_progress l ≡ going) line [] is (All-nil (λ l. line_progress l ≡ going)))
 
 held_below : (f : System) (nodes gone : Table) (k : Listing) → IsList f nodes gone k → AreBelow k.checker.database
@@ -372,12 +369,3 @@ known_counter f nodes gone kind p l text is state e = counter_known f nodes gone
 pub known_end : (f : System) (nodes gone : Table) (l : ℕ) (t : Bool) (r : Reached) (result : Result ReachState CertError) → IsReached f nodes gone r → result ≡ unless (BadLine l) t (Ok (Done r)) → IfOk result (IsReachState f nodes gone)
 known_end f nodes gone l true r result is e = subst (λ (x : Result ReachState CertError). IfOk x (IsReachState f nodes gone)) (sym e) is
 known_end f nodes gone l false r result is e = subst (λ (x : Result ReachState CertError). IfOk x (IsReachState f nodes gone)) (sym e) tt
-
--- a line at its place
-pub known_line : (f : System) (nodes gone : Table) (p : ReachPlace) (l : ℕ) (text : List ℕ) → IsReachPlace f nodes gone p → (state : ReachState) → reach_line f nodes p l text ≡ Ok state → IsReachState f nodes gone state
-known_line f nodes gone (AtCounter kind p) l text is state e = known_counter f nodes gone kind p l text is state e
-known_line f nodes gone (AtList k) l text is state e = known_list f nodes gone k l text is state e
-known_line f nodes gone (AtEnd r) l text is state e =
-    let p = passed (BadLine l) (bytes_eq text (codes "end")) (Ok (Done r)) state e in
-    let same : Done r ≡ state = (let q = p.1 in cc) in
-    subst (IsReachState f nodes gone) same is

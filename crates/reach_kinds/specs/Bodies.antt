@@ -328,9 +328,3 @@ list_text f nodes k l text None = and_then (list_step k l) (and_then (literal_in
 -- a line of a list, or its end
 abbrev pub list_line : System → Table → Listing → ℕ → List ℕ → Result ReachState CertError
 list_line f nodes k l text = if bytes_eq text (codes "end") then list_end k.kind k l else list_text f nodes k l text (listed_by k.sought (words_of text))
-
--- line l taken at its place, where the body speaks of these nodes of the system
-abbrev pub reach_line : System → Table → ReachPlace → ℕ → List ℕ → Result ReachState CertError
-reach_line f nodes (AtCounter kind p) l text = counter_line kind p l text
-reach_line f nodes (AtList k) l text = list_line f nodes k l text
-reach_line f nodes (AtEnd r) l text = expected l text (codes "end") (Ok (Done r))

@@ -15,19 +15,19 @@ use lrat_model::Rule;
 use name_set::NodeSet;
 use std::alloc::{AllocError, Global};
 
-/// A checker that holds nothing, with a variable for each node of the greatest quorum.
-fn list_checker(alloc: Global, greatest: &NodeSet) -> Result<IdleChecker, AllocError>
-    requires { size greatest.now < 2 ^ 31 }
-    ensures { IfOk result (λ checker. checker ≡ list_checking (size greatest.now) nothing_held) }
+/// A checker that holds nothing, with so many variables.
+pub(crate) fn list_checker(alloc: Global, vars: u32) -> Result<IdleChecker, AllocError>
+    requires { vars < 2 ^ 31 }
+    ensures { IfOk result (λ checker. checker ≡ list_checking vars nothing_held) }
 {
-    let vars = u64::from(greatest.count());
-    let mut checker = IdleChecker::start(alloc, Store::new(alloc), vars, Rule::Rup)?;
+    let store = Store::new(alloc);
+    let mut checker = IdleChecker::start(alloc, store, u64::from(vars), Rule::Rup)?;
     checker.expect_covers(alloc);
     Ok(checker)
 }
 
 /// The part of the system that a list is of.
-fn list_part(
+pub(crate) fn list_part(
     alloc: Global,
     system: &System,
     nodes: &NodeSet,
@@ -57,7 +57,7 @@ fn no_listing(
     requires { size part.greatest < 2 ^ 31 }
     ensures { IfOk result (λ k. k ≡ listing_on sought kind part (list_checking (size part.greatest) nothing_held) [] 0) }
 {
-    match list_checker(alloc, &part.greatest) {
+    match list_checker(alloc, part.greatest.count()) {
         Ok(checker) => Ok(Listing {
             sought,
             kind,

@@ -1,10 +1,12 @@
 //! The lines of lists.
 ghost use Rattle.std.specs.Prelude.{◌≡◌, ◌⊎◌, Some, None, is_some, IfSome, IfOk, IfErr, IsErrOf, OnOk, Ok, Err, codes};
 ghost use Rattle.cert_lines.specs.Words.{words_of, names_in};
-ghost use Rattle.reach_kinds.specs.Bodies.{quorum_as, quorum_letter, listed_by, numbered_in, set_line, after_list_step, list_text, list_line, expected, reach_line};
+ghost use Rattle.reach_kinds.specs.Bodies.{quorum_as, quorum_letter, listed_by, numbered_in, set_line, after_list_step, list_text, list_line, expected};
+ghost use Rattle.reach_kinds.specs.PlaceLines.{reach_line};
 ghost use Rattle.reach_kinds.specs.Known.{IsList, IsReachPlace, IsReachState};
 
 use crate::counter::counter_line;
+use crate::group_lines::group_line;
 use crate::list_sets::list_set;
 use crate::list_steps::{after_list_step, list_end, list_step};
 use crate::lists::nodes_of;
@@ -39,7 +41,7 @@ fn quorum_letter(sought: Listed) -> &'static str
 }
 
 /// What the first word of a line lists, if it is no step.
-fn listed_by(sought: Listed, text: &[u8]) -> Option<Listed>
+pub(crate) fn listed_by(sought: Listed, text: &[u8]) -> Option<Listed>
     ensures { result ≡ listed_by sought (words_of text.now) }
 {
     let mut words = Words::of(text);
@@ -68,7 +70,7 @@ fn are_names(names: &mut Words<'_>) -> bool
 }
 
 /// The id behind the first word, and the names behind it, where they are names, each once and in order.
-fn numbered_in(text: &[u8]) -> Option<(u64, Words<'_>)>
+pub(crate) fn numbered_in(text: &[u8]) -> Option<(u64, Words<'_>)>
     ensures some { IfSome result (λ r. (names_in r.1 ≡ Some r.1) × (numbered_in (words_of text.now) ≡ Some (record { id = r.0; names = r.1 }))) }
     ensures none { result ≡ None → numbered_in (words_of text.now) ≡ None }
 {
@@ -198,6 +200,9 @@ pub fn reach_line(
         ReachPlace::AtCounter(kind, part) => counter_line(alloc, kind, part, line, text),
         ReachPlace::AtList(listing) => {
             list_line(alloc, system, nodes, faulty, listing, line, text)
+        }
+        ReachPlace::AtGroups(listing) => {
+            group_line(alloc, system, nodes, faulty, listing, line, text)
         }
         ReachPlace::AtEnd(reached) => end_line(line, text, reached),
     }

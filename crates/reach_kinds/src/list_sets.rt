@@ -85,7 +85,7 @@ fn is_inside(part: &ListPart, asked: bool, set: &NodeSet) -> bool
 }
 
 /// Whether the set is a quorum once the faulty nodes are deleted. The cost is that of `shrink`.
-fn is_quorum_in(part: &ListPart, set: &NodeSet) -> bool
+pub(crate) fn is_quorum_in(part: &ListPart, set: &NodeSet) -> bool
     requires same_n { length set.now ≡ length part.now.system.sets }
     requires same_faulty { length part.now.faulty ≡ length part.now.system.sets }
     ensures { result ≡ is_quorum part.now.system.sets part.now.faulty set.now }

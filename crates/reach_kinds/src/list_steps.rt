@@ -12,7 +12,7 @@ use lrat_model::{Progress, Step, StepFault};
 use name_set::NodeSet;
 
 /// The step, which is not the empty lemma in a part of a list.
-fn literal_in(kind: ListKind, line: u64, step: Step) -> Result<Step, CertError>
+pub(crate) fn literal_in(kind: ListKind, line: u64, step: Step) -> Result<Step, CertError>
     ensures unread { IsErrOf result CertError.Read → ⊥ }
     ensures ok { IfOk result (λ s. literal_in kind line (step_of step) ≡ Ok (step_of s)) }
     ensures err { IfErr result (λ e. literal_in kind line (step_of step) ≡ Err e) }

@@ -1,8 +1,9 @@
 //! The places of the lines of a body, and what it comes to.
 use fbas_core::System;
-use list_journal::{ListKind, Listed, NodeSets};
+use list_journal::{ListKind, Listed, NodeSets, SetList};
 use lrat_checker::IdleChecker;
-use name_set::NodeSet;
+use name_set::{GROUP_WORDS, GroupSet, NodeSet};
+use node_json::Groups;
 
 /// The part of the system that a list is of, with its faulty nodes and its greatest quorum once they are deleted. Its nodes
 /// have their numbers there.
@@ -25,6 +26,27 @@ pub struct Listing {
     pub units: u64,
 }
 
+/// A list of sets of groups.
+pub type GroupSets = SetList<GROUP_WORDS>;
+
+/// A part of the system with its groups, and which of these have a member in its greatest quorum, so that they have a variable.
+#[derive(Drop)]
+pub struct GroupPart {
+    pub part: ListPart,
+    pub groups: Groups,
+    pub touched: GroupSet,
+}
+
+/// A list of blocking sets of groups so far, in the order of its lines, and how many lines count.
+#[derive(Drop)]
+pub struct GroupListing {
+    pub kind: ListKind,
+    pub over: GroupPart,
+    pub checker: IdleChecker,
+    pub sets: GroupSets,
+    pub units: u64,
+}
+
 /// What a body shows.
 #[derive(Drop)]
 pub enum Reached {
@@ -40,6 +62,11 @@ pub enum Reached {
     Least(Option<NodeSet>),
     /// Nothing but work done, where a smallest quorum is sought.
     PartialLeast(u64),
+    /// The groups of the part, and all their minimal blocking sets, each once, in the order of the groups' numbers. A set has the
+    /// numbers of its groups among these.
+    OrgBlocking(Groups, GroupSets),
+    /// Nothing but work done, where minimal blocking sets of groups are listed.
+    PartialOrgBlocking(u64),
 }
 
 /// Which line is awaited, with what the lines before it said.
@@ -47,6 +74,7 @@ pub enum Reached {
 pub enum ReachPlace {
     AtCounter(ListKind, ListPart),
     AtList(Listing),
+    AtGroups(GroupListing),
     AtEnd(Reached),
 }
 

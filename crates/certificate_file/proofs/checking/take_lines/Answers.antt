@@ -39,28 +39,28 @@ returns-in_err-next g c =
 pub lines-preserved : goal.lines-preserved
 lines-preserved g c =
     let f = c.args.system.now in
-    let d = c.args.digest.now in
+    let given = c.args.given.now in
     let more = lines_of (c.next_state.new.lines.unread ++ left_of Cert (g.D.Desk.state c.next_state.new.desk)) in
     record {
-      known = subst (IsKnownState f) c.in-Going.is c.in_ok-next.ensures.known;
+      known = subst (IsKnownState f given) c.in-Going.is c.in_ok-next.ensures.known;
       taken = c.in_ok-next.ensures.taken;
-      same = λ tells. c.lines.invariant.same tells ∙ c.in_ok-next.ensures.ok tells ∙ ap (λ (s : State). check_lines f d c.next_state.new.lines.number s more) c.in-Going.is;
+      same = λ tells. c.lines.invariant.same tells ∙ c.in_ok-next.ensures.ok tells ∙ ap (λ (s : State). check_lines f given c.next_state.new.lines.number s more) c.in-Going.is;
       rest = λ tells. rest_then (g.D.Desk.state c.args.desk.now) (g.D.Desk.state c.lines.desk) (g.D.Desk.state c.next_state.new.desk) (c.lines.invariant.rest tells) (c.in_ok-next.ensures.rest tells);
       writes = c.in_ok-next.ensures.faults.writes ∙ c.lines.invariant.writes;
       reads = c.in_ok-next.ensures.faults.none not_read ∙ c.lines.invariant.reads;
     }
 
 pub returns-in-Done-clause-shown : goal.returns-in-Done-clause-shown
-returns-in-Done-clause-shown g c = subst (IsKnownState c.args.system.now) c.in-Done.is c.in_ok-next.ensures.known
+returns-in-Done-clause-shown g c = subst (IsKnownState c.args.system.now c.args.given.now) c.in-Done.is c.in_ok-next.ensures.known
 
 pub returns-in-Done-clause-ok : goal.returns-in-Done-clause-ok
 returns-in-Done-clause-ok g c = λ tells.
     let f = c.args.system.now in
-    let d = c.args.digest.now in
+    let given = c.args.given.now in
     let more = lines_of (c.next_state.new.lines.unread ++ left_of Cert (g.D.Desk.state c.next_state.new.desk)) in
     c.lines.invariant.same tells
     ∙ c.in_ok-next.ensures.ok tells
-    ∙ ap (λ (s : State). check_lines f d c.next_state.new.lines.number s more) c.in-Done.is
+    ∙ ap (λ (s : State). check_lines f given c.next_state.new.lines.number s more) c.in-Done.is
 
 pub returns-in-Done-clause-rest : goal.returns-in-Done-clause-rest
 returns-in-Done-clause-rest g c = λ tells.

@@ -32,7 +32,7 @@ returns-in-Ok-clause-faults g c = fails_as (g.D.Desk.faults c.args.desk.now) (g.
 pub returns-in-Ok-clause-ok : goal.returns-in-Ok-clause-ok
 returns-in-Ok-clause-ok g c =
     let f = c.args.system.now in
-    let d = c.args.digest.now in
+    let given = c.args.given.now in
     let p = c.args.place in
     let l = c.args.lines.now.number in
     let n = c.line.new.self.number in
@@ -40,16 +40,16 @@ returns-in-Ok-clause-ok g c =
     let more = lines_of (c.line.new.self.unread ++ left_of Cert (g.D.Desk.state c.line.new.desk)) in
     let text : List ℕ = c.in-Ok.text.items in
     IfOk-weaker c.take_line.result _ _ (λ s took tells.
-    check_lines-line f d l p ls more text (c.in-Ok.ensures.line tells)
-    ∙ ap (λ (x : ℕ). and_then (λ s. check_lines f d x s more) (take_line f d p l text)) (sym c.in-Ok.ensures.number)
-    ∙ ap (λ (x : ℕ). and_then (λ s. check_lines f d n s more) (take_line f d p x text)) (sym c.number-line.ensures)
-    ∙ ap (λ (b : List ℕ). and_then (λ s. check_lines f d n s more) (take_line f d p c.number-line.result b)) (sym c.deref.ensures.value)
-    ∙ ap (and_then (λ s. check_lines f d n s more)) took) c.take_line.ensures.ok
+    check_lines-line f given l p ls more text (c.in-Ok.ensures.line tells)
+    ∙ ap (λ (x : ℕ). and_then (λ s. check_lines f given x s more) (take_line f given p l text)) (sym c.in-Ok.ensures.number)
+    ∙ ap (λ (x : ℕ). and_then (λ s. check_lines f given n s more) (take_line f given p x text)) (sym c.number-line.ensures)
+    ∙ ap (λ (b : List ℕ). and_then (λ s. check_lines f given n s more) (take_line f given p c.number-line.result b)) (sym c.deref.ensures.value)
+    ∙ ap (and_then (λ s. check_lines f given n s more)) took) c.take_line.ensures.ok
 
 pub returns-in-Ok-clause-err : goal.returns-in-Ok-clause-err
 returns-in-Ok-clause-err g c =
     let f = c.args.system.now in
-    let d = c.args.digest.now in
+    let given = c.args.given.now in
     let p = c.args.place in
     let l = c.args.lines.now.number in
     let n = c.line.new.self.number in
@@ -59,11 +59,11 @@ returns-in-Ok-clause-err g c =
     IfErr-weaker c.take_line.result _ _ (λ e came tells. elim came [
       | inl memory ↦ inl memory
       | inr refused ↦ inr (inr (
-          check_lines-line f d l p ls more text (c.in-Ok.ensures.line tells)
-          ∙ ap (λ (x : ℕ). and_then (λ s. check_lines f d x s more) (take_line f d p l text)) (sym c.in-Ok.ensures.number)
-          ∙ ap (λ (x : ℕ). and_then (λ s. check_lines f d n s more) (take_line f d p x text)) (sym c.number-line.ensures)
-          ∙ ap (λ (b : List ℕ). and_then (λ s. check_lines f d n s more) (take_line f d p c.number-line.result b)) (sym c.deref.ensures.value)
-          ∙ ap (and_then (λ s. check_lines f d n s more)) refused))
+          check_lines-line f given l p ls more text (c.in-Ok.ensures.line tells)
+          ∙ ap (λ (x : ℕ). and_then (λ s. check_lines f given x s more) (take_line f given p l text)) (sym c.in-Ok.ensures.number)
+          ∙ ap (λ (x : ℕ). and_then (λ s. check_lines f given n s more) (take_line f given p x text)) (sym c.number-line.ensures)
+          ∙ ap (λ (b : List ℕ). and_then (λ s. check_lines f given n s more) (take_line f given p c.number-line.result b)) (sym c.deref.ensures.value)
+          ∙ ap (and_then (λ s. check_lines f given n s more)) refused))
     ]) c.take_line.ensures.err
 
 pub returns-in-Err-clause-err : goal.returns-in-Err-clause-err
@@ -73,6 +73,6 @@ returns-in-Err-clause-err g c = λ tells.
       | inl memory ↦ inl memory
       | inr other ↦ elim other [
         | inl read ↦ inr (inl read)
-        | inr fault ↦ inr (inr (check_lines-fault c.args.system.now c.args.digest.now c.args.lines.now.number c.args.place ls c.in-Err.fault fault))
+        | inr fault ↦ inr (inr (check_lines-fault c.args.system.now c.args.given.now c.args.lines.now.number c.args.place ls c.in-Err.fault fault))
       ]
     ]

@@ -15,39 +15,41 @@ use Rattle.certificate_file.proofs.StreamLaws.{sized_sets}
 use Rattle.reach_kinds.proofs.Starts.{same_checking}
 use Rattle.certificate_file.proofs.stepping.next_steps.Goals as goal
 
-pub take_line-requires : goal.take_line-requires
-take_line-requires g c =
+pub take_line-requires-clause-known : goal.take_line-requires-clause-known
+take_line-requires-clause-known g c =
+    let given = c.args.given.now in
     let f = c.args.system.now in
     let p = c.args.steps.proof in
     let known = rw c.in-Ok-Some.field-0-is at c.in-Ok-Some.ensures.known in
     let first = same_checking (checking_of c.opening-checker.result) c.args.steps.checker c.opening-checker.ensures.rule c.opening-checker.ensures.vars c.opening-checker.ensures.database in
     let last = same_checking c.closing.result (checking_of c.take_steps.new.checker) c.closing.ensures.rule c.closing.ensures.vars c.closing.ensures.database in
-    let begun = subst (λ (x : Checking). IsKnown f (place_of p x c.args.steps.units)) (sym first) c.requires.known in
-    subst (λ (x : Place). IsKnown f x) (sym c.place-place.ensures)
-    (subst (λ (x : Checking). IsKnown f (place_of p x c.take_steps.new.units)) (sym last) (known f begun))
+    let begun = subst (λ (x : Checking). IsKnown f given (place_of p x c.args.steps.units)) (sym first) c.requires.known in
+    subst (λ (x : Place). IsKnown f given x) (sym c.place-place.ensures)
+    (subst (λ (x : Checking). IsKnown f given (place_of p x c.take_steps.new.units)) (sym last) (known f c.args.given.now begun))
 
 pub end-requires : goal.end-requires
-end-requires g c = sized_sets c.args.system.now c.args.steps.proof c.args.steps.checker c.args.steps.units c.requires.known
+end-requires g c = sized_sets c.args.system.now c.args.given.now c.args.steps.proof c.args.steps.checker c.args.steps.units c.requires.known
 
 pub returns-in-Ok-None-clause-known : goal.returns-in-Ok-None-clause-known
 returns-in-Ok-None-clause-known g c =
+    let given = c.args.given.now in
     let f = c.args.system.now in
     let p = c.args.steps.proof in
     let first = same_checking (checking_of c.opening-checker.result) c.args.steps.checker c.opening-checker.ensures.rule c.opening-checker.ensures.vars c.opening-checker.ensures.database in
-    let begun = subst (λ (x : Checking). IsKnown f (place_of p x c.args.steps.units)) (sym first) c.requires.known in
-    subst (λ (x : Place). IsKnown f x) (sym c.end.ensures) (c.in-Ok-None.ensures.shown (rw c.in-Ok-None.field-0-is refl) f begun)
+    let begun = subst (λ (x : Checking). IsKnown f given (place_of p x c.args.steps.units)) (sym first) c.requires.known in
+    subst (λ (x : Place). IsKnown f given x) (sym c.end.ensures) (c.in-Ok-None.ensures.shown (rw c.in-Ok-None.field-0-is refl) f c.args.given.now begun)
 
 pub returns-in-Ok-None-clause-ok : goal.returns-in-Ok-None-clause-ok
 returns-in-Ok-None-clause-ok g c = λ tells.
     let f = c.args.system.now in
-    let d = c.args.digest.now in
+    let given = c.args.given.now in
     let p = c.args.steps.proof in
     let first = same_checking (checking_of c.opening-checker.result) c.args.steps.checker c.opening-checker.ensures.rule c.opening-checker.ensures.vars c.opening-checker.ensures.database in
     let ls = lines_of (c.args.lines.now.unread ++ left_of Cert (g.D.Desk.state c.args.desk.now)) in
     let more = lines_of (c.take_steps.new.lines.unread ++ left_of Cert (g.D.Desk.state c.take_steps.new.desk)) in
-    ap (λ (x : Checking). check_lines f d c.args.lines.now.number (Going (place_of p x c.args.steps.units)) ls) (sym first)
-    ∙ c.in-Ok-None.ensures.end (rw c.in-Ok-None.field-0-is refl) tells f d
-    ∙ ap (λ (x : Place). check_lines f d c.take_steps.new.lines.number (Going x) more) (sym c.end.ensures)
+    ap (λ (x : Checking). check_lines f given c.args.lines.now.number (Going (place_of p x c.args.steps.units)) ls) (sym first)
+    ∙ c.in-Ok-None.ensures.end (rw c.in-Ok-None.field-0-is refl) tells f given
+    ∙ ap (λ (x : Place). check_lines f given c.take_steps.new.lines.number (Going x) more) (sym c.end.ensures)
 
 pub returns-in-Ok-None-clause-faults : goal.returns-in-Ok-None-clause-faults
 returns-in-Ok-None-clause-faults g c = fails_as (g.D.Desk.faults c.args.desk.now) (g.D.Desk.faults c.take_steps.new.desk) _ _ (λ is. absurd (not_read is)) (λ is. absurd (not_read is)) c.in-Ok-None.ensures.faults
@@ -70,7 +72,7 @@ returns-in-Ok-Some-clause-faults g c = fails_as (g.D.Desk.faults c.args.desk.now
 pub returns-in-Ok-Some-clause-ok : goal.returns-in-Ok-Some-clause-ok
 returns-in-Ok-Some-clause-ok g c =
     let f = c.args.system.now in
-    let d = c.args.digest.now in
+    let given = c.args.given.now in
     let p = c.args.steps.proof in
     let first = same_checking (checking_of c.opening-checker.result) c.args.steps.checker c.opening-checker.ensures.rule c.opening-checker.ensures.vars c.opening-checker.ensures.database in
     let last = same_checking c.closing.result (checking_of c.take_steps.new.checker) c.closing.ensures.rule c.closing.ensures.vars c.closing.ensures.database in
@@ -79,17 +81,17 @@ returns-in-Ok-Some-clause-ok g c =
     let n = c.take_steps.new.lines.number in
     let told = rw c.in-Ok-Some.field-0-is at c.in-Ok-Some.ensures.text in
     IfOk-weaker c.take_line.result _ _ (λ s took tells.
-    ap (λ (x : Checking). check_lines f d c.args.lines.now.number (Going (place_of p x c.args.steps.units)) ls) (sym first)
-    ∙ told tells f d
-    ∙ ap (λ (x : Checking). and_then (λ s. check_lines f d n s more) (take_line f d (place_of p x c.take_steps.new.units) c.in-Ok-Some.line c.in-Ok-Some.text.items)) (sym last)
-    ∙ ap (λ (x : Place). and_then (λ s. check_lines f d n s more) (take_line f d x c.in-Ok-Some.line c.in-Ok-Some.text.items)) (sym c.place-place.ensures)
-    ∙ ap (λ (b : List ℕ). and_then (λ s. check_lines f d n s more) (take_line f d c.place-place.result c.in-Ok-Some.line b)) (sym c.deref.ensures.value)
-    ∙ ap (and_then (λ s. check_lines f d n s more)) took) c.take_line.ensures.ok
+    ap (λ (x : Checking). check_lines f given c.args.lines.now.number (Going (place_of p x c.args.steps.units)) ls) (sym first)
+    ∙ told tells f given
+    ∙ ap (λ (x : Checking). and_then (λ s. check_lines f given n s more) (take_line f given (place_of p x c.take_steps.new.units) c.in-Ok-Some.line c.in-Ok-Some.text.items)) (sym last)
+    ∙ ap (λ (x : Place). and_then (λ s. check_lines f given n s more) (take_line f given x c.in-Ok-Some.line c.in-Ok-Some.text.items)) (sym c.place-place.ensures)
+    ∙ ap (λ (b : List ℕ). and_then (λ s. check_lines f given n s more) (take_line f given c.place-place.result c.in-Ok-Some.line b)) (sym c.deref.ensures.value)
+    ∙ ap (and_then (λ s. check_lines f given n s more)) took) c.take_line.ensures.ok
 
 pub returns-in-Ok-Some-clause-err : goal.returns-in-Ok-Some-clause-err
 returns-in-Ok-Some-clause-err g c =
     let f = c.args.system.now in
-    let d = c.args.digest.now in
+    let given = c.args.given.now in
     let p = c.args.steps.proof in
     let first = same_checking (checking_of c.opening-checker.result) c.args.steps.checker c.opening-checker.ensures.rule c.opening-checker.ensures.vars c.opening-checker.ensures.database in
     let last = same_checking c.closing.result (checking_of c.take_steps.new.checker) c.closing.ensures.rule c.closing.ensures.vars c.closing.ensures.database in
@@ -100,18 +102,18 @@ returns-in-Ok-Some-clause-err g c =
     IfErr-weaker c.take_line.result _ _ (λ e came tells. elim came [
       | inl memory ↦ inl memory
       | inr refused ↦ inr (inr (
-          ap (λ (x : Checking). check_lines f d c.args.lines.now.number (Going (place_of p x c.args.steps.units)) ls) (sym first)
-          ∙ told tells f d
-          ∙ ap (λ (x : Checking). and_then (λ s. check_lines f d n s more) (take_line f d (place_of p x c.take_steps.new.units) c.in-Ok-Some.line c.in-Ok-Some.text.items)) (sym last)
-          ∙ ap (λ (x : Place). and_then (λ s. check_lines f d n s more) (take_line f d x c.in-Ok-Some.line c.in-Ok-Some.text.items)) (sym c.place-place.ensures)
-          ∙ ap (λ (b : List ℕ). and_then (λ s. check_lines f d n s more) (take_line f d c.place-place.result c.in-Ok-Some.line b)) (sym c.deref.ensures.value)
-          ∙ ap (and_then (λ s. check_lines f d n s more)) refused))
+          ap (λ (x : Checking). check_lines f given c.args.lines.now.number (Going (place_of p x c.args.steps.units)) ls) (sym first)
+          ∙ told tells f given
+          ∙ ap (λ (x : Checking). and_then (λ s. check_lines f given n s more) (take_line f given (place_of p x c.take_steps.new.units) c.in-Ok-Some.line c.in-Ok-Some.text.items)) (sym last)
+          ∙ ap (λ (x : Place). and_then (λ s. check_lines f given n s more) (take_line f given x c.in-Ok-Some.line c.in-Ok-Some.text.items)) (sym c.place-place.ensures)
+          ∙ ap (λ (b : List ℕ). and_then (λ s. check_lines f given n s more) (take_line f given c.place-place.result c.in-Ok-Some.line b)) (sym c.deref.ensures.value)
+          ∙ ap (and_then (λ s. check_lines f given n s more)) refused))
     ]) c.take_line.ensures.err
 
 pub returns-in-Err-clause-err : goal.returns-in-Err-clause-err
 returns-in-Err-clause-err g c = λ tells.
     let f = c.args.system.now in
-    let d = c.args.digest.now in
+    let given = c.args.given.now in
     let p = c.args.steps.proof in
     let first = same_checking (checking_of c.opening-checker.result) c.args.steps.checker c.opening-checker.ensures.rule c.opening-checker.ensures.vars c.opening-checker.ensures.database in
     let ls = lines_of (c.args.lines.now.unread ++ left_of Cert (g.D.Desk.state c.args.desk.now)) in
@@ -119,6 +121,6 @@ returns-in-Err-clause-err g c = λ tells.
       | inl memory ↦ inl memory
       | inr other ↦ elim other [
         | inl read ↦ inr (inl read)
-        | inr fault ↦ inr (inr (ap (λ (x : Checking). check_lines f d c.args.lines.now.number (Going (place_of p x c.args.steps.units)) ls) (sym first) ∙ fault f d))
+        | inr fault ↦ inr (inr (ap (λ (x : Checking). check_lines f given c.args.lines.now.number (Going (place_of p x c.args.steps.units)) ls) (sym first) ∙ fault f given))
       ]
     ]

@@ -1,9 +1,10 @@
-use Rattle.std.proofs.Common.{rules, ◌≡◌, ℕ, List, [], ◌++◌, Err, inl, inr, refl, sym, ap, ◌∙◌, subst, arith}
+use Rattle.std.proofs.Common.{rules, ◌≡◌, ℕ, ◌++◌, Err, inl, inr, refl, sym, ap, ◌∙◌, subst, arith}
 use Rattle.desk_io.specs.State.{left_of}
 use Rattle.desk_io.specs.declared.Which.TheVariants.{Cert}
 use Rattle.fbas_model.specs.Systems.{System}
 use Rattle.lrat_checker.specs.Checking.{Stepping}
 use Rattle.cert_lines.specs.Lines.{lines_of}
+use Rattle.certificate_file.specs.declared.given.Given.{Given}
 use Rattle.certificate_file.specs.Acceptance.{take_line, check_lines}
 use Rattle.reach_kinds.specs.Bodies.{and_then}
 use Rattle.certificate_file.specs.Known.{IsKnown}
@@ -15,12 +16,12 @@ use Rattle.certificate_file.proofs.StreamLaws.{read_line, known_after}
 use Rattle.certificate_file.proofs.stepping.take_steps.Goals as goal
 
 pub returns-in-Some-clause-known : goal.returns-in-Some-clause-known
-returns-in-Some-clause-known g c = λ f k.
+returns-in-Some-clause-known g c = λ f given k.
     let same = rw c.in-Some.is at c.in_ok-text.ensures.same in
-    subst (λ (x : Stepping). IsKnown f (place_of c.args.proof.now (checking_of x) c.steps.units)) (sym same) (c.steps.invariant.known f k)
+    subst (λ (x : Stepping). IsKnown f given (place_of c.args.proof.now (checking_of x) c.steps.units)) (sym same) (c.steps.invariant.known f given k)
 
 pub returns-in-Some-clause-text : goal.returns-in-Some-clause-text
-returns-in-Some-clause-text g c = λ tells f d.
+returns-in-Some-clause-text g c = λ tells f given.
     let p = c.args.proof.now in
     let l = c.steps.lines.number in
     let place = place_of p (checking_of c.steps.checker) c.steps.units in
@@ -28,11 +29,11 @@ returns-in-Some-clause-text g c = λ tells f d.
     let more = lines_of (c.line_or_step.new.lines.unread ++ left_of Cert (g.D.Desk.state c.line_or_step.new.desk)) in
     let same = rw c.in-Some.is at c.in_ok-text.ensures.same in
     let told = rw c.in-Some.is at c.in_ok-text.ensures.text in
-    c.steps.invariant.same tells f d
-    ∙ check_lines-line f d l place ls more c.in-Some.text.items (told tells)
-    ∙ ap (λ (n : ℕ). and_then (λ s. check_lines f d n s more) (take_line f d place l c.in-Some.text.items)) (sym c.in_ok-text.ensures.number)
-    ∙ ap (λ (n : ℕ). and_then (λ s. check_lines f d c.line_or_step.new.lines.number s more) (take_line f d place n c.in-Some.text.items)) (sym c.number-line.ensures)
-    ∙ ap (λ (x : Stepping). and_then (λ s. check_lines f d c.line_or_step.new.lines.number s more) (take_line f d (place_of p (checking_of x) c.steps.units) c.number-line.result c.in-Some.text.items)) (sym same)
+    c.steps.invariant.same tells f given
+    ∙ check_lines-line f given l place ls more c.in-Some.text.items (told tells)
+    ∙ ap (λ (n : ℕ). and_then (λ s. check_lines f given n s more) (take_line f given place l c.in-Some.text.items)) (sym c.in_ok-text.ensures.number)
+    ∙ ap (λ (n : ℕ). and_then (λ s. check_lines f given c.line_or_step.new.lines.number s more) (take_line f given place n c.in-Some.text.items)) (sym c.number-line.ensures)
+    ∙ ap (λ (x : Stepping). and_then (λ s. check_lines f given c.line_or_step.new.lines.number s more) (take_line f given (place_of p (checking_of x) c.steps.units) c.number-line.result c.in-Some.text.items)) (sym same)
 
 pub returns-in-Some-clause-rest : goal.returns-in-Some-clause-rest
 returns-in-Some-clause-rest g c = λ tells.
@@ -64,7 +65,7 @@ returns-in_err-text g c =
         | inl memory ↦ inl memory
         | inr other ↦ elim other [
           | inl read ↦ inr (inl read)
-          | inr fault ↦ inr (inr (λ f d. so_far.same tells f d ∙ check_lines-fault f d c.steps.lines.number place ls e fault))
+          | inr fault ↦ inr (inr (λ f given. so_far.same tells f given ∙ check_lines-fault f given c.steps.lines.number place ls e fault))
         ]
       ];
       plain = λ is tells plain. failed.plain (same_fault e is) tells (plain_then (g.D.Desk.state c.args.desk.now) (g.D.Desk.state c.steps.desk) (so_far.rest tells) plain);
@@ -94,10 +95,10 @@ returns-in_err-take_read-in-None g c =
       taken = tt;
       err = λ tells. elim failed.err [
         | inl memory ↦ inl memory
-        | inr fault ↦ inr (inr (λ f d.
-            c.steps.invariant.same tells f d
-            ∙ check_lines-refused f d l place ls more told.0 e (told.2 tells)
-            (read_line f d p c.is_part-is_part.result c.steps.checker c.line_or_step.new.checker c.steps.units l c.number-line.result c.line_or_step.new.reader.words told.0 (Err e)
+        | inr fault ↦ inr (inr (λ f given.
+            c.steps.invariant.same tells f given
+            ∙ check_lines-refused f given l place ls more told.0 e (told.2 tells)
+            (read_line f given p c.is_part-is_part.result c.steps.checker c.line_or_step.new.checker c.steps.units l c.number-line.result c.line_or_step.new.reader.words told.0 (Err e)
             c.in_ok-text.ensures.rule c.in_ok-text.ensures.vars c.in_ok-text.ensures.database c.number-line.ensures c.is_part-is_part.ensures told.1 told.3 fault)))
       ];
       plain = λ is. absurd (failed.unread (same_fault e is));
@@ -115,35 +116,35 @@ steps-preserved g c =
     let more = lines_of (c.line_or_step.new.lines.unread ++ left_of Cert (g.D.Desk.state c.line_or_step.new.desk)) in
     let told = c.in_ok-text.ensures.step (rw c.in-None.is refl) in
     let came = rw c.in-Going.is at c.in_ok-take_read-in-None.ensures.ok in
-    let took = λ (f : System) (d : List ℕ).
-    read_line f d p c.is_part-is_part.result c.steps.checker c.line_or_step.new.checker c.steps.units l c.number-line.result c.line_or_step.new.reader.words told.0 _
+    let took = λ (f : System) (given : Given).
+    read_line f given p c.is_part-is_part.result c.steps.checker c.line_or_step.new.checker c.steps.units l c.number-line.result c.line_or_step.new.reader.words told.0 _
     c.in_ok-text.ensures.rule c.in_ok-text.ensures.vars c.in_ok-text.ensures.database c.number-line.ensures c.is_part-is_part.ensures told.1 told.3 came in
     record {
       closed = c.in_ok-take_read-in-None.ensures.closed;
       taken = c.in_ok-text.ensures.taken;
       number = (let before = c.steps.invariant.number in let more = c.in_ok-text.ensures.number in omega arith);
-      known = λ f k. known_after f [] p (checking_of c.steps.checker) c.steps.units l told.0 next (c.steps.invariant.known f k) (took f []);
-      same = λ tells f d.
-          c.steps.invariant.same tells f d
-          ∙ check_lines-taken f d l place ls more told.0 next (told.2 tells) (took f d)
-          ∙ ap (λ (x : ℕ). check_lines f d x next more) (sym c.in_ok-text.ensures.number);
+      known = λ f given k. known_after f given p (checking_of c.steps.checker) c.steps.units l told.0 next (c.steps.invariant.known f given k) (took f given);
+      same = λ tells f given.
+          c.steps.invariant.same tells f given
+          ∙ check_lines-taken f given l place ls more told.0 next (told.2 tells) (took f given)
+          ∙ ap (λ (x : ℕ). check_lines f given x next more) (sym c.in_ok-text.ensures.number);
       rest = λ tells. rest_then (g.D.Desk.state c.args.desk.now) (g.D.Desk.state c.steps.desk) (g.D.Desk.state c.line_or_step.new.desk) (c.steps.invariant.rest tells) (c.in_ok-text.ensures.rest tells);
       writes = c.in_ok-text.ensures.faults.writes ∙ c.steps.invariant.writes;
       reads = c.in_ok-text.ensures.faults.none not_read ∙ c.steps.invariant.reads;
     }
 
 pub returns-in-Refuted-clause-shown : goal.returns-in-Refuted-clause-shown
-returns-in-Refuted-clause-shown g c = λ _ f k.
+returns-in-Refuted-clause-shown g c = λ _ f given k.
     let p = c.args.proof.now in
     let l = c.steps.lines.number in
     let told = c.in_ok-text.ensures.step (rw c.in-None.is refl) in
     let came = rw c.in-Refuted.is at c.in_ok-take_read-in-None.ensures.ok in
-    known_after f [] p (checking_of c.steps.checker) c.steps.units l told.0 (Going (end_of p)) (c.steps.invariant.known f k)
-    (read_line f [] p c.is_part-is_part.result c.steps.checker c.line_or_step.new.checker c.steps.units l c.number-line.result c.line_or_step.new.reader.words told.0 _
+    known_after f given p (checking_of c.steps.checker) c.steps.units l told.0 (Going (end_of p)) (c.steps.invariant.known f given k)
+    (read_line f given p c.is_part-is_part.result c.steps.checker c.line_or_step.new.checker c.steps.units l c.number-line.result c.line_or_step.new.reader.words told.0 _
     c.in_ok-text.ensures.rule c.in_ok-text.ensures.vars c.in_ok-text.ensures.database c.number-line.ensures c.is_part-is_part.ensures told.1 told.3 came)
 
 pub returns-in-Refuted-clause-end : goal.returns-in-Refuted-clause-end
-returns-in-Refuted-clause-end g c = λ _ tells f d.
+returns-in-Refuted-clause-end g c = λ _ tells f given.
     let p = c.args.proof.now in
     let l = c.steps.lines.number in
     let place = place_of p (checking_of c.steps.checker) c.steps.units in
@@ -151,11 +152,11 @@ returns-in-Refuted-clause-end g c = λ _ tells f d.
     let more = lines_of (c.line_or_step.new.lines.unread ++ left_of Cert (g.D.Desk.state c.line_or_step.new.desk)) in
     let told = c.in_ok-text.ensures.step (rw c.in-None.is refl) in
     let came = rw c.in-Refuted.is at c.in_ok-take_read-in-None.ensures.ok in
-    c.steps.invariant.same tells f d
-    ∙ check_lines-taken f d l place ls more told.0 (Going (end_of p)) (told.2 tells)
-    (read_line f d p c.is_part-is_part.result c.steps.checker c.line_or_step.new.checker c.steps.units l c.number-line.result c.line_or_step.new.reader.words told.0 _
+    c.steps.invariant.same tells f given
+    ∙ check_lines-taken f given l place ls more told.0 (Going (end_of p)) (told.2 tells)
+    (read_line f given p c.is_part-is_part.result c.steps.checker c.line_or_step.new.checker c.steps.units l c.number-line.result c.line_or_step.new.reader.words told.0 _
     c.in_ok-text.ensures.rule c.in_ok-text.ensures.vars c.in_ok-text.ensures.database c.number-line.ensures c.is_part-is_part.ensures told.1 told.3 came)
-    ∙ ap (λ (x : ℕ). check_lines f d x (Going (end_of p)) more) (sym c.in_ok-text.ensures.number)
+    ∙ ap (λ (x : ℕ). check_lines f given x (Going (end_of p)) more) (sym c.in_ok-text.ensures.number)
 
 pub returns-in-Refuted-clause-rest : goal.returns-in-Refuted-clause-rest
 returns-in-Refuted-clause-rest g c = λ tells.
