@@ -28,7 +28,7 @@ use Rattle.quorum_questions.specs.declared.asking.TheConstants.{MOST_UNITS}
 use Rattle.quorum_questions.specs.declared.answers.Size.{Size}
 use Rattle.quorum_questions.specs.declared.answers.Answer.{Answer as Found}
 use Rattle.quorum_questions.specs.declared.answers.Answer.TheVariants.{Yes, No, Spent}
-use Rattle.cert_writer.specs.Finding.{Search, part, faulty, cert_of, Finds, CanBeWritten}
+use Rattle.cert_writer.specs.Finding.{Search, given_of, part, faulty, cert_of, Finds, CanBeWritten}
 use Rattle.cert_lines.specs.declared.lines.TheConstants.{MAX_LINES}
 
 -- ---- the formula of the part
@@ -72,12 +72,12 @@ found s (Yes log size) is sorted long bytes head small r =
     record {
       shows = r;
       cert_is = refl;
-      accepted = log_of_accepted s.whole s.digest s.header aim.Refutation size.vars size.clauses log is sorted long bytes head (of_log s.whole s.header aim.Refutation log size r.new is r.sized r.run few r.ends);
+      accepted = log_of_accepted s.whole (given_of s) s.header aim.Refutation size.vars size.clauses log is sorted long bytes head (of_log s.whole s.header aim.Refutation log size r.new is r.sized r.run few r.ends);
     }
 found s (No pair) is sorted long bytes head small r = record {
   shows = r;
   cert_is = refl;
-  accepted = pair_of_part_accepted s.whole (part s) s.digest s.header pair is sorted long bytes head refl r.apart;
+  accepted = pair_of_part_accepted s.whole (part s) (given_of s) s.header pair is sorted long bytes head refl r.apart;
 }
 found s (Spent log size) is sorted long bytes head small r =
     let few : length log + 7 ≤ MAX_LINES = omega (arith, r.run.short, r.taken, small) in
@@ -85,7 +85,7 @@ found s (Spent log size) is sorted long bytes head small r =
       shows = r;
       cert_is = refl;
       accepted =
-          log_of_accepted s.whole s.digest s.header aim.Partial size.vars size.clauses log is sorted long bytes head (of_log s.whole s.header aim.Partial log size r.new is r.sized r.run few r.unrefuted)
+          log_of_accepted s.whole (given_of s) s.header aim.Partial size.vars size.clauses log is sorted long bytes head (of_log s.whole s.header aim.Partial log size r.new is r.sized r.run few r.unrefuted)
           ∙ ap (λ (n : ℕ). Ok (record { header = s.header; answer = shown.Partial n })) r.taken;
     }
 

@@ -15,6 +15,7 @@ use Rattle.cert_lines.specs.Words.{is_name, digest_in}
 use Rattle.clause_encoder.specs.declared.version.Version.TheVariants.{Two}
 use Rattle.certificate_file.specs.Acceptance.{take_line}
 use Rattle.certificate_file.specs.Meaning.{part_from}
+use Rattle.certificate_file.specs.declared.given.Given.{Given}
 use Rattle.certificate_file.specs.declared.places.Header.{Header}
 use Rattle.certificate_file.specs.declared.places.Place.TheVariants.{AtTitle, AtDigest, AtFrom, AtFaulty, AtKind}
 use Rattle.certificate_file.specs.declared.places.State.{State}
@@ -61,23 +62,23 @@ digest_read digest size bytes =
 abbrev at_part : System → Option ℕ → State
 at_part f from = Going (AtFaulty Two from (part_from f from))
 
-from_taken : (f : System) (d : List ℕ) (from : Option ℕ) → AreNames f.names → IfSome from (λ v. v < length f.names) → take_line f d (AtFrom Two) 3 (worded (codes "from") (name_if_any f.names from)) ≡ Ok (at_part f from)
+from_taken : (f : System) (given : Given) (from : Option ℕ) → AreNames f.names → IfSome from (λ v. v < length f.names) → take_line f given (AtFrom Two) 3 (worded (codes "from") (name_if_any f.names from)) ≡ Ok (at_part f from)
 unfolding take_line
-from_taken f d None are low = refl
-from_taken f d (Some v) are low =
+from_taken f given None are low = refl
+from_taken f given (Some v) are low =
     let name = slice_index_or f.names v [] in
     let k : is_key name ≡ true = All-from_recursion (λ (n : Name). is_key n ≡ true) f.names are.keys v [] low in
     let word : IsWord name = (key name k).0 in
     let place : place_of f.names name ≡ Some v = place-found f.names name v are.sorted low refl in
     rw (names_after-worded (codes "from") (name ∷ []) (is_word (codes "from") refl) (word, tt) (and_from (is_name name) true (key name k).1 refl) refl, place) refl
 
-pub takes_header : (f : System) (d : List ℕ) (h : Header) → AreNames f.names → length d ≡ 32 → IsBytes d → IsHeader f h → Takes f d 1 (Going AtTitle) (header_lines f.names d h) (Going (AtKind (subject f h)))
+pub takes_header : (f : System) (given : Given) (h : Header) → AreNames f.names → length given.digest ≡ 32 → IsBytes given.digest → IsHeader f h → Takes f given 1 (Going AtTitle) (header_lines f.names given.digest h) (Going (AtKind (subject f h)))
 unfolding take_line
-takes_header f d h are size bytes is =
-    let digest : take_line f d (AtDigest Two) 2 (worded (codes "config") (encode_lower d ∷ [])) ≡ Ok (Going (AtFrom Two)) = rw (digest_read d size bytes, same_text d) refl in
-    let faulty : take_line f d (AtFaulty Two h.from (part_from f h.from)) 4 (listed (codes "faulty") f.names h.faulty) ≡ Ok (Going (AtKind (subject f h))) =
+takes_header f given h are size bytes is =
+    let digest : take_line f given (AtDigest Two) 2 (worded (codes "config") (encode_lower given.digest ∷ [])) ≡ Ok (Going (AtFrom Two)) = rw (digest_read given.digest size bytes, same_text given.digest) refl in
+    let faulty : take_line f given (AtFaulty Two h.from (part_from f h.from)) 4 (listed (codes "faulty") f.names h.faulty) ≡ Ok (Going (AtKind (subject f h))) =
     rw (named-listed f.names 4 (codes "faulty") h.faulty (is_word (codes "faulty") refl) are is.faulty, is.cut) refl in
-    (Going (AtDigest Two), refl, (Going (AtFrom Two), digest, (at_part f h.from, from_taken f d h.from are is.node, (Going (AtKind (subject f h)), faulty, refl))))
+    (Going (AtDigest Two), refl, (Going (AtFrom Two), digest, (at_part f h.from, from_taken f given h.from are is.node, (Going (AtKind (subject f h)), faulty, refl))))
 
 -- ---- each is a line
 

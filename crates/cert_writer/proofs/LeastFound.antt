@@ -23,7 +23,7 @@ use Rattle.certificate_file.specs.declared.places.Answer.TheVariants.{Least, Par
 use Rattle.cert_lines.specs.declared.lines.TheConstants.{MAX_LINES}
 use Rattle.cert_writer.specs.Texts.{least_text}
 use Rattle.cert_writer.specs.Promises.{IsHeader, greatest_in}
-use Rattle.cert_writer.specs.Finding.{Search, part, faulty}
+use Rattle.cert_writer.specs.Finding.{Search, given_of, part, faulty}
 use Rattle.cert_writer.specs.Least.{least_cert_of, raised_if_any, LeastShows, FindsLeast, CanBeLeast}
 use Rattle.cert_writer.proofs.ListLaws.{least_of_accepted}
 use Rattle.cert_writer.proofs.ListFound.{HasPlacesFor, lines_can}
@@ -40,10 +40,10 @@ module _ (s : Search) (is : IsSystem s.whole.names s.whole.sets) (sorted : IsStr
 
   -- a journal that ends, and what its certificate shows
   whole_accepted : (answer : Option Table) (left : ℕ) (journal : List JournalLine) → LeastHolds (part s).sets (faulty s) s.budget left answer journal → All HasLineNumbers journal → All (HasFewWords (counter_vars g)) journal → counter_vars g ≤ MOST_VARS
-      → checked s.whole s.digest (least_text s.whole.names (part s).names s.digest s.header (size (greatest_in s.whole s.header)) kind.Whole journal) ≡ Ok (record { header = s.header; answer = Least (raised_if_any s.whole s.header answer) })
+      → checked s.whole (given_of s) (least_text s.whole.names (part s).names s.digest s.header (size (greatest_in s.whole s.header)) kind.Whole journal) ≡ Ok (record { header = s.header; answer = Least (raised_if_any s.whole s.header answer) })
   whole_accepted answer left journal holds numbers words counter =
       let few : length journal + 7 ≤ MAX_LINES = omega (arith, holds.few_steps.short, holds.taken, small, few_nodes g counter) in
-      least_of_accepted s.whole s.digest s.header is sorted long bytes head (part s) kind.Whole journal refl (record { small = counter; new = holds.journal_is.whole.after; run = holds.journal_is.whole.run; falls = holds.journal_is.falling; numbers = numbers; few_words = words; few = few; ends = holds.journal_is.whole.ends })
+      least_of_accepted s.whole (given_of s) s.header is sorted long bytes head (part s) kind.Whole journal refl (record { small = counter; new = holds.journal_is.whole.after; run = holds.journal_is.whole.run; falls = holds.journal_is.falling; numbers = numbers; few_words = words; few = few; ends = holds.journal_is.whole.ends })
       ∙ ap (λ (o : Option Table). Ok (record { header = s.header; answer = Least (raised_if_any s.whole s.header o) })) holds.answer_is
 
   pub least_found : (outcome : LeastOutcome) → LeastShows (part s).sets (faulty s) s.budget outcome → FindsLeast s outcome (least_cert_of s outcome)
@@ -55,7 +55,7 @@ module _ (s : Search) (is : IsSystem s.whole.names s.whole.sets) (sorted : IsStr
         shows = r;
         cert_is = refl;
         accepted =
-            least_of_accepted s.whole s.digest s.header is sorted long bytes head (part s) kind.Partial journal refl (record { small = r.small; new = holds.after; run = holds.journal_is.part.run; falls = holds.journal_is.falling; numbers = r.numbers; few_words = r.few_words; few = few; ends = holds.journal_is.part.opens })
+            least_of_accepted s.whole (given_of s) s.header is sorted long bytes head (part s) kind.Partial journal refl (record { small = r.small; new = holds.after; run = holds.journal_is.part.run; falls = holds.journal_is.falling; numbers = r.numbers; few_words = r.few_words; few = few; ends = holds.journal_is.part.opens })
             ∙ ap (λ (n : ℕ). Ok (record { header = s.header; answer = PartialLeast n })) holds.taken;
       }
 

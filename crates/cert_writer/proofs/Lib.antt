@@ -19,3 +19,9 @@ pub mod Ends
 pub mod Found
 pub mod ListFound
 pub mod LeastFound
+pub mod OrgKeys
+pub mod GroupTexts
+pub mod GroupLines
+pub mod GroupRuns
+pub mod GroupLaws
+pub mod GroupFound

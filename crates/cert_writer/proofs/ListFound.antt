@@ -35,7 +35,7 @@ use Rattle.quorum_questions.specs.declared.asking.TheConstants.{MOST_UNITS}
 use Rattle.cert_lines.specs.declared.lines.TheConstants.{MAX_LINES}
 use Rattle.cert_writer.specs.Texts.{raised_table}
 use Rattle.cert_writer.specs.Promises.{IsHeader}
-use Rattle.cert_writer.specs.Finding.{Search, part, faulty}
+use Rattle.cert_writer.specs.Finding.{Search, given_of, part, faulty}
 use Rattle.cert_writer.specs.Listing.{list_cert_of, ListShows, FindsList, CanBeLine, CanBeListed}
 use Rattle.cert_writer.proofs.ListLaws.{lists_ordered, list_of_accepted}
 use Rattle.cert_writer.proofs.Pairs.{part_is_restricted}
@@ -75,7 +75,7 @@ module _ (s : Search) (is : IsSystem s.whole.names s.whole.sets) (sorted : IsStr
   count : length (part s).sets ≡ size nodes
   count = ap (λ (f : Fbas). length f) sets_are ∙ length-restricted_sets nodes s.whole.sets of_part.places
 
-  same : length (faulty s) ≡ length (part s).sets
+  pub same : length (faulty s) ≡ length (part s).sets
   same = length-kept nodes s.header.faulty (of_part.places ∙ is.places ∙ sym head.faulty) ∙ sym count
 
   pub list_found : (outcome : ListOutcome) → ListShows sought (part s).sets (faulty s) s.budget outcome → FindsList sought s outcome (list_cert_of sought s outcome)
@@ -86,7 +86,7 @@ module _ (s : Search) (is : IsSystem s.whole.names s.whole.sets) (sorted : IsStr
         shows = r;
         cert_is = refl;
         accepted =
-            list_of_accepted s.whole s.digest s.header is sorted long bytes head sought (part s) kind.Whole journal refl (record { lists = r.lists; new = whole.after; run = whole.run; numbers = r.numbers; few_words = r.few_words; few = few; ends = whole.ends })
+            list_of_accepted s.whole (given_of s) s.header is sorted long bytes head sought (part s) kind.Whole journal refl (record { lists = r.lists; new = whole.after; run = whole.run; numbers = r.numbers; few_words = r.few_words; few = few; ends = whole.ends })
             ∙ ap (λ (xs : List Table). Ok (record { header = s.header; answer = answer_of (whole_of sought xs) })) (lists_ordered sought r.lists (map (raised_table nodes) (sets_in sought journal)) ∙ raised_list sought (part s).sets (faulty s) nodes sets.items journal same count holds.list whole);
       }
   list_found (Spent journal) r =
@@ -96,7 +96,7 @@ module _ (s : Search) (is : IsSystem s.whole.names s.whole.sets) (sorted : IsStr
         shows = r;
         cert_is = refl;
         accepted =
-            list_of_accepted s.whole s.digest s.header is sorted long bytes head sought (part s) kind.Partial journal refl (record { lists = r.lists; new = holds.after; run = one.run; numbers = r.numbers; few_words = r.few_words; few = few; ends = one.opens })
+            list_of_accepted s.whole (given_of s) s.header is sorted long bytes head sought (part s) kind.Partial journal refl (record { lists = r.lists; new = holds.after; run = one.run; numbers = r.numbers; few_words = r.few_words; few = few; ends = one.opens })
             ∙ ap (λ (n : ℕ). Ok (record { header = s.header; answer = answer_of (part_of_list sought n) })) holds.taken;
       }
 

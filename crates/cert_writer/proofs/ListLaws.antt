@@ -18,7 +18,7 @@ use Rattle.fbas_model.proofs.Renumbered.{length-restricted_sets}
 use Rattle.fbas_model.specs.declared.TheConstants.{MOST_NODES}
 use Rattle.greatest_quorum.specs.Greatest.{greatest_of}
 use Rattle.greatest_quorum.proofs.GreatestLaws.{length-greatest_of}
-use Rattle.lrat_model.specs.Steps.{Addition, Deletion, Database, after_step}
+use Rattle.lrat_model.specs.Steps.{ProofStep, Addition, Deletion, Database, after_step}
 use Rattle.lrat_model.specs.declared.step.Progress.TheVariants.{Going as going, Refuted}
 use Rattle.list_journal.specs.Journals.{JournalLine, SetLine, StepLine, Rules, JournalRun, after_line, line_progress, nothing_held, sets_in, journal_units}
 use Rattle.list_journal.specs.declared.kinds.ListKind.{ListKind}
@@ -36,6 +36,7 @@ use Rattle.clause_encoder.specs.declared.version.Version.TheVariants.{Two}
 use Rattle.clause_encoder.proofs.NameCounts.{variables as counter_size}
 use Rattle.cert_lines.specs.Saying.{counter_in}
 use Rattle.lrat_text.specs.Left.{spaced}
+use Rattle.lrat_text.specs.Texts.{line_of, IsId}
 use Rattle.blocking_lists.specs.Lines.{HasLineNumbers, HasFewWords}
 use Rattle.blocking_lists.specs.Outcomes.{rules}
 use Rattle.certificate_file.specs.Acceptance.{take_line, checked, answer_of}
@@ -44,6 +45,7 @@ use Rattle.reach_kinds.specs.declared.places.ListPart.{ListPart}
 use Rattle.reach_kinds.proofs.Falling.{last_map}
 use Rattle.certificate_file.specs.Meaning.{part_from}
 use Rattle.certificate_file.specs.Known.{IsPart}
+use Rattle.certificate_file.specs.declared.given.Given.{Given}
 use Rattle.certificate_file.specs.declared.places.Header.{Header}
 use Rattle.certificate_file.specs.declared.places.Accepted.{Accepted}
 use Rattle.certificate_file.specs.declared.places.Subject.{Subject}
@@ -59,7 +61,7 @@ use Rattle.cert_writer.specs.Texts.{Text, joined, header_lines, list_kind_of, jo
 use Rattle.cert_writer.specs.Promises.{IsHeader, subject, part_of, faulty_in, raised_sets, ListEndsAs, rules_in, shown_by_list, IsJournalOf, greatest_in, least_rules, shown_by_least, IsLeastJournalOf}
 use Rattle.cert_writer.proofs.Joined.{Takes, takes-append, IsLine, AreLines, are_lines-append, accepted_text}
 use Rattle.cert_writer.proofs.Words.{IsWord, is_plain, is_word, words_of-worded, plain-worded}
-use Rattle.cert_writer.proofs.Names.{AreNames, are_keys, names-kept}
+use Rattle.cert_writer.proofs.Names.{AreNames, are_keys, listable, names-kept}
 use Rattle.cert_writer.proofs.Raised.{spread, length-spread}
 use Rattle.cert_writer.proofs.RaisedOrder.{all_raised, kept_of_spread}
 use Rattle.cert_writer.proofs.Headers.{takes_header, lines_header}
@@ -79,36 +81,44 @@ line_kind listed.Quorum Part = record { plain = is_plain (codes "kind partial-qu
 line_kind listed.Smaller Whole = record { plain = is_plain (codes "kind least") refl; short = omega arith }
 line_kind listed.Smaller Part = record { plain = is_plain (codes "kind partial-least") refl; short = omega arith }
 
-lines_journal : (r : Rules) (kind : ListKind) (names : List Name) (old new : Database) (lines : List JournalLine) → AreNames names → length names ≤ MOST_NODES → r.vars ≤ MOST_VARS → JournalRun r kind old lines new
-    → AllByRecursion (λ line. HasLineNumbers line × HasFewWords r.vars line) lines → AreLines (map (journal_line names) lines)
-lines_journal r kind names old new [] are few small run fine = tt
-lines_journal r kind names old new (SetLine which id u ∷ lines) are few small run fine =
-    (line_set which id names u are few fine.0.0, lines_journal r kind names (after_line r old (SetLine which id u)) new lines are few small run.2 fine.1)
-lines_journal r kind names old new (StepLine (Deletion id ids) ∷ lines) are few small run fine =
-    (line_deletion id ids fine.0.0.0 fine.0.0.1 fine.0.1.1, lines_journal r kind names (after_step old (Deletion id ids)) new lines are few small run.2 fine.1)
-lines_journal r kind names old new (StepLine (Addition id lits hints) ∷ lines) are few small run fine =
+-- of a journal, where each set's line is one
+pub lines_by : (r : Rules) (kind : ListKind) (text : JournalLine → Text) (old new : Database) (lines : List JournalLine) → ((which : Listed) (id : ℕ) (u : Table) → IsId id → IsLine (text (SetLine which id u))) → ((step : ProofStep) → text (StepLine step) ≡ line_of step) → r.vars ≤ MOST_VARS
+    → JournalRun r kind old lines new → AllByRecursion (λ line. HasLineNumbers line × HasFewWords r.vars line) lines → AreLines (map text lines)
+lines_by r kind text old new [] of_set of_step small run fine = tt
+lines_by r kind text old new (SetLine which id u ∷ lines) of_set of_step small run fine =
+    (of_set which id u fine.0.0, lines_by r kind text (after_line r old (SetLine which id u)) new lines of_set of_step small run.2 fine.1)
+lines_by r kind text old new (StepLine (Deletion id ids) ∷ lines) of_set of_step small run fine = (
+  subst IsLine (sym (of_step (Deletion id ids))) (line_deletion id ids fine.0.0.0 fine.0.0.1 fine.0.1.1),
+  lines_by r kind text (after_step old (Deletion id ids)) new lines of_set of_step small run.2 fine.1,
+)
+lines_by r kind text old new (StepLine (Addition id lits hints) ∷ lines) of_set of_step small run fine =
     let numbers = fine.0.0 in
     let words = fine.0.1 in
     let literals = few_literals r.vars lits (literals_of r.vars old id lits hints run.0) words.1 in (
-      line_addition id lits hints numbers.0 numbers.1 (short_literals r.vars lits (omega (arith, small)) words.0) (omega (arith, literals, small)) (omega (arith, words.2, small)),
-      lines_journal r kind names (after_step old (Addition id lits hints)) new lines are few small run.2 fine.1,
+      subst IsLine (sym (of_step (Addition id lits hints))) (line_addition id lits hints numbers.0 numbers.1 (short_literals r.vars lits (omega (arith, small)) words.0) (omega (arith, literals, small)) (omega (arith, words.2, small))),
+      lines_by r kind text (after_step old (Addition id lits hints)) new lines of_set of_step small run.2 fine.1,
     )
+
+lines_journal : (r : Rules) (kind : ListKind) (names : List Name) (old new : Database) (lines : List JournalLine) → AreNames names → length names ≤ MOST_NODES → r.vars ≤ MOST_VARS → JournalRun r kind old lines new
+    → AllByRecursion (λ line. HasLineNumbers line × HasFewWords r.vars line) lines → AreLines (map (journal_line names) lines)
+lines_journal r kind names old new lines are few small run fine =
+    lines_by r kind (journal_line names) old new lines (λ which id u is. line_set which id names u (listable names are) (omega (arith, few)) is) (λ step. refl) small run fine
 
 -- ---- the last line
 
-run_split : (r : Rules) (kind : ListKind) (old new : Database) (lines : List JournalLine) (last : JournalLine) → JournalRun r kind old (lines ++ last ∷ []) new → (middle : Database) × JournalRun r kind old lines middle × JournalRun r kind middle (last ∷ []) new
+pub run_split : (r : Rules) (kind : ListKind) (old new : Database) (lines : List JournalLine) (last : JournalLine) → JournalRun r kind old (lines ++ last ∷ []) new → (middle : Database) × JournalRun r kind old lines middle × JournalRun r kind middle (last ∷ []) new
 run_split r kind old new [] last run = (old, refl, run)
 run_split r kind old new (line ∷ lines) last run = let rest = run_split r kind (after_line r old line) new lines last run.2 in (rest.0, (run.0, run.1, rest.1), rest.2)
 
-split_lines : (names : List Name) (xs : List JournalLine) (y : JournalLine) (zs : List Text) → map (journal_line names) (xs ++ y ∷ []) ++ zs ≡ map (journal_line names) xs ++ journal_line names y ∷ zs
-split_lines names [] y zs = refl
-split_lines names (x ∷ xs) y zs = ap (λ (ls : List Text). journal_line names x ∷ ls) (split_lines names xs y zs)
+pub split_lines : (text : JournalLine → Text) (xs : List JournalLine) (y : JournalLine) (zs : List Text) → map text (xs ++ y ∷ []) ++ zs ≡ map text xs ++ text y ∷ zs
+split_lines text [] y zs = refl
+split_lines text (x ∷ xs) y zs = ap (λ (ls : List Text). text x ∷ ls) (split_lines text xs y zs)
 
-no_set : (sought : Listed) (last : JournalLine) → line_progress last ≡ Refuted → sets_in sought (last ∷ []) ≡ []
+pub no_set : (sought : Listed) (last : JournalLine) → line_progress last ≡ Refuted → sets_in sought (last ∷ []) ≡ []
 no_set sought (SetLine which id u) ends = absurd cc
 no_set sought (StepLine step) ends = refl
 
-both_all : {A : Type 0} (P Q : A → Type 0) (xs : List A) → AllByRecursion P xs → AllByRecursion Q xs → AllByRecursion (λ x. P x × Q x) xs
+pub both_all : {A : Type 0} (P Q : A → Type 0) (xs : List A) → AllByRecursion P xs → AllByRecursion Q xs → AllByRecursion (λ x. P x × Q x) xs
 both_all P Q [] p q = tt
 both_all P Q (x ∷ xs) p q = ((p.0, q.0), both_all P Q xs p.1 q.1)
 
@@ -166,7 +176,7 @@ least_fall p nodes kind old new sets (StepLine step ∷ lines) count run falls =
 
 -- ---- a journal that is written is accepted
 
-module _ (f : System) (d : List ℕ) (h : Header) (is : IsSystem f.names f.sets) (sorted : IsStrictlySortedBy name_cmp f.names) (size_is : length d ≡ 32) (bytes : IsBytes d) (head : IsHeader f h) (sought : Listed) where
+module _ (f : System) (given : Given) (h : Header) (is : IsSystem f.names f.sets) (sorted : IsStrictlySortedBy name_cmp f.names) (size_is : length given.digest ≡ 32) (bytes : IsBytes given.digest) (head : IsHeader f h) (sought : Listed) where
   -- the nodes of the part, and the part with its faulty nodes and its greatest quorum
   abbrev nodes : Table
   nodes = part_from f h.from
@@ -207,15 +217,15 @@ module _ (f : System) (d : List ℕ) (h : Header) (is : IsSystem f.names f.sets)
   shown_of kind journal = shown_by_list sought f h r kind journal
 
   takes_body : (kind : ListKind) (l : ℕ) (new : Database) (journal : List JournalLine) → r.vars ≤ MOST_VARS → JournalRun r kind r.start journal new → AllByRecursion IsFine journal → FallOn sought nodes [] journal → ListEndsAs kind journal
-      → Takes f d l (first_place kind) (map (journal_line (kept nodes f.names)) journal ++ codes "end" ∷ []) (Done (record { header = h; answer = shown_of kind journal }))
+      → Takes f given l (first_place kind) (map (journal_line (kept nodes f.names)) journal ++ codes "end" ∷ []) (Done (record { header = h; answer = shown_of kind journal }))
   takes_body Part l new journal small run fine falls ends =
       let s = subject f h in
       let on = recursion_from_All (λ line. line_progress line ≡ going) journal ends in
       let sets = map (spread nodes) (sets_in sought journal) in
-      let taken = takes_journal f d s sought Part are part_names (part.places ∙ is.places) same count (omega (arith, small)) l r.start new [] sets 0 (journal_units r journal) journal fine on run falls refl (omega arith) in
+      let taken = takes_journal f given s sought Part are part_names (part.places ∙ is.places) same count (omega (arith, small)) l r.start new [] sets 0 (journal_units r journal) journal fine on run falls refl (omega arith) in
       let lines = map (journal_line (kept nodes f.names)) journal in
-      takes-append f d l (l + length lines) (first_place Part) (Going (AtReach s (AtList (listing_on sought Part whole_part (list_checking r.vars new) sets (journal_units r journal))))) (Done (record { header = h; answer = answer_of (part_of_list sought (journal_units r journal)) })) lines (codes "end" ∷ []) refl taken
-      (takes_part_end f d s sought (l + length lines) r.vars new sets (journal_units r journal))
+      takes-append f given l (l + length lines) (first_place Part) (Going (AtReach s (AtList (listing_on sought Part whole_part (list_checking r.vars new) sets (journal_units r journal))))) (Done (record { header = h; answer = answer_of (part_of_list sought (journal_units r journal)) })) lines (codes "end" ∷ []) refl taken
+      (takes_part_end f given s sought (l + length lines) r.vars new sets (journal_units r journal))
   takes_body Whole l new journal small run fine falls ends =
       let s = subject f h in
       let before = ends.before in
@@ -225,16 +235,16 @@ module _ (f : System) (d : List ℕ) (h : Header) (is : IsSystem f.names f.sets)
       let on = recursion_from_All (λ line. line_progress line ≡ going) before ends.only in
       let sets = map (spread nodes) (sets_in sought before) in
       let front_falls = fall_front [] before (last ∷ []) (subst (λ (ls : List JournalLine). FallOn sought nodes [] ls) ends.is falls) in
-      let taken = takes_journal f d s sought Whole are part_names (part.places ∙ is.places) same count (omega (arith, small)) l r.start split.0 [] sets 0 (journal_units r before) before each.0 on split.1 front_falls refl (omega arith) in
+      let taken = takes_journal f given s sought Whole are part_names (part.places ∙ is.places) same count (omega (arith, small)) l r.start split.0 [] sets 0 (journal_units r before) before each.0 on split.1 front_falls refl (omega arith) in
       let lines = map (journal_line (kept nodes f.names)) before in
-      let end = takes_refuted f d s are part_names (part.places ∙ is.places) same count sought (omega (arith, small)) (l + length lines) split.0 new sets (journal_units r before) last each.1 ends.ends split.2 in
-      let whole = takes-append f d l (l + length lines) (first_place Whole) (Going (AtReach s (AtList (listing_on sought Whole whole_part (list_checking r.vars split.0) sets (journal_units r before))))) (Done (record { header = h; answer = answer_of (whole_of sought (in_order sought sets)) })) lines (journal_line (kept nodes f.names) last ∷ codes "end" ∷ []) refl taken end in
+      let end = takes_refuted f given s are part_names (part.places ∙ is.places) same count sought (omega (arith, small)) (l + length lines) split.0 new sets (journal_units r before) last each.1 ends.ends split.2 in
+      let whole = takes-append f given l (l + length lines) (first_place Whole) (Going (AtReach s (AtList (listing_on sought Whole whole_part (list_checking r.vars split.0) sets (journal_units r before))))) (Done (record { header = h; answer = answer_of (whole_of sought (in_order sought sets)) })) lines (journal_line (kept nodes f.names) last ∷ codes "end" ∷ []) refl taken end in
       let texts : lines ++ journal_line (kept nodes f.names) last ∷ codes "end" ∷ [] ≡ map (journal_line (kept nodes f.names)) journal ++ codes "end" ∷ [] =
-      sym (split_lines (kept nodes f.names) before last (codes "end" ∷ [])) ∙ ap (λ (ls : List JournalLine). map (journal_line (kept nodes f.names)) ls ++ codes "end" ∷ []) (sym ends.is) in
+      sym (split_lines (journal_line (kept nodes f.names)) before last (codes "end" ∷ [])) ∙ ap (λ (ls : List JournalLine). map (journal_line (kept nodes f.names)) ls ++ codes "end" ∷ []) (sym ends.is) in
       let those : sets_in sought before ≡ sets_in sought journal = sym (append-nil (sets_in sought before)) ∙ ap (λ (xs : List Table). sets_in sought before ++ xs) (sym (no_set sought last ends.ends)) ∙ sym (sets_append sought before (last ∷ [])) ∙ ap (sets_in sought) (sym ends.is) in
       let raised : sets ≡ raised_sets f h (sets_in sought journal) = all_raised nodes (sets_in sought before) ∙ ap (λ (xs : List Table). map (raised_table nodes) xs) those in
-      subst (λ (xs : List Table). Takes f d l (first_place Whole) (map (journal_line (kept nodes f.names)) journal ++ codes "end" ∷ []) (Done (record { header = h; answer = answer_of (whole_of sought (in_order sought xs)) }))) raised
-      (subst (λ (ls : List Text). Takes f d l (first_place Whole) ls (Done (record { header = h; answer = answer_of (whole_of sought (in_order sought sets)) }))) texts whole)
+      subst (λ (xs : List Table). Takes f given l (first_place Whole) (map (journal_line (kept nodes f.names)) journal ++ codes "end" ∷ []) (Done (record { header = h; answer = answer_of (whole_of sought (in_order sought xs)) }))) raised
+      (subst (λ (ls : List Text). Takes f given l (first_place Whole) ls (Done (record { header = h; answer = answer_of (whole_of sought (in_order sought sets)) }))) texts whole)
     where
       fall_front : (sets : List Table) (xs ys : List JournalLine) → FallOn sought nodes sets (xs ++ ys) → FallOn sought nodes sets xs
       fall_front sets [] ys falls = tt
@@ -242,23 +252,23 @@ module _ (f : System) (d : List ℕ) (h : Header) (is : IsSystem f.names f.sets)
       fall_front sets (StepLine step ∷ xs) ys falls = fall_front sets xs ys falls
 
   -- behind these lines, which lead to the journal's first
-  journal_accepted : (kind : ListKind) (new : Database) (journal : List JournalLine) (front : List Text) → AreLines front → Takes f d 5 (Going (AtKind (subject f h))) front (first_place kind) → r.vars ≤ MOST_VARS → JournalRun r kind r.start journal new → FallOn sought nodes [] journal
+  journal_accepted : (kind : ListKind) (new : Database) (journal : List JournalLine) (front : List Text) → AreLines front → Takes f given 5 (Going (AtKind (subject f h))) front (first_place kind) → r.vars ≤ MOST_VARS → JournalRun r kind r.start journal new → FallOn sought nodes [] journal
       → All HasLineNumbers journal → All (HasFewWords r.vars) journal → length front + length journal + 5 ≤ MAX_LINES → ListEndsAs kind journal
-      → checked f d (joined (header_lines f.names d h ++ (front ++ (map (journal_line (kept nodes f.names)) journal ++ codes "end" ∷ [])))) ≡ Ok (record { header = h; answer = shown_of kind journal })
+      → checked f given (joined (header_lines f.names given.digest h ++ (front ++ (map (journal_line (kept nodes f.names)) journal ++ codes "end" ∷ [])))) ≡ Ok (record { header = h; answer = shown_of kind journal })
   journal_accepted kind new journal front front_lines begins small run falls numbers words few ends =
       let fine = both_all HasLineNumbers (HasFewWords r.vars) journal (recursion_from_All HasLineNumbers journal numbers) (recursion_from_All (HasFewWords r.vars) journal words) in
-      let head_lines = header_lines f.names d h in
+      let head_lines = header_lines f.names given.digest h in
       let texts = map (journal_line (kept nodes f.names)) journal in
       let behind = texts ++ codes "end" ∷ [] in
       let body = front ++ behind in
       let shown : Accepted = record { header = h; answer = shown_of kind journal } in
-      let taken : Takes f d 5 (Going (AtKind (subject f h))) body (Done shown) = takes-append f d 5 (5 + length front) (Going (AtKind (subject f h))) (first_place kind) (Done shown) front behind refl begins (takes_body kind (5 + length front) new journal small run fine falls ends) in
-      let whole = takes-append f d 1 5 (Going AtTitle) (Going (AtKind (subject f h))) (Done shown) head_lines body refl (takes_header f d h are size_is bytes head) taken in
+      let taken : Takes f given 5 (Going (AtKind (subject f h))) body (Done shown) = takes-append f given 5 (5 + length front) (Going (AtKind (subject f h))) (first_place kind) (Done shown) front behind refl begins (takes_body kind (5 + length front) new journal small run fine falls ends) in
+      let whole = takes-append f given 1 5 (Going AtTitle) (Going (AtKind (subject f h))) (Done shown) head_lines body refl (takes_header f given h are size_is bytes head) taken in
       let last_line : IsLine (codes "end") = record { plain = is_plain (codes "end") refl; short = omega arith } in
       let of_journal = lines_journal r kind (kept nodes f.names) r.start new journal part_names (omega (arith, kept_le nodes f.names, is.few)) small run fine in
-      let lines : AreLines (head_lines ++ body) = are_lines-append head_lines body (lines_header f d h are is.few size_is head) (are_lines-append front behind front_lines (are_lines-append texts (codes "end" ∷ []) of_journal (last_line, tt))) in
+      let lines : AreLines (head_lines ++ body) = are_lines-append head_lines body (lines_header f given.digest h are is.few size_is head) (are_lines-append front behind front_lines (are_lines-append texts (codes "end" ∷ []) of_journal (last_line, tt))) in
       let total : length (head_lines ++ body) ≤ MAX_LINES = omega (arith, length-append front behind, length-append texts (codes "end" ∷ []), length-map journal (journal_line (kept nodes f.names)), few) in
-      accepted_text f d (head_lines ++ body) shown lines total whole
+      accepted_text f given (head_lines ++ body) shown lines total whole
 
 -- ---- the line of the counter
 
@@ -285,57 +295,57 @@ line_counter g small =
       short = omega (arith, a, b, length-append (codes "counter") (spaced (decimal (counter_vars g) ∷ decimal (g * g) ∷ [])), length-append (decimal (counter_vars g)) (spaced (decimal (g * g) ∷ [])), length-append (decimal (g * g)) (spaced []));
     }
 
-counter_taken : (f : System) (d : List ℕ) (s : Subject) (kind : ListKind) (p : ListPart) → counter_vars (size p.greatest) ≤ MOST_VARS → take_line f d (AtReach s (AtCounter kind p)) 6 (counter_line (size p.greatest)) ≡ Ok (Going (AtReach s (AtList (counted_listing kind p))))
+counter_taken : (f : System) (given : Given) (s : Subject) (kind : ListKind) (p : ListPart) → counter_vars (size p.greatest) ≤ MOST_VARS → take_line f given (AtReach s (AtCounter kind p)) 6 (counter_line (size p.greatest)) ≡ Ok (Going (AtReach s (AtList (counted_listing kind p))))
 unfolding take_line
-counter_taken f d s kind p small =
+counter_taken f given s kind p small =
     rw (counter_back (size p.greatest) small, le-leb (counter_vars (size p.greatest)) MOST_VARS small, eq-eqb (counter_vars (size p.greatest)) (counter_vars (size p.greatest)) refl, eq-eqb (size p.greatest * size p.greatest) (size p.greatest * size p.greatest) refl) refl
 
 -- ---- a list
 
-kind_taken : (f : System) (d : List ℕ) (s : Subject) (sought : Listed) (kind : ListKind) → s.version ≡ Two → take_line f d (AtKind s) 5 (list_kind_of sought kind) ≡ Ok (Going (AtReach s (body_begins f sought kind s.nodes s.header.faulty)))
+kind_taken : (f : System) (given : Given) (s : Subject) (sought : Listed) (kind : ListKind) → s.version ≡ Two → take_line f given (AtKind s) 5 (list_kind_of sought kind) ≡ Ok (Going (AtReach s (body_begins f sought kind s.nodes s.header.faulty)))
 unfolding take_line
-kind_taken f d s listed.Blocking Whole two = rw two refl
-kind_taken f d s listed.Blocking Part two = rw two refl
-kind_taken f d s listed.Quorum Whole two = rw two refl
-kind_taken f d s listed.Quorum Part two = rw two refl
-kind_taken f d s listed.Smaller Whole two = rw two refl
-kind_taken f d s listed.Smaller Part two = rw two refl
+kind_taken f given s listed.Blocking Whole two = rw two refl
+kind_taken f given s listed.Blocking Part two = rw two refl
+kind_taken f given s listed.Quorum Whole two = rw two refl
+kind_taken f given s listed.Quorum Part two = rw two refl
+kind_taken f given s listed.Smaller Whole two = rw two refl
+kind_taken f given s listed.Smaller Part two = rw two refl
 
-module _ (f : System) (d : List ℕ) (h : Header) (is : IsSystem f.names f.sets) (sorted : IsStrictlySortedBy name_cmp f.names) (size_is : length d ≡ 32) (bytes : IsBytes d) (head : IsHeader f h) where
+module _ (f : System) (given : Given) (h : Header) (is : IsSystem f.names f.sets) (sorted : IsStrictlySortedBy name_cmp f.names) (size_is : length given.digest ≡ 32) (bytes : IsBytes given.digest) (head : IsHeader f h) where
   abbrev gone : Table
   gone = faulty_in f h
 
   -- over a system of the part
   abbrev ListSo : Listed → ListKind → List JournalLine → Database → System → Type 0
   ListSo sought kind journal new p = JournalRun (rules sought p.sets gone) kind nothing_held journal new → All (HasFewWords (size (greatest_of p.sets gone))) journal
-      → checked f d (list_text f.names p.names d h sought kind journal) ≡ Ok (record { header = h; answer = shown_by_list sought f h (rules sought p.sets gone) kind journal })
+      → checked f given (list_text f.names p.names given.digest h sought kind journal) ≡ Ok (record { header = h; answer = shown_by_list sought f h (rules sought p.sets gone) kind journal })
 
   vars_few : size (list_part f (part_from f h.from) h.faulty).greatest ≤ MOST_VARS
-  vars_few = omega (arith, small_greatest f d h is sorted size_is bytes head listed.Quorum)
+  vars_few = omega (arith, small_greatest f given h is sorted size_is bytes head listed.Quorum)
 
   list_so : (sought : Listed) (kind : ListKind) (journal : List JournalLine) (new : Database) → HasLists sought → All HasLineNumbers journal → length journal + 6 ≤ MAX_LINES → ListEndsAs kind journal → ListSo sought kind journal new (restricted (part_from f h.from) f)
   list_so listed.Quorum kind journal new all numbers few ends run words =
-      journal_accepted f d h is sorted size_is bytes head listed.Quorum kind new journal (list_kind_of listed.Quorum kind ∷ []) (line_kind listed.Quorum kind, tt)
-      (Going (AtReach (subject f h) (body_begins f listed.Quorum kind (part_from f h.from) h.faulty)), kind_taken f d (subject f h) listed.Quorum kind refl, refl)
+      journal_accepted f given h is sorted size_is bytes head listed.Quorum kind new journal (list_kind_of listed.Quorum kind ∷ []) (line_kind listed.Quorum kind, tt)
+      (Going (AtReach (subject f h) (body_begins f listed.Quorum kind (part_from f h.from) h.faulty)), kind_taken f given (subject f h) listed.Quorum kind refl, refl)
       vars_few run (lists_fall listed.Quorum tt (part_from f h.from) [] journal) numbers words (omega (arith, few)) ends
   list_so listed.Blocking kind journal new all numbers few ends run words =
-      journal_accepted f d h is sorted size_is bytes head listed.Blocking kind new journal (list_kind_of listed.Blocking kind ∷ []) (line_kind listed.Blocking kind, tt)
-      (Going (AtReach (subject f h) (body_begins f listed.Blocking kind (part_from f h.from) h.faulty)), kind_taken f d (subject f h) listed.Blocking kind refl, refl)
+      journal_accepted f given h is sorted size_is bytes head listed.Blocking kind new journal (list_kind_of listed.Blocking kind ∷ []) (line_kind listed.Blocking kind, tt)
+      (Going (AtReach (subject f h) (body_begins f listed.Blocking kind (part_from f h.from) h.faulty)), kind_taken f given (subject f h) listed.Blocking kind refl, refl)
       vars_few run (lists_fall listed.Blocking tt (part_from f h.from) [] journal) numbers words (omega (arith, few)) ends
   list_so listed.Smaller kind journal new all numbers few ends run words = absurd all
 
   pub list_of_accepted : (sought : Listed) (p : System) (kind : ListKind) (journal : List JournalLine) → p ≡ part_of f h.from → IsJournalOf sought f h kind journal
-      → checked f d (list_text f.names p.names d h sought kind journal) ≡ Ok (record { header = h; answer = shown_by_list sought f h (rules_in sought f h) kind journal })
+      → checked f given (list_text f.names p.names given.digest h sought kind journal) ≡ Ok (record { header = h; answer = shown_by_list sought f h (rules_in sought f h) kind journal })
   list_of_accepted sought p kind journal p_is j =
       let e : part_of f h.from ≡ restricted (part_from f h.from) f = part_is_restricted f h.from is in
-      ap (λ (x : System). checked f d (list_text f.names x.names d h sought kind journal)) p_is
+      ap (λ (x : System). checked f given (list_text f.names x.names given.digest h sought kind journal)) p_is
       ∙ subst (ListSo sought kind journal j.new) (sym e) (list_so sought kind journal j.new j.lists j.numbers j.few j.ends) j.run j.few_words
 
   -- ---- a search for a smallest quorum
 
   abbrev LeastSo : ListKind → List JournalLine → Database → System → Type 0
   LeastSo kind journal new p = counter_vars (size (greatest_of p.sets gone)) ≤ MOST_VARS → JournalRun (least_of p.sets (members gone) (greatest_of p.sets gone)) kind (least_of p.sets (members gone) (greatest_of p.sets gone)).start journal new → All (HasFewWords (counter_vars (size (greatest_of p.sets gone)))) journal
-      → checked f d (least_text f.names p.names d h (size (greatest_of p.sets gone)) kind journal) ≡ Ok (record { header = h; answer = shown_by_list listed.Smaller f h (least_of p.sets (members gone) (greatest_of p.sets gone)) kind journal })
+      → checked f given (least_text f.names p.names given.digest h (size (greatest_of p.sets gone)) kind journal) ≡ Ok (record { header = h; answer = shown_by_list listed.Smaller f h (least_of p.sets (members gone) (greatest_of p.sets gone)) kind journal })
 
   least_so : (kind : ListKind) (journal : List JournalLine) (new : Database) → AreFalling journal → All HasLineNumbers journal → length journal + 7 ≤ MAX_LINES → ListEndsAs kind journal → LeastSo kind journal new (restricted (part_from f h.from) f)
   least_so kind journal new falls numbers few ends small run words =
@@ -343,18 +353,18 @@ module _ (f : System) (d : List ℕ) (h : Header) (is : IsSystem f.names f.sets)
       let p : ListPart = list_part f (part_from f h.from) h.faulty in
       let g : ℕ = size p.greatest in
       let place : State = Going (AtReach s (AtList (counted_listing kind p))) in
-      journal_accepted f d h is sorted size_is bytes head listed.Smaller kind new journal (list_kind_of listed.Smaller kind ∷ counter_line g ∷ []) (line_kind listed.Smaller kind, (line_counter g small, tt))
-      (Going (AtReach s (AtCounter kind p)), kind_taken f d s listed.Smaller kind refl, (place, counter_taken f d s kind p small, refl))
-      small run (least_fall p (part_from f h.from) kind (rules_of listed.Smaller p).start new [] journal (count f d h is sorted size_is bytes head listed.Smaller) run falls) numbers words (omega (arith, few)) ends
+      journal_accepted f given h is sorted size_is bytes head listed.Smaller kind new journal (list_kind_of listed.Smaller kind ∷ counter_line g ∷ []) (line_kind listed.Smaller kind, (line_counter g small, tt))
+      (Going (AtReach s (AtCounter kind p)), kind_taken f given s listed.Smaller kind refl, (place, counter_taken f given s kind p small, refl))
+      small run (least_fall p (part_from f h.from) kind (rules_of listed.Smaller p).start new [] journal (count f given h is sorted size_is bytes head listed.Smaller) run falls) numbers words (omega (arith, few)) ends
 
   last_shown : (kind : ListKind) (journal : List JournalLine) (r : Rules) → r ≡ least_rules f h → shown_by_list listed.Smaller f h r kind journal ≡ shown_by_least f h kind journal
   last_shown Whole journal r is_r = ap Least (last_map (raised_table (part_from f h.from)) None (sets_in listed.Smaller journal))
   last_shown Part journal r is_r = ap (λ (x : Rules). PartialLeast (journal_units x journal)) is_r
 
   pub least_of_accepted : (p : System) (kind : ListKind) (journal : List JournalLine) → p ≡ part_of f h.from → IsLeastJournalOf f h kind journal
-      → checked f d (least_text f.names p.names d h (size (greatest_in f h)) kind journal) ≡ Ok (record { header = h; answer = shown_by_least f h kind journal })
+      → checked f given (least_text f.names p.names given.digest h (size (greatest_in f h)) kind journal) ≡ Ok (record { header = h; answer = shown_by_least f h kind journal })
   least_of_accepted p kind journal p_is j =
       let e : part_of f h.from ≡ restricted (part_from f h.from) f = part_is_restricted f h.from is in
-      ap (λ (x : System). checked f d (least_text f.names x.names d h (size (greatest_in f h)) kind journal)) p_is
+      ap (λ (x : System). checked f given (least_text f.names x.names given.digest h (size (greatest_in f h)) kind journal)) p_is
       ∙ subst (LeastSo kind journal j.new) (sym e) (least_so kind journal j.new j.falls j.numbers j.few j.ends) j.small j.run j.few_words
       ∙ ap (λ (a : Answer). Ok (record { header = h; answer = a })) (last_shown kind journal (least_rules f h) refl)

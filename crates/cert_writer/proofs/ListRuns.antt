@@ -38,6 +38,7 @@ use Rattle.cert_lines.specs.declared.faults.CertError.{CertError}
 use Rattle.cert_lines.specs.declared.faults.CertError.TheVariants.{NotNew}
 use Rattle.certificate_file.specs.Acceptance.{take_line}
 use Rattle.reach_kinds.specs.Bodies.{and_then, listed_by, literal_in, asks_steps, is_old_step, in_order, whole_of, part_of, asks_smaller, is_below, rules_of, with_step, after_list_step, list_step, list_step_unless, list_end, list_text, list_part, listing_on, list_checking, is_covered, put_last, with_sought}
+use Rattle.certificate_file.specs.declared.given.Given.{Given}
 use Rattle.certificate_file.specs.declared.places.Subject.{Subject}
 use Rattle.reach_kinds.specs.declared.places.Listing.{Listing}
 use Rattle.certificate_file.specs.declared.places.Place.TheVariants.{AtReach}
@@ -78,15 +79,15 @@ lists_nothing sought id rest text low are is =
     let digits : AllDigits 10 (decimal id) = (decimal_is_IsNumeral id (omega (arith, low))).0.1 in
     ap (listed_by sought) words ∙ by_no_letter sought (decimal id) rest digits
 
-lemma_lists_nothing : (sought : Listed) (id : ℕ) (lits : List Literal) (hints : List ℤ) → HasNumbers (Addition id lits hints) → AllByRecursion IsLiteral lits → listed_by sought (words_of (line_of (Addition id lits hints))) ≡ None
+pub lemma_lists_nothing : (sought : Listed) (id : ℕ) (lits : List Literal) (hints : List ℤ) → HasNumbers (Addition id lits hints) → AllByRecursion IsLiteral lits → listed_by sought (words_of (line_of (Addition id lits hints))) ≡ None
 lemma_lists_nothing sought id lits hints has ls = lists_nothing sought id (lemma_words lits hints) (line_of (Addition id lits hints)) has.0.1 (words_lemma lits hints has.1 ls) (line_words id lits hints)
 
-deletion_lists_nothing : (sought : Listed) (id : ℕ) (ids : List ℕ) → HasNumbers (Deletion id ids) → listed_by sought (words_of (line_of (Deletion id ids))) ≡ None
+pub deletion_lists_nothing : (sought : Listed) (id : ℕ) (ids : List ℕ) → HasNumbers (Deletion id ids) → listed_by sought (words_of (line_of (Deletion id ids))) ≡ None
 deletion_lists_nothing sought id ids has = lists_nothing sought id (deletion_words ids) (line_of (Deletion id ids)) has.0.1 (words_deletion ids has.1) (deletion_line_words id ids)
 
 -- ---- a step
 
-literal_there : (kind : ListKind) (l : ℕ) (step : ProofStep) → progress_of step ≡ going → literal_in kind l step ≡ Ok step
+pub literal_there : (kind : ListKind) (l : ℕ) (step : ProofStep) → progress_of step ≡ going → literal_in kind l step ≡ Ok step
 literal_there Whole l step on = refl
 literal_there Part l step on = rw on refl
 
@@ -95,15 +96,15 @@ step_is_new Whole k id lits hints same new = ap (λ (x : ListKind). asks_steps x
 step_is_new Part k id lits hints same new = ap (λ (x : ListKind). asks_steps x && is_covered k.checker.database.held id lits) same ∙ new_uncovered k.checker.database.held id lits new
 
 -- a deletion adds nothing that could be old
-never_old : (kind : ListKind) → (asks_steps kind && false) ≡ false
+pub never_old : (kind : ListKind) → (asks_steps kind && false) ≡ false
 never_old Whole = refl
 never_old Part = refl
 
 -- a step, however it goes on
-step_taken : (f : System) (d : List ℕ) (s : Subject) (k : Listing) (l : ℕ) (step : ProofStep) → IsRead step → listed_by k.sought (words_of (line_of step)) ≡ None → literal_in k.kind l step ≡ Ok step → step_fault_by k.checker.rule k.checker.vars k.checker.database step ≡ None → is_old_step k step ≡ false
-    → take_line f d (AtReach s (AtList k)) l (line_of step) ≡ Ok (in_reach s (after_list_step (with_step k step) (progress_of step)))
+step_taken : (f : System) (given : Given) (s : Subject) (k : Listing) (l : ℕ) (step : ProofStep) → IsRead step → listed_by k.sought (words_of (line_of step)) ≡ None → literal_in k.kind l step ≡ Ok step → step_fault_by k.checker.rule k.checker.vars k.checker.database step ≡ None → is_old_step k step ≡ false
+    → take_line f given (AtReach s (AtList k)) l (line_of step) ≡ Ok (in_reach s (after_list_step (with_step k step) (progress_of step)))
 unfolding take_line
-step_taken f d s k l step read none literal fault fresh =
+step_taken f given s k l step read none literal fault fresh =
     let text : Text = line_of step in
     ap (λ (b : Bool). and_then (λ x. Ok (in_reach s x)) (if b then list_end k.kind k l else list_text f s.nodes k l text (listed_by k.sought (words_of text)))) (not_end step read)
     ∙ ap (λ (o : Option Listed). and_then (λ x. Ok (in_reach s x)) (list_text f s.nodes k l text o)) none
@@ -125,7 +126,7 @@ FallOn sought nodes sets [] = Unit {0}
 FallOn sought nodes sets (SetLine which id u ∷ lines) = ((not (asks_smaller sought which) || is_below (size u) (last_of None sets)) ≡ true) × FallOn sought nodes (with_sought sought sets which (spread nodes u)) lines
 FallOn sought nodes sets (StepLine step ∷ lines) = FallOn sought nodes sets lines
 
-module _ (f : System) (d : List ℕ) (s : Subject) (sought : Listed) (kind : ListKind) (are : AreNames f.names) (part : AreNames (kept s.nodes f.names)) (places : length s.nodes ≡ length f.names)
+module _ (f : System) (given : Given) (s : Subject) (sought : Listed) (kind : ListKind) (are : AreNames f.names) (part : AreNames (kept s.nodes f.names)) (places : length s.nodes ≡ length f.names)
     (same : length (list_part f s.nodes s.header.faulty).faulty ≡ length (list_part f s.nodes s.header.faulty).system.sets) (count : length (list_part f s.nodes s.header.faulty).system.sets ≡ size s.nodes) (small : (rules_of sought (list_part f s.nodes s.header.faulty)).vars < 2147483648) where
   -- the journal's rules over the part
   abbrev pub list_rules : Rules
@@ -147,20 +148,20 @@ module _ (f : System) (d : List ℕ) (s : Subject) (sought : Listed) (kind : Lis
 
   lemma_taken : (l id : ℕ) (lits : List Literal) (hints : List ℤ) (old : Database) (sets : List Table) (units : ℕ) → IsFine (StepLine (Addition id lits hints)) → literal_in kind l (Addition id lits hints) ≡ Ok (Addition id lits hints)
       → step_fault list_rules.vars old (Addition id lits hints) ≡ None → IsNewStep kind old.held (Addition id lits hints)
-      → take_line f d (AtReach s (AtList (at old sets units))) l (line_of (Addition id lits hints)) ≡ Ok (in_reach s (after_list_step (at (after_step old (Addition id lits hints)) sets (units + 1)) (progress_at lits)))
+      → take_line f given (AtReach s (AtList (at old sets units))) l (line_of (Addition id lits hints)) ≡ Ok (in_reach s (after_list_step (at (after_step old (Addition id lits hints)) sets (units + 1)) (progress_at lits)))
   lemma_taken l id lits hints old sets units fine literal fault new =
-      step_taken f d s (at old sets units) l (Addition id lits hints) (reads_back id lits hints fine)
+      step_taken f given s (at old sets units) l (Addition id lits hints) (reads_back id lits hints fine)
       (lemma_lists_nothing sought id lits hints fine.0 (short_literals list_rules.vars lits small fine.1.0)) literal fault (step_is_new kind (at old sets units) id lits hints refl new)
 
   deletion_taken : (l id : ℕ) (ids : List ℕ) (old : Database) (sets : List Table) (units : ℕ) → IsFine (StepLine (Deletion id ids)) → step_fault list_rules.vars old (Deletion id ids) ≡ None
-      → take_line f d (AtReach s (AtList (at old sets units))) l (line_of (Deletion id ids)) ≡ Ok (Going (AtReach s (AtList (at (after_step old (Deletion id ids)) sets units))))
+      → take_line f given (AtReach s (AtList (at old sets units))) l (line_of (Deletion id ids)) ≡ Ok (Going (AtReach s (AtList (at (after_step old (Deletion id ids)) sets units))))
   deletion_taken l id ids old sets units fine fault =
-      step_taken f d s (at old sets units) l (Deletion id ids) (step_back (Deletion id ids) fine.0 tt) (deletion_lists_nothing sought id ids fine.0) (literal_there kind l (Deletion id ids) refl) fault (never_old kind)
+      step_taken f given s (at old sets units) l (Deletion id ids) (step_back (Deletion id ids) fine.0 tt) (deletion_lists_nothing sought id ids fine.0) (literal_there kind l (Deletion id ids) refl) fault (never_old kind)
 
   -- the lines before the empty lemma
   pub takes_journal : (l : ℕ) (old new : Database) (sets all : List Table) (units total : ℕ) (lines : List JournalLine) → AllByRecursion IsFine lines → AllByRecursion (λ line. line_progress line ≡ going) lines → Runs old lines new → FallOn sought s.nodes sets lines
       → all ≡ sets ++ map (spread s.nodes) (sets_in sought lines) → total ≡ units + journal_units list_rules lines
-      → Takes f d l (Going (AtReach s (AtList (at old sets units)))) (map (journal_line (kept s.nodes f.names)) lines) (Going (AtReach s (AtList (at new all total))))
+      → Takes f given l (Going (AtReach s (AtList (at old sets units)))) (map (journal_line (kept s.nodes f.names)) lines) (Going (AtReach s (AtList (at new all total))))
   takes_journal l old new sets all units total [] fine on run falls all_is total_is =
       let one : units ≡ total = omega (arith, total_is) in
       let two : sets ≡ all = sym (all_is ∙ append-nil sets) in
@@ -169,7 +170,7 @@ module _ (f : System) (d : List ℕ) (s : Subject) (sought : Listed) (kind : Lis
       let next : Database = after_line list_rules old (SetLine which id u) in
       let now : List Table = with_sought sought sets which (spread s.nodes u) in (
         Going (AtReach s (AtList (at next now (units + list_rules.cost which)))),
-        set_line_taken f s (at old sets units) l which id u places same count refl run.0.0 run.0.1 falls.0 run.1 d are part fine.0.0,
+        set_line_taken f s (at old sets units) l which id u places same count refl run.0.0 run.0.1 falls.0 run.1 given are part fine.0.0,
         takes_journal (l + 1) next new now all (units + list_rules.cost which) total lines fine.1 on.1 run.2 falls.1 (all_is ∙ set_behind (is_sought sought which) s.nodes sets u (sets_in sought lines)) (omega (arith, total_is)),
       )
   takes_journal l old new sets all units total (StepLine (Deletion id ids) ∷ lines) fine on run falls all_is total_is =
@@ -190,22 +191,22 @@ module _ (f : System) (d : List ℕ) (s : Subject) (sought : Listed) (kind : Lis
 -- ---- the ends
 
 -- the last lines of a whole list: the empty lemma, and `end`
-pub takes_refuted : (f : System) (d : List ℕ) (s : Subject) (are : AreNames f.names) (part : AreNames (kept s.nodes f.names)) (places : length s.nodes ≡ length f.names)
+pub takes_refuted : (f : System) (given : Given) (s : Subject) (are : AreNames f.names) (part : AreNames (kept s.nodes f.names)) (places : length s.nodes ≡ length f.names)
     (same : length (list_part f s.nodes s.header.faulty).faulty ≡ length (list_part f s.nodes s.header.faulty).system.sets) (count : length (list_part f s.nodes s.header.faulty).system.sets ≡ size s.nodes) (sought : Listed) (small : (rules_of sought (list_part f s.nodes s.header.faulty)).vars < 2147483648)
     (l : ℕ) (old new : Database) (sets : List Table) (units : ℕ) (last : JournalLine) → HasLineNumbers last × HasFewWords (rules_of sought (list_part f s.nodes s.header.faulty)).vars last → line_progress last ≡ Refuted
     → JournalRun (rules_of sought (list_part f s.nodes s.header.faulty)) Whole old (last ∷ []) new
-    → Takes f d l (Going (AtReach s (AtList (listing_on sought Whole (list_part f s.nodes s.header.faulty) (list_checking (rules_of sought (list_part f s.nodes s.header.faulty)).vars old) sets units)))) (journal_line (kept s.nodes f.names) last ∷ codes "end" ∷ []) (Done (record { header = s.header; answer = answer_of (whole_of sought (in_order sought sets)) }))
+    → Takes f given l (Going (AtReach s (AtList (listing_on sought Whole (list_part f s.nodes s.header.faulty) (list_checking (rules_of sought (list_part f s.nodes s.header.faulty)).vars old) sets units)))) (journal_line (kept s.nodes f.names) last ∷ codes "end" ∷ []) (Done (record { header = s.header; answer = answer_of (whole_of sought (in_order sought sets)) }))
 unfolding take_line
-takes_refuted f d s are part places same count sought small l old new sets units (SetLine which id u) fine ends run = absurd cc
-takes_refuted f d s are part places same count sought small l old new sets units (StepLine (Deletion id ids)) fine ends run = absurd cc
-takes_refuted f d s are part places same count sought small l old new sets units (StepLine (Addition id lits hints)) fine ends run = (
+takes_refuted f given s are part places same count sought small l old new sets units (SetLine which id u) fine ends run = absurd cc
+takes_refuted f given s are part places same count sought small l old new sets units (StepLine (Deletion id ids)) fine ends run = absurd cc
+takes_refuted f given s are part places same count sought small l old new sets units (StepLine (Addition id lits hints)) fine ends run = (
   Going (AtReach s (Ended (whole_of sought (in_order sought sets)))),
-  lemma_taken f d s sought Whole are part places same count small l id lits hints old sets units fine refl run.0 run.1
+  lemma_taken f given s sought Whole are part places same count small l id lits hints old sets units fine refl run.0 run.1
       ∙ ap (λ (p : Progress). Ok (in_reach s (after_list_step (listing_on sought Whole (list_part f s.nodes s.header.faulty) (list_checking (rules_of sought (list_part f s.nodes s.header.faulty)).vars (after_step old (Addition id lits hints))) sets (units + 1)) p))) ends,
   (Done (record { header = s.header; answer = answer_of (whole_of sought (in_order sought sets)) }), refl, refl),
 )
 
 -- the last line of a part of a list
-pub takes_part_end : (f : System) (d : List ℕ) (s : Subject) (sought : Listed) (l vars : ℕ) (database : Database) (sets : List Table) (units : ℕ) → Takes f d l (Going (AtReach s (AtList (listing_on sought Part (list_part f s.nodes s.header.faulty) (list_checking vars database) sets units)))) (codes "end" ∷ []) (Done (record { header = s.header; answer = answer_of (part_of sought units) }))
+pub takes_part_end : (f : System) (given : Given) (s : Subject) (sought : Listed) (l vars : ℕ) (database : Database) (sets : List Table) (units : ℕ) → Takes f given l (Going (AtReach s (AtList (listing_on sought Part (list_part f s.nodes s.header.faulty) (list_checking vars database) sets units)))) (codes "end" ∷ []) (Done (record { header = s.header; answer = answer_of (part_of sought units) }))
 unfolding take_line
-takes_part_end f d s sought l vars database sets units = (Done (record { header = s.header; answer = answer_of (part_of sought units) }), refl, refl)
+takes_part_end f given s sought l vars database sets units = (Done (record { header = s.header; answer = answer_of (part_of sought units) }), refl, refl)

@@ -25,9 +25,10 @@ use Rattle.lrat_text.proofs.BackLaws.{step_back}
 use Rattle.cdcl_core.specs.Log.{AreLemmas, AreBounded, IsBoundedLog, live_after, units}
 use Rattle.certificate_file.specs.Formulas.{formula_of}
 use Rattle.cert_lines.specs.Saying.{number_in, counts_in}
-use Rattle.certificate_file.specs.Acceptance.{list_kind, kind_begins, take_line, checked, steps_from}
+use Rattle.certificate_file.specs.Acceptance.{list_kind, kind_begins, group_kind, group_kind_line, take_line, checked, steps_from}
 use Rattle.clause_encoder.specs.declared.version.Version.{Version}
 use Rattle.clause_encoder.specs.declared.version.Version.TheVariants.{One, Two}
+use Rattle.certificate_file.specs.declared.given.Given.{Given}
 use Rattle.certificate_file.specs.declared.places.Aim.{Aim}
 use Rattle.certificate_file.specs.declared.places.Aim.TheVariants as aim
 use Rattle.certificate_file.specs.declared.places.Answer.TheVariants.{Refutation, Partial}
@@ -95,9 +96,9 @@ counts_back vars clauses low is =
     let more : IsWord (decimal clauses) = decimal_word clauses (omega (arith, is.1)) in
     rw (words_of-worded (codes "formula") (decimal vars ∷ decimal clauses ∷ []) is_formula (words, (more, tt)), number_back vars low, (id_back clauses is).0) refl
 
-formula_taken : (f : System) (d : List ℕ) (h : Header) (to : Aim) (vars clauses : ℕ) (c : Checking) → c ≡ formula_of f (subject f h) → vars ≡ c.vars → clauses ≡ c.database.last → vars ≤ MOST_VARS → IsId clauses → take_line f d (AtFormula to (subject f h)) 6 (worded (codes "formula") (decimal vars ∷ decimal clauses ∷ [])) ≡ Ok (Going (steps_from to h c))
+formula_taken : (f : System) (given : Given) (h : Header) (to : Aim) (vars clauses : ℕ) (c : Checking) → c ≡ formula_of f (subject f h) → vars ≡ c.vars → clauses ≡ c.database.last → vars ≤ MOST_VARS → IsId clauses → take_line f given (AtFormula to (subject f h)) 6 (worded (codes "formula") (decimal vars ∷ decimal clauses ∷ [])) ≡ Ok (Going (steps_from to h c))
 unfolding take_line
-formula_taken f d h to vars clauses c is v k small id =
+formula_taken f given h to vars clauses c is v k small id =
     let low : c.vars ≤ MOST_VARS = omega (arith, v) in
     rw (counts_back vars clauses (omega arith) id, ← is, le-leb c.vars MOST_VARS low, eq-eqb vars c.vars v, eq-eqb clauses c.database.last k) refl
 
@@ -117,10 +118,16 @@ no_list One aim.Partial = refl
 no_list Two aim.Refutation = refl
 no_list Two aim.Partial = refl
 
-kind_taken : (f : System) (d : List ℕ) (s : Subject) (to : Aim) → take_line f d (AtKind s) 5 (kind_of to) ≡ Ok (Going (AtFormula to s))
+no_groups : (version : Version) (to : Aim) → group_kind version (kind_of to) ≡ None
+no_groups One aim.Refutation = refl
+no_groups One aim.Partial = refl
+no_groups Two aim.Refutation = refl
+no_groups Two aim.Partial = refl
+
+kind_taken : (f : System) (given : Given) (s : Subject) (to : Aim) → take_line f given (AtKind s) 5 (kind_of to) ≡ Ok (Going (AtFormula to s))
 unfolding take_line
-kind_taken f d s aim.Refutation = ap (kind_begins f s 5 (kind_of aim.Refutation)) (no_list s.version aim.Refutation)
-kind_taken f d s aim.Partial = ap (kind_begins f s 5 (kind_of aim.Partial)) (no_list s.version aim.Partial)
+kind_taken f given s aim.Refutation = ap (kind_begins f s 5 (kind_of aim.Refutation)) (no_list s.version aim.Refutation) ∙ ap (group_kind_line s 5 (kind_of aim.Refutation)) (no_groups s.version aim.Refutation)
+kind_taken f given s aim.Partial = ap (kind_begins f s 5 (kind_of aim.Partial)) (no_list s.version aim.Partial) ∙ ap (group_kind_line s 5 (kind_of aim.Partial)) (no_groups s.version aim.Partial)
 
 line_kind : (to : Aim) → IsLine (kind_of to)
 line_kind aim.Refutation = record { plain = is_plain (codes "kind refutation") refl; short = omega arith }
@@ -136,26 +143,26 @@ pub front_all : {A : Type 0} (P : A → Type 0) (xs : List A) (y : A) → AllByR
 front_all P [] y all = (tt, all.0)
 front_all P (x ∷ xs) y all = let rest = front_all P xs y all.1 in ((all.0, rest.0), rest.1)
 
-takes_log : (f : System) (d : List ℕ) (h : Header) (to : Aim) (vars : ℕ) (old new : Database) (log : List ProofStep) → AllByRecursion IsRead log → Run vars old log new → AreLemmas vars old log → EndsAs to log → Takes f d 7 (Going (steps_from to h (record { rule = Rat; vars = vars; database = old }))) (map line_of log ++ codes "end" ∷ []) (Done (record { header = h; answer = shown_by to log }))
-takes_log f d h aim.Partial vars old new log all run lemmas ends =
+takes_log : (f : System) (given : Given) (h : Header) (to : Aim) (vars : ℕ) (old new : Database) (log : List ProofStep) → AllByRecursion IsRead log → Run vars old log new → AreLemmas vars old log → EndsAs to log → Takes f given 7 (Going (steps_from to h (record { rule = Rat; vars = vars; database = old }))) (map line_of log ++ codes "end" ∷ []) (Done (record { header = h; answer = shown_by to log }))
+takes_log f given h aim.Partial vars old new log all run lemmas ends =
     let on = recursion_from_All IsGoing log ends in
     let zero_more : 0 + units log ≡ units log = omega arith in
-    let steps = takes_lemmas f d h vars old new 0 7 log all on run lemmas in
+    let steps = takes_lemmas f given h vars old new 0 7 log all on run lemmas in
     let middle = Going (AtLemmas h (record { rule = Rat; vars = vars; database = new }) (0 + units log)) in
-    let end = takes_end f d h (record { rule = Rat; vars = vars; database = new }) (0 + units log) (7 + length (map line_of log)) in
-    let whole = takes-append f d 7 (7 + length (map line_of log)) (Going (AtLemmas h (record { rule = Rat; vars = vars; database = old }) 0)) middle (Done (record { header = h; answer = Partial (0 + units log) })) (map line_of log) (codes "end" ∷ []) refl steps end in
-    subst (λ (n : ℕ). Takes f d 7 (Going (AtLemmas h (record { rule = Rat; vars = vars; database = old }) 0)) (map line_of log ++ codes "end" ∷ []) (Done (record { header = h; answer = Partial n }))) zero_more whole
-takes_log f d h aim.Refutation vars old new log all run lemmas ends =
+    let end = takes_end f given h (record { rule = Rat; vars = vars; database = new }) (0 + units log) (7 + length (map line_of log)) in
+    let whole = takes-append f given 7 (7 + length (map line_of log)) (Going (AtLemmas h (record { rule = Rat; vars = vars; database = old }) 0)) middle (Done (record { header = h; answer = Partial (0 + units log) })) (map line_of log) (codes "end" ∷ []) refl steps end in
+    subst (λ (n : ℕ). Takes f given 7 (Going (AtLemmas h (record { rule = Rat; vars = vars; database = old }) 0)) (map line_of log ++ codes "end" ∷ []) (Done (record { header = h; answer = Partial n }))) zero_more whole
+takes_log f given h aim.Refutation vars old new log all run lemmas ends =
     let before = ends.0 in
     let last = ends.1 in
     let split = run_split vars old new before last (subst (λ (x : List ProofStep). Run vars old x new) ends.2 run) in
     let each = front_all IsRead before last (subst (AllByRecursion IsRead) ends.2 all) in
     let on = recursion_from_All IsGoing before ends.4 in
-    let steps = takes_steps f d h vars old split.0 7 before each.0 on split.1 in
-    let end = takes_last f d h (record { rule = Rat; vars = vars; database = split.0 }) (7 + length (map line_of before)) last each.1 (taken_by_rat vars split.0 last split.2) ends.3 in
-    let whole = takes-append f d 7 (7 + length (map line_of before)) (Going (AtSteps h (record { rule = Rat; vars = vars; database = old }))) (Going (AtSteps h (record { rule = Rat; vars = vars; database = split.0 }))) (Done (record { header = h; answer = Refutation })) (map line_of before) (line_of last ∷ codes "end" ∷ []) refl steps end in
+    let steps = takes_steps f given h vars old split.0 7 before each.0 on split.1 in
+    let end = takes_last f given h (record { rule = Rat; vars = vars; database = split.0 }) (7 + length (map line_of before)) last each.1 (taken_by_rat vars split.0 last split.2) ends.3 in
+    let whole = takes-append f given 7 (7 + length (map line_of before)) (Going (AtSteps h (record { rule = Rat; vars = vars; database = old }))) (Going (AtSteps h (record { rule = Rat; vars = vars; database = split.0 }))) (Done (record { header = h; answer = Refutation })) (map line_of before) (line_of last ∷ codes "end" ∷ []) refl steps end in
     let same : map line_of before ++ line_of last ∷ codes "end" ∷ [] ≡ map line_of log ++ codes "end" ∷ [] = sym (lines-split before last (codes "end" ∷ [])) ∙ ap (λ (x : List ProofStep). map line_of x ++ codes "end" ∷ []) (sym ends.2) in
-    subst (λ (ls : List Text). Takes f d 7 (Going (AtSteps h (record { rule = Rat; vars = vars; database = old }))) ls (Done (record { header = h; answer = Refutation }))) same whole
+    subst (λ (ls : List Text). Takes f given 7 (Going (AtSteps h (record { rule = Rat; vars = vars; database = old }))) ls (Done (record { header = h; answer = Refutation }))) same whole
 
 -- ---- a log that is written is accepted
 
@@ -163,28 +170,28 @@ rat_formula : (f : System) (s : Subject) → Rat ≡ (formula_of f s).rule
 unfolding formula_of
 rat_formula f s = refl
 
-pub log_accepted : (f : System) (d : List ℕ) (h : Header) (to : Aim) (vars clauses : ℕ) (log : List ProofStep) (new : Database) → IsSystem f.names f.sets → IsStrictlySortedBy name_cmp f.names → length d ≡ 32 → IsBytes d → IsHeader f h
+pub log_accepted : (f : System) (given : Given) (h : Header) (to : Aim) (vars clauses : ℕ) (log : List ProofStep) (new : Database) → IsSystem f.names f.sets → IsStrictlySortedBy name_cmp f.names → length given.digest ≡ 32 → IsBytes given.digest → IsHeader f h
     → vars ≡ (formula_of f (subject f h)).vars → clauses ≡ (formula_of f (subject f h)).database.last → vars ≤ MOST_VARS → IsId clauses
     → Run vars (formula_of f (subject f h)).database log new → AreLemmas vars (formula_of f (subject f h)).database log → IsBoundedLog vars log → AllByRecursion HasNumbers log → AllByRecursion HasLiterals log → length log + 7 ≤ MAX_LINES → EndsAs to log
-    → checked f d (log_text f.names d h to vars clauses log) ≡ Ok (record { header = h; answer = shown_by to log })
-log_accepted f d h to vars clauses log new is sorted size bytes head v k small id run lemmas bounded ns ls few ends =
+    → checked f given (log_text f.names given.digest h to vars clauses log) ≡ Ok (record { header = h; answer = shown_by to log })
+log_accepted f given h to vars clauses log new is sorted size bytes head v k small id run lemmas bounded ns ls few ends =
     let s = subject f h in
     let c = formula_of f s in
     let are : AreNames f.names = record { keys = are_keys f.names is.keys; sorted = sorted } in
     let all = reads log ns ls in
-    let head_lines = header_lines f.names d h in
+    let head_lines = header_lines f.names given.digest h in
     let body = log_lines to vars clauses log in
     let of_vars : record { rule = Rat; vars = vars; database = c.database } ≡ c = ap (λ (n : ℕ). record { rule = Rat; vars = n; database = c.database }) v ∙ ap (λ (r : Rule). record { rule = r; vars = c.vars; database = c.database }) (rat_formula f s) in
-    let steps = takes_log f d h to vars c.database new log all run lemmas ends in
-    let from_formula = subst (λ (x : Checking). Takes f d 7 (Going (steps_from to h x)) (map line_of log ++ codes "end" ∷ []) (Done (record { header = h; answer = shown_by to log }))) of_vars steps in
-    let taken : Takes f d 5 (Going (AtKind s)) body (Done (record { header = h; answer = shown_by to log })) = (Going (AtFormula to s), kind_taken f d s to, (Going (steps_from to h c), formula_taken f d h to vars clauses c refl v k small id, from_formula)) in
-    let whole = takes-append f d 1 5 (Going AtTitle) (Going (AtKind s)) (Done (record { header = h; answer = shown_by to log })) head_lines body refl (takes_header f d h are size bytes head) taken in
+    let steps = takes_log f given h to vars c.database new log all run lemmas ends in
+    let from_formula = subst (λ (x : Checking). Takes f given 7 (Going (steps_from to h x)) (map line_of log ++ codes "end" ∷ []) (Done (record { header = h; answer = shown_by to log }))) of_vars steps in
+    let taken : Takes f given 5 (Going (AtKind s)) body (Done (record { header = h; answer = shown_by to log })) = (Going (AtFormula to s), kind_taken f given s to, (Going (steps_from to h c), formula_taken f given h to vars clauses c refl v k small id, from_formula)) in
+    let whole = takes-append f given 1 5 (Going AtTitle) (Going (AtKind s)) (Done (record { header = h; answer = shown_by to log })) head_lines body refl (takes_header f given h are size bytes head) taken in
     let last_line : IsLine (codes "end") = record { plain = is_plain (codes "end") refl; short = omega arith } in
     let step_lines = lines_log vars c.database new [] 0 log small run lemmas bounded ns ls in
-    let lines : AreLines (head_lines ++ body) = are_lines-append head_lines body (lines_header f d h are is.few size head) (line_kind to, (line_formula vars clauses small id, are_lines-append (map line_of log) (codes "end" ∷ []) step_lines (last_line, tt))) in
+    let lines : AreLines (head_lines ++ body) = are_lines-append head_lines body (lines_header f given.digest h are is.few size head) (line_kind to, (line_formula vars clauses small id, are_lines-append (map line_of log) (codes "end" ∷ []) step_lines (last_line, tt))) in
     let count : length (head_lines ++ body) ≤ MAX_LINES = omega (arith, length-append (map line_of log) (codes "end" ∷ []), length-map log line_of, few) in
-    accepted_text f d (head_lines ++ body) (record { header = h; answer = shown_by to log }) lines count whole
+    accepted_text f given (head_lines ++ body) (record { header = h; answer = shown_by to log }) lines count whole
 
-pub log_of_accepted : (f : System) (d : List ℕ) (h : Header) (to : Aim) (vars clauses : ℕ) (log : List ProofStep) → IsSystem f.names f.sets → IsStrictlySortedBy name_cmp f.names → length d ≡ 32 → IsBytes d → IsHeader f h → IsLogOf f h to vars clauses log → checked f d (log_text f.names d h to vars clauses log) ≡ Ok (record { header = h; answer = shown_by to log })
-log_of_accepted f d h to vars clauses log is sorted size bytes head l =
-    log_accepted f d h to vars clauses log l.new is sorted size bytes head l.vars_are l.clauses_are l.small l.some_clause l.run l.lemmas l.bounded (recursion_from_All HasNumbers log l.numbers) (recursion_from_All HasLiterals log l.literals) l.few l.ends
+pub log_of_accepted : (f : System) (given : Given) (h : Header) (to : Aim) (vars clauses : ℕ) (log : List ProofStep) → IsSystem f.names f.sets → IsStrictlySortedBy name_cmp f.names → length given.digest ≡ 32 → IsBytes given.digest → IsHeader f h → IsLogOf f h to vars clauses log → checked f given (log_text f.names given.digest h to vars clauses log) ≡ Ok (record { header = h; answer = shown_by to log })
+log_of_accepted f given h to vars clauses log is sorted size bytes head l =
+    log_accepted f given h to vars clauses log l.new is sorted size bytes head l.vars_are l.clauses_are l.small l.some_clause l.run l.lemmas l.bounded (recursion_from_All HasNumbers log l.numbers) (recursion_from_All HasLiterals log l.literals) l.few l.ends

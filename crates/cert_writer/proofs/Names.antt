@@ -62,7 +62,7 @@ pub named-keys : (names : List Name) → AreKeys names → list_all is_name name
 named-keys [] all = refl
 named-keys (n ∷ names) all = and_from (is_name n) (list_all is_name names) (key n all.0).1 (named-keys names all.1)
 
-key_short : (name : Name) → is_key name ≡ true → length name ≤ 128
+pub key_short : (name : Name) → is_key name ≡ true → length name ≤ 128
 key_short name h =
     let p = and_parts (nat_le 1 (length name) && nat_le (length name) 128) (list_all is_key_byte name) h in
     let q = and_parts (nat_le 1 (length name)) (nat_le (length name) 128) p.0 in
@@ -71,6 +71,42 @@ key_short name h =
 pub short-keys : (names : List Name) → AreKeys names → AllByRecursion (λ (n : Name). length n ≤ 128) names
 short-keys [] all = tt
 short-keys (n ∷ names) all = (key_short n all.0, short-keys names all.1)
+
+-- ---- texts that a line may list: those of groups are longer than keys
+
+-- a name of at most 133 bytes
+pub record IsText (text : Name) : Type 0 where
+  pub word : IsWord text
+  pub named : is_name text ≡ true
+  pub short : length text ≤ 133
+
+abbrev pub AreTexts : List Name → Type 0
+AreTexts names = AllByRecursion IsText names
+
+key_text : (name : Name) → is_key name ≡ true → IsText name
+key_text name h = record { word = (key name h).0; named = (key name h).1; short = omega (arith, key_short name h) }
+
+texts-keys : (names : List Name) → AreKeys names → AreTexts names
+texts-keys [] all = tt
+texts-keys (n ∷ names) all = (key_text n all.0, texts-keys names all.1)
+
+pub texts-kept : (set : Table) (names : List Name) → AreTexts names → AreTexts (kept set names)
+texts-kept [] names all = tt
+texts-kept (m ∷ set) [] all = tt
+texts-kept (true ∷ set) (n ∷ names) all = (all.0, texts-kept set names all.1)
+texts-kept (false ∷ set) (n ∷ names) all = texts-kept set names all.1
+
+pub words-texts : (names : List Name) → AreTexts names → AreWords names
+words-texts [] all = tt
+words-texts (n ∷ names) all = (all.0.word, words-texts names all.1)
+
+named-texts : (names : List Name) → AreTexts names → list_all is_name names ≡ true
+named-texts [] all = refl
+named-texts (n ∷ names) all = and_from (is_name n) (list_all is_name names) all.0.named (named-texts names all.1)
+
+pub short-texts : (names : List Name) → AreTexts names → AllByRecursion (λ (n : Name). length n ≤ 133) names
+short-texts [] all = tt
+short-texts (n ∷ names) all = (all.0.short, short-texts names all.1)
 
 -- ---- sorted names
 
@@ -140,13 +176,20 @@ pub record AreNames (names : List Name) : Type 0 where
   pub keys : AreKeys names
   pub sorted : IsStrictlySortedBy name_cmp names
 
-pub names_in-kept : (names : List Name) (set : Table) → AreNames names → names_in (kept set names) ≡ Some (kept set names)
-names_in-kept names set are =
-    let keys = keys-kept set names are.keys in
-    rw (named-keys (kept set names) keys, rising-sorted (kept set names) (kept_sorted set names are.sorted)) refl
+-- texts in order
+pub record AreListable (names : List Name) : Type 0 where
+  pub texts : AreTexts names
+  pub sorted : IsStrictlySortedBy name_cmp names
 
-pub nodes_of-kept : (names : List Name) (l : ℕ) (set : Table) → AreNames names → length set ≡ length names → nodes_of names l (kept set names) ≡ Ok set
-nodes_of-kept names l set are size = rw (among-kept names set names (among_themselves names), marks-kept set names size are.sorted) refl
+pub listable : (names : List Name) → AreNames names → AreListable names
+listable names are = record { texts = texts-keys names are.keys; sorted = are.sorted }
+
+pub names_in-kept : (names : List Name) (set : Table) → AreListable names → names_in (kept set names) ≡ Some (kept set names)
+names_in-kept names set are =
+    rw (named-texts (kept set names) (texts-kept set names are.texts), rising-sorted (kept set names) (kept_sorted set names are.sorted)) refl
+
+pub nodes_of-kept : (names : List Name) (l : ℕ) (set : Table) → IsStrictlySortedBy name_cmp names → length set ≡ length names → nodes_of names l (kept set names) ≡ Ok set
+nodes_of-kept names l set sorted size = rw (among-kept names set names (among_themselves names), marks-kept set names size sorted) refl
 
 pub names-kept : (set : Table) (names : List Name) → AreNames names → AreNames (kept set names)
 names-kept set names are = record { keys = keys-kept set names are.keys; sorted = kept_sorted set names are.sorted }

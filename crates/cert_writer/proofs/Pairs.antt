@@ -24,6 +24,7 @@ use Rattle.std.specs.List.Sorted.{IsStrictlySortedBy}
 use Rattle.certificate_file.specs.Acceptance.{take_line, checked}
 use Rattle.reach_kinds.specs.Bodies.{within}
 use Rattle.certificate_file.specs.Meaning.{part_from}
+use Rattle.certificate_file.specs.declared.given.Given.{Given}
 use Rattle.certificate_file.specs.declared.places.Header.{Header}
 use Rattle.certificate_file.specs.declared.places.Subject.{Subject}
 use Rattle.certificate_file.specs.declared.places.Answer.TheVariants.{Pair as pair}
@@ -45,14 +46,14 @@ pub record IsListed (f : System) (s : Subject) (u : Table) : Type 0 where
   pub inside : (l : ℕ) → within s.nodes l u ≡ Ok u
   pub is : is_quorum f.sets s.header.faulty u ≡ true
 
-pub takes_pair : (f : System) (d : List ℕ) (h : Header) (u w : Table) → AreNames f.names → IsListed f (subject f h) u → IsListed f (subject f h) w → least (shared u w) ≡ None → pair_of u w ≡ record { first = u; second = w }
-    → Takes f d 5 (Going (AtKind (subject f h))) (pair_lines f.names (record { first = u; second = w })) (Done (record { header = h; answer = pair (record { first = u; second = w }) }))
+pub takes_pair : (f : System) (given : Given) (h : Header) (u w : Table) → AreNames f.names → IsListed f (subject f h) u → IsListed f (subject f h) w → least (shared u w) ≡ None → pair_of u w ≡ record { first = u; second = w }
+    → Takes f given 5 (Going (AtKind (subject f h))) (pair_lines f.names (record { first = u; second = w })) (Done (record { header = h; answer = pair (record { first = u; second = w }) }))
 unfolding take_line
-takes_pair f d h u w are a b apart order =
+takes_pair f given h u w are a b apart order =
     let s = subject f h in
-    let first : take_line f d (AtFirst s) 6 (listed (codes "first") f.names u) ≡ Ok (Going (AtSecond s u)) =
+    let first : take_line f given (AtFirst s) 6 (listed (codes "first") f.names u) ≡ Ok (Going (AtSecond s u)) =
     rw (named-listed f.names 6 (codes "first") u (is_word (codes "first") refl) are a.size, a.inside 6, a.is) refl in
-    let second : take_line f d (AtSecond s u) 7 (listed (codes "second") f.names w) ≡ Ok (Going (AtEnd (record { header = h; answer = pair (record { first = u; second = w }) }))) =
+    let second : take_line f given (AtSecond s u) 7 (listed (codes "second") f.names w) ≡ Ok (Going (AtEnd (record { header = h; answer = pair (record { first = u; second = w }) }))) =
     rw (named-listed f.names 7 (codes "second") w (is_word (codes "second") refl) are b.size, b.inside 7, b.is, apart, order) refl in
     (Going (AtFirst s), refl, (Going (AtSecond s u), first, (Going (AtEnd (record { header = h; answer = pair (record { first = u; second = w }) })), second, (Done (record { header = h; answer = pair (record { first = u; second = w }) }), refl, refl))))
 
@@ -160,10 +161,10 @@ quorum_below f b u q v m = ltb-true v (length f) (and_parts (all_nodes f v) (not
 
 -- ---- a pair that is written is accepted
 
-pub pair_accepted : (f : System) (d : List ℕ) (h : Header) (p : Pair) → IsSystem f.names f.sets → IsStrictlySortedBy name_cmp f.names → length d ≡ 32 → IsBytes d → IsHeader f h
+pub pair_accepted : (f : System) (given : Given) (h : Header) (p : Pair) → IsSystem f.names f.sets → IsStrictlySortedBy name_cmp f.names → length given.digest ≡ 32 → IsBytes given.digest → IsHeader f h
     → IsPair (restricted_sets (nodes_of f h) f.sets) (members (kept (nodes_of f h) h.faulty)) p
-    → checked f d (pair_text f.names (restricted (nodes_of f h) f).names d h p) ≡ Ok (record { header = h; answer = pair (record { first = raised_table (nodes_of f h) p.first; second = raised_table (nodes_of f h) p.second }) })
-pair_accepted f d h p is sorted size bytes head holds =
+    → checked f given (pair_text f.names (restricted (nodes_of f h) f).names given.digest h p) ≡ Ok (record { header = h; answer = pair (record { first = raised_table (nodes_of f h) p.first; second = raised_table (nodes_of f h) p.second }) })
+pair_accepted f given h p is sorted size bytes head holds =
     let t = nodes_of f h in
     let part : IsPart f h.from t = part_is f h.from is (subst (λ n. IfSome h.from (λ v. v < n)) (sym is.places) head.node) in
     let are : AreNames f.names = record { keys = are_keys f.names is.keys; sorted = sorted } in
@@ -175,12 +176,12 @@ pair_accepted f d h p is sorted size bytes head holds =
     let low_a : a.0 < n = quorum_below (restricted_sets t f.sets) (members (kept t h.faulty)) (members p.first) holds.first a.0 a.2.0 in
     let low_c : c.0 < n = quorum_below (restricted_sets t f.sets) (members (kept t h.faulty)) (members p.second) holds.second c.0 c.2.0 in
     let order = in_order t p.first p.second n (length-restricted_sets t f.sets part.places) a c low_a low_c holds.order in
-    let taken = takes_pair f d h u w are (listed_quorum f h p.first is head part holds.first) (listed_quorum f h p.second is head part holds.second) (apart_there t p.first p.second holds.apart) order in
-    let all = takes-append f d 1 5 (Going AtTitle) (Going (AtKind (subject f h))) (Done (record { header = h; answer = pair (record { first = u; second = w }) })) (header_lines f.names d h) (pair_lines f.names (record { first = u; second = w })) refl (takes_header f d h are size bytes head) taken in
-    let lines = are_lines-append (header_lines f.names d h) (pair_lines f.names (record { first = u; second = w })) (lines_header f d h are is.few size head) (lines_pair f.names (record { first = u; second = w }) are is.few) in
+    let taken = takes_pair f given h u w are (listed_quorum f h p.first is head part holds.first) (listed_quorum f h p.second is head part holds.second) (apart_there t p.first p.second holds.apart) order in
+    let all = takes-append f given 1 5 (Going AtTitle) (Going (AtKind (subject f h))) (Done (record { header = h; answer = pair (record { first = u; second = w }) })) (header_lines f.names given.digest h) (pair_lines f.names (record { first = u; second = w })) refl (takes_header f given h are size bytes head) taken in
+    let lines = are_lines-append (header_lines f.names given.digest h) (pair_lines f.names (record { first = u; second = w })) (lines_header f given.digest h are is.few size head) (lines_pair f.names (record { first = u; second = w }) are is.few) in
     let same : record { header = h; answer = pair (record { first = u; second = w }) } ≡ record { header = h; answer = pair (record { first = raised_table t p.first; second = raised_table t p.second }) } = rw (is_raised t p.first, is_raised t p.second) refl in
-    ap (λ (ls : List Text). checked f d (joined (header_lines f.names d h ++ ls))) (pair_lines-spread f.names t p)
-    ∙ accepted_text f d (header_lines f.names d h ++ pair_lines f.names (record { first = u; second = w })) _ lines (omega arith) all
+    ap (λ (ls : List Text). checked f given (joined (header_lines f.names given.digest h ++ ls))) (pair_lines-spread f.names t p)
+    ∙ accepted_text f given (header_lines f.names given.digest h ++ pair_lines f.names (record { first = u; second = w })) _ lines (omega arith) all
     ∙ ap Ok same
 
 -- the same over the system of the part
@@ -188,9 +189,9 @@ pub part_is_restricted : (f : System) (from : Option ℕ) → IsSystem f.names f
 part_is_restricted f None is = sym (restricted_to_everyone f is)
 part_is_restricted f (Some v) is = refl
 
-pub pair_of_part_accepted : (f part : System) (d : List ℕ) (h : Header) (p : Pair) → IsSystem f.names f.sets → IsStrictlySortedBy name_cmp f.names → length d ≡ 32 → IsBytes d → IsHeader f h → part ≡ part_of f h.from
-    → IsPair part.sets (members (faulty_in f h)) p → checked f d (pair_text f.names part.names d h p) ≡ Ok (record { header = h; answer = pair (raised_pair f h p) })
-pair_of_part_accepted f part d h p is sorted size bytes head same holds =
+pub pair_of_part_accepted : (f part : System) (given : Given) (h : Header) (p : Pair) → IsSystem f.names f.sets → IsStrictlySortedBy name_cmp f.names → length given.digest ≡ 32 → IsBytes given.digest → IsHeader f h → part ≡ part_of f h.from
+    → IsPair part.sets (members (faulty_in f h)) p → checked f given (pair_text f.names part.names given.digest h p) ≡ Ok (record { header = h; answer = pair (raised_pair f h p) })
+pair_of_part_accepted f part given h p is sorted size bytes head same holds =
     let e : part ≡ restricted (part_from f h.from) f = same ∙ part_is_restricted f h.from is in
-    ap (λ (s : System). checked f d (pair_text f.names s.names d h p)) e
-    ∙ pair_accepted f d h p is sorted size bytes head (subst (λ (s : System). IsPair s.sets (members (faulty_in f h)) p) e holds)
+    ap (λ (s : System). checked f given (pair_text f.names s.names given.digest h p)) e
+    ∙ pair_accepted f given h p is sorted size bytes head (subst (λ (s : System). IsPair s.sets (members (faulty_in f h)) p) e holds)

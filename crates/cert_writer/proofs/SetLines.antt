@@ -1,5 +1,5 @@
 -- The line of a listed set, taken.
-use Rattle.std.proofs.Common.{◌≡◌, ℕ, ◌≤◌, ◌<◌, List, ◌∷◌, length, Bool, true, false, not, ◌&&◌, ◌||◌, if◌then◌else◌, Option, Some, None, ok_or, Result, Ok, refl, sym, ◌∙◌, ap, subst, arith, codes, length-append}
+use Rattle.std.proofs.Common.{◌≡◌, ℕ, ◌+◌, ◌≤◌, ◌<◌, List, ◌∷◌, length, Bool, true, false, not, ◌&&◌, ◌||◌, if◌then◌else◌, Option, Some, None, ok_or, Result, Ok, refl, sym, ◌∙◌, ap, subst, arith, codes, length-append}
 use Rattle.std.specs.Fmt.{decimal}
 use Rattle.std.specs.Str.{bytes_eq}
 use Rattle.std.proofs.lemmas.Bool.{lt-ltb}
@@ -10,7 +10,7 @@ use Rattle.fbas_model.specs.Names.{Name}
 use Rattle.fbas_model.specs.Systems.{System}
 use Rattle.fbas_model.specs.Restriction.{kept}
 use Rattle.fbas_model.proofs.Kept.{kept_le}
-use Rattle.fbas_model.specs.declared.TheConstants.{MOST_NODES}
+use Rattle.fbas_model.specs.declared.TheConstants.{MOST_NODES, MOST_ORGS}
 use Rattle.lrat_model.specs.Literal.{Literal}
 use Rattle.lrat_model.specs.Clauses.{Held}
 use Rattle.lrat_model.specs.declared.step.StepFault.TheVariants.{IdOrder}
@@ -33,6 +33,7 @@ use Rattle.cert_lines.specs.declared.faults.CertError.{CertError}
 use Rattle.cert_lines.specs.declared.faults.CertError.TheVariants.{BadLine, UnknownNode, Step, NotMinimal, NotSmaller, NotNew}
 use Rattle.certificate_file.specs.Acceptance.{take_line}
 use Rattle.reach_kinds.specs.Bodies.{and_then, nodes_of, within, is_covered, rules_of, listed_by, asks_inside, is_listed_for, asks_minimal, asks_smaller, is_below, not_of, Numbered, numbered_if_any, numbered_in, right_set, new_set, with_listed, list_set, set_line as take_set_line, list_end, list_text}
+use Rattle.certificate_file.specs.declared.given.Given.{Given}
 use Rattle.certificate_file.specs.declared.places.Subject.{Subject}
 use Rattle.reach_kinds.specs.declared.places.ListPart.{ListPart}
 use Rattle.reach_kinds.specs.declared.places.Listing.{Listing}
@@ -45,8 +46,8 @@ use Rattle.certificate_file.specs.declared.places.State.TheVariants.{Going as He
 use Rattle.reach_kinds.proofs.Inside.{apart_from_others}
 use Rattle.cert_writer.specs.Texts.{Text, letter, set_line}
 use Rattle.cert_writer.proofs.Joined.{IsLine}
-use Rattle.cert_writer.proofs.Words.{IsWord, is_word, words_of-worded, plain-worded, length-spaced_keys}
-use Rattle.cert_writer.proofs.Names.{AreNames, keys-kept, words-keys, short-keys, names_in-kept, nodes_of-kept}
+use Rattle.cert_writer.proofs.Words.{IsWord, is_word, words_of-worded, plain-worded, length-spaced_texts}
+use Rattle.cert_writer.proofs.Names.{AreNames, AreListable, listable, texts-kept, words-texts, short-texts, names_in-kept, nodes_of-kept}
 use Rattle.cert_writer.proofs.Raised.{spread, length-spread, kept-spread, not_others}
 use Rattle.cert_writer.proofs.RaisedOrder.{kept_of_spread}
 use Rattle.cert_writer.proofs.Pairs.{out_spread}
@@ -76,33 +77,33 @@ listed_letter listed.Smaller listed.Quorum p set words is = absurd is
 listed_letter listed.Smaller listed.Blocking p set words is = refl
 listed_letter listed.Smaller listed.Smaller p set words is = refl
 
-not_end : (which : Listed) (id : ℕ) (names : List Name) (set : Table) → bytes_eq (set_line (letter which) id names set) (codes "end") ≡ false
+pub not_end : (which : Listed) (id : ℕ) (names : List Name) (set : Table) → bytes_eq (set_line (letter which) id names set) (codes "end") ≡ false
 not_end listed.Quorum id names set = refl
 not_end listed.Blocking id names set = refl
 not_end listed.Smaller id names set = refl
 
-set_words : (which : Listed) (id : ℕ) (names : List Name) (set : Table) → AreNames names → IsId id → words_of (set_line (letter which) id names set) ≡ letter which ∷ decimal id ∷ kept set names
-set_words which id names set are is = words_of-worded (letter which) (decimal id ∷ kept set names) (letter_word which) (decimal_word id (omega (arith, is.1)), words-keys (kept set names) (keys-kept set names are.keys))
+pub set_words : (which : Listed) (id : ℕ) (names : List Name) (set : Table) → AreListable names → IsId id → words_of (set_line (letter which) id names set) ≡ letter which ∷ decimal id ∷ kept set names
+set_words which id names set are is = words_of-worded (letter which) (decimal id ∷ kept set names) (letter_word which) (decimal_word id (omega (arith, is.1)), words-texts (kept set names) (texts-kept set names are.texts))
 
-numbered : (which : Listed) (id : ℕ) (names : List Name) (set : Table) → AreNames names → IsId id → numbered_in (letter which ∷ decimal id ∷ kept set names) ≡ Some (record { id = id; names = kept set names })
+pub numbered : (which : Listed) (id : ℕ) (names : List Name) (set : Table) → AreListable names → IsId id → numbered_in (letter which ∷ decimal id ∷ kept set names) ≡ Some (record { id = id; names = kept set names })
 numbered which id names set are is =
     ap (λ (o : Option ℕ). numbered_if_any o (names_in (kept set names))) (id_back id is).0
     ∙ ap (λ (o : Option (List Name)). numbered_if_any (Some id) o) (names_in-kept names set are)
 
 -- ---- it is a line
 
-pub line_set : (which : Listed) (id : ℕ) (names : List Name) (set : Table) → AreNames names → length names ≤ MOST_NODES → IsId id → IsLine (set_line (letter which) id names set)
+pub line_set : (which : Listed) (id : ℕ) (names : List Name) (set : Table) → AreListable names → length names ≤ MOST_NODES + MOST_ORGS → IsId id → IsLine (set_line (letter which) id names set)
 line_set which id names set are few is = record {
-  plain = plain-worded (letter which) (decimal id ∷ kept set names) (letter_word which) (decimal_word id (omega (arith, is.1)), words-keys (kept set names) (keys-kept set names are.keys));
+  plain = plain-worded (letter which) (decimal id ∷ kept set names) (letter_word which) (decimal_word id (omega (arith, is.1)), words-texts (kept set names) (texts-kept set names are.texts));
   short =
       let head : length (decimal id) ≤ 19 = length-decimal-le 19 id (omega arith) (omega (arith, is.1)) (omega (arith, is.1)) in
-      let rest = length-spaced_keys (kept set names) (short-keys (kept set names) (keys-kept set names are.keys)) in
+      let rest = length-spaced_texts (kept set names) (short-texts (kept set names) (texts-kept set names are.texts)) in
       omega (arith, letter_short which, head, rest, kept_le set names, length-append (letter which) (spaced (decimal id ∷ kept set names)), length-append (decimal id) (spaced (kept set names)));
 }
 
 -- ---- the set
 
-within_part : (nodes : Table) (l : ℕ) (set : Table) → within nodes l (spread nodes set) ≡ Ok (spread nodes set)
+pub within_part : (nodes : Table) (l : ℕ) (set : Table) → within nodes l (spread nodes set) ≡ Ok (spread nodes set)
 within_part nodes l set = apart_from_others nodes l (spread nodes set) (λ m. not_others nodes m.0 m.2 (out_spread nodes set m.0 m.1).0)
 
 -- the set is what it is listed for in the part
@@ -164,7 +165,7 @@ right k l which set same greatest is smaller =
     ∙ ap (λ (x : Bool). unless (NotSmaller l) x (Ok set)) smaller
 
 -- its clause is as new as the kind asks
-uncovered : (asked : Bool) (held : Held) (id : ℕ) (clause : List Literal) → IsNewIf asked held clause → (asked && is_covered held id clause) ≡ false
+pub uncovered : (asked : Bool) (held : Held) (id : ℕ) (clause : List Literal) → IsNewIf asked held clause → (asked && is_covered held id clause) ≡ false
 uncovered true held id clause new = new_uncovered held id clause new
 uncovered false held id clause new = refl
 
@@ -195,19 +196,19 @@ module _ (f : System) (s : Subject) (k : Listing) (l : ℕ) (which : Listed) (id
       let names : List Name = kept set (kept s.nodes f.names) in
       ap (λ (b : Bool). unless (Step l (IdOrder k.checker.database.last id)) b (and_then (list_set s.nodes k l which id) (and_then (within s.nodes l) (nodes_of f.names l names)))) (lt-ltb k.checker.database.last id above)
       ∙ ap (λ (ns : List Name). and_then (list_set s.nodes k l which id) (and_then (within s.nodes l) (nodes_of f.names l ns))) (kept-spread s.nodes set f.names)
-      ∙ ap (λ (r : Result Table CertError). and_then (list_set s.nodes k l which id) (and_then (within s.nodes l) r)) (nodes_of-kept f.names l u are (length-spread s.nodes set ∙ places))
+      ∙ ap (λ (r : Result Table CertError). and_then (list_set s.nodes k l which id) (and_then (within s.nodes l) r)) (nodes_of-kept f.names l u are.sorted (length-spread s.nodes set ∙ places))
       ∙ ap (λ (r : Result Table CertError). and_then (list_set s.nodes k l which id) r) (within_part s.nodes l set)
       ∙ set_listed
 
-  pub set_line_taken : (d : List ℕ) → AreNames f.names → AreNames (kept s.nodes f.names) → IsId id → take_line f d (AtReach s (AtList k)) l (set_line (letter which) id (kept s.nodes f.names) set) ≡ Ok (Here (AtReach s (AtList (with_listed k which id (spread s.nodes set) set))))
+  pub set_line_taken : (given : Given) → AreNames f.names → AreNames (kept s.nodes f.names) → IsId id → take_line f given (AtReach s (AtList k)) l (set_line (letter which) id (kept s.nodes f.names) set) ≡ Ok (Here (AtReach s (AtList (with_listed k which id (spread s.nodes set) set))))
   unfolding take_line
-  set_line_taken d are part is =
+  set_line_taken given are part is =
       let names : List Name = kept s.nodes f.names in
       let text : Text = set_line (letter which) id names set in
-      let words : words_of text ≡ letter which ∷ decimal id ∷ kept set names = set_words which id names set part is in
+      let words : words_of text ≡ letter which ∷ decimal id ∷ kept set names = set_words which id names set (listable names part) is in
       ap (λ (b : Bool). and_then (λ x. Ok (in_reach s x)) (if b then list_end k.kind k l else list_text f s.nodes k l text (listed_by k.sought (words_of text)))) (not_end which id names set)
       ∙ ap (λ (ws : List Word). and_then (λ x. Ok (in_reach s x)) (list_text f s.nodes k l text (listed_by k.sought ws))) words
       ∙ ap (λ (o : Option Listed). and_then (λ x. Ok (in_reach s x)) (list_text f s.nodes k l text o)) (listed_letter k.sought which k.part set (decimal id ∷ kept set names) is_right)
       ∙ ap (λ (ws : List Word). and_then (λ x. Ok (in_reach s x)) (and_then (take_set_line f s.nodes k l which) (ok_or (numbered_in ws) (BadLine l)))) words
-      ∙ ap (λ (o : Option Numbered). and_then (λ x. Ok (in_reach s x)) (and_then (take_set_line f s.nodes k l which) (ok_or o (BadLine l)))) (numbered which id names set part is)
+      ∙ ap (λ (o : Option Numbered). and_then (λ x. Ok (in_reach s x)) (and_then (take_set_line f s.nodes k l which) (ok_or o (BadLine l)))) (numbered which id names set (listable names part) is)
       ∙ ap (λ (r : Result ReachState CertError). and_then (λ x. Ok (in_reach s x)) r) (set_taken are)

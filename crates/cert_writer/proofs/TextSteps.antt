@@ -19,7 +19,7 @@ use Rattle.list_journal.specs.declared.kinds.ListKind.{ListKind}
 use Rattle.list_journal.specs.declared.kinds.Listed.{Listed}
 use Rattle.list_journal.specs.declared.kinds.Listed.TheVariants.{Smaller}
 use Rattle.clause_encoder.specs.NameCounter.{counter_vars}
-use Rattle.cert_writer.specs.Texts.{Text, joined, name_if_any, header_lines, pair_front, kind_of, log_front, set_line, journal_line, list_kind_of, list_front, least_front}
+use Rattle.cert_writer.specs.Texts.{Text, joined, name_if_any, header_lines, pair_front, kind_of, log_front, set_line, journal_line, list_kind_of, group_kind_of, group_journal_line, list_front, least_front, group_front}
 
 pub spaced-append : (xs ys : List Text) → spaced (xs ++ ys) ≡ spaced xs ++ spaced ys
 spaced-append [] ys = refl
@@ -92,3 +92,6 @@ list_text sought kind names journal = simp (append_assoc, append-nil)
 
 pub least_text : (g : ℕ) (kind : ListKind) (names : List Name) (journal : List JournalLine) → ((((list_kind_of Smaller kind ++ codes "\ncounter") ++ 32 ∷ decimal (counter_vars g)) ++ 32 ∷ decimal (g * g)) ++ codes "\n") ++ joined (map (journal_line names) journal) ≡ joined (least_front names g kind journal)
 least_text g kind names journal = simp (append_assoc, append-nil)
+
+pub group_text : (names texts : List Name) (orgs : List ℕ) (kind : ListKind) (journal : List JournalLine) → (((group_kind_of kind ++ codes "\norgs") ++ 32 ∷ encode_lower orgs) ++ codes "\n") ++ joined (map (group_journal_line names texts) journal) ≡ joined (group_front names texts orgs kind journal)
+group_text names texts orgs kind journal = simp (append_assoc, append-nil)

@@ -71,6 +71,11 @@ pub length-spaced_keys : (words : List Word) → AllByRecursion (λ (w : Word). 
 length-spaced_keys [] all = omega arith
 length-spaced_keys (w ∷ words) all = let rest = length-spaced_keys words all.1 in let first : length w ≤ 128 = all.0 in omega (arith, length-append w (spaced words))
 
+-- and of at most 133 bytes
+pub length-spaced_texts : (words : List Word) → AllByRecursion (λ (w : Word). length w ≤ 133) words → length (spaced words) ≤ 134 * length words
+length-spaced_texts [] all = omega arith
+length-spaced_texts (w ∷ words) all = let rest = length-spaced_texts words all.1 in let first : length w ≤ 133 = all.0 in omega (arith, length-append w (spaced words))
+
 behind_word : (word : Word) (rest : Text) (words : List Word) → IsWord word → words_of rest ≡ [] ∷ words → words_of (word ++ rest) ≡ word ∷ words
 behind_word [] rest words is e = e
 behind_word (b ∷ word) rest words is e = rw (is.0.no_space, behind_word word rest words is.1 e) refl

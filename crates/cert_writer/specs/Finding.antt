@@ -1,9 +1,11 @@
 -- What a search is asked for, what it finds, and the certificate that shows it.
-use Rattle.std.specs.Prelude.{◌≡◌, ℕ, List, length, All, Ok}
+use Rattle.std.specs.Prelude.{◌≡◌, ℕ, List, length, All, Option, Ok}
 use Rattle.lrat_text.specs.Texts.{HasNumbers}
 use Rattle.fbas_model.specs.Nodes.{Table}
 use Rattle.fbas_model.specs.Systems.{System}
 use Rattle.certificate_file.specs.Acceptance.{checked}
+use Rattle.certificate_file.specs.declared.given.Given.{Given}
+use Rattle.certificate_file.specs.declared.given.GivenOrgs.{GivenOrgs}
 use Rattle.certificate_file.specs.declared.places.Header.{Header}
 use Rattle.certificate_file.specs.declared.places.Aim.TheVariants as aim
 use Rattle.certificate_file.specs.declared.places.Answer.{Answer}
@@ -14,12 +16,17 @@ use Rattle.quorum_questions.specs.declared.answers.Answer.TheVariants.{Yes, No, 
 use Rattle.cert_writer.specs.Texts.{Text, pair_text, log_text}
 use Rattle.cert_writer.specs.Promises.{part_of, faulty_in, raised_pair}
 
--- what is asked: whether every two quorums share a node in the part that the header names, once its faulty nodes are deleted, within so many units
+-- what is asked: whether every two quorums share a node in the part that the header names, once its faulty nodes are deleted, within so many units; the organisations are given where blocking sets of them are sought
 pub record Search : Type 0 where
   pub whole : System
   pub digest : List ℕ
   pub header : Header
   pub budget : ℕ
+  pub orgs : Option GivenOrgs
+
+-- what its certificate is held against beside the system
+abbrev pub given_of : Search → Given
+given_of s = record { digest = s.digest; orgs = s.orgs }
 
 abbrev pub part : Search → System
 part s = part_of s.whole s.header.from
@@ -46,7 +53,7 @@ accepted_as s (Spent log size) = shown.Partial s.budget
 pub record Finds (s : Search) (found : Found) (cert : Text) : Type 0 where
   pub shows : Shows (part s).sets (faulty s) s.budget found
   pub cert_is : cert ≡ cert_of s found
-  pub accepted : checked s.whole s.digest cert ≡ Ok (record { header = s.header; answer = accepted_as s found })
+  pub accepted : checked s.whole (given_of s) cert ≡ Ok (record { header = s.header; answer = accepted_as s found })
 
 -- what a certificate can be written of: steps whose numbers have lines, and sets with a place for each of n nodes
 abbrev pub CanBeWritten : ℕ → Found → Type 0

@@ -1,5 +1,5 @@
 -- What a search for a smallest quorum comes to, and the certificate that shows it.
-use Rattle.std.specs.Prelude.{◌≡◌, ◌≤◌, ℕ, List, All, Option, Some, None, option_map, length, Ok}
+use Rattle.std.specs.Prelude.{◌≡◌, ◌≤◌, ℕ, List, All, Option, Some, None, option_map, Ok}
 use Rattle.fbas_model.specs.Nodes.{Table, size}
 use Rattle.fbas_model.specs.Fbas.{Fbas}
 use Rattle.fbas_model.specs.Systems.{System}
@@ -20,7 +20,7 @@ use Rattle.certificate_file.specs.declared.places.Answer.{Answer}
 use Rattle.certificate_file.specs.declared.places.Answer.TheVariants.{Least, PartialLeast}
 use Rattle.cert_writer.specs.Texts.{Text, least_text, raised_table}
 use Rattle.cert_writer.specs.Promises.{part_of, greatest_in}
-use Rattle.cert_writer.specs.Finding.{Search, part, faulty}
+use Rattle.cert_writer.specs.Finding.{Search, given_of, part, faulty}
 use Rattle.cert_writer.specs.Listing.{CanBeLine}
 
 -- whether the journal of an outcome is a whole one
@@ -61,7 +61,7 @@ pub record LeastShows (f : Fbas) (b : Table) (budget : ℕ) (outcome : LeastOutc
 pub record FindsLeast (s : Search) (outcome : LeastOutcome) (cert : Text) : Type 0 where
   pub shows : LeastShows (part s).sets (faulty s) s.budget outcome
   pub cert_is : cert ≡ least_cert_of s outcome
-  pub accepted : checked s.whole s.digest cert ≡ Ok (record { header = s.header; answer = least_accepted_as s outcome })
+  pub accepted : checked s.whole (given_of s) cert ≡ Ok (record { header = s.header; answer = least_accepted_as s outcome })
 
 -- each line of the journal can be written
 abbrev pub CanBeLeast : ℕ → LeastOutcome → Type 0

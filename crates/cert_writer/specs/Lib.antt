@@ -4,3 +4,4 @@ pub mod Promises
 pub mod Finding
 pub mod Listing
 pub mod Least
+pub mod Grouping

@@ -19,7 +19,7 @@ use Rattle.certificate_file.specs.declared.places.Header.{Header}
 use Rattle.certificate_file.specs.declared.places.Answer.{Answer}
 use Rattle.cert_writer.specs.Texts.{Text, list_text}
 use Rattle.cert_writer.specs.Promises.{part_of, raised_sets}
-use Rattle.cert_writer.specs.Finding.{Search, part, faulty}
+use Rattle.cert_writer.specs.Finding.{Search, given_of, part, faulty}
 
 -- the certificate of a list, whole or in part
 abbrev pub list_cert_over : Listed → System → List ℕ → Header → ListOutcome → Text
@@ -46,7 +46,7 @@ pub record ListShows (sought : Listed) (f : Fbas) (b : Table) (budget : ℕ) (ou
 pub record FindsList (sought : Listed) (s : Search) (outcome : ListOutcome) (cert : Text) : Type 0 where
   pub shows : ListShows sought (part s).sets (faulty s) s.budget outcome
   pub cert_is : cert ≡ list_cert_of sought s outcome
-  pub accepted : checked s.whole s.digest cert ≡ Ok (record { header = s.header; answer = list_accepted_as sought s outcome })
+  pub accepted : checked s.whole (given_of s) cert ≡ Ok (record { header = s.header; answer = list_accepted_as sought s outcome })
 
 -- what a line can be written of: a set with a place for each of n nodes, or a step whose numbers have a line
 abbrev pub CanBeLine : ℕ → JournalLine → Type 0

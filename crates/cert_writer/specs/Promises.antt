@@ -1,5 +1,6 @@
 -- What is asked of a certificate that is written, and what is out then.
-use Rattle.std.specs.Prelude.{◌≡◌, ℕ, ◌+◌, ◌<◌, ◌≤◌, List, map, length, take, All, IsTrue, Option, Some, None, IfSome, option_map}
+use Rattle.std.specs.Prelude.{◌≡◌, ℕ, ◌+◌, ◌<◌, ◌≤◌, List, map, length, take, All, IsTrue, Option, Some, None, IfSome, option_map, Ok}
+use Rattle.hex.specs.Hex.{IsBytes}
 use Rattle.desk_io.specs.State.{DeskState, written, CannotPut}
 use Rattle.desk_io.specs.declared.desk.To.TheVariants.{Cert}
 use Rattle.fbas_model.specs.Nodes.{Table, members, size}
@@ -16,21 +17,28 @@ use Rattle.list_journal.specs.Journals.{JournalLine, Rules, nothing_held, Journa
 use Rattle.list_journal.specs.declared.kinds.ListKind.{ListKind}
 use Rattle.list_journal.specs.declared.kinds.ListKind.TheVariants as kind
 use Rattle.list_journal.specs.Kinds.{HasLists}
+use Rattle.list_journal.specs.Order.{ordered}
 use Rattle.list_journal.specs.declared.kinds.Listed.{Listed}
+use Rattle.list_journal.specs.declared.kinds.Listed.TheVariants as listed
 use Rattle.least_journal.specs.Least.{least_of, AreFalling, answer_of as last_listed}
 use Rattle.clause_encoder.specs.NameCounter.{counter_vars}
 use Rattle.blocking_lists.specs.Lines.{HasLineNumbers, HasFewWords}
 use Rattle.blocking_lists.specs.Outcomes.{rules}
+use Rattle.node_json.specs.Organisations.{Org, orgs_of}
+use Rattle.node_json.specs.Groups.{Group, groups_of, tables_of}
+use Rattle.group_journal.specs.Groups.{touching}
+use Rattle.group_lists.specs.Search.{group_rules}
 use Rattle.certificate_file.specs.Acceptance.{answer_of}
 use Rattle.reach_kinds.specs.Bodies.{in_order, whole_of, part_of as part_of_list}
 use Rattle.certificate_file.specs.Formulas.{formula_of}
 use Rattle.certificate_file.specs.Meaning.{part_from}
+use Rattle.certificate_file.specs.declared.given.GivenOrgs.{GivenOrgs}
 use Rattle.certificate_file.specs.declared.places.Header.{Header}
 use Rattle.certificate_file.specs.declared.places.Subject.{Subject}
 use Rattle.certificate_file.specs.declared.places.Aim.{Aim}
 use Rattle.certificate_file.specs.declared.places.Aim.TheVariants as aim
 use Rattle.certificate_file.specs.declared.places.Answer.{Answer}
-use Rattle.certificate_file.specs.declared.places.Answer.TheVariants.{Refutation, Partial, Least, PartialLeast}
+use Rattle.certificate_file.specs.declared.places.Answer.TheVariants.{Refutation, Partial, Least, PartialLeast, OrgBlocking, PartialOrgBlocking}
 use Rattle.cert_writer.specs.Texts.{raised_table}
 use Rattle.cert_lines.specs.declared.lines.TheConstants.{MAX_LINES}
 use Rattle.clause_encoder.specs.declared.limits.TheConstants.{MOST_VARS}
@@ -133,6 +141,35 @@ pub record IsLeastJournalOf (f : System) (h : Header) (kind : ListKind) (journal
   pub few_words : All (HasFewWords (counter_vars (size (greatest_in f h)))) journal
   pub few : length journal + 7 ≤ MAX_LINES
   pub ends : ListEndsAs kind journal
+
+-- the groups of the part, where these are the organisations
+abbrev pub groups_in : System → Header → List Org → List Group
+groups_in f h orgs = groups_of f.names (part_of f h.from).names orgs
+
+-- the rules of a list of the blocking sets of groups of the part
+abbrev pub group_rules_in : System → Header → List Group → Rules
+group_rules_in f h groups = group_rules (part_of f h.from).sets (faulty_in f h) (tables_of groups)
+
+-- what its certificate shows: the sets of groups in order, or the units of its lines
+abbrev pub shown_by_groups : List Group → Rules → ListKind → List JournalLine → Answer
+shown_by_groups groups r kind.Whole journal = OrgBlocking groups (ordered (sets_in listed.Blocking journal))
+shown_by_groups groups r kind.Partial journal = PartialOrgBlocking (journal_units r journal)
+
+-- a journal of a list of the blocking sets of groups of the part, by the variables of the groups that have a member in its greatest quorum
+pub record IsGroupJournalOf (f : System) (h : Header) (groups : List Group) (kind : ListKind) (journal : List JournalLine) : Type 0 where
+  pub new : Database
+  pub run : JournalRun (group_rules_in f h groups) kind nothing_held journal new
+  pub numbers : All HasLineNumbers journal
+  pub few_words : All (HasFewWords (size (touching (tables_of groups) (greatest_in f h)))) journal
+  pub few : length journal + 7 ≤ MAX_LINES
+  pub ends : ListEndsAs kind journal
+
+-- the organisations are those that a file says over the system, and their digest has 32 bytes
+pub record AreOrgs (f : System) (given : GivenOrgs) : Type 0 where
+  pub file : List ℕ
+  pub read : orgs_of f.names file ≡ Ok given.orgs
+  pub long : length given.digest ≡ 32
+  pub bytes : IsBytes given.digest
 
 -- a proper prefix of the text is put; on a plain desk no file was created, or there was no room for another buffer
 pub record PutsPart (text : List ℕ) (old new : DeskState) : Type 0 where

@@ -1,16 +1,19 @@
-//! Certificates, written through a buffer: pairs, refutations, lists of minimal sets, a smallest quorum, and partial ones. The check of `certificate_file` accepts each.
+//! Certificates, written through a buffer: pairs, refutations, lists of minimal sets, a smallest quorum, blocking sets of groups, and partial ones. The check of `certificate_file` accepts each.
 #![tactic(auto)]
 
 mod finding;
+mod grouping;
 mod least;
 mod listing;
 mod whole;
 mod writer;
 
 pub use finding::{what_is_shown_is_found, write_found};
+pub use grouping::{what_is_grouped_is_found, write_groups};
 pub use least::{what_is_least_is_found, write_least};
 pub use listing::{what_is_listed_is_found, write_list};
 pub use whole::{
-    a_written_certificate_is_accepted, write_journal, write_least_journal, write_log, write_pair,
+    a_written_certificate_is_accepted, write_group_journal, write_journal, write_least_journal,
+    write_log, write_pair,
 };
 pub use writer::CertWriter;

@@ -10,10 +10,12 @@ ghost use Rattle.lrat_model.specs.Steps.{Addition, Deletion};
 ghost use Rattle.lrat_text.specs.Lent.{lent_step, lent_hints};
 ghost use Rattle.lrat_text.specs.Texts.{line_of, literal_text, HasNumbers};
 ghost use Rattle.blocking_lists.specs.Lines.{line_of as said_line};
-ghost use Rattle.cert_writer.specs.Texts.{joined, name_if_any, header_lines, pair_front, kind_of, log_front, list_kind_of, set_line, journal_line, list_front, least_front};
+ghost use Rattle.node_json.specs.Groups.{texts_of};
+ghost use Rattle.cert_writer.specs.Texts.{joined, name_if_any, header_lines, pair_front, kind_of, log_front, list_kind_of, group_kind_of, set_line, journal_line, group_journal_line, list_front, least_front, group_front};
 ghost use Rattle.clause_encoder.specs.NameCounter.{counter_vars};
 ghost use Rattle.clause_encoder.specs.declared.limits.TheConstants.{MOST_VARS};
 ghost use Rattle.cert_writer.specs.Listing.{CanBeLine};
+ghost use Rattle.cert_writer.specs.Grouping.{CanBeGroupLine};
 ghost use Rattle.cert_writer.specs.Writing.{Writes};
 
 use blocking_lists::{Journal, Line};
@@ -22,10 +24,12 @@ use clause_encoder::counter_vars;
 use desk_io::{Desk, To, WriteFailed, put_all};
 use digest_text::digits;
 use fbas_core::System;
+use group_lists::GroupJournal;
 use itoa::{Buffer, Integer};
 use list_journal::{ListKind, Listed};
 use lrat_text::{HintsRef, Lit, Log, StepRef};
-use name_set::{NODE_WORDS, Names, NodeSet};
+use name_set::{GROUP_WORDS, GroupSet, NODE_WORDS, Names, NodeWords};
+use node_json::Groups;
 use std::alloc::{AllocError, Global};
 use std::marker::Model;
 
@@ -210,12 +214,22 @@ impl CertWriter {
     }
 
     /// Writes a space and a name for each node of a set.
-    fn names<D: Desk>(&mut self, desk: &mut D, names: &Names, set: &NodeSet)
+    fn names<D: Desk, const W: usize>(&mut self, desk: &mut D, names: &Names, set: &NodeWords<W>)
         requires { length set.now ≡ length names.now }
         ensures { Writes D.tells (spaced (kept set.now names.now)) self.old (D.state desk.old) (D.faults desk.old) self.new (D.state desk.new) (D.faults desk.new) }
     {
         for v in set.iter() {
             self.word(desk, names.name(v));
+        }
+    }
+
+    /// Writes a space and a text for each group of a set.
+    fn texts<D: Desk>(&mut self, desk: &mut D, groups: &Groups, set: &GroupSet)
+        requires { length set.now ≡ length groups.now }
+        ensures { Writes D.tells (spaced (kept set.now (texts_of groups.now))) self.old (D.state desk.old) (D.faults desk.old) self.new (D.state desk.new) (D.faults desk.new) }
+    {
+        for at in set.iter() {
+            self.word(desk, groups.text(at));
         }
     }
 
@@ -324,7 +338,14 @@ impl CertWriter {
     }
 
     /// Writes the line of a listed set: a letter, the id of its clause, and the names of its nodes.
-    fn set_line<D: Desk>(&mut self, desk: &mut D, letter: u8, id: u64, names: &Names, set: &NodeSet)
+    fn set_line<D: Desk, const W: usize>(
+        &mut self,
+        desk: &mut D,
+        letter: u8,
+        id: u64,
+        names: &Names,
+        set: &NodeWords<W>,
+    )
         requires { length set.now ≡ length names.now }
         ensures { Writes D.tells (set_line (letter ∷ []) id names.now set.now ++ 10 ∷ []) self.old (D.state desk.old) (D.faults desk.old) self.new (D.state desk.new) (D.faults desk.new) }
     {
@@ -398,6 +419,77 @@ impl CertWriter {
         self.number(desk, u64::from(size) * u64::from(size));
         self.text(desk, b"\n");
         self.journal_lines(desk, names, journal);
+    }
+
+    /// Writes the line of a blocking set of groups: its letter, the id of its clause, and the texts of its groups.
+    fn block_line<D: Desk>(&mut self, desk: &mut D, id: u64, groups: &Groups, set: &GroupSet)
+        requires { length set.now ≡ length groups.now }
+        ensures { Writes D.tells (set_line (98 ∷ []) id (texts_of groups.now) set.now ++ 10 ∷ []) self.old (D.state desk.old) (D.faults desk.old) self.new (D.state desk.new) (D.faults desk.new) }
+    {
+        self.byte(desk, b'b');
+        self.number(desk, id);
+        self.texts(desk, groups, set);
+        self.text(desk, b"\n");
+    }
+
+    /// Writes a line of a journal whose blocking sets are sets of groups.
+    fn group_line<D: Desk>(
+        &mut self,
+        desk: &mut D,
+        node_names: &Names,
+        groups: &Groups,
+        line: Line<'_, GROUP_WORDS>,
+    )
+        requires { CanBeGroupLine (length node_names.now) (length groups.now) (said_line line) }
+        ensures { Writes D.tells (group_journal_line node_names.now (texts_of groups.now) (said_line line.entry) ++ 10 ∷ []) self.old (D.state desk.old) (D.faults desk.old) self.new (D.state desk.new) (D.faults desk.new) }
+    {
+        match line {
+            Line::Quorum(id, set) => self.set_line(desk, b'q', id, node_names, set),
+            Line::Blocking(id, set) => self.block_line(desk, id, groups, set),
+            Line::Smaller(id, set) => self.set_line(desk, b's', id, node_names, set),
+            Line::Step(step) => self.step(desk, step),
+        }
+    }
+
+    /// Writes the lines of such a journal of a part, whose names and groups these are, or those until a put failed.
+    fn group_journal<D: Desk>(
+        &mut self,
+        desk: &mut D,
+        names: &Names,
+        groups: &Groups,
+        journal: &GroupJournal,
+    )
+        requires { All (CanBeGroupLine (length names.now) (length groups.now)) journal.now }
+        ensures { Writes D.tells (joined (map (group_journal_line names.now (texts_of groups.now)) journal.now)) self.old (D.state desk.old) (D.faults desk.old) self.new (D.state desk.new) (D.faults desk.new) }
+    {
+        let mut lines = journal.lines();
+        'each: while let Some(line) = lines.next_line() {
+            if self.has_failed {
+                return;
+            }
+            self.group_line(desk, names, groups, line);
+        }
+    }
+
+    /// Writes the lines of a list of blocking sets of groups up to the last: its kind, the digest of the organisations' file, and
+    /// its journal.
+    fn group_lines<D: Desk>(
+        &mut self,
+        desk: &mut D,
+        orgs_digest: &[u8; 32],
+        kind: ListKind,
+        names: &Names,
+        groups: &Groups,
+        journal: &GroupJournal,
+    )
+        requires { All (CanBeGroupLine (length names.now) (length groups.now)) journal.now }
+        ensures { Writes D.tells (joined (group_front names.now (texts_of groups.now) orgs_digest.now kind journal.now)) self.old (D.state desk.old) (D.faults desk.old) self.new (D.state desk.new) (D.faults desk.new) }
+    {
+        self.text(desk, group_kind_of(kind).as_bytes());
+        self.text(desk, b"\norgs");
+        self.word(desk, &digits(orgs_digest));
+        self.text(desk, b"\n");
+        self.group_journal(desk, names, groups, journal);
     }
 
     /// Writes the certificate of a pair, up to its last line.
@@ -498,6 +590,33 @@ impl CertWriter {
         self.outcome()
     }
 
+    /// Writes the certificate of a list of blocking sets of groups up to its last line, where this is the digest of the
+    /// organisations' file.
+    ///
+    /// The header has the numbers of the whole system, whose names come first, and the journal those of the part and its groups.
+    pub fn groups<D: Desk>(
+        &mut self,
+        desk: &mut D,
+        digest: &[u8; 32],
+        header: &Header,
+        whole: &System,
+        kept: &System,
+        orgs_digest: &[u8; 32],
+        groups: &Groups,
+        kind: ListKind,
+        journal: &GroupJournal,
+    ) -> Result<(), WriteFailed>
+        requires from { IfSome header.now.from (λ v. v < length whole.now.names) }
+        requires faulty { length header.now.faulty ≡ length whole.now.names }
+        requires lines { All (CanBeGroupLine (length kept.now.names) (length groups.now)) journal.now }
+        ensures writes { Writes D.tells (joined (header_lines whole.now.names digest.now header.now ++ group_front kept.now.names (texts_of groups.now) orgs_digest.now kind journal.now)) self.old (D.state desk.old) (D.faults desk.old) self.new (D.state desk.new) (D.faults desk.new) }
+        ensures failed { IsTrue self.new.failed ↔ IsErr result }
+    {
+        self.header(desk, digest, header, whole.names());
+        self.group_lines(desk, orgs_digest, kind, kept.names(), groups, journal);
+        self.outcome()
+    }
+
     /// Writes the last line, and puts all that is held.
     pub fn finish<D: Desk>(&mut self, desk: &mut D) -> Result<(), WriteFailed>
         ensures writes { Writes D.tells (codes "end\n") self.old (D.state desk.old) (D.faults desk.old) self.new (D.state desk.new) (D.faults desk.new) }
@@ -542,5 +661,15 @@ fn list_kind_of(sought: Listed, kind: ListKind) -> &'static str
         (Listed::Quorum, ListKind::Partial) => "kind partial-quorums",
         (Listed::Smaller, ListKind::Whole) => "kind least",
         (Listed::Smaller, ListKind::Partial) => "kind partial-least",
+    }
+}
+
+/// The line of a kind of list of blocking sets of groups.
+fn group_kind_of(kind: ListKind) -> &'static str
+    ensures { result.now ≡ group_kind_of kind }
+{
+    match kind {
+        ListKind::Whole => "kind org-blocking",
+        ListKind::Partial => "kind partial-org-blocking",
     }
 }

@@ -1,5 +1,4 @@
 use Rattle.std.proofs.Common.{◌≡◌, ◌*◌, ℕ, ◌∷◌, decimal, ◌∙◌, ap, arith}
-use Rattle.list_journal.specs.declared.kinds.Listed.TheVariants.{Smaller}
 use Rattle.cert_writer.proofs.WritingLaws.{writes_more, writes_same}
 use Rattle.cert_writer.proofs.TextSteps.{least_text}
 use Rattle.cert_writer.proofs.writer.CertWriter.least_lines.Goals as goal
