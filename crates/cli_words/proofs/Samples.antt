@@ -9,7 +9,7 @@ use Rattle.cli_words.specs.Usage.{usage}
 use Rattle.cli_words.specs.declared.orders.Command.{Command}
 use Rattle.cli_words.specs.declared.orders.Command.TheVariants.{Query, Search, Check, CheckLrat, Whatif}
 use Rattle.cli_words.specs.declared.orders.Goal.{Goal}
-use Rattle.cli_words.specs.declared.orders.Goal.TheVariants.{Intersect, Dset, Splits, Blocking, Trial, Quorums, Least}
+use Rattle.cli_words.specs.declared.orders.Goal.TheVariants.{Intersect, Dset, Splits, Blocking, Trial, Quorums, Least, OrgBlocking}
 use Rattle.cli_words.specs.declared.orders.Query.TheVariants.{Show, Closure, Greatest, Available, Blocks, Vblocks, Export}
 use Rattle.cli_words.specs.declared.orders.OrderFault.{OrderFault}
 use Rattle.cli_words.specs.declared.orders.OrderFault.TheVariants.{Words, SamePath}
@@ -55,7 +55,7 @@ program_alone = refl
 
 -- ---- the usage text
 
-usage_text : usage ≡ codes "usage: quorum_cli COMMAND\nshow CONFIG\nclosure CONFIG --node NAME\ngreatest CONFIG [COMMON]\nintersect CONFIG CERT [COMMON] [--budget UNITS]\navailable CONFIG --set NAMES [--from NAME]\ndset CONFIG CERT --set NAMES [--from NAME] [--budget UNITS]\nblocks CONFIG --set NAMES [COMMON]\nvblocks CONFIG --node NAME --set NAMES\nsplits CONFIG CERT --set NAMES [COMMON] [--budget UNITS]\nblocking CONFIG CERT [COMMON] [--budget UNITS]\ncheck CONFIG CERT\nexport CONFIG [COMMON]\ntrial N CERT [--budget UNITS]\ncheck-lrat CONFIG LRAT [COMMON]\nquorums CONFIG CERT [COMMON] [--budget UNITS]\nleast CONFIG CERT [COMMON] [--budget UNITS]\nwhatif CONFIG SCRIPT --set NAMES\nCOMMON: --from NAME --faulty NAMES --orgs ORGS --faulty-orgs IDS\n"
+usage_text : usage ≡ codes "usage: quorum_cli COMMAND\nshow CONFIG\nclosure CONFIG --node NAME\ngreatest CONFIG [COMMON]\nintersect CONFIG CERT [COMMON] [--budget UNITS]\navailable CONFIG --set NAMES [--from NAME]\ndset CONFIG CERT --set NAMES [--from NAME] [--budget UNITS]\nblocks CONFIG --set NAMES [COMMON]\nvblocks CONFIG --node NAME --set NAMES\nsplits CONFIG CERT --set NAMES [COMMON] [--budget UNITS]\nblocking CONFIG CERT [COMMON] [--budget UNITS]\ncheck CONFIG CERT [--orgs ORGS]\nexport CONFIG [COMMON]\ntrial N CERT [--budget UNITS]\ncheck-lrat CONFIG LRAT [COMMON]\nquorums CONFIG CERT [COMMON] [--budget UNITS]\nleast CONFIG CERT [COMMON] [--budget UNITS]\norg-blocking CONFIG CERT --orgs ORGS [--from NAME] [--faulty NAMES] [--faulty-orgs IDS] [--budget UNITS]\nwhatif CONFIG SCRIPT --set NAMES\nCOMMON: --from NAME --faulty NAMES --orgs ORGS --faulty-orgs IDS\n"
 unfolding usage row_of
 usage_text = refl
 
@@ -151,6 +151,36 @@ quorums = refl
 least : typed (codes "least f c --from b --budget 0") ≡ Ok (record (search_of Least 0) { from = Some (codes "b") })
 unfolding words_on_literals
 least = refl
+
+org_blocking : typed (codes "org-blocking f c --orgs o") ≡ Ok (record (search_of OrgBlocking 1000000) { orgs = Some (codes "o") })
+unfolding words_on_literals
+org_blocking = refl
+
+org_blocking_of_a_part : typed (codes "org-blocking f c --orgs=o --from a --faulty b --faulty-orgs c,d --budget 0")
+    ≡ Ok (record (search_of OrgBlocking 0) { orgs = Some (codes "o"); from = Some (codes "a"); faulty = Some (codes "b"); faulty_orgs = Some (codes "c,d") })
+unfolding words_on_literals
+org_blocking_of_a_part = refl
+
+org_blocking_needs_organisations : typed (codes "org-blocking f c") ≡ Err Words
+unfolding words_on_literals
+org_blocking_needs_organisations = refl
+
+org_blocking_over_the_organisations : typed (codes "org-blocking f c --orgs c") ≡ Err SamePath
+unfolding words_on_literals
+org_blocking_over_the_organisations = refl
+
+-- one path may stand for both files that are read
+org_blocking_of_one_file : typed (codes "org-blocking f c --orgs f") ≡ Ok (record (search_of OrgBlocking 1000000) { orgs = Some (codes "f") })
+unfolding words_on_literals
+org_blocking_of_one_file = refl
+
+check_with_organisations : typed (codes "check f c --orgs o") ≡ Ok (record (nothing_for Check) { config = codes "f"; cert = codes "c"; orgs = Some (codes "o") })
+unfolding words_on_literals
+check_with_organisations = refl
+
+check_of_the_organisations : typed (codes "check f c --orgs c") ≡ Err SamePath
+unfolding words_on_literals
+check_of_the_organisations = refl
 
 whatif : typed (codes "whatif f s --set a,b") ≡ Ok (record (nothing_for Whatif) { config = codes "f"; script = codes "s"; set = Some (codes "a,b") })
 unfolding words_on_literals

@@ -15,7 +15,7 @@ use Rattle.cli_words.specs.declared.table.Flag.TheVariants.{From, Faulty, Orgs, 
 use Rattle.cli_words.specs.Words.{all_option_rules, app_for, app_with, file_rules, is_taken, named_among, order_in, text_of, order_by, order_among, path_checked, positional, rules_of_row, with_rules}
 use Rattle.cli_words.specs.declared.orders.Command.{Command}
 use Rattle.cli_words.specs.declared.orders.Command.TheVariants.{Query, Search, Check, CheckLrat, Whatif}
-use Rattle.cli_words.specs.declared.orders.Goal.TheVariants.{Intersect, Dset, Splits, Blocking, Trial, Quorums, Least}
+use Rattle.cli_words.specs.declared.orders.Goal.TheVariants.{Intersect, Dset, Splits, Blocking, Trial, Quorums, Least, OrgBlocking}
 use Rattle.cli_words.specs.declared.orders.Query.TheVariants.{Show, Closure, Greatest, Available, Blocks, Vblocks, Export}
 use Rattle.cli_words.specs.declared.orders.OrderFault.TheVariants.{Words, SamePath}
 
@@ -41,6 +41,7 @@ is_stated (Search Blocking) app e = rw e refl
 is_stated (Search Trial) app e = rw e refl
 is_stated (Search Quorums) app e = rw e refl
 is_stated (Search Least) app e = rw e refl
+is_stated (Search OrgBlocking) app e = rw e refl
 is_stated Check app e = rw e refl
 is_stated (Query Export) app e = rw e refl
 is_stated CheckLrat app e = rw e refl

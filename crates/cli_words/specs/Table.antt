@@ -4,7 +4,7 @@ use Rattle.std.specs.List.{list_any}
 use Rattle.clap.specs.Words.{Text}
 use Rattle.cli_words.specs.declared.orders.Command.{Command}
 use Rattle.cli_words.specs.declared.orders.Command.TheVariants.{Query, Search, Check, CheckLrat, Whatif}
-use Rattle.cli_words.specs.declared.orders.Goal.TheVariants.{Intersect, Dset, Splits, Blocking, Trial, Quorums, Least}
+use Rattle.cli_words.specs.declared.orders.Goal.TheVariants.{Intersect, Dset, Splits, Blocking, Trial, Quorums, Least, OrgBlocking}
 use Rattle.cli_words.specs.declared.orders.Query.TheVariants.{Show, Closure, Greatest, Available, Blocks, Vblocks, Export}
 use Rattle.cli_words.specs.declared.table.Target.{Target}
 use Rattle.cli_words.specs.declared.table.Target.TheVariants.{Config, Organisations}
@@ -46,13 +46,14 @@ row_of (Search Blocking) = row (codes "blocking") Config (Some Certificate) (Com
 row_of (Search Trial) = row (codes "trial") Organisations (Some Certificate) (Takes Budget ∷ [])
 row_of (Search Quorums) = row (codes "quorums") Config (Some Certificate) (Common ∷ Takes Budget ∷ [])
 row_of (Search Least) = row (codes "least") Config (Some Certificate) (Common ∷ Takes Budget ∷ [])
-row_of Check = row (codes "check") Config (Some Certificate) []
+row_of (Search OrgBlocking) = row (codes "org-blocking") Config (Some Certificate) (Needs Orgs ∷ Takes From ∷ Takes Faulty ∷ Takes FaultyOrgs ∷ Takes Budget ∷ [])
+row_of Check = row (codes "check") Config (Some Certificate) (Takes Orgs ∷ [])
 row_of CheckLrat = row (codes "check-lrat") Config (Some Proof) (Common ∷ [])
 row_of Whatif = row (codes "whatif") Config (Some Script) (Needs Set ∷ [])
 
 -- the commands in the order of the usage text
 abbrev pub commands : List Command
-commands = Query Show ∷ Query Closure ∷ Query Greatest ∷ Search Intersect ∷ Query Available ∷ Search Dset ∷ Query Blocks ∷ Query Vblocks ∷ Search Splits ∷ Search Blocking ∷ Check ∷ Query Export ∷ Search Trial ∷ CheckLrat ∷ Search Quorums ∷ Search Least ∷ Whatif ∷ []
+commands = Query Show ∷ Query Closure ∷ Query Greatest ∷ Search Intersect ∷ Query Available ∷ Search Dset ∷ Query Blocks ∷ Query Vblocks ∷ Search Splits ∷ Search Blocking ∷ Check ∷ Query Export ∷ Search Trial ∷ CheckLrat ∷ Search Quorums ∷ Search Least ∷ Search OrgBlocking ∷ Whatif ∷ []
 
 -- ---- the names that clap knows the arguments by, and what stands for them in the usage text
 

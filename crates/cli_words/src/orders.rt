@@ -43,6 +43,8 @@ pub enum Goal {
     Quorums,
     /// A smallest quorum.
     Least,
+    /// All minimal blocking sets of organisations.
+    OrgBlocking,
 }
 
 /// What the program is to do, by the command's word. The table of the commands has what each is about, and its options.

@@ -3,7 +3,7 @@ ghost use Rattle.std.specs.Prelude.{◌≡◌};
 ghost use Rattle.cli_words.specs.Table.{commands, file_id, file_place, flag_id, flag_place, has_budget as spec_has_budget, has_certificate as spec_has_certificate, row_of as spec_row_of, row_view, target_id, target_place};
 
 use crate::orders::{Command, Goal, Query};
-use crate::table::Flag::{Budget, From, Node, Set};
+use crate::table::Flag::{Budget, Faulty, FaultyOrgs, From, Node, Orgs, Set};
 use crate::table::Parameter::{Common, Needs, Takes};
 use crate::table::SecondFile::{Certificate, Proof, Script};
 use crate::table::Target::{Config, Organisations};
@@ -219,7 +219,19 @@ pub fn row_of<'a>(command: Command) -> Row<'a>
             Some(Certificate),
             &[Common, Takes(Budget)],
         ),
-        Command::Check => Row::of("check", Config, Some(Certificate), &[]),
+        Command::Search(Goal::OrgBlocking) => Row::of(
+            "org-blocking",
+            Config,
+            Some(Certificate),
+            &[
+                Needs(Orgs),
+                Takes(From),
+                Takes(Faulty),
+                Takes(FaultyOrgs),
+                Takes(Budget),
+            ],
+        ),
+        Command::Check => Row::of("check", Config, Some(Certificate), &[Takes(Orgs)]),
         Command::CheckLrat => Row::of("check-lrat", Config, Some(Proof), &[Common]),
         Command::Whatif => Row::of("whatif", Config, Some(Script), &[Needs(Set)]),
     }
@@ -246,6 +258,7 @@ pub fn all_commands<'a>() -> &'a [Command]
         Command::CheckLrat,
         Command::Search(Goal::Quorums),
         Command::Search(Goal::Least),
+        Command::Search(Goal::OrgBlocking),
         Command::Whatif,
     ]
 }

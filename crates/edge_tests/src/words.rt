@@ -31,6 +31,7 @@ fn name_of(command: Command) -> &'static str {
         Command::Search(Goal::Blocking) => "blocking",
         Command::Search(Goal::Quorums) => "quorums",
         Command::Search(Goal::Least) => "least",
+        Command::Search(Goal::OrgBlocking) => "org-blocking",
         Command::Search(Goal::Trial) => "trial",
         Command::Check => "check",
         Command::CheckLrat => "check-lrat",
@@ -90,7 +91,7 @@ fn wants_read(rt: &impl Abort, alloc: Global, part: Part, rows: &[(&str, &str)])
     }
 }
 
-static ORDERS: [(&str, &str); 12] = [
+static ORDERS: [(&str, &str); 13] = [
     ("show f", r#"show ("f", "") None None None"#),
     (
         "closure f --node v",
@@ -127,6 +128,10 @@ static ORDERS: [(&str, &str); 12] = [
         r#"export ("f", "") None Some("a") None"#,
     ),
     (
+        "org-blocking f c --orgs o --faulty a",
+        r#"org-blocking ("f", "c") None Some("a") None"#,
+    ),
+    (
         "check-lrat f p --faulty a",
         r#"check-lrat ("f", "p") None Some("a") None"#,
     ),
@@ -137,7 +142,7 @@ fn takes_each_command(rt: HostRuntime) {
     wants_read(&rt, rt.alloc(), Part::Own, &ORDERS);
 }
 
-static COMMON: [(&str, &str); 4] = [
+static COMMON: [(&str, &str); 6] = [
     ("greatest f", "None None None"),
     (
         "greatest f --from a --orgs o --faulty-orgs c,d",
@@ -148,6 +153,11 @@ static COMMON: [(&str, &str); 4] = [
         "blocks --faulty-orgs= --set b --orgs o f",
         r#"None Some("o") Some("")"#,
     ),
+    ("check f c --orgs o", r#"None Some("o") None"#),
+    (
+        "org-blocking f c --from a --orgs o --faulty-orgs c",
+        r#"Some("a") Some("o") Some("c")"#,
+    ),
 ];
 
 #[test]
@@ -155,7 +165,7 @@ fn takes_the_common_options(rt: HostRuntime) {
     wants_read(&rt, rt.alloc(), Part::Common, &COMMON);
 }
 
-static REFUSED: [(&str, &str); 12] = [
+static REFUSED: [(&str, &str); 15] = [
     ("", "Words"),
     ("--help", "Words"),
     ("check f", "Words"),
@@ -166,6 +176,9 @@ static REFUSED: [(&str, &str); 12] = [
     ("closure f", "Words"),
     ("check f c --from a", "Words"),
     ("interse f c", "Words"),
+    ("org-blocking f c", "Words"),
+    ("check f o --orgs o", "SamePath"),
+    ("org-blocking f o --orgs o", "SamePath"),
     ("trial 0 c", "Words"),
     ("trial 101 c", "Words"),
 ];
@@ -186,6 +199,6 @@ fn prints_a_line_for_each_command(rt: HostRuntime) {
     same(
         &rt,
         printed(rt.alloc()),
-        "usage: quorum_cli COMMAND\nshow CONFIG\nclosure CONFIG --node NAME\ngreatest CONFIG [COMMON]\nintersect CONFIG CERT [COMMON] [--budget UNITS]\navailable CONFIG --set NAMES [--from NAME]\ndset CONFIG CERT --set NAMES [--from NAME] [--budget UNITS]\nblocks CONFIG --set NAMES [COMMON]\nvblocks CONFIG --node NAME --set NAMES\nsplits CONFIG CERT --set NAMES [COMMON] [--budget UNITS]\nblocking CONFIG CERT [COMMON] [--budget UNITS]\ncheck CONFIG CERT\nexport CONFIG [COMMON]\ntrial N CERT [--budget UNITS]\ncheck-lrat CONFIG LRAT [COMMON]\nquorums CONFIG CERT [COMMON] [--budget UNITS]\nleast CONFIG CERT [COMMON] [--budget UNITS]\nwhatif CONFIG SCRIPT --set NAMES\nCOMMON: --from NAME --faulty NAMES --orgs ORGS --faulty-orgs IDS\n",
+        "usage: quorum_cli COMMAND\nshow CONFIG\nclosure CONFIG --node NAME\ngreatest CONFIG [COMMON]\nintersect CONFIG CERT [COMMON] [--budget UNITS]\navailable CONFIG --set NAMES [--from NAME]\ndset CONFIG CERT --set NAMES [--from NAME] [--budget UNITS]\nblocks CONFIG --set NAMES [COMMON]\nvblocks CONFIG --node NAME --set NAMES\nsplits CONFIG CERT --set NAMES [COMMON] [--budget UNITS]\nblocking CONFIG CERT [COMMON] [--budget UNITS]\ncheck CONFIG CERT [--orgs ORGS]\nexport CONFIG [COMMON]\ntrial N CERT [--budget UNITS]\ncheck-lrat CONFIG LRAT [COMMON]\nquorums CONFIG CERT [COMMON] [--budget UNITS]\nleast CONFIG CERT [COMMON] [--budget UNITS]\norg-blocking CONFIG CERT --orgs ORGS [--from NAME] [--faulty NAMES] [--faulty-orgs IDS] [--budget UNITS]\nwhatif CONFIG SCRIPT --set NAMES\nCOMMON: --from NAME --faulty NAMES --orgs ORGS --faulty-orgs IDS\n",
     );
 }
