@@ -4,8 +4,14 @@ use Rattle.std.proofs.lemmas.Bool.{le-leb, lt-leb}
 use Rattle.fbas_model.specs.Systems.{System}
 use Rattle.node_json.specs.Configuration.{system_of}
 use Rattle.node_json.specs.declared.faults.ConfigFault.{ConfigFault}
+use Rattle.node_json.specs.declared.faults.OrgFault.{OrgFault}
+use Rattle.node_json.specs.Organisations.{Org, orgs_of}
+use Rattle.hex.specs.Hex.{IsBytes}
+use Rattle.cert_writer.specs.Promises.{AreOrgs}
 use Rattle.cli_words.specs.Order.{Ordered}
-use Rattle.desk_io.specs.State.{Files}
+use Rattle.desk_io.specs.State.{Files, DeskState, OnlyReads}
+use Rattle.sha2.specs.Sha256.{sha256}
+use Rattle.certificate_file.specs.declared.given.GivenOrgs.{GivenOrgs}
 use Rattle.cli_words.specs.Words.{order_of}
 use Rattle.cli_words.specs.declared.orders.Command.{Command}
 use Rattle.cli_words.specs.declared.orders.Command.TheVariants.{Check, CheckLrat}
@@ -17,8 +23,9 @@ use Rattle.order_reading.specs.declared.status.Status.TheVariants.{ConfigRefused
 use Rattle.order_reading.specs.declared.early.Early.{Early}
 use Rattle.order_reading.specs.declared.early.Early.TheVariants.{Told, Read, Memory}
 use Rattle.order_reading.specs.declared.files.TheConstants.{MAX_FILE}
-use Rattle.order_reading.specs.Answers.{or_words_refused, refused_words, file_in, file_within, is_told, system_in, or_config_refused}
-use Rattle.order_reading.specs.Meaning.{MeansYes, OfWords, NamesAccepted, NamesVerified, YesMeans, IsCheck, IsCheckLrat, IsTold}
+use Rattle.order_reading.specs.Answers.{or_words_refused, refused_words, file_in, file_within, is_told, system_in, or_config_refused, or_orgs_refused}
+use Rattle.order_reading.specs.Given.{given_by}
+use Rattle.order_reading.specs.Meaning.{HasCert, MeansYes, OfWords, NamesAccepted, NamesVerified, YesMeans, IsCheck, IsCheckLrat, IsTold}
 
 pub YesMeans-weaker : (A B : Type 0) (e : Early) → (A → B) → YesMeans A e → YesMeans B e
 YesMeans-weaker A B (Told a) f means = λ said. f (means said)
@@ -90,5 +97,20 @@ read_of : (r : Result System ConfigFault) (f : System) → or_config_refused r �
 read_of (Ok g) f e = cc
 read_of (Err fault) f e = absurd cc
 
+orgs_of_read : (r : Result (List Org) OrgFault) (orgs : List Org) → or_orgs_refused r ≡ Ok orgs → r ≡ Ok orgs
+orgs_of_read (Ok held) orgs e = cc
+orgs_of_read (Err fault) orgs e = absurd cc
+
+-- the organisations are those that the bytes say over the system
+pub are_orgs : (f : System) (bytes digest : List ℕ) (orgs : List Org) → or_orgs_refused (orgs_of f.names bytes) ≡ Ok orgs → length digest ≡ 32 → IsBytes digest → AreOrgs f (record { orgs = orgs; digest = digest })
+are_orgs f bytes digest orgs read long is = record { file = bytes; read = orgs_of_read (orgs_of f.names bytes) orgs read; long = long; bytes = is }
+
 pub system_read : (config : List ℕ) (f : System) → system_in config ≡ Ok f → system_of config ≡ Ok f
 system_read config f e = read_of (system_of config) f e
+
+-- a certificate that is held once another file was read was held before
+pub cert_held : (f : System) (config digest name path : List ℕ) (orgs : Option GivenOrgs) (old new : DeskState) → digest ≡ sha256 config → OnlyReads old new → name ≡ path → HasCert f (record { digest = digest; orgs = orgs }) new.files name → HasCert f (given_by config orgs) old.files path
+cert_held f config digest name path orgs old new is reads named held =
+    let before = subst (λ (desk : DeskState). HasCert f (record { digest = digest; orgs = orgs }) desk.files name) reads held in
+    let by_config = subst (λ (d : List ℕ). HasCert f (record { digest = d; orgs = orgs }) old.files name) is before in
+    subst (λ (p : List ℕ). HasCert f (given_by config orgs) old.files p) named by_config

@@ -22,10 +22,12 @@ use Rattle.node_json.specs.declared.faults.OrgFault.{OrgFault}
 use Rattle.trial_network.specs.Tree.{trial_text}
 use Rattle.certificate_file.specs.Acceptance.{checked}
 use Rattle.certificate_file.specs.Verification.{verified}
+use Rattle.certificate_file.specs.declared.given.Given.{Given}
+use Rattle.certificate_file.specs.declared.given.GivenOrgs.{GivenOrgs}
 use Rattle.certificate_file.specs.declared.places.Header.{Header}
 use Rattle.certificate_file.specs.declared.places.Accepted.{Accepted}
 use Rattle.certificate_file.specs.declared.places.Answer.{Answer as Shown}
-use Rattle.certificate_file.specs.declared.places.Answer.TheVariants.{Partial, PartialBlocking, PartialQuorums, PartialLeast}
+use Rattle.certificate_file.specs.declared.places.Answer.TheVariants.{Partial, PartialBlocking, PartialQuorums, PartialLeast, PartialOrgBlocking}
 use Rattle.cert_lines.specs.declared.faults.CertError.{CertError}
 use Rattle.cert_lines.specs.declared.faults.CertError.TheVariants.{TooLarge as TooManyVariables}
 use Rattle.report.specs.Lines.{Text, same_path, config_too_long, config_refused, orgs_too_long, orgs_refused, script_too_long, cert_refused, accepted, verified as verified_lines}
@@ -39,6 +41,7 @@ use Rattle.order_reading.specs.declared.reading.Asked.{Asked}
 use Rattle.order_reading.specs.declared.reading.Asked.TheVariants as asked
 use Rattle.order_reading.specs.declared.question.Inquiry.{Inquiry}
 use Rattle.order_reading.specs.declared.edits.Edits.{Edits}
+use Rattle.order_reading.specs.Given.{given_by, orgs_among}
 use Rattle.order_reading.specs.Reading.{◌>>=◌}
 use Rattle.order_reading.specs.Questions.{question_of, set_named, part_of, FitsQuestion}
 use Rattle.order_reading.specs.Searches.{header_named, search_of, trial_of, FitsSearch}
@@ -71,12 +74,18 @@ abbrev pub or_orgs_refused : Result (List Org) OrgFault → Result (List Org) Ea
 or_orgs_refused (Ok orgs) = Ok orgs
 or_orgs_refused (Err fault) = Err (Told (record { status = ConfigRefused; text = orgs_refused fault }))
 
--- the organisations of the file that the order names, or none where it names no file
-abbrev pub orgs_given : List Name → Files → Option (List ℕ) → Result (List Org) Early
-orgs_given names files None = Ok []
+-- the organisations of a file's bytes, with their digest
+abbrev pub orgs_with_digest : List Name → List ℕ → Result (Option GivenOrgs) Early
+orgs_with_digest names bytes = do
+  orgs ← or_orgs_refused (orgs_of names bytes)
+  Ok (Some (record { orgs = orgs; digest = sha256 bytes }))
+
+-- the organisations of the file that the order names, if it names one
+abbrev pub orgs_given : List Name → Files → Option (List ℕ) → Result (Option GivenOrgs) Early
+orgs_given names files None = Ok None
 orgs_given names files (Some path) = do
   bytes ← file_in orgs_too_long (files path)
-  or_orgs_refused (orgs_of names bytes)
+  orgs_with_digest names bytes
 
 -- ---- a certificate
 
@@ -91,6 +100,7 @@ accepted_status (Partial units) = Unknown
 accepted_status (PartialBlocking units) = Unknown
 accepted_status (PartialQuorums units) = Unknown
 accepted_status (PartialLeast units) = Unknown
+accepted_status (PartialOrgBlocking units) = Unknown
 accepted_status shown = Yes
 
 -- the first fault of a certificate, or of a proof, is named
@@ -103,9 +113,15 @@ checked_answer names (Ok a) = record { status = accepted_status a.answer; text =
 checked_answer names (Err e) = refused_answer names e
 
 -- what `check` says of a file
-abbrev pub check_in : System → List ℕ → Option (List ℕ) → Result Answer Early
-check_in f config None = Err Read
-check_in f config (Some cert) = Ok (checked_answer f.names (checked f (sha256 config) cert))
+abbrev pub check_in : System → Given → Option (List ℕ) → Result Answer Early
+check_in f given None = Err Read
+check_in f given (Some cert) = Ok (checked_answer f.names (checked f given cert))
+
+-- what `check` says over a configuration that was read: the organisations are read before the certificate, if a file of them is named
+abbrev pub check_asked : Ordered → System → List ℕ → Files → Result Answer Early
+check_asked o f config files = do
+  orgs ← orgs_given f.names files o.orgs
+  check_in f (given_by config orgs) (files o.cert)
 
 -- ---- a proof of another solver
 
@@ -122,8 +138,8 @@ verify_in f h (Some proof) = Ok (verified_answer f.names h (verified f h proof))
 -- what `check-lrat` says over a configuration that was read
 abbrev pub verify_asked : Ordered → System → Files → Result Answer Early
 verify_asked o f files = do
-  orgs ← orgs_given f.names files o.orgs
-  header ← header_named f orgs o
+  given ← orgs_given f.names files o.orgs
+  header ← header_named f (orgs_among given) o
   verify_in f header (files o.cert)
 
 -- ---- what is asked
@@ -140,15 +156,15 @@ abbrev pub asked_about : System → Inquiry → Asked
 asked_about f inquiry = asked.Question (part_of f inquiry.closure) inquiry.question
 
 -- what an order with this question asks, once the organisations were read
-abbrev pub query_asked : Query → Ordered → System → List ℕ → List Org → Result Asked Early
-query_asked q o f config orgs = do
-  inquiry ← question_of q f config orgs o
+abbrev pub query_asked : Query → Ordered → System → List ℕ → Option GivenOrgs → Result Asked Early
+query_asked q o f config given = do
+  inquiry ← question_of q f config (orgs_among given) o
   Ok (asked_about f inquiry)
 
 -- what an order with this goal asks, once the organisations were read
-abbrev pub goal_asked : Goal → Ordered → System → List ℕ → List Org → Result Asked Early
-goal_asked goal o f config orgs = do
-  search ← search_of goal f config orgs o
+abbrev pub goal_asked : Goal → Ordered → System → List ℕ → Option GivenOrgs → Result Asked Early
+goal_asked goal o f config given = do
+  search ← search_of goal f config given o
   Ok (asked.Search search)
 
 -- the script that an order names: the names of its set are read before
@@ -166,7 +182,7 @@ edits_asked o f files = do
 -- what a command asks over a configuration that was read, or its early answer
 abbrev pub command_asked : Command → Ordered → System → List ℕ → Files → Result Asked Early
 command_asked command.Check o f config files = do
-  answer ← check_in f config (files o.cert)
+  answer ← check_asked o f config files
   Err (Told answer)
 command_asked command.CheckLrat o f config files = do
   answer ← verify_asked o f files
@@ -175,11 +191,11 @@ command_asked command.Whatif o f config files = do
   edits ← edits_asked o f files
   Ok (asked.Edits edits)
 command_asked (command.Query q) o f config files = do
-  orgs ← orgs_given f.names files o.orgs
-  query_asked q o f config orgs
+  given ← orgs_given f.names files o.orgs
+  query_asked q o f config given
 command_asked (command.Search goal) o f config files = do
-  orgs ← orgs_given f.names files o.orgs
-  goal_asked goal o f config orgs
+  given ← orgs_given f.names files o.orgs
+  goal_asked goal o f config given
 
 -- what an order asks over the bytes of its configuration, or its early answer
 abbrev pub config_asked : Ordered → Files → List ℕ → Result Asked Early

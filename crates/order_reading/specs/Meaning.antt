@@ -1,6 +1,5 @@
 -- What an accepted certificate means, and a verified proof.
-use Rattle.std.specs.Prelude.{◌≡◌, ℕ, IsTrue, List, Some, Result, Ok, Err}
-use Rattle.sha2.specs.Sha256.{sha256}
+use Rattle.std.specs.Prelude.{◌≡◌, ℕ, IsTrue, List, Option, Some, Result, Ok, Err}
 use Rattle.fbas_model.specs.Systems.{System}
 use Rattle.desk_io.specs.State.{Files}
 use Rattle.cli_words.specs.Order.{Ordered}
@@ -9,31 +8,40 @@ use Rattle.cli_words.specs.declared.orders.Command.TheVariants.{Query, Search, C
 use Rattle.cli_words.specs.declared.orders.OrderFault.{OrderFault}
 use Rattle.cli_words.specs.Words.{order_of}
 use Rattle.node_json.specs.Configuration.{system_of}
-use Rattle.node_json.specs.Organisations.{Org}
 use Rattle.certificate_file.specs.Acceptance.{checked}
 use Rattle.certificate_file.specs.Meaning.{Holds, PartIntersects, part_from}
 use Rattle.certificate_file.specs.Verification.{verified}
+use Rattle.certificate_file.specs.declared.given.Given.{Given}
+use Rattle.certificate_file.specs.declared.given.GivenOrgs.{GivenOrgs}
 use Rattle.certificate_file.specs.declared.places.Header.{Header}
 use Rattle.certificate_file.specs.declared.places.Accepted.{Accepted}
 use Rattle.order_reading.specs.declared.status.Status.TheVariants.{Yes, Usage}
 use Rattle.order_reading.specs.declared.early.Early.{Early}
 use Rattle.order_reading.specs.Answers.{orgs_given, is_told}
+use Rattle.order_reading.specs.Given.{given_by, orgs_among}
 use Rattle.order_reading.specs.Searches.{header_named}
 use Rattle.order_reading.specs.Reading.{TellsStatus}
 
--- the certificate is accepted for a configuration and its system, and its answer holds for the part that it speaks of, the
--- whole system or the trust closure of a node, once the nodes of its header are deleted: the two sets of a pair are quorums
--- of the part and share no node, and with a refutation every two quorums of the part share a node
-pub record Shows (system : System) (config cert : List ℕ) : Type 0 where
+-- the certificate is accepted for a system and what is given beside it, and its answer holds for the part that it speaks of,
+-- the whole system or the trust closure of a node, once the nodes of its header are deleted: the two sets of a pair are quorums
+-- of the part and share no node, with a refutation every two quorums of the part share a node, and the sets of a list are the
+-- minimal ones of their kind, of nodes or of the given organisations
+pub record Shows (system : System) (given : Given) (cert : List ℕ) : Type 0 where
   pub accepted : Accepted
-  pub checks : checked system (sha256 config) cert ≡ Ok accepted
-  pub holds : Holds system accepted
+  pub checks : checked system given cert ≡ Ok accepted
+  pub holds : Holds system given accepted
 
 -- the named file is such a certificate
-pub record HasCert (system : System) (config : List ℕ) (files : Files) (name : List ℕ) : Type 0 where
+pub record HasCert (system : System) (given : Given) (files : Files) (name : List ℕ) : Type 0 where
   pub cert : List ℕ
   pub held : files name ≡ Some cert
-  pub shows : Shows system config cert
+  pub shows : Shows system given cert
+
+-- the order names such a certificate for the configuration, and for the organisations that its option names
+pub record HasAccepted (order : Ordered) (system : System) (config : List ℕ) (files : Files) : Type 0 where
+  pub orgs : Option GivenOrgs
+  pub given : orgs_given system.names files order.orgs ≡ Ok orgs
+  pub cert : HasCert system (given_by config orgs) files order.cert
 
 -- the proof is verified for a part of the system without its faulty nodes, and every two quorums of it share a node
 pub record Verifies (system : System) (header : Header) (proof : List ℕ) : Type 0 where
@@ -48,15 +56,15 @@ pub record HasProof (system : System) (header : Header) (files : Files) (name : 
 
 -- the order names such a proof for the part and the faulty nodes that its options name
 pub record HasVerified (order : Ordered) (system : System) (files : Files) : Type 0 where
-  pub orgs : List Org
+  pub orgs : Option GivenOrgs
   pub given : orgs_given system.names files order.orgs ≡ Ok orgs
   pub header : Header
-  pub named : header_named system orgs order ≡ Ok header
+  pub named : header_named system (orgs_among orgs) order ≡ Ok header
   pub proof : HasProof system header files order.cert
 
 -- what a yes means that is told before anything is asked: the certificate is accepted, or the proof is verified
 abbrev pub MeansYes : Command → Ordered → System → List ℕ → Files → Type 0
-MeansYes Check order system config files = HasCert system config files order.cert
+MeansYes Check order system config files = HasAccepted order system config files
 MeansYes CheckLrat order system config files = HasVerified order system files
 MeansYes (Query q) order system config files = ⊥
 MeansYes (Search goal) order system config files = ⊥
@@ -84,7 +92,7 @@ pub record OfWords (Means : Ordered → System → List ℕ → Type 0) (files :
 
 -- the words are an order that names a configuration and a certificate that is accepted for it
 abbrev pub NamesAccepted : List (List ℕ) → Files → Type 0
-NamesAccepted words files = OfWords (λ order system config. HasCert system config files order.cert) files words
+NamesAccepted words files = OfWords (λ order system config. HasAccepted order system config files) files words
 
 -- the words are an order that names a configuration and a proof that is verified for it
 abbrev pub NamesVerified : List (List ℕ) → Files → Type 0

@@ -6,6 +6,7 @@ mod early;
 mod edits;
 mod files;
 mod names;
+mod orgs;
 mod parts;
 mod question;
 mod reading;

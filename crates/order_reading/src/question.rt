@@ -1,6 +1,7 @@
 //! What is asked of a system.
-ghost use Rattle.std.specs.Prelude.{◌≡◌, None, [], All, IfOk, IfErr, length};
+ghost use Rattle.std.specs.Prelude.{◌≡◌, None, [], IfOk, IfErr};
 ghost use Rattle.cli_words.specs.Order.{order_view};
+ghost use Rattle.order_reading.specs.Given.{AreOver, orgs_among};
 ghost use Rattle.order_reading.specs.Questions.{question_of, FitsInquiry};
 ghost use Rattle.order_reading.specs.Reading.{Gives, IsRefusal};
 
@@ -8,11 +9,11 @@ use crate::early::Early;
 use crate::names::{faulty_named, node_named, set_named};
 use crate::parts::{closure_named, cut_to};
 use crate::word::{Word, word_if_any};
+use certificate_file::GivenOrgs;
 use cli_words::{Order, Query};
 use digest_text::digest;
 use fbas_core::System;
 use name_set::NodeSet;
-use node_json::Orgs;
 use std::alloc::Global;
 
 /// Where an exported formula comes from.
@@ -75,15 +76,15 @@ fn greatest_asked(
     alloc: Global,
     order: &Order,
     system: &System,
-    orgs: &Orgs,
+    given: &Option<GivenOrgs>,
 ) -> Result<Inquiry, Early>
-    requires { All (λ org. length org.members ≡ length system.now.names) orgs.now }
-    ensures gives { Gives result (question_of Query.Greatest system.now [] orgs.now (order_view order.now)) }
+    requires { AreOver system.now given.now }
+    ensures gives { Gives result (question_of Query.Greatest system.now [] (orgs_among given.now) (order_view order.now)) }
     ensures refused { IfErr result IsRefusal }
     ensures fits { IfOk result (FitsInquiry system.now) }
 {
     let closure = closure_named(alloc, system, &order.from)?;
-    let named = faulty_named(alloc, system, orgs, order)?;
+    let named = faulty_named(alloc, system, given, order)?;
     let faulty = cut_to(system, &closure, named);
     let question = Question::Greatest(faulty);
     Ok(Inquiry { closure, question })
@@ -107,15 +108,15 @@ fn blocks_asked(
     alloc: Global,
     order: &Order,
     system: &System,
-    orgs: &Orgs,
+    given: &Option<GivenOrgs>,
 ) -> Result<Inquiry, Early>
-    requires { All (λ org. length org.members ≡ length system.now.names) orgs.now }
-    ensures gives { Gives result (question_of Query.Blocks system.now [] orgs.now (order_view order.now)) }
+    requires { AreOver system.now given.now }
+    ensures gives { Gives result (question_of Query.Blocks system.now [] (orgs_among given.now) (order_view order.now)) }
     ensures refused { IfErr result IsRefusal }
     ensures fits { IfOk result (FitsInquiry system.now) }
 {
     let closure = closure_named(alloc, system, &order.from)?;
-    let named_faulty = faulty_named(alloc, system, orgs, order)?;
+    let named_faulty = faulty_named(alloc, system, given, order)?;
     let named = set_named(alloc, system, "--set", &order.set)?;
     let faulty = cut_to(system, &closure, named_faulty);
     let set = cut_to(system, &closure, named);
@@ -140,15 +141,15 @@ fn export_asked(
     order: &Order,
     system: &System,
     config: &[u8],
-    orgs: &Orgs,
+    given: &Option<GivenOrgs>,
 ) -> Result<Inquiry, Early>
-    requires { All (λ org. length org.members ≡ length system.now.names) orgs.now }
-    ensures gives { Gives result (question_of Query.Export system.now config.now orgs.now (order_view order.now)) }
+    requires { AreOver system.now given.now }
+    ensures gives { Gives result (question_of Query.Export system.now config.now (orgs_among given.now) (order_view order.now)) }
     ensures refused { IfErr result IsRefusal }
     ensures fits { IfOk result (FitsInquiry system.now) }
 {
     let closure = closure_named(alloc, system, &order.from)?;
-    let named = faulty_named(alloc, system, orgs, order)?;
+    let named = faulty_named(alloc, system, given, order)?;
     let faulty = cut_to(system, &closure, named);
     let from = word_if_any(alloc, &order.from)?;
     let origin = Origin {
@@ -167,20 +168,20 @@ pub fn question_asked(
     order: &Order,
     system: &System,
     config: &[u8],
-    orgs: &Orgs,
+    given: &Option<GivenOrgs>,
 ) -> Result<Inquiry, Early>
-    requires { All (λ org. length org.members ≡ length system.now.names) orgs.now }
-    ensures gives { Gives result (question_of query system.now config.now orgs.now (order_view order.now)) }
+    requires { AreOver system.now given.now }
+    ensures gives { Gives result (question_of query system.now config.now (orgs_among given.now) (order_view order.now)) }
     ensures refused { IfErr result IsRefusal }
     ensures fits { IfOk result (FitsInquiry system.now) }
 {
     match query {
         Query::Show => Ok(of_the_whole(Question::Show)),
         Query::Closure => closure_asked(alloc, order, system),
-        Query::Greatest => greatest_asked(alloc, order, system, orgs),
+        Query::Greatest => greatest_asked(alloc, order, system, given),
         Query::Available => available_asked(alloc, order, system),
-        Query::Blocks => blocks_asked(alloc, order, system, orgs),
+        Query::Blocks => blocks_asked(alloc, order, system, given),
         Query::Vblocks => vblocks_asked(alloc, order, system),
-        Query::Export => export_asked(alloc, order, system, config, orgs),
+        Query::Export => export_asked(alloc, order, system, config, given),
     }
 }

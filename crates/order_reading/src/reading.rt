@@ -1,5 +1,5 @@
 //! What the words ask, once everything that they name was read.
-ghost use Rattle.std.specs.Prelude.{◌≡◌, ◌≤◌, All, Ok, IsTrue, IfOk, IfErr, IsOk, IsErr, IsErrOf, false, length, option_map, string_bytes};
+ghost use Rattle.std.specs.Prelude.{◌≡◌, ◌≤◌, Ok, IsTrue, IfOk, IfErr, IsOk, IsErr, IsErrOf, false};
 ghost use Rattle.desk_io.specs.State.{OnlyReads};
 ghost use Rattle.desk_io.specs.Faults.{ReadFails};
 ghost use Rattle.cli_words.specs.Order.{order_view};
@@ -7,28 +7,30 @@ ghost use Rattle.cli_words.specs.Table.{has_configuration};
 ghost use Rattle.cli_words.specs.Words.{order_of};
 ghost use Rattle.cli_words.specs.declared.budget.TheConstants.{MOST_BUDGET};
 ghost use Rattle.cli_words.specs.declared.organisations.TheConstants.{MOST_ORGANISATIONS};
-ghost use Rattle.report.specs.Lines.{config_refused, orgs_refused};
-ghost use Rattle.node_json.specs.Organisations.{orgs_of};
-ghost use Rattle.order_reading.specs.Answers.{words_of, asked_of, or_words_refused, order_asked, refused_words, file_asked, trial_asked, config_asked, command_asked, query_asked, verify_asked, asked_about as spec_asked_about, is_told, system_in, or_orgs_refused, orgs_given, FitsAsked};
+ghost use Rattle.report.specs.Lines.{config_refused};
+ghost use Rattle.order_reading.specs.Answers.{words_of, asked_of, or_words_refused, order_asked, refused_words, file_asked, trial_asked, config_asked, command_asked, query_asked, verify_asked, asked_about as spec_asked_about, is_told, system_in, FitsAsked};
 ghost use Rattle.order_reading.specs.Meaning.{HasVerified, MeansYes, OfConfig, OfFile, OfWords, YesMeans, IsTold, IsUsage};
+ghost use Rattle.order_reading.specs.Given.{AreOver};
 ghost use Rattle.order_reading.specs.Questions.{FitsInquiry};
 ghost use Rattle.order_reading.specs.Reading.{Fails, Gives, GivesReading, IsRefusal, IsAnswer};
 ghost use Rattle.order_reading.specs.Status.{is_answer};
 
-use crate::checking::check;
+use crate::checking::check_by;
 use crate::early::Early;
 use crate::edits::{Edits, edits_named};
 use crate::files::read_file;
+use crate::orgs::orgs_for;
 use crate::parts::part_of;
 use crate::question::{Inquiry, Question, question_asked};
 use crate::reply::{Reply, says};
 use crate::searches::{Search, search_asked, trial_search};
 use crate::status::Status;
 use crate::verifying::{header_named, verify};
+use certificate_file::GivenOrgs;
 use cli_words::{Command, Goal, Order, OrderFault, Query};
 use desk_io::{Desk, Which};
 use fbas_core::System;
-use node_json::{ConfigFault, OrgFault, Orgs, read_config, read_orgs};
+use node_json::{ConfigFault, read_config};
 use std::alloc::{AllocError, Global};
 use trial_network::Trial;
 
@@ -89,48 +91,6 @@ fn system_in(alloc: Global, config: &[u8]) -> Result<System, Early>
     }
 }
 
-// The answer to organisations that are refused.
-fn refuse_orgs(alloc: Global, fault: OrgFault) -> Result<Reply, AllocError>
-    ensures { IfOk result (λ a. a ≡ record { status = Status.ConfigRefused; text = orgs_refused fault }) }
-{
-    let text = report::orgs_refused(alloc, fault)?;
-    Ok(Reply::new(Status::ConfigRefused, text))
-}
-
-// The organisations of a file's bytes.
-fn orgs_in(alloc: Global, system: &System, bytes: &[u8]) -> Result<Orgs, Early>
-    ensures gives { Gives result (or_orgs_refused (orgs_of system.now.names bytes.now)) }
-    ensures refused { IfErr result IsRefusal }
-    ensures fits { IfOk result (All (λ org. length org.members ≡ length system.now.names)) }
-{
-    match read_orgs(alloc, bytes, system) {
-        Ok(orgs) => Ok(orgs),
-        Err(OrgFault::Memory) => Err(Early::Memory),
-        Err(fault) => Err(Early::Told(refuse_orgs(alloc, fault)?)),
-    }
-}
-
-// The organisations of the file that an order names, none where it names no file.
-fn orgs_for<D: Desk>(
-    alloc: Global,
-    system: &System,
-    desk: &mut D,
-    path: &Option<String>,
-) -> Result<Orgs, Early>
-    ensures gives { IsTrue D.tells → GivesReading (D.state desk.old).plain result
-        (orgs_given system.now.names (D.state desk.old).files (option_map string_bytes path.now)) }
-    ensures refused { IfErr result IsRefusal }
-    ensures fits { IfOk result (All (λ org. length org.members ≡ length system.now.names)) }
-    ensures reads { IsTrue D.tells → OnlyReads (D.state desk.old) (D.state desk.new) }
-    ensures faults { ReadFails (D.faults desk.old) (D.faults desk.new) (IsErrOf result Early.Read) }
-{
-    let Some(path) = path else {
-        return Ok(Orgs::none(alloc));
-    };
-    let bytes = read_file(alloc, desk, Which::Orgs, path, "orgs too-long\n")?;
-    orgs_in(alloc, system, &bytes)
-}
-
 // The part that an inquiry is about, and its question.
 fn asked_about(alloc: Global, system: System, inquiry: Inquiry) -> Result<Asked, AllocError>
     requires { FitsInquiry system inquiry }
@@ -149,14 +109,14 @@ fn ask_about(
     order: &Order,
     system: System,
     config: &[u8],
-    orgs: &Orgs,
+    given: &Option<GivenOrgs>,
 ) -> Result<Asked, Early>
-    requires { All (λ org. length org.members ≡ length system.names) orgs.now }
-    ensures gives { Gives result (query_asked query (order_view order.now) system config.now orgs.now) }
+    requires { AreOver system given.now }
+    ensures gives { Gives result (query_asked query (order_view order.now) system config.now given.now) }
     ensures refused { IfErr result IsRefusal }
     ensures fits { IfOk result FitsAsked }
 {
-    match question_asked(alloc, query, order, &system, config, orgs) {
+    match question_asked(alloc, query, order, &system, config, given) {
         Ok(inquiry) => Ok(asked_about(alloc, system, inquiry)?),
         Err(early) => {
             drop(system);
@@ -182,7 +142,7 @@ fn ask<D: Desk>(
     ensures faults { ReadFails (D.faults desk.old) (D.faults desk.new) (IsErrOf result Early.Read) }
 {
     match orgs_for(alloc, &system, desk, &order.orgs) {
-        Ok(orgs) => ask_about(alloc, query, order, system, config, &orgs),
+        Ok(given) => ask_about(alloc, query, order, system, config, &given),
         Err(early) => {
             drop(system);
             Err(early)
@@ -209,11 +169,7 @@ fn seek<D: Desk>(
     ensures faults { ReadFails (D.faults desk.old) (D.faults desk.new) (IsErrOf result Early.Read) }
 {
     match orgs_for(alloc, &system, desk, &order.orgs) {
-        Ok(orgs) => {
-            let search = search_asked(alloc, goal, order, system, config, &orgs);
-            drop(orgs);
-            Ok(Asked::Search(search?))
-        }
+        Ok(given) => Ok(Asked::Search(search_asked(alloc, goal, order, system, config, given)?)),
         Err(early) => {
             drop(system);
             Err(early)
@@ -237,9 +193,9 @@ fn verify_by<D: Desk>(
     ensures reads { IsTrue D.tells → OnlyReads (D.state desk.old) (D.state desk.new) }
     ensures faults { ReadFails (D.faults desk.old) (D.faults desk.new) (IsErrOf result Early.Read) }
 {
-    let orgs = orgs_for(alloc, system, desk, &order.orgs)?;
-    let header = header_named(alloc, system, &orgs, order);
-    drop(orgs);
+    let given = orgs_for(alloc, system, desk, &order.orgs)?;
+    let header = header_named(alloc, system, &given, order);
+    drop(given);
     verify(alloc, system, &header?, desk, &order.cert)
 }
 
@@ -265,7 +221,7 @@ fn command<D: Desk>(
 {
     match order.command {
         Command::Check => {
-            let reply = check(alloc, &system, config, desk, &order.cert);
+            let reply = check_by(alloc, order, &system, config, desk);
             drop(system);
             Err(Early::Told(reply?))
         }

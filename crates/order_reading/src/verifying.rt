@@ -1,5 +1,5 @@
 //! The check of another solver's proof.
-ghost use Rattle.std.specs.Prelude.{◌≡◌, ◌⊎◌, All, Ok, IsTrue, IfOk, IfErr, IsErrOf, length};
+ghost use Rattle.std.specs.Prelude.{◌≡◌, ◌⊎◌, Ok, IsTrue, IfOk, IfErr, IsErrOf};
 ghost use Rattle.desk_io.specs.State.{OnlyReads, left_of};
 ghost use Rattle.desk_io.specs.Faults.{ReadFails};
 ghost use Rattle.cli_words.specs.Order.{order_view};
@@ -7,6 +7,7 @@ ghost use Rattle.certificate_file.specs.Known.{FitsHeader};
 ghost use Rattle.certificate_file.specs.Verification.{verified};
 ghost use Rattle.order_reading.specs.Answers.{verify_in, verified_answer};
 ghost use Rattle.order_reading.specs.Meaning.{Verifies, HasProof};
+ghost use Rattle.order_reading.specs.Given.{AreOver, orgs_among};
 ghost use Rattle.order_reading.specs.Reading.{Gives, GivesReading, IsRefusal};
 ghost use Rattle.order_reading.specs.Searches.{header_named as header_by_options};
 ghost use Rattle.order_reading.specs.Status.{is_answer};
@@ -18,27 +19,26 @@ use crate::parts::from_named;
 use crate::reply::Reply;
 use crate::searches::header_of;
 use crate::status::Status;
-use certificate_file::{CertError, Header};
+use certificate_file::{CertError, GivenOrgs, Header};
 use cli_words::Order;
 use desk_io::{Desk, Which};
 use fbas_core::System;
-use node_json::Orgs;
 use std::alloc::{AllocError, Global};
 
 /// The part of the system that the options name, and the faulty nodes of it.
 pub fn header_named(
     alloc: Global,
     system: &System,
-    orgs: &Orgs,
+    given: &Option<GivenOrgs>,
     order: &Order,
 ) -> Result<Header, Early>
-    requires { All (λ org. length org.members ≡ length system.now.names) orgs.now }
-    ensures gives { Gives result (header_by_options system.now orgs.now (order_view order.now)) }
+    requires { AreOver system.now given.now }
+    ensures gives { Gives result (header_by_options system.now (orgs_among given.now) (order_view order.now)) }
     ensures refused { IfErr result IsRefusal }
     ensures fits { IfOk result (FitsHeader system.now) }
 {
     let from = from_named(alloc, system, &order.from)?;
-    let faulty = faulty_named(alloc, system, orgs, order)?;
+    let faulty = faulty_named(alloc, system, given, order)?;
     Ok(header_of(system, from, faulty))
 }
 

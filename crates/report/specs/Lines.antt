@@ -12,18 +12,19 @@ use Rattle.node_json.specs.declared.faults.SetFault.{SetFault}
 use Rattle.node_json.specs.declared.faults.SetFault.TheVariants.{Shape, Threshold, Validators, Inner}
 use Rattle.node_json.specs.declared.faults.ConfigFault.{ConfigFault}
 use Rattle.node_json.specs.declared.faults.ConfigFault.TheVariants.{NotJson, NotNodes, NotNode, BadKey, Duplicate, TooDeep, BadQuorumSet, TooManyNodes, TooManyEntries, Memory}
+use Rattle.node_json.specs.Groups.{texts_of}
 use Rattle.node_json.specs.declared.faults.OrgFault.{OrgFault}
-use Rattle.node_json.specs.declared.faults.OrgFault.TheVariants.{NotJson as NoTree, NotOrgs, BadOrg, DuplicateOrg, TooManyOrgs, Memory as NoOrgs}
+use Rattle.node_json.specs.declared.faults.OrgFault.TheVariants.{NotJson as NoTree, NotOrgs, BadOrg, DuplicateOrg, TooManyOrgs, Memory as NoRoom}
 use Rattle.lrat_model.specs.Literal.{Literal, Plus, Minus}
 use Rattle.lrat_model.specs.declared.step.StepFault.{StepFault}
 use Rattle.lrat_model.specs.declared.step.StepFault.TheVariants.{IdOrder, BadLiteral, Tautology, NoSuchClause, NotUnit, NoConflict, RatStep, RatMissing, Memory as NoStep}
 use Rattle.cert_lines.specs.declared.faults.CertError.{CertError}
-use Rattle.cert_lines.specs.declared.faults.CertError.TheVariants.{BadLine, LineTooLong, TooManyLines, Digest, UnknownNode, NotQuorum, NotBlocking, NotMinimal, NotSmaller, Overlap, Formula, Step, NotNew, NotRefuted, TooLarge, Truncated, Trailing, Read, Memory as NoMemory}
+use Rattle.cert_lines.specs.declared.faults.CertError.TheVariants.{BadLine, LineTooLong, TooManyLines, Digest, NoOrgs, OrgsDigest, UnknownNode, NotQuorum, NotBlocking, NotMinimal, NotSmaller, Overlap, Formula, Step, NotNew, NotRefuted, TooLarge, Truncated, Trailing, Read, Memory as NoMemory}
 use Rattle.certificate_file.specs.declared.places.Accepted.{Accepted}
 use Rattle.certificate_file.specs.declared.places.Header.{Header}
 use Rattle.witness_pair.specs.declared.Pair.{Pair}
 use Rattle.certificate_file.specs.declared.places.Answer.{Answer}
-use Rattle.certificate_file.specs.declared.places.Answer.TheVariants.{Pair as pair, Refutation, Partial, Blocking, PartialBlocking, Quorums, PartialQuorums, Least, PartialLeast}
+use Rattle.certificate_file.specs.declared.places.Answer.TheVariants.{Pair as pair, Refutation, Partial, Blocking, PartialBlocking, Quorums, PartialQuorums, Least, PartialLeast, OrgBlocking, PartialOrgBlocking}
 
 abbrev pub Text : Type 0
 Text = List ℕ
@@ -105,7 +106,7 @@ orgs_fault NotOrgs = codes "orgs not-orgs"
 orgs_fault (BadOrg i) = numbered (codes "orgs bad-org") i
 orgs_fault (DuplicateOrg i) = numbered (codes "orgs duplicate-org") i
 orgs_fault (TooManyOrgs n) = numbered (codes "orgs too-many-orgs") n
-orgs_fault NoOrgs = []
+orgs_fault NoRoom = []
 
 abbrev pub orgs_too_long : Text
 orgs_too_long = codes "orgs too-long\n"
@@ -147,6 +148,8 @@ cert_fault names (BadLine l) = numbered (codes "refused bad-line") l
 cert_fault names (LineTooLong l) = numbered (codes "refused line-too-long") l
 cert_fault names TooManyLines = codes "refused too-many-lines"
 cert_fault names (Digest found wanted) = worded (worded (codes "refused digest") (encode_lower found)) (encode_lower wanted)
+cert_fault names NoOrgs = codes "refused no-orgs"
+cert_fault names (OrgsDigest found wanted) = worded (worded (codes "refused orgs-digest") (encode_lower found)) (encode_lower wanted)
 cert_fault names (UnknownNode l) = numbered (codes "refused unknown-node") l
 cert_fault names (NotQuorum l) = numbered (codes "refused not-quorum") l
 cert_fault names (NotBlocking l) = numbered (codes "refused not-blocking") l
@@ -179,6 +182,8 @@ accepted_kind (PartialQuorums units) = counted (codes "accepted partial-quorums"
 accepted_kind (Least None) = codes "accepted least none\n"
 accepted_kind (Least (Some u)) = counted (codes "accepted least") (size u)
 accepted_kind (PartialLeast units) = counted (codes "accepted partial-least") units
+accepted_kind (OrgBlocking groups sets) = counted (codes "accepted org-blocking") (length sets)
+accepted_kind (PartialOrgBlocking units) = counted (codes "accepted partial-org-blocking") units
 
 -- a line for each set
 abbrev pub set_lines : List Name → List Table → Text
@@ -197,18 +202,20 @@ abbrev pub least_lines : List Name → Option Table → Text
 least_lines names None = codes "least none\n"
 least_lines names (Some u) = smallest names u
 
--- the sets of an answer
-abbrev pub answer_sets : Answer → List Table
-answer_sets (pair p) = []
-answer_sets Refutation = []
-answer_sets (Partial units) = []
-answer_sets (Blocking sets) = sets
-answer_sets (PartialBlocking units) = []
-answer_sets (Quorums sets) = sets
-answer_sets (PartialQuorums units) = []
-answer_sets (Least None) = []
-answer_sets (Least (Some u)) = u ∷ []
-answer_sets (PartialLeast units) = []
+-- a line for each set of an answer, by the names of its nodes, or by the texts of its groups
+abbrev pub answer_lines : List Name → Answer → Text
+answer_lines names (pair p) = []
+answer_lines names Refutation = []
+answer_lines names (Partial units) = []
+answer_lines names (Blocking sets) = set_lines names sets
+answer_lines names (PartialBlocking units) = []
+answer_lines names (Quorums sets) = set_lines names sets
+answer_lines names (PartialQuorums units) = []
+answer_lines names (Least None) = []
+answer_lines names (Least (Some u)) = line (list (codes "set") names u)
+answer_lines names (PartialLeast units) = []
+answer_lines names (OrgBlocking groups sets) = set_lines (texts_of groups) sets
+answer_lines names (PartialOrgBlocking units) = []
 
 -- a word, and behind it the name of a node where there is one
 abbrev pub word_if_any : Text → List Name → Option ℕ → Text
@@ -217,7 +224,7 @@ word_if_any word names (Some v) = worded word (name_at names v)
 
 -- the kind, lines 3 and 4 of the certificate, and the sets of a list
 abbrev pub accepted : List Name → Accepted → Text
-accepted names a = accepted_kind a.answer ++ (line (word_if_any (codes "from") names a.header.from) ++ (line (list (codes "faulty") names a.header.faulty) ++ set_lines names (answer_sets a.answer)))
+accepted names a = accepted_kind a.answer ++ (line (word_if_any (codes "from") names a.header.from) ++ (line (list (codes "faulty") names a.header.faulty) ++ answer_lines names a.answer))
 
 -- a proof from outside is verified: so is it said, and of which part and without which nodes
 abbrev pub verified : List Name → Header → Text

@@ -2,10 +2,12 @@
 #![tactic(auto)]
 
 mod findings;
+mod groups;
 mod refusals;
 mod words;
 
 pub use findings::shown;
+pub use groups::with_group_sets;
 pub use refusals::{cert_refused, config_refused, names_refused, orgs_refused, script_refused};
 pub use words::{
     accepted, counted, export_comments, push_edit, smallest, trial_size, verified, with_list,

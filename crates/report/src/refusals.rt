@@ -1,5 +1,6 @@
 //! Why a file is refused.
 ghost use Rattle.std.specs.Prelude.{◌≡◌, ◌<◌, ◌++◌, ◌∷◌, [], length, codes, OnOk, IfOk};
+ghost use Rattle.hex.specs.Hex.{encode_lower};
 ghost use Rattle.report.specs.Lines.{numbered, worded, config_fault, config_refused as spec_config_refused, orgs_fault, orgs_refused as spec_orgs_refused, cert_fault, cert_refused as spec_cert_refused, literal_word, step_fault, names_fault, names_refused as spec_names_refused, script_fault, script_refused as spec_script_refused, set_fault};
 
 use crate::words::{name_at, push_behind, push_decimal, push_number};
@@ -84,10 +85,16 @@ pub fn orgs_refused(alloc: Global, fault: OrgFault) -> Result<Vec<u8>, AllocErro
     Ok(text)
 }
 
-fn digests(alloc: Global, found: &[u8; 32], wanted: &[u8; 32]) -> Result<Vec<u8>, AllocError>
-    ensures { IfOk result (λ text. text.items ≡ cert_fault [] (CertError.Digest found.now wanted.now)) }
+// A word and two digests, which differ.
+fn digests(
+    alloc: Global,
+    word: &str,
+    found: &[u8; 32],
+    wanted: &[u8; 32],
+) -> Result<Vec<u8>, AllocError>
+    ensures { IfOk result (λ text. text.items ≡ worded (worded word.now (encode_lower found.now)) (encode_lower wanted.now)) }
 {
-    let mut text = Vec::from_slice(alloc, b"refused digest")?;
+    let mut text = Vec::from_slice(alloc, word.as_bytes())?;
     push_behind(&mut text, digest_text::digits(found).as_slice())?;
     push_behind(&mut text, digest_text::digits(wanted).as_slice())?;
     Ok(text)
@@ -160,7 +167,11 @@ fn cert_words(alloc: Global, names: &Names, fault: &CertError) -> Result<Vec<u8>
         CertError::BadLine(l) => numbered_word(alloc, "refused bad-line", *l),
         CertError::LineTooLong(l) => numbered_word(alloc, "refused line-too-long", *l),
         CertError::TooManyLines => Vec::from_slice(alloc, b"refused too-many-lines"),
-        CertError::Digest(found, wanted) => digests(alloc, found, wanted),
+        CertError::Digest(found, wanted) => digests(alloc, "refused digest", found, wanted),
+        CertError::NoOrgs => Vec::from_slice(alloc, b"refused no-orgs"),
+        CertError::OrgsDigest(found, wanted) => {
+            digests(alloc, "refused orgs-digest", found, wanted)
+        }
         CertError::UnknownNode(l) => numbered_word(alloc, "refused unknown-node", *l),
         CertError::NotQuorum(l) => numbered_word(alloc, "refused not-quorum", *l),
         CertError::NotBlocking(l) => numbered_word(alloc, "refused not-blocking", *l),

@@ -1,8 +1,9 @@
 //! Words, numbers and names, one behind another.
 ghost use Rattle.std.specs.Prelude.{◌≡◌, ◌<◌, ◌++◌, ◌∷◌, [], length, decimal, codes, option_map, All, OnOk, IfOk};
 ghost use Rattle.certificate_file.specs.Meaning.{HasPlaces, AnswerHasPlaces};
-ghost use Rattle.report.specs.Lines.{numbered, worded, list, listed, line, word_if_any, accepted as spec_accepted, accepted_kind, verified as spec_verified, set_lines, answer_sets, with_list as spec_with_list, counts as spec_counts, export_head as spec_export_head, export_comments as spec_export_comments, with_pair as spec_with_pair, with_sets as spec_with_sets, smallest as spec_smallest, trial_size as spec_trial_size, counted as spec_counted, available_lines, edit_lines, name_at as spec_name_at};
+ghost use Rattle.report.specs.Lines.{numbered, worded, list, listed, line, word_if_any, accepted as spec_accepted, accepted_kind, verified as spec_verified, set_lines, answer_lines, with_list as spec_with_list, counts as spec_counts, export_head as spec_export_head, export_comments as spec_export_comments, with_pair as spec_with_pair, with_sets as spec_with_sets, smallest as spec_smallest, trial_size as spec_trial_size, counted as spec_counted, available_lines, edit_lines, name_at as spec_name_at};
 
+use crate::groups::push_group_sets;
 use certificate_file::{Accepted, Answer, Header, Pair};
 use fbas_core::System;
 use itoa::Buffer;
@@ -122,6 +123,12 @@ fn push_kind(text: &mut Vec<u8>, answer: &Answer) -> Result<(), AllocError>
         Answer::PartialQuorums(units) => push_count(text, "accepted partial-quorums", *units),
         Answer::Least(answer) => push_least(text, answer),
         Answer::PartialLeast(units) => push_count(text, "accepted partial-least", *units),
+        Answer::OrgBlocking(_, sets) => {
+            push_count(text, "accepted org-blocking", sets.as_slice().len() as u64)
+        }
+        Answer::PartialOrgBlocking(units) => {
+            push_count(text, "accepted partial-org-blocking", *units)
+        }
     }
 }
 
@@ -139,13 +146,14 @@ pub fn push_sets(text: &mut Vec<u8>, system: &System, sets: &[NodeSet]) -> Resul
 // Adds the lines of an answer's sets, where it has some.
 fn push_answer_sets(text: &mut Vec<u8>, system: &System, answer: &Answer) -> Result<(), AllocError>
     requires { AnswerHasPlaces (length system.now.sets) answer.now }
-    ensures { OnOk result (text.new.items ≡ text.old.items ++ set_lines system.now.names (answer_sets answer.now)) }
+    ensures { OnOk result (text.new.items ≡ text.old.items ++ answer_lines system.now.names answer.now) }
 {
     match answer {
         Answer::Blocking(sets) | Answer::Quorums(sets) => {
             push_sets(text, system, sets.as_slice())
         }
         Answer::Least(Some(set)) => push_list(text, "set", system, set),
+        Answer::OrgBlocking(groups, sets) => push_group_sets(text, groups, sets.as_slice()),
         _ => Ok(()),
     }
 }
@@ -209,7 +217,7 @@ pub fn with_list(
 }
 
 // Adds a line of a word and a number.
-fn push_count(text: &mut Vec<u8>, word: &str, number: u64) -> Result<(), AllocError>
+pub fn push_count(text: &mut Vec<u8>, word: &str, number: u64) -> Result<(), AllocError>
     ensures { OnOk result (text.new.items ≡ text.old.items ++ spec_counted word.now number) }
 {
     push_word(text, word)?;

@@ -1,7 +1,8 @@
 use Rattle.cli_words.specs.Order.{order_view}
+use Rattle.order_reading.specs.Given.{orgs_among}
 use Rattle.order_reading.proofs.Unions.{split_named}
 use Rattle.order_reading.proofs.searches.both_named.Goals as goal
 
 pub returns-clause-gives : goal.returns-clause-gives
 returns-clause-gives c =
-    split_named c.args.system.now c.args.orgs.now (order_view c.args.order.now) c.in_ok-faulty.faulty c.in_ok-set.set c.join.new.self c.in_ok-faulty.ensures.gives c.in_ok-set.ensures.gives c.join.ensures.size c.join.ensures.joined
+    split_named c.args.system.now (orgs_among c.args.given.now) (order_view c.args.order.now) c.in_ok-faulty.faulty c.in_ok-set.set c.join.new.self c.in_ok-faulty.ensures.gives c.in_ok-set.ensures.gives c.join.ensures.size c.join.ensures.joined
