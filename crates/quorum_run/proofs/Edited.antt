@@ -1,12 +1,11 @@
 -- What is said of edits is so, and how it ends.
-use Rattle.std.proofs.Common.{◌≡◌, ◌∙◌, ℕ, ◌+◌, ◌++◌, List, [], ◌∷◌, length, Bool, false, IsTrue, Result, Ok, Err, refl, sym, ap, subst, map}
+use Rattle.std.proofs.Common.{◌≡◌, ◌∙◌, ℕ, ◌+◌, ◌++◌, List, [], ◌∷◌, length, IsTrue, Result, Ok, Err, refl, sym, ap, subst}
 use Rattle.std.proofs.lemmas.Bool.{false≢true}
 use Rattle.std.proofs.lemmas.List.{append_assoc, append-nil}
 use Rattle.fbas_model.specs.Nodes.{Nodes, members, ∅}
 use Rattle.fbas_model.specs.Fbas.{IsGreatestQuorum, all_nodes}
 use Rattle.fbas_model.specs.Systems.{System}
 use Rattle.fbas_model.proofs.Tables.{length-table_from}
-use Rattle.greatest_quorum.specs.Greatest.{greatest_of}
 use Rattle.greatest_quorum.specs.Unmet.{is_available}
 use Rattle.greatest_quorum.proofs.GreatestLaws.{greatest_is, table_of}
 use Rattle.greatest_quorum.proofs.UnmetLaws.{unmet_is, available_counted, length-unmet_of}

@@ -15,9 +15,13 @@ use Rattle.blocking_lists.specs.declared.outcome.ListOutcome.{ListOutcome}
 use Rattle.blocking_lists.specs.declared.outcome.ListOutcome.TheVariants.{Whole as whole_list, Spent as part_of_list}
 use Rattle.desk_io.specs.State.{Files, DeskState, with_file}
 use Rattle.certificate_file.specs.Acceptance.{checked}
-use Rattle.cert_writer.specs.Finding.{Finds}
+use Rattle.cert_writer.specs.Finding.{Finds, given_of}
 use Rattle.cert_writer.specs.Listing.{FindsList}
 use Rattle.cert_writer.specs.Least.{FindsLeast, least_cert_by, raised_if_any}
+use Rattle.cert_writer.specs.Grouping.{FindsGroups}
+use Rattle.node_json.specs.Groups.{Group, texts_of}
+use Rattle.group_lists.specs.declared.outcome.GroupOutcome.{GroupOutcome}
+use Rattle.group_lists.specs.declared.outcome.GroupOutcome.TheVariants as found_groups
 use Rattle.list_journal.specs.Journals.{JournalLine}
 use Rattle.list_journal.specs.declared.kinds.ListKind.TheVariants.{Whole}
 use Rattle.least_quorum.specs.Outcomes.{LeastHolds}
@@ -26,23 +30,24 @@ use Rattle.least_quorum.specs.declared.outcome.LeastOutcome.TheVariants as found
 use Rattle.certificate_file.specs.declared.places.Answer.TheVariants as shown
 use Rattle.cli_words.specs.Words.{order_of}
 use Rattle.cli_words.specs.declared.orders.Goal.{Goal}
-use Rattle.cli_words.specs.declared.orders.Goal.TheVariants.{Intersect, Dset, Splits, Blocking, Trial, Quorums, Least}
+use Rattle.cli_words.specs.declared.orders.Goal.TheVariants.{Intersect, Dset, Splits, Blocking, Trial, Quorums, Least, OrgBlocking}
 use Rattle.report.specs.Lines.{Text, available_lines, with_pair, least_lines, counted}
 use Rattle.order_reading.specs.declared.early.Early.{Early}
 use Rattle.order_reading.specs.declared.reading.Asked.{Asked}
 use Rattle.order_reading.specs.declared.reading.Asked.TheVariants as asked
 use Rattle.order_reading.specs.declared.searches.Search.{Search}
 use Rattle.quorum_run.specs.declared.found.Found.{Found}
-use Rattle.quorum_run.specs.declared.found.Found.TheVariants.{Shared, Listed, Smallest}
+use Rattle.quorum_run.specs.declared.found.Found.TheVariants.{Shared, Listed, Smallest, Grouped}
 use Rattle.order_reading.specs.declared.reply.Reply.{Reply as Answer}
 use Rattle.order_reading.specs.declared.status.Status.{Status}
 use Rattle.order_reading.specs.declared.status.Status.TheVariants.{Yes, No, Unknown, TooLarge}
 use Rattle.quorum_run.specs.Finding.{FindsFound, accepted_as}
 use Rattle.quorum_run.specs.Putting.{PutsBoth}
-use Rattle.quorum_run.specs.Replies.{intersect_answer, splits_answer, dset_answer, size_lines, RepliesTrial, listed_by, RepliesListed, least_answer, RepliesLeast, Replies}
+use Rattle.quorum_run.specs.Replies.{intersect_answer, splits_answer, dset_answer, size_lines, RepliesTrial, listed_by, RepliesListed, least_answer, RepliesLeast, group_answer, RepliesGroups, Replies}
 use Rattle.quorum_run.specs.Printing.{part, deleted, request, PrintsFound, PrintsTooLarge, PrintsSearch, Prints}
 use Rattle.quorum_run.proofs.Titles.{title_there}
 use Rattle.quorum_run.specs.Smallest.{PrintsLeast, PrintsPartOfLeast}
+use Rattle.quorum_run.specs.Grouping.{PrintsBlocks, PrintsPartOfBlocks, PrintsGroups, PrintsPartOfGroups}
 use Rattle.quorum_run.specs.Showing.{IsAccepted, WritesAccepted, ShowsPair, PrintsPair, ShowsNone, ShowsUnknown, PrintsUnknown, PrintsUnknownTrial, IsAvailable, IsNoDset, PrintsList, PrintsPartOfList}
 use Rattle.order_reading.specs.Answers.{asked_of}
 use Rattle.order_reading.specs.Meaning.{IsCheck, IsCheckLrat, NamesAccepted, NamesVerified}
@@ -69,7 +74,7 @@ of_none s old new log size cert finds files = record {
   size = size;
   refutes = finds.shows;
   held = held_there s.path cert old.files new.files files ∙ ap Some finds.cert_is;
-  accepted = sym (ap (checked s.whole s.digest) finds.cert_is) ∙ finds.accepted;
+  accepted = sym (ap (checked s.whole (given_of (request s))) finds.cert_is) ∙ finds.accepted;
 }
 
 of_unknown : (s : Search) (old new : DeskState) (log : List ProofStep) (size : Size) (cert : Text) → Finds (request s) (spent log size) cert → new.files ≡ with_file s.path cert old.files → ShowsUnknown s new
@@ -78,7 +83,7 @@ of_unknown s old new log size cert finds files = record {
   size = size;
   spends = finds.shows;
   held = held_there s.path cert old.files new.files files ∙ ap Some finds.cert_is;
-  accepted = sym (ap (checked s.whole s.digest) finds.cert_is) ∙ finds.accepted;
+  accepted = sym (ap (checked s.whole (given_of (request s))) finds.cert_is) ∙ finds.accepted;
 }
 
 -- whatever was found, its certificate is accepted
@@ -86,6 +91,7 @@ accepted_there : (s : Search) (found : Found) (cert : Text) → FindsFound (requ
 accepted_there s (Shared answer) cert finds = finds.accepted
 accepted_there s (Listed kind outcome) cert finds = finds.accepted
 accepted_there s (Smallest nodes outcome) cert finds = finds.accepted
+accepted_there s (Grouped digest groups outcome) cert finds = finds.accepted
 
 -- ---- the reply that was put
 
@@ -219,7 +225,7 @@ list_whole sought kind s old new status (whole_list sets journal) cert a is find
       left = found.shows.left;
       lists = found.shows.holds;
       held = held_there s.path cert old.files new.files put.files ∙ ap Some found.cert_is;
-      accepted = sym (ap (checked s.whole s.digest) found.cert_is) ∙ found.accepted;
+      accepted = sym (ap (checked s.whole (given_of (request s))) found.cert_is) ∙ found.accepted;
     }
 list_whole sought kind s old new status (part_of_list journal) cert a is finds put at = absurd (let k : Unknown ≡ Yes = status_there s old new status cert a _ Yes put is.1 at in cc)
 
@@ -232,7 +238,7 @@ list_unknown sought kind s old new status (part_of_list journal) cert a is finds
       journal = journal;
       lists = found.shows.holds.1;
       held = held_there s.path cert old.files new.files put.files ∙ ap Some found.cert_is;
-      accepted = sym (ap (checked s.whole s.digest) found.cert_is) ∙ found.accepted;
+      accepted = sym (ap (checked s.whole (given_of (request s))) found.cert_is) ∙ found.accepted;
     }
 
 -- ---- a smallest quorum
@@ -248,7 +254,7 @@ least_printed s old new status outcome answer left journal cert a holds is accep
   left = left;
   finds = holds;
   held = held_there s.path cert old.files new.files put.files ∙ ap Some is;
-  accepted = sym (ap (checked s.whole s.digest) is) ∙ accepted;
+  accepted = sym (ap (checked s.whole (given_of (request s))) is) ∙ accepted;
 }
 
 least_whole : (s : Search) (old new : DeskState) (status : Status) (outcome : LeastOutcome) (cert : Text) (a : Answer) → a ≡ least_answer (part s).names s.budget outcome → FindsLeast (request s) outcome cert → PutsBoth s.path cert a old new status → status ≡ Yes → PrintsLeast s old new
@@ -264,13 +270,14 @@ least_unknown s old new status (found_least.Spent journal) cert a is finds put a
   journal = journal;
   finds = finds.shows.holds.1;
   held = held_there s.path cert old.files new.files put.files ∙ ap Some finds.cert_is;
-  accepted = sym (ap (checked s.whole s.digest) finds.cert_is) ∙ finds.accepted;
+  accepted = sym (ap (checked s.whole (given_of (request s))) finds.cert_is) ∙ finds.accepted;
 }
 
 -- nothing but a smallest quorum is found where one is sought
 least_there : (s : Search) (old new : DeskState) (status : Status) (found : Found) (cert : Text) (a : Answer) → Replies Least (part s) (deleted s) s.budget found a → FindsFound (request s) found cert → PutsBoth s.path cert a old new status → status ≡ Yes → PrintsLeast s old new
 least_there s old new status (Shared answer) cert a is finds put at = absurd is
 least_there s old new status (Listed kind outcome) cert a is finds put at = absurd is
+least_there s old new status (Grouped digest groups outcome) cert a is finds put at = absurd is
 least_there s old new status (Smallest nodes outcome) cert a is finds put at = least_whole s old new status outcome cert a is finds put at
 
 found_least_of : (s : Search) (old new : DeskState) (status : Status) (goal : Goal) (found : Found) (cert : Text) (a : Answer) → Replies goal (part s) (deleted s) s.budget found a → FindsFound (request s) found cert → PutsBoth s.path cert a old new status
@@ -286,6 +293,73 @@ no_least Dset f budget outcome a sought is lists = is
 no_least Trial f budget outcome a sought is lists = is
 no_least Blocking f budget outcome a sought is lists = is
 no_least Quorums f budget outcome a sought is lists = is
+no_least OrgBlocking f budget outcome a sought is lists = is
+
+-- ---- the minimal blocking sets of organisations
+
+blocks_whole : (s : Search) (old new : DeskState) (status : Status) (groups : List Group) (outcome : GroupOutcome) (cert : Text) (a : Answer) → a ≡ group_answer (texts_of groups) s.budget outcome → (finds : FindsGroups (request s) groups outcome cert) → PutsBoth s.path cert a old new status
+    → status ≡ Yes → PrintsBlocks s finds.given.digest groups old new
+blocks_whole s old new status groups (found_groups.Whole sets journal) cert a is finds put at = record {
+  sets = sets;
+  out = text_there s old new status cert a _ put is;
+  list = finds.shows.holds.list;
+  journal = journal;
+  left = finds.shows.left;
+  lists = finds.shows.holds;
+  held = held_there s.path cert old.files new.files put.files ∙ ap Some finds.cert_is;
+  accepted = sym (ap (checked s.whole (given_of (request s))) finds.cert_is) ∙ finds.accepted;
+}
+blocks_whole s old new status groups (found_groups.Spent journal) cert a is finds put at = absurd (let k : Unknown ≡ Yes = status_there s old new status cert a _ Yes put is at in cc)
+
+blocks_unknown : (s : Search) (old new : DeskState) (status : Status) (groups : List Group) (outcome : GroupOutcome) (cert : Text) (a : Answer) → a ≡ group_answer (texts_of groups) s.budget outcome → (finds : FindsGroups (request s) groups outcome cert) → PutsBoth s.path cert a old new status
+    → status ≡ Unknown → PrintsPartOfBlocks s finds.given.digest groups old new
+blocks_unknown s old new status groups (found_groups.Whole sets journal) cert a is finds put at = absurd (let k : Yes ≡ Unknown = status_there s old new status cert a _ Unknown put is at in cc)
+blocks_unknown s old new status groups (found_groups.Spent journal) cert a is finds put at = record {
+  out = text_there s old new status cert a _ put is;
+  journal = journal;
+  lists = finds.shows.holds.1;
+  held = held_there s.path cert old.files new.files put.files ∙ ap Some finds.cert_is;
+  accepted = sym (ap (checked s.whole (given_of (request s))) finds.cert_is) ∙ finds.accepted;
+}
+
+-- by the organisations that were given
+groups_whole : (s : Search) (old new : DeskState) (status : Status) (groups : List Group) (outcome : GroupOutcome) (cert : Text) (a : Answer) → a ≡ group_answer (texts_of groups) s.budget outcome → FindsGroups (request s) groups outcome cert → PutsBoth s.path cert a old new status
+    → status ≡ Yes → PrintsGroups s old new
+groups_whole s old new status groups outcome cert a is finds put at = record {
+  given = finds.given;
+  is_given = finds.orgs;
+  prints = subst (λ (l : List Group). PrintsBlocks s finds.given.digest l old new) finds.groups_are (blocks_whole s old new status groups outcome cert a is finds put at);
+}
+
+groups_unknown : (s : Search) (old new : DeskState) (status : Status) (groups : List Group) (outcome : GroupOutcome) (cert : Text) (a : Answer) → a ≡ group_answer (texts_of groups) s.budget outcome → FindsGroups (request s) groups outcome cert → PutsBoth s.path cert a old new status
+    → status ≡ Unknown → PrintsPartOfGroups s old new
+groups_unknown s old new status groups outcome cert a is finds put at = record {
+  given = finds.given;
+  is_given = finds.orgs;
+  prints = subst (λ (l : List Group). PrintsPartOfBlocks s finds.given.digest l old new) finds.groups_are (blocks_unknown s old new status groups outcome cert a is finds put at);
+}
+
+-- nothing but groups are found where they are sought
+groups_there : (s : Search) (old new : DeskState) (status : Status) (found : Found) (cert : Text) (a : Answer) → Replies OrgBlocking (part s) (deleted s) s.budget found a → FindsFound (request s) found cert → PutsBoth s.path cert a old new status → status ≡ Yes → PrintsGroups s old new
+groups_there s old new status (Shared answer) cert a is finds put at = absurd is
+groups_there s old new status (Listed kind outcome) cert a is finds put at = absurd is
+groups_there s old new status (Smallest nodes outcome) cert a is finds put at = absurd is
+groups_there s old new status (Grouped digest groups outcome) cert a is finds put at = groups_whole s old new status groups outcome cert a is finds put at
+
+found_groups_of : (s : Search) (old new : DeskState) (status : Status) (goal : Goal) (found : Found) (cert : Text) (a : Answer) → Replies goal (part s) (deleted s) s.budget found a → FindsFound (request s) found cert → PutsBoth s.path cert a old new status
+    → goal ≡ OrgBlocking → status ≡ Yes → PrintsGroups s old new
+found_groups_of s old new status goal found cert a is finds put at_goal at = groups_there s old new status found cert a (subst (λ (x : Goal). Replies x (part s) (deleted s) s.budget found a) at_goal is) finds put at
+
+-- where sets of nodes are listed no groups are replied
+no_groups : (goal : Goal) (groups : List Group) (budget : ℕ) (outcome : GroupOutcome) (a : Answer) (sought : Kind) → RepliesGroups goal groups budget outcome a → listed_by goal ≡ Some sought → ⊥
+no_groups OrgBlocking groups budget outcome a sought is lists = cc
+no_groups Intersect groups budget outcome a sought is lists = is
+no_groups Splits groups budget outcome a sought is lists = is
+no_groups Dset groups budget outcome a sought is lists = is
+no_groups Trial groups budget outcome a sought is lists = is
+no_groups Blocking groups budget outcome a sought is lists = is
+no_groups Quorums groups budget outcome a sought is lists = is
+no_groups Least groups budget outcome a sought is lists = is
 
 -- ---- by what is sought
 
@@ -296,6 +370,7 @@ found_no s old new status Dset (Shared answer) cert a is finds put = λ at. dset
 found_no s old new status Blocking found cert a is finds put = tt
 found_no s old new status Quorums found cert a is finds put = tt
 found_no s old new status Least found cert a is finds put = tt
+found_no s old new status OrgBlocking found cert a is finds put = tt
 found_no s old new status Trial (Shared answer) cert a is finds put = λ at. trial_no s old new status answer cert a is put at
 found_no s old new status Intersect (Listed kind outcome) cert a is finds put = absurd is
 found_no s old new status Splits (Listed kind outcome) cert a is finds put = absurd is
@@ -305,6 +380,10 @@ found_no s old new status Intersect (Smallest nodes outcome) cert a is finds put
 found_no s old new status Splits (Smallest nodes outcome) cert a is finds put = absurd is
 found_no s old new status Dset (Smallest nodes outcome) cert a is finds put = absurd is
 found_no s old new status Trial (Smallest nodes outcome) cert a is finds put = absurd is
+found_no s old new status Intersect (Grouped digest groups outcome) cert a is finds put = absurd is
+found_no s old new status Splits (Grouped digest groups outcome) cert a is finds put = absurd is
+found_no s old new status Dset (Grouped digest groups outcome) cert a is finds put = absurd is
+found_no s old new status Trial (Grouped digest groups outcome) cert a is finds put = absurd is
 
 found_yes : (s : Search) (old new : DeskState) (status : Status) (goal : Goal) (found : Found) (cert : Text) (a : Answer) → Replies goal (part s) (deleted s) s.budget found a → FindsFound (request s) found cert → PutsBoth s.path cert a old new status → YesShows goal s new status
 found_yes s old new status Intersect (Shared answer) cert a is finds put = λ at. intersect_yes s old new status answer cert a is finds put at
@@ -313,6 +392,7 @@ found_yes s old new status Dset (Shared answer) cert a is finds put = λ at. dse
 found_yes s old new status Blocking found cert a is finds put = tt
 found_yes s old new status Quorums found cert a is finds put = tt
 found_yes s old new status Least found cert a is finds put = tt
+found_yes s old new status OrgBlocking found cert a is finds put = tt
 found_yes s old new status Trial (Shared answer) cert a is finds put = λ at. trial_yes s old new status answer cert a is finds put at
 found_yes s old new status Intersect (Listed kind outcome) cert a is finds put = absurd is
 found_yes s old new status Splits (Listed kind outcome) cert a is finds put = absurd is
@@ -322,6 +402,10 @@ found_yes s old new status Intersect (Smallest nodes outcome) cert a is finds pu
 found_yes s old new status Splits (Smallest nodes outcome) cert a is finds put = absurd is
 found_yes s old new status Dset (Smallest nodes outcome) cert a is finds put = absurd is
 found_yes s old new status Trial (Smallest nodes outcome) cert a is finds put = absurd is
+found_yes s old new status Intersect (Grouped digest groups outcome) cert a is finds put = absurd is
+found_yes s old new status Splits (Grouped digest groups outcome) cert a is finds put = absurd is
+found_yes s old new status Dset (Grouped digest groups outcome) cert a is finds put = absurd is
+found_yes s old new status Trial (Grouped digest groups outcome) cert a is finds put = absurd is
 
 found_unknown : (s : Search) (old new : DeskState) (status : Status) (goal : Goal) (found : Found) (cert : Text) (a : Answer) → Replies goal (part s) (deleted s) s.budget found a → FindsFound (request s) found cert → PutsBoth s.path cert a old new status → status ≡ Unknown
     → UnknownShows goal s old new
@@ -346,12 +430,24 @@ found_unknown s old new status Dset (Smallest nodes outcome) cert a is finds put
 found_unknown s old new status Blocking (Smallest nodes outcome) cert a is finds put at = absurd is
 found_unknown s old new status Quorums (Smallest nodes outcome) cert a is finds put at = absurd is
 found_unknown s old new status Trial (Smallest nodes outcome) cert a is finds put at = absurd is
+found_unknown s old new status Intersect (Grouped digest groups outcome) cert a is finds put at = absurd is
+found_unknown s old new status Splits (Grouped digest groups outcome) cert a is finds put at = absurd is
+found_unknown s old new status Dset (Grouped digest groups outcome) cert a is finds put at = absurd is
+found_unknown s old new status Blocking (Grouped digest groups outcome) cert a is finds put at = absurd is
+found_unknown s old new status Quorums (Grouped digest groups outcome) cert a is finds put at = absurd is
+found_unknown s old new status Least (Grouped digest groups outcome) cert a is finds put at = absurd is
+found_unknown s old new status Trial (Grouped digest groups outcome) cert a is finds put at = absurd is
+found_unknown s old new status OrgBlocking (Grouped digest groups outcome) cert a is finds put at = groups_unknown s old new status groups outcome cert a is finds put at
+found_unknown s old new status OrgBlocking (Shared answer) cert a is finds put at = absurd is
+found_unknown s old new status OrgBlocking (Listed kind outcome) cert a is finds put at = absurd is
+found_unknown s old new status OrgBlocking (Smallest nodes outcome) cert a is finds put at = absurd is
 
 found_list : (s : Search) (old new : DeskState) (status : Status) (goal : Goal) (found : Found) (cert : Text) (a : Answer) → Replies goal (part s) (deleted s) s.budget found a → FindsFound (request s) found cert → PutsBoth s.path cert a old new status
     → (sought : Kind) → listed_by goal ≡ Some sought → status ≡ Yes → PrintsList sought s old new
 found_list s old new status goal (Listed kind outcome) cert a is finds put sought lists at =
     list_whole sought kind s old new status outcome cert a (subst (λ (o : Option Kind). RepliesListed o (part s) s.budget kind outcome a) lists is) finds put at
 found_list s old new status goal (Smallest nodes outcome) cert a is finds put sought lists at = absurd (no_least goal (part s) s.budget outcome a sought is lists)
+found_list s old new status goal (Grouped digest groups outcome) cert a is finds put sought lists at = absurd (no_groups goal groups s.budget outcome a sought is lists)
 found_list s old new status Intersect (Shared answer) cert a is finds put sought lists at = absurd cc
 found_list s old new status Splits (Shared answer) cert a is finds put sought lists at = absurd cc
 found_list s old new status Dset (Shared answer) cert a is finds put sought lists at = absurd cc
@@ -359,6 +455,7 @@ found_list s old new status Blocking (Shared answer) cert a is finds put sought 
 found_list s old new status Quorums (Shared answer) cert a is finds put sought lists at = absurd is
 found_list s old new status Trial (Shared answer) cert a is finds put sought lists at = absurd cc
 found_list s old new status Least (Shared answer) cert a is finds put sought lists at = absurd is
+found_list s old new status OrgBlocking (Shared answer) cert a is finds put sought lists at = absurd is
 
 -- ---- what is so of a search that was answered
 
@@ -368,6 +465,7 @@ pub record SearchMeans (s : Search) (old new : DeskState) (status : Status) : Ty
   pub yes : YesShows s.goal s new status
   pub completed : (sought : Kind) → listed_by s.goal ≡ Some sought → status ≡ Yes → PrintsList sought s old new
   pub smallest : s.goal ≡ Least → status ≡ Yes → PrintsLeast s old new
+  pub organisations : s.goal ≡ OrgBlocking → status ≡ Yes → PrintsGroups s old new
   pub finished : (status ≡ Yes) ⊎ ((status ≡ No) ⊎ (status ≡ Unknown)) → WritesAccepted s new
   pub unknown : status ≡ Unknown → UnknownShows s.goal s old new
 
@@ -379,6 +477,7 @@ found_means s old new status p =
       yes = found_yes s old new status s.goal r.found r.cert r.answer r.is r.finds p.put;
       completed = found_list s old new status s.goal r.found r.cert r.answer r.is r.finds p.put;
       smallest = found_least_of s old new status s.goal r.found r.cert r.answer r.is r.finds p.put;
+      organisations = found_groups_of s old new status s.goal r.found r.cert r.answer r.is r.finds p.put;
       finished = λ at. record {
         cert = r.cert;
         held = held_there s.path r.cert old.files new.files p.put.files;
@@ -401,6 +500,7 @@ no_no s old new status Dset large = λ at. absurd cc
 no_no s old new status Blocking large = tt
 no_no s old new status Quorums large = tt
 no_no s old new status Least large = tt
+no_no s old new status OrgBlocking large = tt
 no_no s old new status Trial large = λ at. absurd cc
 
 no_yes : (s : Search) (new : DeskState) (status : Status) (goal : Goal) → status ≡ TooLarge → YesShows goal s new status
@@ -410,6 +510,7 @@ no_yes s new status Dset large = λ at. absurd cc
 no_yes s new status Blocking large = tt
 no_yes s new status Quorums large = tt
 no_yes s new status Least large = tt
+no_yes s new status OrgBlocking large = tt
 no_yes s new status Trial large = λ at. absurd cc
 
 too_large_means : (s : Search) (old new : DeskState) (status : Status) → PrintsTooLarge s old new status → SearchMeans s old new status
@@ -420,6 +521,7 @@ too_large_means s old new status p =
       yes = no_yes s new status s.goal large;
       completed = λ sought lists at. absurd cc;
       smallest = λ goal at. absurd cc;
+      organisations = λ goal at. absurd cc;
       finished = λ at. elim at [
         | inl yes_is ↦ absurd cc
         | inr other ↦ elim other [ inl no_is ↦ absurd cc | inr unknown_is ↦ absurd cc ]
@@ -445,6 +547,7 @@ headline_of words old new status prints accepts verifies = record {
   verifies = verifies;
   completed = λ s sought seeks. (sought_means (asked_of words old.files) s old new status seeks prints).completed sought;
   smallest = λ s seeks. (sought_means (asked_of words old.files) s old new status seeks prints).smallest;
+  organisations = λ s seeks. (sought_means (asked_of words old.files) s old new status seeks prints).organisations;
   finished = λ s seeks. (sought_means (asked_of words old.files) s old new status seeks prints).finished;
   unknown = λ s seeks. (sought_means (asked_of words old.files) s old new status seeks prints).unknown;
   edits = λ e tries. edits_show e old new status (subst (λ (x : Result Asked Early). Prints x old new status) tries prints);

@@ -12,8 +12,11 @@ use Rattle.least_quorum.specs.declared.outcome.LeastOutcome.{LeastOutcome}
 use Rattle.least_quorum.specs.declared.outcome.LeastOutcome.TheVariants as found_least
 use Rattle.blocking_lists.specs.declared.outcome.ListOutcome.{ListOutcome}
 use Rattle.blocking_lists.specs.declared.outcome.ListOutcome.TheVariants.{Whole as whole_list, Spent as part_of_list}
+use Rattle.node_json.specs.Groups.{Group}
+use Rattle.group_lists.specs.declared.outcome.GroupOutcome.{GroupOutcome}
+use Rattle.group_lists.specs.declared.outcome.GroupOutcome.TheVariants as found_groups
 use Rattle.cli_words.specs.declared.orders.Goal.{Goal}
-use Rattle.cli_words.specs.declared.orders.Goal.TheVariants.{Intersect, Dset, Splits, Blocking, Quorums, Trial, Least}
+use Rattle.cli_words.specs.declared.orders.Goal.TheVariants.{Intersect, Dset, Splits, Blocking, Quorums, Trial, Least, OrgBlocking}
 use Rattle.report.specs.Lines.{Text}
 use Rattle.order_reading.specs.declared.status.Status.{Status}
 use Rattle.order_reading.specs.declared.status.Status.TheVariants.{Yes, No, Unknown, TooLarge, ScriptRefused}
@@ -27,12 +30,12 @@ use Rattle.order_reading.specs.declared.reading.Asked.{Asked}
 use Rattle.order_reading.specs.declared.reading.Asked.TheVariants as asked
 use Rattle.order_reading.specs.declared.searches.Search.{Search}
 use Rattle.quorum_run.specs.declared.found.Found.{Found}
-use Rattle.quorum_run.specs.declared.found.Found.TheVariants.{Shared, Listed, Smallest}
+use Rattle.quorum_run.specs.declared.found.Found.TheVariants.{Shared, Listed, Smallest, Grouped}
 use Rattle.whatif_session.specs.Scripts.{states_of}
 use Rattle.whatif_session.specs.declared.faults.ScriptFault.{ScriptFault}
 use Rattle.quorum_run.specs.Edits.{states_answer, edits_answer}
 use Rattle.quorum_run.specs.QuestionAnswers.{Answers, AnswersExport, export_answer}
-use Rattle.quorum_run.specs.Replies.{intersect_answer, splits_answer, list_answer, listed_by, dset_status, RepliesListed, RepliesLeast, IsLarge, Replies}
+use Rattle.quorum_run.specs.Replies.{intersect_answer, splits_answer, list_answer, listed_by, dset_status, RepliesListed, RepliesLeast, RepliesGroups, IsLarge, Replies}
 use Rattle.quorum_run.specs.Printing.{PrintsSearch, Prints, PrintsAsked, IsLargeQuestion, IsLargeAsked, IsTooLarge}
 
 abbrev IsSmall : Status → Type 0
@@ -84,10 +87,23 @@ least_small Dset f budget found a is = absurd is
 least_small Trial f budget found a is = absurd is
 least_small Blocking f budget found a is = absurd is
 least_small Quorums f budget found a is = absurd is
+least_small OrgBlocking f budget found a is = absurd is
+
+groups_small : (goal : Goal) (groups : List Group) (budget : ℕ) (found : GroupOutcome) (a : Answer) → RepliesGroups goal groups budget found a → IsSmall a.status
+groups_small OrgBlocking groups budget (found_groups.Whole sets journal) a is = small_as a _ is yes_small
+groups_small OrgBlocking groups budget (found_groups.Spent journal) a is = small_as a _ is unknown_small
+groups_small Intersect groups budget found a is = absurd is
+groups_small Splits groups budget found a is = absurd is
+groups_small Dset groups budget found a is = absurd is
+groups_small Trial groups budget found a is = absurd is
+groups_small Blocking groups budget found a is = absurd is
+groups_small Quorums groups budget found a is = absurd is
+groups_small Least groups budget found a is = absurd is
 
 reply_small : (goal : Goal) (f : System) (deleted : Table) (budget : ℕ) (found : Found) (a : Answer) → Replies goal f deleted budget found a → IsSmall a.status
 reply_small goal f deleted budget (Listed sought found) a is = listed_small (listed_by goal) f budget sought found a is
 reply_small goal f deleted budget (Smallest nodes found) a is = least_small goal f budget found a is
+reply_small goal f deleted budget (Grouped digest groups found) a is = groups_small goal groups budget found a is
 reply_small Intersect f deleted budget (Shared found) a is = small_as a _ is (intersect_small f budget found)
 reply_small Splits f deleted budget (Shared found) a is = small_as a _ is (splits_small f budget found)
 reply_small Dset f deleted budget (Shared found) a is = small_as a _ is.said (dset_small f budget is.available found)
@@ -95,6 +111,7 @@ reply_small Trial f deleted budget (Shared found) a is = small_as a _ is.said (i
 reply_small Blocking f deleted budget (Shared found) a is = absurd is
 reply_small Quorums f deleted budget (Shared found) a is = absurd is
 reply_small Least f deleted budget (Shared found) a is = absurd is
+reply_small OrgBlocking f deleted budget (Shared found) a is = absurd is
 
 -- ---- the answer to a question
 

@@ -10,11 +10,14 @@ use Rattle.blocking_lists.specs.declared.outcome.ListOutcome.TheVariants as outc
 use Rattle.cert_writer.specs.Promises.{part_of, greatest_in}
 use Rattle.cert_writer.specs.Least.{kind_of}
 use Rattle.least_quorum.specs.Outcomes.{least_journal_of}
+use Rattle.cert_writer.specs.Grouping.{kind_of as group_kind}
+use Rattle.node_json.specs.Groups.{texts_of}
+use Rattle.group_lists.specs.Outcomes.{group_journal_in}
 use Rattle.fbas_model.specs.Nodes.{size}
-use Rattle.cert_writer.specs.Texts.{Text, joined, worded, listed, name_if_any, header_lines, pair_lines, log_lines, list_lines, least_lines}
+use Rattle.cert_writer.specs.Texts.{Text, joined, worded, listed, name_if_any, header_lines, pair_lines, log_lines, list_lines, least_lines, group_lines}
 use Rattle.order_reading.specs.declared.searches.Search.{Search}
 use Rattle.quorum_run.specs.declared.found.Found.{Found}
-use Rattle.quorum_run.specs.declared.found.Found.TheVariants.{Shared, Listed, Smallest}
+use Rattle.quorum_run.specs.declared.found.Found.TheVariants.{Shared, Listed, Smallest, Grouped}
 use Rattle.quorum_run.specs.Finding.{FindsFound}
 use Rattle.quorum_run.specs.Printing.{request}
 use Rattle.quorum_run.specs.Showing.{IsOfVersionTwo}
@@ -39,3 +42,5 @@ title_there s (Listed sought (outcome.Spent journal)) cert finds =
     subst IsOfVersionTwo (sym finds.cert_is) (titled s.whole.names s.digest s.header (list_lines (part_of s.whole s.header.from).names sought kind.Partial journal))
 title_there s (Smallest nodes outcome) cert finds =
     subst IsOfVersionTwo (sym finds.cert_is) (titled s.whole.names s.digest s.header (least_lines (part_of s.whole s.header.from).names (size (greatest_in s.whole s.header)) (kind_of outcome) (least_journal_of outcome)))
+title_there s (Grouped digest groups outcome) cert finds =
+    subst IsOfVersionTwo (sym finds.cert_is) (titled s.whole.names s.digest s.header (group_lines (part_of s.whole s.header.from).names (texts_of groups) finds.given.digest (group_kind outcome) (group_journal_in outcome)))

@@ -4,7 +4,7 @@ use Rattle.std.specs.Str.{bytes_eq}
 use Rattle.desk_io.specs.State.{DeskState, Files}
 use Rattle.cli_words.specs.Words.{order_of}
 use Rattle.cli_words.specs.declared.orders.Goal.{Goal}
-use Rattle.cli_words.specs.declared.orders.Goal.TheVariants.{Intersect, Dset, Splits, Blocking, Trial, Quorums, Least}
+use Rattle.cli_words.specs.declared.orders.Goal.TheVariants.{Intersect, Dset, Splits, Blocking, Trial, Quorums, Least, OrgBlocking}
 use Rattle.list_journal.specs.declared.kinds.Listed.{Listed as Kind}
 use Rattle.list_journal.specs.declared.kinds.Listed.TheVariants as listed
 use Rattle.report.specs.Lines.{counted}
@@ -21,6 +21,7 @@ use Rattle.whatif_session.specs.Scripts.{states_of}
 use Rattle.quorum_run.specs.Edits.{EditsShow}
 use Rattle.quorum_run.specs.Replies.{listed_by}
 use Rattle.quorum_run.specs.Smallest.{PrintsLeast, PrintsPartOfLeast}
+use Rattle.quorum_run.specs.Grouping.{PrintsGroups, PrintsPartOfGroups}
 use Rattle.quorum_run.specs.Showing.{WritesAccepted, PrintsPair, ShowsNone, PrintsUnknown, PrintsUnknownTrial, IsAvailable, IsNoDset, PrintsList, PrintsPartOfList}
 
 -- the words ask for this search over the files
@@ -39,6 +40,7 @@ NoShows Dset s old new status = status ≡ No → IsNoDset s old new
 NoShows Blocking s old new status = Unit {0}
 NoShows Quorums s old new status = Unit {0}
 NoShows Least s old new status = Unit {0}
+NoShows OrgBlocking s old new status = Unit {0}
 NoShows Trial s old new status = status ≡ No → ⊥
 
 -- every two quorums share a node
@@ -49,6 +51,7 @@ YesShows Dset s new status = status ≡ Yes → IsAvailable s × ShowsNone s new
 YesShows Blocking s new status = Unit {0}
 YesShows Quorums s new status = Unit {0}
 YesShows Least s new status = Unit {0}
+YesShows OrgBlocking s new status = Unit {0}
 YesShows Trial s new status = status ≡ Yes → ShowsNone s new
 
 -- the budget is spent
@@ -59,6 +62,7 @@ UnknownShows Dset s old new = IsAvailable s × PrintsUnknown s (codes "available
 UnknownShows Blocking s old new = PrintsPartOfList listed.Blocking s old new
 UnknownShows Quorums s old new = PrintsPartOfList listed.Quorum s old new
 UnknownShows Least s old new = PrintsPartOfLeast s old new
+UnknownShows OrgBlocking s old new = PrintsPartOfGroups s old new
 UnknownShows Trial s old new = PrintsUnknownTrial s (counted (codes "intersects unknown") s.budget) old new
 
 -- the words were answered, and the files and the output were these before and are those now
@@ -75,6 +79,8 @@ pub record Headline (words : List (List ℕ)) (old new : DeskState) (status : St
   pub completed : (s : Search) (sought : Kind) → Seeks words old.files s → listed_by s.goal ≡ Some sought → status ≡ Yes → PrintsList sought s old new
   -- a smallest quorum: the printed set is one, with its number of nodes, or there is no quorum
   pub smallest : (s : Search) → Seeks words old.files s → s.goal ≡ Least → status ≡ Yes → PrintsLeast s old new
+  -- the organisations: the printed sets are exactly the minimal blocking sets of organisations, each once, in order, and their number is printed
+  pub organisations : (s : Search) → Seeks words old.files s → s.goal ≡ OrgBlocking → status ≡ Yes → PrintsGroups s old new
   -- each finished certificate is accepted, with the node that was asked and the deleted nodes as its header
   pub finished : (s : Search) → Seeks words old.files s → (status ≡ Yes) ⊎ ((status ≡ No) ⊎ (status ≡ Unknown)) → WritesAccepted s new
   -- unknown: as many units as the budget has, each useful when it was added, whose clauses do not close

@@ -6,6 +6,7 @@ pub mod Putting
 pub mod Printing
 pub mod Showing
 pub mod Smallest
+pub mod Grouping
 pub mod Headline
 pub mod Running
 pub mod Ending

@@ -62,7 +62,7 @@ deleted s = faulty_in s.whole s.header
 
 -- what is asked for, but for where the certificate goes and what is told of it
 abbrev pub request : Search → Request
-request s = record { whole = s.whole; digest = s.digest; header = s.header; budget = s.budget }
+request s = record { whole = s.whole; digest = s.digest; header = s.header; budget = s.budget; orgs = s.orgs }
 
 -- what the search found, where the formula is not too large: it shows the answer, its certificate is accepted, and this is the reply
 pub record FindsReply (s : Search) : Type 0 where

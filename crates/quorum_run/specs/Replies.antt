@@ -6,6 +6,9 @@ use Rattle.greatest_quorum.specs.Greatest.{greatest_of}
 use Rattle.clause_encoder.specs.NameCounter.{counter_vars}
 use Rattle.least_quorum.specs.declared.outcome.LeastOutcome.{LeastOutcome}
 use Rattle.least_quorum.specs.declared.outcome.LeastOutcome.TheVariants as found_least
+use Rattle.node_json.specs.Groups.{Group, texts_of}
+use Rattle.group_lists.specs.declared.outcome.GroupOutcome.{GroupOutcome}
+use Rattle.group_lists.specs.declared.outcome.GroupOutcome.TheVariants as found_groups
 use Rattle.fbas_model.specs.Fbas.{Available, AreUnmet}
 use Rattle.fbas_model.specs.Systems.{System}
 use Rattle.quorum_questions.specs.Evidence.{vars_of}
@@ -18,13 +21,13 @@ use Rattle.blocking_lists.specs.declared.outcome.ListOutcome.{ListOutcome}
 use Rattle.blocking_lists.specs.declared.outcome.ListOutcome.TheVariants.{Whole as whole, Spent as part}
 use Rattle.clause_encoder.specs.declared.limits.TheConstants.{MOST_VARS}
 use Rattle.cli_words.specs.declared.orders.Goal.{Goal}
-use Rattle.cli_words.specs.declared.orders.Goal.TheVariants.{Intersect, Dset, Splits, Blocking, Trial, Quorums, Least}
+use Rattle.cli_words.specs.declared.orders.Goal.TheVariants.{Intersect, Dset, Splits, Blocking, Trial, Quorums, Least, OrgBlocking}
 use Rattle.report.specs.Lines.{Text, with_pair, with_sets, least_lines, trial_size, counted, available_lines, too_large}
 use Rattle.order_reading.specs.declared.status.Status.{Status}
 use Rattle.order_reading.specs.declared.status.Status.TheVariants.{Yes, No, Unknown, TooLarge}
 use Rattle.order_reading.specs.declared.reply.Reply.{Reply as Answer}
 use Rattle.quorum_run.specs.declared.found.Found.{Found}
-use Rattle.quorum_run.specs.declared.found.Found.TheVariants.{Shared, Listed, Smallest}
+use Rattle.quorum_run.specs.declared.found.Found.TheVariants.{Shared, Listed, Smallest, Grouped}
 
 -- whether every two quorums share a node, by the names of the part
 abbrev pub intersect_answer : List Name → ℕ → Shown → Answer
@@ -89,6 +92,23 @@ HasPlaces n (found_least.Least set journal) = length set ≡ n
 HasPlaces n (found_least.NoQuorum journal) = Unit {0}
 HasPlaces n (found_least.Spent journal) = Unit {0}
 
+-- ---- the minimal blocking sets of organisations
+
+-- how many there are and the texts of each one's groups, or that the budget is spent
+abbrev pub group_answer : List Name → ℕ → GroupOutcome → Answer
+group_answer texts budget (found_groups.Whole sets journal) = record { status = Yes; text = with_sets (codes "org-blocking") texts sets.items }
+group_answer texts budget (found_groups.Spent journal) = record { status = Unknown; text = counted (codes "org-blocking unknown") budget }
+
+-- they were asked for
+abbrev pub RepliesGroups : Goal → List Group → ℕ → GroupOutcome → Answer → Type 0
+RepliesGroups OrgBlocking groups budget found a = a ≡ group_answer (texts_of groups) budget found
+RepliesGroups goal groups budget found a = ⊥
+
+-- each listed set has a place for each of n groups
+abbrev pub HasGroupSets : ℕ → GroupOutcome → Type 0
+HasGroupSets n (found_groups.Whole sets journal) = All (λ s. length s ≡ n) sets.items
+HasGroupSets n (found_groups.Spent journal) = Unit {0}
+
 -- ---- a dispensable set
 
 -- no where either is no, yes where both are yes, else unknown
@@ -143,6 +163,7 @@ pub record RepliesTrial (f : System) (budget : ℕ) (found : Shown) (a : Answer)
 abbrev pub Replies : Goal → System → Table → ℕ → Found → Answer → Type 0
 Replies goal f deleted budget (Listed sought found) a = RepliesListed (listed_by goal) f budget sought found a
 Replies goal f deleted budget (Smallest nodes found) a = RepliesLeast goal f budget found a
+Replies goal f deleted budget (Grouped digest groups found) a = RepliesGroups goal groups budget found a
 Replies Intersect f deleted budget (Shared found) a = a ≡ intersect_answer f.names budget found
 Replies Splits f deleted budget (Shared found) a = a ≡ splits_answer f.names budget found
 Replies Dset f deleted budget (Shared found) a = RepliesDset f deleted budget found a
@@ -151,12 +172,13 @@ Replies goal f deleted budget (Shared found) a = ⊥
 
 -- ---- a formula that is too large
 
--- a search with this goal begins with clauses, those of the intersection formula or of a counter: all but one for a list of sets
+-- a search with this goal begins with clauses, those of the intersection formula or of a counter: all but one for a list of sets, of nodes or of organisations
 abbrev pub ListsNone : Option Kind → Type 0
 ListsNone None = Unit {0}
 ListsNone (Some kind) = ⊥
 
 abbrev pub Encodes : Goal → Type 0
+Encodes OrgBlocking = ⊥
 Encodes goal = ListsNone (listed_by goal)
 
 -- the formula has too many variables

@@ -16,7 +16,7 @@ use Rattle.certificate_file.specs.Acceptance.{checked}
 use Rattle.certificate_file.specs.declared.places.Answer.{Answer as Shown}
 use Rattle.certificate_file.specs.declared.places.Answer.TheVariants as shown
 use Rattle.cert_writer.specs.Promises.{raised_pair}
-use Rattle.cert_writer.specs.Finding.{cert_of}
+use Rattle.cert_writer.specs.Finding.{cert_of, given_of}
 use Rattle.cert_writer.specs.Listing.{list_cert_of, list_accepted_as}
 use Rattle.quorum_questions.specs.Evidence.{IsRefutation, IsSpent}
 use Rattle.quorum_questions.specs.declared.answers.Size.{Size}
@@ -28,7 +28,7 @@ use Rattle.quorum_run.specs.Replies.{size_lines, list_word, unknown_word}
 
 -- the certificate says this, for the asked node and the deleted nodes, and is accepted
 abbrev pub IsAccepted : Search → Text → Shown → Type 0
-IsAccepted s cert answer = checked s.whole s.digest cert ≡ Ok (record { header = s.header; answer = answer })
+IsAccepted s cert answer = checked s.whole (given_of (request s)) cert ≡ Ok (record { header = s.header; answer = answer })
 
 -- the first line is the title of version 2
 abbrev pub IsOfVersionTwo : Text → Type 0

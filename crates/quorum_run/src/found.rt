@@ -1,5 +1,5 @@
 //! What a search found, and its certificate.
-ghost use Rattle.std.specs.Prelude.{◌≡◌, ◌≤◌, ℕ, [], false, length, IsTrue, IsErr, OnOk, OnErr};
+ghost use Rattle.std.specs.Prelude.{◌≡◌, ◌≤◌, ℕ, [], false, length, IfSome, IsTrue, IsErr, OnOk, OnErr};
 ghost use Rattle.std.specs.List.Sorted.{IsStrictlySortedBy};
 ghost use Rattle.hex.specs.Hex.{IsBytes};
 ghost use Rattle.desk_io.specs.State.{written};
@@ -8,20 +8,22 @@ ghost use Rattle.fbas_model.specs.Names.{name_cmp};
 ghost use Rattle.fbas_model.specs.Nodes.{Table};
 ghost use Rattle.fbas_model.specs.Systems.{System, IsSystem};
 ghost use Rattle.quorum_questions.specs.declared.asking.TheConstants.{MOST_UNITS};
-ghost use Rattle.cert_writer.specs.Promises.{IsHeader, part_of, PutsPart};
+ghost use Rattle.cert_writer.specs.Promises.{IsHeader, AreOrgs, part_of, PutsPart};
 ghost use Rattle.cert_writer.specs.Finding.{Search, part, faulty};
-ghost use Rattle.quorum_run.specs.Finding.{cert_over, cert_of, FoundShows, FindsFound, IsWritable, HasGreatest};
+ghost use Rattle.quorum_run.specs.Finding.{cert_over, cert_of, FoundShows, FindsFound, IsWritable, HasGreatest, HasGroups};
 
 use blocking_lists::ListOutcome;
 use cert_writer::{
-    CertWriter, what_is_least_is_found, what_is_listed_is_found, what_is_shown_is_found,
-    write_found, write_least, write_list,
+    CertWriter, what_is_grouped_is_found, what_is_least_is_found, what_is_listed_is_found,
+    what_is_shown_is_found, write_found, write_groups, write_least, write_list,
 };
 use certificate_file::Header;
 use desk_io::{Desk, To, WriteFailed};
 use fbas_core::System;
+use group_lists::GroupOutcome;
 use least_quorum::LeastOutcome;
 use list_journal::Listed;
+use node_json::Groups;
 use quorum_questions::Answer;
 
 /// What a search found.
@@ -33,6 +35,8 @@ pub enum Found {
     Listed(Listed, ListOutcome),
     /// A smallest quorum, where the greatest one has so many nodes.
     Smallest(u32, LeastOutcome),
+    /// All minimal blocking sets of these groups, by an organisations file of this digest.
+    Grouped([u8; 32], Groups, GroupOutcome),
 }
 
 /// Writes the certificate of what was found to the created file.
@@ -62,6 +66,17 @@ pub fn write_certificate<D: Desk>(
         Found::Smallest(nodes, outcome) => write_least(
             writer, desk, digest, header, whole, kept, *nodes, outcome,
         ),
+        Found::Grouped(orgs_digest, groups, outcome) => write_groups(
+            writer,
+            desk,
+            digest,
+            header,
+            whole,
+            kept,
+            orgs_digest,
+            groups,
+            outcome,
+        ),
     }
 }
 
@@ -69,9 +84,10 @@ pub fn write_certificate<D: Desk>(
 pub fn what_is_shown_is_accepted()
     ensures written { (f : System) (b : Table) (budget : ℕ) (found : Found) → length f.names ≡ length f.sets → FoundShows f.sets b budget found → IsWritable (length f.names) found }
     ensures found { (s : Search) (found : Found) → IsSystem s.whole.names s.whole.sets → IsStrictlySortedBy name_cmp s.whole.names → length s.digest ≡ 32 → IsBytes s.digest → IsHeader s.whole s.header → s.budget ≤ MOST_UNITS
-        → FoundShows (part s).sets (faulty s) s.budget found → FindsFound s found (cert_of s found) }
+        → IfSome s.orgs (AreOrgs s.whole) → HasGroups s.whole.names (part s).names s.orgs found → FoundShows (part s).sets (faulty s) s.budget found → FindsFound s found (cert_of s found) }
 {
     what_is_shown_is_found();
     what_is_listed_is_found();
     what_is_least_is_found();
+    what_is_grouped_is_found();
 }

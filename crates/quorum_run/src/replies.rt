@@ -5,14 +5,17 @@ ghost use Rattle.fbas_model.specs.Nodes.{members};
 ghost use Rattle.fbas_model.specs.Fbas.{Available, AreUnmet};
 ghost use Rattle.cert_writer.specs.Finding.{CanBeWritten};
 ghost use Rattle.report.specs.Lines.{available_lines as spec_available};
-ghost use Rattle.quorum_run.specs.Replies.{intersect_answer as spec_intersect, splits_answer as spec_splits, list_word as spec_list_word, unknown_word as spec_unknown_word, list_answer as spec_list, HasSets, least_answer as spec_least, HasPlaces, HasSize, RepliesTrial, dset_status as spec_dset_status, dset_line as spec_dset_line, dset_answer as spec_dset};
+ghost use Rattle.quorum_run.specs.Replies.{intersect_answer as spec_intersect, splits_answer as spec_splits, list_word as spec_list_word, unknown_word as spec_unknown_word, list_answer as spec_list, HasSets, least_answer as spec_least, HasPlaces, group_answer as spec_groups, HasGroupSets, HasSize, RepliesTrial, dset_status as spec_dset_status, dset_line as spec_dset_line, dset_answer as spec_dset};
 ghost use Rattle.order_reading.specs.Status.{is_answer};
+ghost use Rattle.node_json.specs.Groups.{texts_of};
 
 use blocking_lists::ListOutcome;
 use fbas_core::System;
+use group_lists::GroupOutcome;
 use least_quorum::LeastOutcome;
 use list_journal::Listed;
 use name_set::NodeSet;
+use node_json::Groups;
 use order_reading::{Reply, Status, says};
 use quorum_questions::{Answer, Size};
 use std::alloc::{AllocError, Global};
@@ -126,6 +129,28 @@ pub fn least_answer(
         LeastOutcome::NoQuorum(_) => says(alloc, Status::Yes, "least none\n"),
         LeastOutcome::Spent(_) => {
             let text = report::counted(alloc, unknown_word(Listed::Smaller), budget)?;
+            Ok(Reply::new(Status::Unknown, text))
+        }
+    }
+}
+
+/// All minimal blocking sets of groups, by what a search for them found.
+pub fn group_answer(
+    alloc: Global,
+    groups: &Groups,
+    budget: u64,
+    found: &GroupOutcome,
+) -> Result<Reply, AllocError>
+    requires { HasGroupSets (length groups.now) found.now }
+    ensures { IfOk result (λ a. a ≡ spec_groups (texts_of groups.now) budget found.now) }
+{
+    match found {
+        GroupOutcome::Whole(sets, _) => {
+            let text = report::with_group_sets(alloc, "org-blocking", groups, sets)?;
+            Ok(Reply::new(Status::Yes, text))
+        }
+        GroupOutcome::Spent(_) => {
+            let text = report::counted(alloc, "org-blocking unknown", budget)?;
             Ok(Reply::new(Status::Unknown, text))
         }
     }

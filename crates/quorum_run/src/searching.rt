@@ -1,5 +1,5 @@
 //! A search: its answer, its certificate, and what is put out. All memory is taken before the certificate's file is created.
-ghost use Rattle.std.specs.Prelude.{◌≡◌, ◌⊎◌, ◌≤◌, ◌<◌, [], Some, false, length, IsTrue, IsErr, OnOk, OnErr, IfOk};
+ghost use Rattle.std.specs.Prelude.{◌≡◌, ◌⊎◌, ◌≤◌, ◌<◌, [], All, Some, false, length, IsTrue, IsErr, OnOk, OnErr, IfOk};
 ghost use Rattle.fbas_model.specs.Nodes.{members};
 ghost use Rattle.fbas_model.specs.Fbas.{Intersects};
 ghost use Rattle.fbas_model.specs.Restriction.{closure_of, kept, restricted};
@@ -7,30 +7,34 @@ ghost use Rattle.report.specs.Lines.{too_large as too_large_line};
 ghost use Rattle.desk_io.specs.Faults.{WriteFails};
 ghost use Rattle.cert_writer.specs.Promises.{IsHeader, part_of, faulty_in};
 ghost use Rattle.quorum_questions.specs.declared.asking.TheConstants.{MOST_UNITS};
-ghost use Rattle.quorum_run.specs.Finding.{cert_over, IsWritable, HasGreatest};
+ghost use Rattle.quorum_run.specs.Finding.{cert_over, IsWritable, HasGreatest, HasGroups};
 ghost use Rattle.quorum_run.specs.Putting.{put_whole, PutsSome};
 ghost use Rattle.quorum_run.specs.Printing.{PrintsSearch, PrintsSearchPart};
 ghost use Rattle.quorum_run.specs.Replies.{listed_by};
-ghost use Rattle.quorum_run.specs.Searching.{FitsReady, FitsHeld, IsHeld};
+ghost use Rattle.quorum_run.specs.Searching.{FitsReady, FitsHeld, IsHeld, HasReadyGroups};
 ghost use Rattle.order_reading.specs.Searches.{FitsSearch};
 ghost use Rattle.order_reading.specs.Status.{is_answer};
 
 use crate::found::{Found, what_is_shown_is_accepted, write_certificate};
 use crate::printing::print;
 use crate::replies::{
-    dset_answer, intersect_answer, least_answer, list_answer, splits_answer, trial_answer,
+    dset_answer, group_answer, intersect_answer, least_answer, list_answer, splits_answer,
+    trial_answer,
 };
 use blocking_lists::list_all;
 use cdcl_core::Budget;
 use cert_writer::{CertWriter, what_is_shown_is_found};
+use certificate_file::GivenOrgs;
 use clause_encoder::EncodeError;
 use cli_words::Goal;
 use desk_io::{Desk, To, WriteFailed, put_all};
 use fbas_core::System;
 use greatest_quorum::greatest;
+use group_lists::list_groups;
 use least_quorum::least;
 use list_journal::Listed;
 use name_set::NodeSet;
+use node_json::groups_of;
 use order_reading::{Reply, Search, Status};
 use quorum_questions::{AskError, dset, intersect};
 use std::alloc::{AllocError, Global};
@@ -204,7 +208,30 @@ fn trial_ready(
     }
 }
 
-// What answers the search, with all the memory that is wanted to put it.
+// The minimal blocking sets of organisations, and of the nodes of the part that are in none.
+fn group_ready(
+    alloc: Global,
+    whole: &System,
+    given: &GivenOrgs,
+    part: &System,
+    faulty: &NodeSet,
+    budget: u64,
+) -> Result<Ready, AllocError>
+    requires sized { All (λ org. length org.members ≡ length whole.now.names) given.now.orgs }
+    requires same_n { length faulty.now ≡ length part.now.sets }
+    requires few { budget ≤ MOST_UNITS }
+    ensures fits { IfOk result (FitsReady Goal.OrgBlocking part.now faulty.now budget) }
+    ensures groups { IfOk result (HasReadyGroups whole.now.names part.now.names (Some given.now)) }
+{
+    let _ = part.len();
+    let mut units = Budget::of(budget);
+    let groups = groups_of(alloc, &given.orgs, whole, part)?;
+    let found = list_groups(alloc, part, &groups, faulty, &mut units)?;
+    let reply = group_answer(alloc, &groups, budget, &found);
+    hold(alloc, Found::Grouped(given.digest, groups, found), reply)
+}
+
+// What answers a search for anything but organisations, with all the memory that is wanted to put it.
 fn make_ready(
     alloc: Global,
     goal: Goal,
@@ -215,6 +242,7 @@ fn make_ready(
     requires same_n { length faulty.now ≡ length part.now.sets }
     requires few { budget ≤ MOST_UNITS }
     requires meets { goal ≡ Goal.Trial → Intersects part.now.sets (members faulty.now) }
+    requires nodes { goal ≡ Goal.OrgBlocking → ⊥ }
     ensures { IfOk result (FitsReady goal part.now faulty.now budget) }
 {
     match goal {
@@ -225,6 +253,27 @@ fn make_ready(
         Goal::Quorums => list_ready(alloc, goal, Listed::Quorum, part, faulty, budget),
         Goal::Least => least_ready(alloc, part, faulty, budget),
         Goal::Trial => trial_ready(alloc, part, faulty, budget),
+        Goal::OrgBlocking => unreachable!(),
+    }
+}
+
+// What answers the search: over organisations where they are given.
+fn answer_ready(
+    alloc: Global,
+    search: &Search,
+    part: &System,
+    faulty: &NodeSet,
+) -> Result<Ready, AllocError>
+    requires search { FitsSearch search.now }
+    requires part { part.now ≡ part_of search.now.whole search.now.header.from }
+    requires faulty { faulty.now ≡ faulty_in search.now.whole search.now.header }
+    requires same_n { length faulty.now ≡ length part.now.sets }
+    ensures fits { IfOk result (FitsReady search.now.goal part.now faulty.now search.now.budget) }
+    ensures groups { IfOk result (HasReadyGroups search.now.whole.names part.now.names search.now.orgs) }
+{
+    match &search.orgs {
+        Some(given) => group_ready(alloc, &search.whole, given, part, faulty, search.budget),
+        None => make_ready(alloc, search.goal, part, faulty, search.budget),
     }
 }
 
@@ -265,6 +314,7 @@ fn put_found<D: Desk>(desk: &mut D, search: &Search, part: &System, held: Held) 
     requires search { FitsSearch search.now }
     requires part { part.now ≡ part_of search.now.whole search.now.header.from }
     requires held { FitsHeld search.now.goal part.now (faulty_in search.now.whole search.now.header) search.now.budget held }
+    requires groups { HasGroups search.now.whole.names part.now.names search.now.orgs held.found }
     ensures answered { IsTrue D.tells → IsTrue (is_answer result) → PrintsSearch search.now (D.state desk.old) (D.state desk.new) result }
     ensures part { IsTrue D.tells → result ≡ Status.WriteFault → PrintsSearchPart search.now (D.state desk.old) (D.state desk.new) }
     ensures ends { IsTrue (is_answer result) ⊎ (result ≡ Status.WriteFault) }
@@ -310,7 +360,7 @@ fn search_in<D: Desk>(
     ensures ends { IsTrue (is_answer result) ⊎ (result ≡ Status.WriteFault) ⊎ (result ≡ Status.Memory) }
     ensures faults { WriteFails (D.faults desk.old) (D.faults desk.new) (result ≡ Status.WriteFault) }
 {
-    match make_ready(alloc, search.goal, part, faulty, search.budget) {
+    match answer_ready(alloc, search, part, faulty) {
         Ok(Ready::Found(held)) => put_found(desk, search, part, held),
         Ok(Ready::TooLarge(reply)) => print(desk, &reply),
         Err(AllocError) => Status::Memory,

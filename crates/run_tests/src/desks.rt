@@ -40,6 +40,16 @@ impl<'a> Files<'a> {
             script: b"",
         }
     }
+
+    /// The same with another certificate.
+    pub fn with(&self, cert: &'a [u8]) -> Files<'a> {
+        Files {
+            config: self.config,
+            cert,
+            orgs: self.orgs,
+            script: self.script,
+        }
+    }
 }
 
 /// What a run leaves: its status, what is out, what the file `cert` holds, and what the file `c` does, if it was made.
@@ -249,6 +259,9 @@ pub fn wants_over(rt: &impl Abort, alloc: Global, rows: &[(&str, &str, Status, &
 
 /// The line that checks the certificate.
 pub const CHECK: &str = "check config cert";
+
+/// The line that checks the certificate beside the organisations.
+pub const CHECK_BESIDE: &str = "check config cert --orgs orgs";
 
 /// Fails unless `check` of this certificate ends with this status and this text.
 pub fn wants_checked(

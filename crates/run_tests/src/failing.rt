@@ -1,6 +1,6 @@
 //! Each call of the desk fails once, in whole runs: what stands then. The desk moves 8 bytes at once.
 use crate::certificates::PAIR_OF_THREE;
-use crate::desks::{Files, Left, run_over, same, wants_checked};
+use crate::desks::{CHECK_BESIDE, Files, Left, run_over, same, wants};
 use crate::systems::{ORG, REPEATED, THREE_OF_FOUR, TRIAL_OF_ONE, TWO_OF_THREE};
 use desk_io::{Call, To, Which};
 use quorum_run::Status;
@@ -26,7 +26,7 @@ struct Run {
     written: Option<(Status, &'static str)>,
 }
 
-static RUNS: [Run; 15] = [
+static RUNS: [Run; 18] = [
     Run {
         line: "intersect config cert",
         config: TWO_OF_THREE,
@@ -124,6 +124,33 @@ static RUNS: [Run; 15] = [
         written: Some((Status::Unknown, "accepted partial-least 3\nfrom\nfaulty\n")),
     },
     Run {
+        line: "org-blocking config cert --orgs orgs",
+        config: TWO_OF_THREE,
+        cert: "old",
+        reads: &[Which::Config, Which::Orgs],
+        written: Some((
+            Status::Yes,
+            "accepted org-blocking 3\nfrom\nfaulty\nset node:b node:c\nset node:b org:A\nset node:c org:A\n",
+        )),
+    },
+    Run {
+        line: "org-blocking config cert --orgs orgs --budget 3",
+        config: TWO_OF_THREE,
+        cert: "old",
+        reads: &[Which::Config, Which::Orgs],
+        written: Some((
+            Status::Unknown,
+            "accepted partial-org-blocking 3\nfrom\nfaulty\n",
+        )),
+    },
+    Run {
+        line: "check config cert --orgs orgs",
+        config: TWO_OF_THREE,
+        cert: PAIR_OF_THREE,
+        reads: &[Which::Config, Which::Orgs, Which::Cert],
+        written: None,
+    },
+    Run {
         line: "splits config cert --set a",
         config: TWO_OF_THREE,
         cert: "old",
@@ -200,10 +227,10 @@ fn line_feeds(bytes: &[u8]) -> u64 {
 }
 
 // Whether `check` says of a certificate that it ends within the line behind its last line feed.
-fn is_truncated(alloc: Global, config: &[u8], cert: &[u8]) -> Result<bool, AllocError> {
+fn is_truncated(alloc: Global, held: &Files, cert: &[u8]) -> Result<bool, AllocError> {
     let line = line_feeds(cert).saturating_add(1);
     let text = format!(in alloc; "refused truncated {line}\n")?;
-    let said = leaves(alloc, "check config cert", &Files::with_cert(config, cert))?;
+    let said = leaves(alloc, CHECK_BESIDE, &held.with(cert))?;
     Ok(said.status == Status::CertRefused && said.out.as_slice() == text.as_bytes())
 }
 
@@ -220,7 +247,7 @@ fn is_cut_in_cert(
     left: &Left,
 ) -> Result<bool, AllocError> {
     let is_front = left.out.is_empty() && is_proper_prefix(&left.cert, &whole.cert);
-    Ok(is_front && is_truncated(alloc, held.config, &left.cert)?)
+    Ok(is_front && is_truncated(alloc, held, &left.cert)?)
 }
 
 // Whether a proper prefix of the text is out, and the certificate is whole.
@@ -361,7 +388,8 @@ fn wants_run(rt: &impl Abort, alloc: Global, run: &Run) {
     };
     let whole = leaves(alloc, run.line, &held).expect(rt, "memory");
     if let Some((status, accepted)) = run.written {
-        wants_checked(rt, alloc, held.config, &whole.cert, status, accepted);
+        let written = held.with(&whole.cert);
+        wants(rt, alloc, CHECK_BESIDE, &written, status, accepted);
     }
     wants_calls(rt, alloc, run, &held, &whole);
 }

@@ -14,6 +14,8 @@ mod desks;
 #[cfg(test)]
 mod failing;
 #[cfg(test)]
+mod groups;
+#[cfg(test)]
 mod least;
 #[cfg(test)]
 mod malicious;

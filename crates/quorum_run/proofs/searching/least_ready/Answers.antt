@@ -1,7 +1,6 @@
 use Rattle.std.proofs.Common.{◌≡◌, ℕ, Result, IfOk, refl, ◌∙◌, ap, sym, subst, arith, Err}
 use Rattle.std.proofs.lemmas.Result.{IfOk-weaker}
 use Rattle.fbas_model.specs.Nodes.{size}
-use Rattle.clause_encoder.specs.declared.encoder.EncodeError.{EncodeError}
 use Rattle.cli_words.specs.declared.orders.Goal.TheVariants.{Least}
 use Rattle.std.specs.declared.alloc.AllocError.{AllocError}
 use Rattle.least_quorum.specs.Outcomes.{LeastOutcomeHolds}

@@ -5,10 +5,10 @@ use Rattle.list_journal.specs.declared.kinds.Listed.{Listed as Kind}
 use Rattle.blocking_lists.specs.Outcomes.{OutcomeHolds}
 use Rattle.std.specs.declared.alloc.AllocError.{AllocError}
 use Rattle.order_reading.specs.declared.reply.Reply.{Reply}
-use Rattle.quorum_run.specs.Replies.{list_answer, ListsNone, RepliesListed}
+use Rattle.quorum_run.specs.Replies.{list_answer, RepliesListed}
 use Rattle.quorum_run.specs.declared.searching.Ready.{Ready}
 use Rattle.quorum_run.specs.Searching.{FitsReady}
-use Rattle.quorum_run.proofs.Replied.{list_sized, lists_all}
+use Rattle.quorum_run.proofs.Replied.{list_sized, lists_all, lists_encode_none}
 use Rattle.quorum_run.proofs.searching.list_ready.Goals as goal
 
 pub list_all-requires-clause-kind : goal.list_all-requires-clause-kind
@@ -19,7 +19,7 @@ list_answer-reply-requires c = list_sized c.args.sought c.args.part.now.sets c.a
 
 pub returns : goal.returns
 returns c = IfOk-weaker c.hold.result _ _ (λ ready held. subst (λ (r : Ready). FitsReady c.args.goal c.args.part.now c.args.faulty.now c.args.budget r) (sym held.is) (record {
-  small = λ encodes. absurd (subst ListsNone c.requires.asked encodes);
+  small = λ encodes. absurd (lists_encode_none c.args.goal c.args.sought c.requires.asked encodes);
   shows = record {
     lists = lists_all c.args.goal c.args.sought c.requires.asked;
     left = c.list_all.new.budget;

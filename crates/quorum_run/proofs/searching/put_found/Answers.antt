@@ -1,6 +1,6 @@
 use Rattle.std.proofs.Common.{◌≡◌, ◌∙◌, sym, ap, subst, List, ℕ, inl}
 use Rattle.fbas_model.specs.Systems.{System}
-use Rattle.quorum_run.specs.Finding.{cert_of, FoundShows}
+use Rattle.quorum_run.specs.Finding.{cert_of, FoundShows, HasGroups}
 use Rattle.cert_writer.specs.Promises.{faulty_in}
 use Rattle.quorum_run.specs.Printing.{request, FindsReply}
 use Rattle.quorum_run.specs.Putting.{PutsSome, put_whole}
@@ -24,9 +24,10 @@ returns-in-Ok-clause-answered g c = λ tell answer.
     let a = c.args.held.reply in
     let cert = cert_of (request s) f in
     let same : System → Type 0 = λ p. FoundShows p.sets (faulty_in s.whole s.header) s.budget f in
+    let grouped : System → Type 0 = λ p. HasGroups s.whole.names p.names s.orgs f in
     let small : System → Type 0 = λ p. Encodes s.goal → IsLargeFor s.goal p (faulty_in s.whole s.header) → ⊥ in
     let replied : System → Type 0 = λ p. Replies s.goal p (faulty_in s.whole s.header) s.budget f a in
-    let finds = c.what_is_shown_is_accepted.ensures.found (request s) f c.len.ensures.system c.len.ensures.sorted c.requires.search.long c.requires.search.bytes c.requires.search.header c.requires.search.few (subst same c.requires.part c.requires.held.shows) in
+    let finds = c.what_is_shown_is_accepted.ensures.found (request s) f c.len.ensures.system c.len.ensures.sorted c.requires.search.long c.requires.search.bytes c.requires.search.header c.requires.search.few c.requires.search.orgs.read (subst grouped c.requires.part c.requires.groups) (subst same c.requires.part c.requires.held.shows) in
     let reply : FindsReply s = record { small = subst small c.requires.part c.requires.held.small; found = f; cert = cert; finds = finds; answer = a; is = subst replied c.requires.part c.requires.held.replies } in
     let old = g.D.Desk.state c.args.desk.now in
     let whole : g.D.Desk.state c.put_both.new.desk ≡ put_whole s.path cert a.text old = c.in-Ok.ensures.all tell ∙ (ap (λ (p : List ℕ). put_whole p cert c.bytes.result.now old) c.as_str.ensures ∙ ap (λ (t : List ℕ). put_whole s.path cert t old) c.bytes.ensures) in
@@ -39,9 +40,10 @@ returns-clause-part g c = λ tell is.
     let a = c.args.held.reply in
     let cert = cert_of (request s) f in
     let same : System → Type 0 = λ p. FoundShows p.sets (faulty_in s.whole s.header) s.budget f in
+    let grouped : System → Type 0 = λ p. HasGroups s.whole.names p.names s.orgs f in
     let small : System → Type 0 = λ p. Encodes s.goal → IsLargeFor s.goal p (faulty_in s.whole s.header) → ⊥ in
     let replied : System → Type 0 = λ p. Replies s.goal p (faulty_in s.whole s.header) s.budget f a in
-    let finds = c.what_is_shown_is_accepted.ensures.found (request s) f c.len.ensures.system c.len.ensures.sorted c.requires.search.long c.requires.search.bytes c.requires.search.header c.requires.search.few (subst same c.requires.part c.requires.held.shows) in
+    let finds = c.what_is_shown_is_accepted.ensures.found (request s) f c.len.ensures.system c.len.ensures.sorted c.requires.search.long c.requires.search.bytes c.requires.search.header c.requires.search.few c.requires.search.orgs.read (subst grouped c.requires.part c.requires.groups) (subst same c.requires.part c.requires.held.shows) in
     let reply : FindsReply s = record { small = subst small c.requires.part c.requires.held.small; found = f; cert = cert; finds = finds; answer = a; is = subst replied c.requires.part c.requires.held.replies } in
     let old = g.D.Desk.state c.args.desk.now in
     let new = g.D.Desk.state c.put_both.new.desk in
