@@ -22,7 +22,7 @@ Answer ask(std::string_view words, std::string_view config, std::string_view cer
         quorum_end end;
         quorum_answer(bytes(words), words.size(), bytes(config), config.size(), nullptr, 0, nullptr, 0, bytes(cert), cert.size(),
                       room.data(), room.size(), &end);
-        if (end.status == 7 && end.wanting) {
+        if (end.status == 7 && end.wanting != SIZE_MAX) {
             room.resize(std::max(end.wanting, 4 * room.size()));
             continue;
         }

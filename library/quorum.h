@@ -18,7 +18,7 @@ typedef struct quorum_end {
     uint8_t status; /* what quorum_cli would end with, 0 to 10 */
     size_t text;    /* how many bytes the text has, the last ones of the room */
     size_t cert;    /* how many bytes the certificate has, the first ones of the room */
-    size_t wanting; /* with status 7: how many bytes of room are wanted at least; 0 if no room helps. Else 0 */
+    size_t wanting; /* with status 7: how many bytes of room are wanted at least; SIZE_MAX if no room helps. Else 0 */
 } quorum_end;
 
 /* Answers the words over the files, as quorum_cli does.

@@ -3,7 +3,7 @@ ghost use Rattle.std.specs.Prelude.{◌≡◌, ◌≤◌, ◌<◌, ◌+◌, leng
 ghost use Rattle.std.specs.Option.{ForSome};
 ghost use Rattle.lent_desk.specs.Spans.{FitAll, IsOpen};
 ghost use Rattle.lent_desk.specs.Left.{FitsLeft};
-ghost use Rattle.lent_desk.specs.Room.{Wants};
+ghost use Rattle.lent_desk.specs.Room.{Wants, WantsNothing};
 
 use crate::bytes::{put_at, put_last};
 use crate::files::{File, LentFiles, lent, named};
@@ -32,7 +32,8 @@ pub struct LentDesk<'a> {
     ghost spans_fit: { FitAll kept spans },
     ghost left_fits: { FitsLeft kept left },
     ghost is_open: { ForSome created (IsOpen kept spans) },
-    ghost wants: { Wants wanting (length room.now) },
+    ghost wants: { Wants writes wanting (length room.now) },
+    ghost wants_nothing: { WantsNothing writes wanting },
 }
 
 /// How long the text and the certificate are, the last and the first bytes of the room.
@@ -91,10 +92,12 @@ impl<'a> LentDesk<'a> {
         }
     }
 
-    /// How many bytes of room are wanted at least, if it was too small; else 0. O(1).
+    /// How many bytes of room are wanted at least once a call that writes failed: the greatest number if no room helps, since the
+    /// desk makes no such file. Before that 0. O(1).
     pub fn wanting(&self) -> usize
         ensures value { result ≡ wanting_in self.now }
-        ensures more { 0 < result → length (room_in self.now).now < result }
+        ensures more { 0 < (faults_of self.now).writes → length (room_in self.now).now < result }
+        ensures none { (faults_of self.now).writes ≡ 0 → result ≡ 0 }
     {
         self.wanting
     }
@@ -104,6 +107,7 @@ impl<'a> LentDesk<'a> {
         ensures cert { take result.cert (room_in self.new).now ≡ made_in (state_of self.old) }
         ensures text { mark_of (room_in self.old) ++ drop (length (room_in self.new).now - result.text) (room_in self.new).now
             ≡ (state_of self.old).out }
+        ensures within { result.cert + result.text ≤ length (room_in self.new).now }
         ensures same_room { (room_in self.new).ghost_name ≡ (room_in self.old).ghost_name }
         ensures len { length (room_in self.new).now ≡ length (room_in self.old).now }
         ensures wanting { wanting_in self.new ≡ wanting_in self.old }
@@ -197,29 +201,31 @@ impl<'a> LentDesk<'a> {
         ReadFailed
     }
 
-    // Counts a call that writes and failed.
-    fn write_failed(&mut self) -> WriteFailed
+    // Counts a call that writes and failed, for which so many bytes of room are wanted.
+    fn write_failed(&mut self, wanting: usize) -> WriteFailed
+        requires { length (room_in self.old).now < wanting }
         ensures counted { faults_of self.new ≡ record (faults_of self.old) { writes = min ((faults_of self.old).writes + 1) (2 ^ 64 - 1) } }
         ensures later { (faults_of self.old).writes ≤ (faults_of self.new).writes }
         ensures same { state_of self.new ≡ state_of self.old }
     {
         self.writes = self.writes.saturating_add(1);
+        self.wanting = wanting;
         WriteFailed
     }
 
-    // Notes that there is no room for bytes.
-    fn want(&mut self, bytes: &[u8])
-        requires { space_in self.old < length bytes.now }
-        ensures same { state_of self.new ≡ state_of self.old }
-        ensures faults { faults_of self.new ≡ faults_of self.old }
+    // How much room is wanted for bytes for which there is none.
+    fn wanted(&self, bytes: &[u8]) -> usize
+        requires { space_in self.now < length bytes.now }
+        ensures { length (room_in self.now).now < result }
     {
-        self.wanting = (self.kept + self.said).saturating_add(bytes.len());
+        (self.kept + self.said).saturating_add(bytes.len())
     }
 
     // Brings what stands there to the front of the room.
     fn bring(&mut self, span: Span) -> usize
         requires { Fits self.old.kept span }
         ensures front { take result (room_in self.new).now ≡ slice_in span (kept_in self.old) }
+        ensures within { result ≤ self.old.kept }
         ensures rest { drop (length (room_in self.old).now - self.old.said) (room_in self.new).now
             ≡ drop (length (room_in self.old).now - self.old.said) (room_in self.old).now }
         ensures len { length (room_in self.new).now ≡ length (room_in self.old).now }
@@ -268,19 +274,19 @@ impl<'a> Desk for LentDesk<'a> {
                 self.make(file);
                 Ok(())
             }
-            None => Err(self.write_failed()),
+            None => Err(self.write_failed(usize::MAX)),
         }
     }
 
     fn put(&mut self, to: To, bytes: &[u8]) -> Result<usize, WriteFailed> {
         if bytes.len() > self.space() {
-            self.want(bytes);
-            return Err(self.write_failed());
+            let wanting = self.wanted(bytes);
+            return Err(self.write_failed(wanting));
         }
         match (to, self.created) {
             (To::Out, _) => self.say(bytes),
             (To::Cert, Some(opened)) => self.keep(opened, bytes),
-            (To::Cert, None) => return Err(self.write_failed()),
+            (To::Cert, None) => return Err(self.write_failed(usize::MAX)),
         }
         Ok(bytes.len())
     }

@@ -1,5 +1,5 @@
 -- What a caller is answered, in the terms of a run over a desk.
-use Rattle.std.specs.Prelude.{◌≡◌, ◌⊎◌, ◌==◌, ◌-◌, ◌<◌, ℕ, IsTrue, List, ◌++◌, length, take, drop, codes}
+use Rattle.std.specs.Prelude.{◌≡◌, ◌==◌, ◌+◌, ◌-◌, ◌<◌, ◌≤◌, ℕ, IsTrue, false, List, ◌++◌, length, take, drop, codes}
 use Rattle.std.specs.List.{slice_split}
 use Rattle.desk_io.specs.State.{DeskState, Files}
 use Rattle.lent_desk.specs.LentDesk.{at_start, made_in}
@@ -22,9 +22,9 @@ pub record Holds (room before : List ℕ) (end : QuorumEnd) (new : DeskState) : 
   pub cert : take end.cert room ≡ made_in new
   pub text : new.out ≡ before ++ drop (length room - end.text) room
 
--- nothing is wanting, or more than the room has
-abbrev pub IsWanting : ℕ → ℕ → Type 0
-IsWanting room wanting = (wanting ≡ 0) ⊎ (room < wanting)
+-- neither a certificate nor a text
+abbrev pub IsNothing : QuorumEnd → Type 0
+IsNothing end = (end.cert ≡ 0) × (end.text ≡ 0)
 
 -- a run of the words over the files ended so, with this in the room
 pub record Answers (words : List (List ℕ)) (files : Files) (room : List ℕ) (end : QuorumEnd) : Type 0 where
@@ -37,6 +37,9 @@ pub record Answers (words : List (List ℕ)) (files : Files) (room : List ℕ) (
   pub ran : Runs words (at_start files before (length room)) new status
   -- the text and the certificate are in the room
   pub holds : IsTrue (is_answer status) → Holds room before end new
-  -- how much room was wanting
-  pub wanting : IsWanting (length room) end.wanting
+  pub within : end.cert + end.text ≤ length room
+  -- without an answer there is neither
+  pub nothing : is_answer status ≡ false → IsNothing end
+  -- after a write fault more is wanting than the room has, and else nothing
+  pub wanting : status ≡ WriteFault → length room < end.wanting
   pub enough : (status ≡ WriteFault → ⊥) → end.wanting ≡ 0

@@ -1,11 +1,11 @@
 //! How a question is answered.
-ghost use Rattle.std.specs.Prelude.{All, IsTrue, ◌≡◌, ◌∷◌, [], length};
+ghost use Rattle.std.specs.Prelude.{All, IsTrue, false, ◌≡◌, ◌<◌, ◌≤◌, ◌+◌, ◌∷◌, [], length};
 ghost use Rattle.std.specs.Str.{IsUtf8};
 ghost use Rattle.order_reading.specs.Answers.{words_of};
 ghost use Rattle.order_reading.specs.Status.{code_of, is_answer};
 ghost use Rattle.lent_desk.specs.Files.{files_named};
-ghost use Rattle.lent_desk.specs.LentDesk.{room_in, mark_of, state_of};
-ghost use Rattle.quorum_answers.specs.Answering.{Answers, Holds, IsWanting, words_in, program};
+ghost use Rattle.lent_desk.specs.LentDesk.{room_in, mark_of, state_of, faults_of};
+ghost use Rattle.quorum_answers.specs.Answering.{Answers, Holds, IsNothing, words_in, program};
 
 use crate::reading::{Unread, words};
 use lent_desk::{LentDesk, LentFiles};
@@ -22,7 +22,7 @@ pub struct QuorumEnd {
     pub text: usize,
     /// How many bytes the certificate has, the first of the room.
     pub cert: usize,
-    /// How many bytes of room are wanted at least, if it was too small; else 0.
+    /// How many bytes of room are wanted at least with status 7: the greatest number if no room helps. Else 0.
     pub wanting: usize,
 }
 
@@ -43,6 +43,7 @@ fn told(status: Status, desk: &mut LentDesk) -> QuorumEnd
     ensures status { result.status ≡ code_of status }
     ensures wanting { result.wanting ≡ 0 }
     ensures holds { Holds (room_in desk.new).now (mark_of (room_in desk.old)) result (state_of desk.old) }
+    ensures within { result.cert + result.text ≤ length (room_in desk.new).now }
     ensures same_room { (room_in desk.new).ghost_name ≡ (room_in desk.old).ghost_name }
     ensures len { length (room_in desk.new).now ≡ length (room_in desk.old).now }
 {
@@ -57,11 +58,14 @@ fn told(status: Status, desk: &mut LentDesk) -> QuorumEnd
 
 // The end of a run that ended so.
 fn close(status: Status, desk: &mut LentDesk) -> QuorumEnd
+    requires { status ≡ Status.WriteFault → 0 < (faults_of desk.old).writes }
     ensures status { result.status ≡ code_of status }
-    ensures wanting { IsWanting (length (room_in desk.old).now) result.wanting }
+    ensures wanting { status ≡ Status.WriteFault → length (room_in desk.old).now < result.wanting }
     ensures enough { (status ≡ Status.WriteFault → ⊥) → result.wanting ≡ 0 }
     ensures holds { IsTrue (is_answer status)
         → Holds (room_in desk.new).now (mark_of (room_in desk.old)) result (state_of desk.old) }
+    ensures nothing { is_answer status ≡ false → IsNothing result }
+    ensures within { result.cert + result.text ≤ length (room_in desk.new).now }
     ensures same_room { (room_in desk.new).ghost_name ≡ (room_in desk.old).ghost_name }
     ensures len { length (room_in desk.new).now ≡ length (room_in desk.old).now }
 {

@@ -9,6 +9,8 @@ PATH = os.environ.get("QUORUM_LIBRARY") or os.path.join(os.path.dirname(os.path.
 # Bytes of the first room. Only what is written of it takes memory.
 ROOM = 1 << 26
 NO_ROOM = 7
+# What is wanting if no room helps.
+NEVER = ctypes.c_size_t(-1).value
 
 
 class End(ctypes.Structure):
@@ -54,7 +56,7 @@ def answer(words, config=b"", orgs=b"", script=b"", cert=b"", room=ROOM, call=No
             end, text, made = ask(call, line, files, room)
         except OSError as error:
             raise MemoryError("no memory for a room of %d bytes" % room) from error
-        if end.status != NO_ROOM or not end.wanting:
+        if end.status != NO_ROOM or end.wanting == NEVER:
             return end.status, text, made
         # the search begins anew, so the next room is ample
         room = max(end.wanting, 4 * room)

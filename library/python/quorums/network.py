@@ -98,7 +98,7 @@ class Quorums:
     def ask(self, command, second, options, **files):
         """What is answered to a command, whose second file may be named."""
         words = [command, "config", *second]
-        if options.get("faulty_orgs") is not None:
+        if options.get("faulty_orgs") is not None or command == "org-blocking" or command == "check" and self.orgs:
             words.append("--orgs=orgs")
         return asked(words, options, config=self.config, orgs=self.orgs, room=self.room, call=self.call, **files)
 
@@ -153,8 +153,12 @@ class Quorums:
         """A smallest quorum."""
         return self.search("least", {"budget": budget, **common})
 
+    def org_blocking(self, budget=None, **common):
+        """All minimal sets of organisations, and of nodes of none, that block; each by its text, `org:ID` or `node:KEY`."""
+        return self.search("org-blocking", {"budget": budget, **common})
+
     def check(self, certificate):
-        """What a certificate says, if it holds of this configuration."""
+        """What a certificate says, if it holds of this configuration, and of these organisations if it is about them."""
         return self.ask("check", ["cert"], {}, cert=certificate)
 
     def export(self, **common):

@@ -26,4 +26,5 @@ returns-clause-answered c =
     ended_as (words_of c.args.words.now) (files_named c.args.files.config.now c.args.files.orgs.now c.args.files.script.now c.args.files.cert.now)
     _ after.room.ghost_name end.room.ghost_name c.args.room.now _ after.room.now end.room.now (said_in after)
     (state_of before) (state_of after) c.run-status.result c.close.result c.new-desk.ensures.state runs refl c.close.ensures.same_room
-    (search rules) (search rules) c.close.ensures.len c.close.ensures.status c.close.ensures.holds c.close.ensures.wanting c.close.ensures.enough
+    (search rules) (search rules) c.close.ensures.len c.close.ensures.status c.close.ensures.holds
+    c.close.ensures.within c.close.ensures.nothing c.close.ensures.wanting c.close.ensures.enough

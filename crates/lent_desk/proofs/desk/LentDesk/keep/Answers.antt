@@ -25,7 +25,8 @@ invariant_of-self c =
       spans_fit = subst (FitAll more) (sym c.set.ensures) (fit_all_with o.file span d.spans d.kept more (omega (arith, below), omega arith) (omega arith) d.spans_fit);
       left_fits = more_left d.left d.kept more (omega arith) d.left_fits;
       is_open = subst (λ (s : Spans). ForSome d.created (IsOpen more s)) (sym c.set.ensures) (subst (λ (it : Option Open). ForSome it (IsOpen more (with_span o.file span d.spans))) (sym c.requires.opened) (is_open_with o more d.spans));
-      wants = subst (λ n. 0 < d.wanting → n < d.wanting) (sym c.put_at.ensures.len) d.wants;
+      wants = subst (λ n. 0 < d.writes → n < d.wanting) (sym c.put_at.ensures.len) d.wants;
+      wants_nothing = d.wants_nothing;
     }
 
 pub returns-clause-kept : goal.returns-clause-kept

@@ -16,4 +16,5 @@ invariant_of-self c =
       left_fits = d.left_fits;
       is_open = subst (λ (s : Spans). ForSome (Some (record { file = c.args.file; from = d.kept })) (IsOpen d.kept s)) (sym c.set.ensures) (is_open_with (record { file = c.args.file; from = d.kept }) d.kept d.spans);
       wants = d.wants;
+      wants_nothing = d.wants_nothing;
     }
