@@ -1,7 +1,7 @@
 #!/usr/bin/env python3
 """The tables of lists and of `least` beside clasp (Debian's packages clasp and gringo).
 
-For blocking sets clasp enumerates the subset-minimal sets that meet the minimal quorums which our run has found; for quorums the
+For blocking sets clasp enumerates the subset-minimal sets, of nodes or of organisations, that meet the quorums which our run has listed; for quorums the
 subset-minimal answer sets of the system as a logic program, and for `least` it minimizes over these. It proves nothing, and gringo's time is not counted. A row has single
 runs: processor time and largest memory of the list with its certificate, and of `check`. Both numbers of sets have to agree.
 
@@ -60,17 +60,46 @@ LEAST = {
 }
 
 
+def owned(names, size):
+    """Organisations of so many of the nodes each, in order."""
+    return [{"id": "o%04d" % (at // size), "validators": names[at : at + size]} for at in range(0, len(names), size)]
+
+
+def grouped(count, needed, size, threshold):
+    """The same organisations as nodes and as a file of them."""
+    nodes = organisations(count, needed, size, threshold)
+    return nodes, owned([node["publicKey"] for node in nodes], size)
+
+
+def apart(count, size):
+    """Organisations that agree each by itself."""
+    names = ["n%05d" % v for v in range(count * size)]
+    wanted = [{"threshold": size - 1, "validators": names[at : at + size]} for at in range(0, count * size, size)]
+    return [{"publicKey": name, "quorumSet": wanted[v // size]} for v, name in enumerate(names)], owned(names, size)
+
+
+SEVEN = watchers.Made("seven")
+ORGS = {
+    "7 organisations (5 needed), each 2 of 3": grouped(7, 5, 3, 2),
+    "16 (11), each 2 of 3": grouped(16, 11, 3, 2),
+    "watchers:seven": (SEVEN.nodes, SEVEN.organisations()),
+    "4,096 apart, each 3 of 4": apart(4096, 4),
+}
+
+
 class Listed:
     """An answer with its certificate: the number that is printed, the runs, the units, and the quorums of the certificate."""
 
-    def __init__(self, program, word, nodes, folder):
-        config, cert = os.path.join(folder, "config"), os.path.join(folder, "cert")
-        with open(config, "w") as it:
-            json.dump(nodes, it)
-        self.run = runs.run([program, word, config, cert, "--budget", BUDGET], LIMIT)
+    def __init__(self, program, word, nodes, folder, orgs):
+        config, cert, given = (os.path.join(folder, it) for it in ("config", "cert", "orgs"))
+        for path, tree in ((config, nodes), (given, orgs)):
+            with open(path, "w") as it:
+                json.dump(tree, it)
+        more = ["--orgs", given] if orgs is not None else []
+        self.run = runs.run([program, word, config, cert, *more, "--budget", BUDGET], LIMIT)
         if not self.run.ended:
             return
-        self.check = runs.run([program, "check", config, cert])
+        self.check = runs.run([program, "check", config, cert, *more])
         said, again = self.run.text.splitlines(), self.check.text.splitlines()
         if again[:1] != ["accepted " + said[0]] or again[3:] != said[1:]:
             raise SystemExit("check says %s" % again[:4])
@@ -131,31 +160,41 @@ def smallest(program, wanted):
     return clasp(program + "#minimize { 1,X : in(X) }.\n", ["--opt-strategy=usc"], "Optimization", wanted)
 
 
-def beside(word, nodes, it):
+def by_group(quorums, orgs):
+    """The organisations that have a node in each quorum, and its nodes that are in none."""
+    owners = {}
+    for org in orgs:
+        for name in org["validators"]:
+            owners.setdefault(name, []).append("org:" + org["id"])
+    return [sorted({text for name in quorum for text in owners.get(name, ["node:" + name])}) for quorum in quorums]
+
+
+def beside(word, nodes, it, orgs):
     """Clasp's run on the same question."""
     if word == "quorums":
         return minimal(logic(nodes), "5,16", it.sets)
     if word == "least":
         return smallest(logic(nodes), it.sets)
-    return minimal(hitting(sorted({name for quorum in it.quorums for name in quorum}), it.quorums), "false,show", it.sets)
+    quorums = it.quorums if orgs is None else by_group(it.quorums, orgs)
+    return minimal(hitting(sorted({name for quorum in quorums for name in quorum}), quorums), "false,show", it.sets)
 
 
-def listed(program, word, name, nodes):
+def listed(program, word, name, nodes, orgs=None):
     with tempfile.TemporaryDirectory(dir=runs.MEMORY) as folder:
-        it = Listed(program, word, nodes, folder)
+        it = Listed(program, word, nodes, folder, orgs)
     if not it.run.ended:
         return runs.row([name, "-", "-", runs.seconds(it.run), it.run.memory, "-", "-", "-"])
-    its = beside(word, nodes, it) if runs.has("clasp") and runs.has("gringo") else None
+    its = beside(word, nodes, it, orgs) if runs.has("clasp") and runs.has("gringo") else None
     cells = [name, "{:,}".format(it.sets), "{:,}".format(it.units), runs.seconds(it.run), it.run.memory, runs.megabytes(it.size), runs.seconds(it.check)]
     return runs.row([*cells, runs.beside(it.run, its)])
 
 
 def made(program, quick):
     """The lines of the tables, one by one."""
-    for word, systems in (("blocking", BLOCKING), ("quorums", QUORUMS), ("least", LEAST)):
+    for word, systems in (("blocking", BLOCKING), ("org-blocking", ORGS), ("quorums", QUORUMS), ("least", LEAST)):
         yield from runs.head(["`%s` of" % word, "nodes" if word == "least" else "sets", "units", "s", "MB", "certificate, MB", "`check`, s", "clasp, s"])
         for name in list(systems)[: 1 if quick else None]:
-            yield listed(program, word, name, systems[name])
+            yield listed(program, word, name, *(systems[name] if word == "org-blocking" else (systems[name],)))
         yield ""
 
 

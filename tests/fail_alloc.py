@@ -7,6 +7,7 @@ is as it was; or the answer, the certificate among it, is to the byte what it is
 Beside the gate, by hand: tests/fail_alloc.py [PROGRAM]; its last line is 'fail_alloc: N passed, M failed'.
 """
 
+import hashlib
 import os
 import subprocess
 import sys
@@ -50,6 +51,9 @@ void *realloc(void *old, size_t size) { return is_refused() ? NULL : __libc_real
 
 FOUR = malicious.system("abcd", 3)
 ORGS = b'[{"id":"A","validators":["a","zz"]}]'
+# Each of the three groups wants another with it: node:b, node:c and org:A.
+GROUPS = malicious.head(malicious.THREE, "org-blocking", version=2) + b"orgs " + hashlib.sha256(ORGS).hexdigest().encode() + b"\n"
+GROUPS += b"q 1 a b\nq 2 a c\nq 3 b c\nb 4 node:b node:c\nb 5 node:b org:A\nb 6 node:c org:A\n7 -1 0 4 5 2 0\n8 0 7 1 3 6 0\nend\n"
 SCRIPT = b"threshold a . 3\nadd b . d\ndeclare d\nadd d . d\ndrop b . c\nretire c\n"
 # A search over its formula is not done when that begins anew over gates written out.
 DRAWN = trials.drawn(20, 10, 6, 1).encode()
@@ -70,6 +74,10 @@ RUNS = [
     ("least config cert", malicious.THREE, malicious.OLD),
     ("least config cert --budget 3", malicious.THREE, malicious.OLD),
     ("check config cert", malicious.THREE, malicious.LEAST),
+    ("org-blocking config cert --orgs orgs", malicious.THREE, malicious.OLD),
+    ("org-blocking config cert --orgs orgs --budget 3", malicious.THREE, malicious.OLD),
+    ("check config cert --orgs orgs", malicious.THREE, GROUPS),
+    ("check config cert", malicious.THREE, GROUPS),
     ("dset config cert --set a", FOUR, malicious.OLD),
     ("splits config cert --set a", malicious.APART, malicious.OLD),
     ("trial 1 cert", malicious.EMPTY, malicious.OLD),

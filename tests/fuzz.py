@@ -39,9 +39,9 @@ REFUSALS = {
     10: rb"script [a-z].*\n",
 }
 ANSWERS = rb"(?!usage|config|orgs|refused|too-large|script)(.+\n)+"
-SEARCHES = ("intersect", "splits", "dset", "blocking", "quorums", "least")
+SEARCHES = ("intersect", "splits", "dset", "blocking", "quorums", "least", "org-blocking")
 # What lists minimal sets.
-LISTS = ("blocking", "quorums")
+LISTS = ("blocking", "quorums", "org-blocking")
 
 # Numbers at the edges of what the formats allow, and texts that are no numbers.
 EDGES = "0 1 2 3 -1 -2 -0 +1 01 00 32 33 127 128 16384 2147483647 -2147483647 2147483648 -2147483648 4294967296 9223372036854775807 -9223372036854775807 9223372036854775808 18446744073709551615 18446744073709551616 1.0 1e0 x d".split()
@@ -83,6 +83,11 @@ def compact(tree):
 
 def random_config(rng):
     return compact(random_nodes(rng))
+
+
+def random_orgs(rng, ids="ABCD"):
+    """Organisations that overlap, lack members or name strangers."""
+    return [{"id": it, "validators": rng.sample("abcdefgz", rng.randint(0, 4))} for it in rng.sample(ids, rng.randint(0, 3))]
 
 
 def trial_config(count):
@@ -165,6 +170,17 @@ class Subject:
         self.given = sorted(some)
         self.faulty = set(some) & part
         self.system = {name: self.whole[name] for name in part}
+        self.orgs = compact(random_orgs(rng))
+        self.groups = plain.groups_of(plain.orgs_of(self.orgs, self.whole), part)
+
+    def touched(self):
+        """The groups that have a member in the greatest quorum, in order."""
+        greatest = self.shrunk(set(self.system))
+        return sorted(text for text, members in self.groups.items() if members & greatest)
+
+    def groups_block(self, texts):
+        nodes = set().union(*(self.groups[text] for text in texts))
+        return plain.blocks(self.system, self.faulty, nodes - self.faulty)
 
     def header(self, kind):
         start = " " + self.start if self.start else ""
@@ -207,6 +223,15 @@ def random_block(rng, subject):
         if plain.blocks(subject.system, subject.faulty, nodes - {name}) and rng.random() < 0.97:
             nodes = nodes - {name}
     return nodes
+
+
+def random_group_block(rng, subject):
+    """Some blocking set of groups, mostly a minimal one; now and then with a group that has no variable."""
+    texts = set(subject.groups if rng.random() < 0.05 else subject.touched())
+    for text in rng.sample(sorted(texts), len(texts)):
+        if subject.groups_block(texts - {text}) and rng.random() < 0.97:
+            texts = texts - {text}
+    return texts
 
 
 def propagated(held, literals):
@@ -256,6 +281,9 @@ def fault_of_units(subject, cert):
     sought = "q" if kind.endswith(("quorums", "least")) else "b"
     order = sorted(subject.shrunk(set(subject.system)))
     held = {}
+    has_groups = kind.endswith("org-blocking")
+    if has_groups:
+        order, lines = subject.touched(), lines[1:]
     if kind.endswith("least"):
         held = {i: frozenset(it) for i, it in enumerate(plain.counter_of(len(order)), 1)}
         lines = lines[1:]
@@ -269,7 +297,8 @@ def fault_of_units(subject, cert):
             continue
         if words[0] in ("q", "b"):
             number, sign = int(words[1]), -1 if words[0] == sought else 1
-            clause = frozenset(sign * (order.index(it) + 1) for it in words[2:])
+            named = [it for it in order if subject.groups[it] & set(words[2:])] if has_groups and words[0] == "q" else words[2:]
+            clause = frozenset(sign * (order.index(it) + 1) for it in named)
         elif words[1] == "d":
             for it in words[2:-1]:
                 del held[int(it)]
@@ -335,24 +364,28 @@ def random_body(rng, subject, kind):
         lines = ["formula %d %d" % (formula.variables, len(formula.clauses))] + lines
     else:
         lines, held, last = [], {}, 0
-        order = sorted(subject.shrunk(set(subject.system)))
+        has_groups = kind.endswith("org-blocking")
+        order = subject.touched() if has_groups else sorted(subject.shrunk(set(subject.system)))
         size, variables = len(order), len(order)
+        if has_groups:
+            lines.append("orgs " + hashlib.sha256(subject.orgs).hexdigest())
         if kind.endswith("least"):
             held = {i: frozenset(it) for i, it in enumerate(plain.counter_of(size), 1)}
             last, variables = size * size, plain.counted(size, size, size) if size else 0
             lines.append("counter %d %d" % (variables, last))
         for _ in range(rng.randint(0, 6)):
             letter = rng.choice("sb" if kind.endswith("least") else "qb")
-            nodes = random_block(rng, subject) if letter == "b" else random_quorum(rng, subject)
+            nodes = (random_group_block if has_groups else random_block)(rng, subject) if letter == "b" else random_quorum(rng, subject)
             if letter == "b" or nodes:
                 last += 1
-                held[last] = frozenset((-1 if letter == plain.SOUGHT[kind].decode() else 1) * (order.index(it) + 1) for it in nodes if it in order)
+                named = [it for it in order if subject.groups[it] & nodes] if has_groups and letter == "q" else nodes
+                held[last] = frozenset((-1 if letter == plain.SOUGHT[kind].decode() else 1) * (order.index(it) + 1) for it in named if it in order)
                 if letter == "s":
                     held[last] = frozenset([-plain.counted(size, size, len(nodes))])
                 lines.append("%s %d%s" % (letter, last, plain.spelled(nodes)))
         more, last = random_steps(rng, held, variables, last, rng.random() < 0.05)
         lines += more
-    return lines + (empty_lemma(held, last) if kind in ("refutation", "blocking", "quorums", "least") else [])
+    return lines + ([] if kind.startswith("partial") else empty_lemma(held, last))
 
 
 def random_proof(rng, subject):
@@ -371,7 +404,8 @@ def still_a_line(rng, line, subject):
     words = line.split(" ")
     if words[0] in ("faulty", "first", "second", "q", "b"):
         fixed = 2 if words[0] in ("q", "b") else 1
-        names = set(words[fixed:]) ^ {rng.choice(subject.names + ["z"])}
+        has_groups = words[0] == "b" and (rng.random() < 0.1 or any(":" in it for it in words[2:]))
+        names = set(words[fixed:]) ^ {rng.choice(sorted(subject.groups) + ["org:Z"] if has_groups else subject.names + ["z"])}
         if fixed == 2 and len(words) > 1 and rng.random() < 0.2:
             words[1] = rng.choice(["1", "2", "7", "9223372036854775807"])
         return " ".join(words[:fixed] + sorted(names))
@@ -490,7 +524,7 @@ def mutated_words(rng, words):
         elif kind == 1:
             words.insert(at, rng.choice(["--set", "--set=", "--set=a,b", "--faulty", "--faulty=a", "--from=a", "--from", "--node=a", "--orgs=orgs", "--faulty-orgs=A", "--budget=0", "--budget=4000000000", "--budget=4000000001", "--budget=-1", "--budget=01", "--budget=+1", "--budget=", "--", "-", "-x", "--help", "-h", "--version", "help", "", "config", "cert", "script", "=", "--=", "a", "--budget=18446744073709551616"]))
         elif kind == 2 and words:
-            words[at % len(words)] = rng.choice(["show", "closure", "greatest", "intersect", "available", "dset", "blocks", "vblocks", "splits", "blocking", "quorums", "least", "check", "check-lrat", "export", "trial", "whatif", "missing", "config", "cert", "script"])
+            words[at % len(words)] = rng.choice(["show", "closure", "greatest", "intersect", "available", "dset", "blocks", "vblocks", "splits", "blocking", "quorums", "least", "org-blocking", "check", "check-lrat", "export", "trial", "whatif", "missing", "config", "cert", "script"])
         elif kind == 3 and words:
             other = rng.randrange(len(words))
             at %= len(words)
@@ -559,7 +593,7 @@ class Program:
     def wanted(self, case):
         """The status and the text by the plain checker, where it says them."""
         if case.kind == "check":
-            self.said = plain.check(case.files["config"], case.files["cert"])
+            self.said = plain.check(case.files["config"], case.files["cert"], case.files.get("orgs"))
             return self.said
         if case.kind == "proof":
             subject = case.wanted
@@ -577,7 +611,7 @@ class Program:
         if status not in (0, 1, 2):
             return "status %d of a search over a right configuration" % status
         command, subject, budget = case.wanted
-        found, said = plain.check(subject.data, cert)
+        found, said = plain.check(subject.data, cert, case.files.get("orgs"))
         head = "".join(line + "\n" for line in said.split("\n")[1:3])
         start = " " + subject.start if subject.start else ""
         if head != "from%s\nfaulty%s\n" % (start, plain.spelled(subject.faulty)):
@@ -628,12 +662,15 @@ class Program:
 
 
 def minimal_sets(command, subject, every):
-    """What 'blocking' and 'quorums' list, by trying all sets of nodes."""
-    names = sorted(set(subject.system) - subject.faulty)
+    """What 'blocking', 'quorums' and 'org-blocking' list, by trying all sets of nodes or of groups."""
+    names = sorted(subject.groups if command == "org-blocking" else set(subject.system) - subject.faulty)
     found = []
     for size in range(len(names) + 1):
         for nodes in map(set, itertools.combinations(names, size)):
-            is_one = nodes in every if command == "quorums" else plain.blocks(subject.system, subject.faulty, nodes)
+            if command == "org-blocking":
+                is_one = subject.groups_block(nodes)
+            else:
+                is_one = nodes in every if command == "quorums" else plain.blocks(subject.system, subject.faulty, nodes)
             if is_one and not any(it <= nodes for it in found):
                 found.append(nodes)
     lines = sorted(tuple(sorted(it)) for it in found)
@@ -742,7 +779,10 @@ class Maker:
             cert = mutated_bytes(rng, cert)
         if rng.random() < 0.02:
             cert = cert[: rng.randrange(len(cert) + 1)]
-        return Case("check", ["check", "config", "cert"], {"config": subject.data, "cert": cert}, None)
+        files = {"config": subject.data, "cert": cert}
+        if rng.random() < (0.97 if b"org-blocking" in cert else 0.1):
+            files["orgs"] = mutated_json(rng, subject.orgs) if rng.random() < 0.05 else subject.orgs
+        return Case("check", ["check", "config", "cert"] + (["--orgs=orgs"] if "orgs" in files else []), files, None)
 
     def proof(self):
         """A proof of a formula that is exported, mostly a changed one."""
@@ -771,8 +811,11 @@ class Maker:
             words += subject.options() + ["--set="]
         else:
             words += subject.options()
-        case = Case("search", words, {"config": subject.data, "cert": b"old\n"}, (command, subject, budget))
-        return case
+        files = {"config": subject.data, "cert": b"old\n"}
+        if command == "org-blocking":
+            words.append("--orgs=orgs")
+            files["orgs"] = subject.orgs
+        return Case("search", words, files, (command, subject, budget))
 
     def trial(self):
         """The trial configuration of a few organisations."""
@@ -820,8 +863,7 @@ class Maker:
 
     def orgs(self):
         rng = self.rng
-        orgs = [{"id": it, "validators": rng.sample("abcdefghz", rng.randint(0, 3))} for it in rng.sample(["A", "B", "C", "D,E", "F"], rng.randint(0, 3))]
-        data = compact(orgs)
+        data = compact(random_orgs(rng, ["A", "B", "C", "D,E", "F"]))
         data = mutated_json(rng, data) if rng.random() < 0.7 else data
         ids = ",".join(rng.choice(["A", "A", "B", "C", "X", "", "é", "A B"]) for _ in range(rng.choice([0, 1, 1, 2])))
         return Case("orgs", ["greatest", "config", "--orgs", "orgs", "--faulty-orgs=" + ids], {"config": self.config(), "orgs": data}, None)
@@ -858,7 +900,9 @@ class Maker:
                 ["blocking", "config", "cert"],
                 ["quorums", "config", "cert", "--budget", "9"],
                 ["least", "config", "cert", "--budget", "9"],
+                ["org-blocking", "config", "cert", "--orgs", "orgs", "--faulty", names, "--budget", "9"],
                 ["check", "config", "cert"],
+                ["check", "config", "cert", "--orgs", "orgs"],
                 ["check-lrat", "config", "cert", "--faulty", names],
                 ["export", "config", "--faulty", names],
                 ["trial", "1", "cert", "--budget", "2"],

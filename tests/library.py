@@ -77,6 +77,8 @@ def questions():
     yield from [([], {}), (["--help"], {}), (["show"], {}), (["show", "config"], {}), (["show", "missing"], three)]
     yield from [(["show", "config"], it) for it in (three, network, trial, {"config": b"[{}]"}, {"config": b"\xff"})]
     yield from [(["show", "config", "--node", "\u00e9"], three), (["closure", "config", "--node", "\u00e9"], three)]
+    orgs = {**three, "cert": example("groups.cert"), "orgs": example("groups.json")}
+    yield from [(["check", "config", "cert"], orgs), (["check", "config", "cert", "--orgs=orgs"], orgs), (["check", "config", "cert", "--orgs=orgs"], {**orgs, "orgs": b"[]"})]
     for cert, files in (("pair.cert", three), ("blocking.cert", three), ("least.cert", three), ("two.cert", two)):
         yield ["check", "config", "cert"], {**files, "cert": example(cert)}
         yield ["check", "config", "cert"], {**files, "cert": example(cert)[:-9]}
@@ -89,6 +91,7 @@ def questions():
             yield [*search, "--budget", "2"], files
     yield ["intersect", "config", "made", "--faulty", "a"], three
     yield ["intersect", "config", "made", "--orgs", "orgs", "--faulty-orgs", "alder"], network
+    yield from [(["org-blocking", "config", "made", "--orgs", "orgs", *more], network) for more in ([], ["--faulty-orgs", "alder"], ["--budget", "2"])]
     yield ["whatif", "config", "script", "--set", "GWATCH"], network
     for line, config, cert in fail_alloc.RUNS:
         if " faulty" not in line.replace("--faulty", ""):
@@ -232,6 +235,8 @@ class Trial:
                 status, text, cert, wanting, beside = self.in_room(words, files, room)
                 right = (status, text, cert, wanting) == (*wanted, 0) if room >= needed else (status, text, cert) == (7, b"", b"") and room < wanting <= needed
                 self.judge(right and beside, "%s in a room of %d: %r" % (line, room, (status, len(text), len(cert), wanting, beside)))
+        no_file = self.in_room(["intersect", "config", "other"], {"config": malicious.THREE}, 1 << 16)
+        self.same("a certificate that the library makes in no room", no_file[:4], (7, b"", b"", binding.NEVER))
 
     def in_room(self, words, files, room):
         """A call in the middle of a larger buffer, and whether the rest of that stayed as it was."""
@@ -336,6 +341,8 @@ class Trial:
         self.same("yes", (three.intersect().yes, three.intersect(budget=0).yes, three.intersect(faulty="").yes), (True, None, True))
         self.same("lists", (three.blocking().sets, three.quorums().sets), ([("a", "b"), ("a", "c"), ("b", "c")],) * 2)
         self.same("a smallest quorum", (three.least()["least"], len(three.least()["set"])), (("2",), 2))
+        stop = network.org_blocking()
+        self.same("organisations that stop it", (stop.sets, network.check(stop.certificate).sets), ([("org:alder", "org:beech"), ("org:alder", "org:cedar"), ("org:beech", "org:cedar")],) * 2)
         self.same("plain", (three.closure("a")["closure"], three.greatest(faulty="a,b")["greatest"], three.show()["nodes"]), (("a", "b", "c"), ("c",), ("3",)))
         self.same("sets", (three.available("a").yes, three.dset(["a"]).yes, three.blocks(["a", "b"]).yes, three.vblocks("a", ["b"]).yes, three.splits("a").yes), (True, False, True, False, True))
         self.same("organisations", network.intersect(faulty_orgs=["alder"]).status, self.program.answer(["intersect", "config", "made", "--orgs=orgs", "--faulty-orgs=alder"], {"config": network.config, "orgs": network.orgs})[0])

@@ -308,6 +308,53 @@ LISTS = [
     ("some quorums", THREE, head(THREE, "partial-quorums", version=2) + b"q 1 a b\nend\n", 2, "accepted partial-quorums 1\nfrom\nfaulty\n"),
 ]
 
+# The same beside organisations, where two of the three nodes are one.
+TOGETHER = b'[{"id":"A","validators":["a","b"]}]'
+BESIDE = b"orgs " + hashlib.sha256(TOGETHER).hexdigest().encode() + b"\n"
+GROUPS = head(THREE, "org-blocking", version=2) + BESIDE + b"q 1 a b\nb 2 org:A\n3 0 1 2 0\nend\n"
+SOME_GROUPS = head(THREE, "partial-org-blocking", version=2) + BESIDE
+STOPPED = "accepted org-blocking 1\nfrom\nfaulty\nset org:A\n"
+
+
+def beside(orgs):
+    """The certificate of no group, beside these organisations."""
+    return head(EMPTY, "org-blocking", version=2) + b"orgs " + hashlib.sha256(orgs).hexdigest().encode() + b"\nb 1\n2 0 1 0\nend\n"
+
+
+GROUPED = [
+    ("as it should be", THREE, TOGETHER, GROUPS, 0, STOPPED),
+    ("a space behind the organisations", THREE, TOGETHER + b" ", GROUPS, 5, "refused orgs-digest %s %s\n" % (hashlib.sha256(TOGETHER).hexdigest(), hashlib.sha256(TOGETHER + b" ").hexdigest())),
+    ("the digest of the configuration", THREE, TOGETHER, GROUPS.replace(BESIDE, b"orgs " + GROUPS[19:83] + b"\n"), 5, "refused orgs-digest %s %s\n" % (hashlib.sha256(THREE).hexdigest(), hashlib.sha256(TOGETHER).hexdigest())),
+    ("no digest", THREE, TOGETHER, GROUPS.replace(BESIDE, b""), 5, "refused bad-line 6\n"),
+    ("63 digits", THREE, TOGETHER, GROUPS.replace(BESIDE, BESIDE[:-2] + b"\n"), 5, "refused bad-line 6\n"),
+    ("upper-case digits", THREE, TOGETHER, GROUPS.replace(BESIDE, b"orgs " + BESIDE[5:].upper()), 5, "refused bad-line 6\n"),
+    ("the digest twice", THREE, TOGETHER, GROUPS.replace(BESIDE, BESIDE * 2), 5, "refused bad-line 7\n"),
+    ("nothing behind the kind", THREE, TOGETHER, head(THREE, "org-blocking", version=2), 5, "refused truncated 6\n"),
+    ("version 1", THREE, TOGETHER, GROUPS.replace(b"cert 2", b"cert 1"), 5, "refused bad-line 5\n"),
+    ("a node for its group", THREE, TOGETHER, GROUPS.replace(b"b 2 org:A", b"b 2 a b"), 5, "refused unknown-node 8\n"),
+    ("the node of an organisation as a group", THREE, TOGETHER, GROUPS.replace(b"b 2 org:A", b"b 2 node:a node:b"), 5, "refused unknown-node 8\n"),
+    ("a group for a node", THREE, TOGETHER, GROUPS.replace(b"q 1 a b", b"q 1 org:A"), 5, "refused unknown-node 7\n"),
+    ("an organisation that is not there", THREE, TOGETHER, GROUPS.replace(b"org:A", b"org:B"), 5, "refused unknown-node 8\n"),
+    ("groups out of order", THREE, TOGETHER, GROUPS.replace(b"b 2 org:A", b"b 2 org:A node:c"), 5, "refused bad-line 8\n"),
+    ("a set of nobody", THREE, TOGETHER, GROUPS.replace(b"b 2 org:A", b"b 2"), 5, "refused not-blocking 8\n"),
+    ("a set that does not block", THREE, TOGETHER, GROUPS.replace(b"b 2 org:A", b"b 2 node:c"), 5, "refused not-blocking 8\n"),
+    ("a set that is not minimal", THREE, TOGETHER, GROUPS.replace(b"b 2 org:A", b"b 2 node:c org:A"), 5, "refused not-minimal 8\n"),
+    ("a set again", THREE, TOGETHER, GROUPS.replace(b"3 0", b"b 3 org:A\n4 0"), 5, "refused not-new 9\n"),
+    ("a quorum again", THREE, TOGETHER, GROUPS.replace(b"q 1 a b\nb 2 org:A\n3 0", b"q 1 a b\nq 2 a b\nb 3 org:A\n4 0").replace(b"1 2 0\nend", b"1 3 0\nend"), 0, STOPPED),
+    ("no quorum", THREE, TOGETHER, GROUPS.replace(b"q 1 a b", b"q 1 a"), 5, "refused not-quorum 7\n"),
+    ("a quorum of more groups", THREE, TOGETHER, GROUPS.replace(b"q 1 a b", b"q 1 a b c"), 5, "refused step 9 not-unit 1\n"),
+    ("a literal above the groups", THREE, TOGETHER, GROUPS.replace(b"3 0", b"3 3 0"), 5, "refused step 9 bad-literal 3\n"),
+    ("no empty lemma", THREE, TOGETHER, GROUPS.replace(b"3 0 1 2 0\n", b""), 5, "refused not-refuted 9\n"),
+    ("one set of some", THREE, TOGETHER, SOME_GROUPS + b"b 1 org:A\nend\n", 2, "accepted partial-org-blocking 1\nfrom\nfaulty\n"),
+    ("a greater quorum of some", THREE, TOGETHER, SOME_GROUPS + b"q 1 a b\nq 2 a b c\n", 5, "refused not-new 8\n"),
+    ("an empty lemma of some", THREE, TOGETHER, SOME_GROUPS + b"q 1 a b\n2 0 1 0\n", 5, "refused bad-line 8\n"),
+    ("nobody of no nodes", EMPTY, b"[]", beside(b"[]"), 0, "accepted org-blocking 1\nfrom\nfaulty\nset\n"),
+    ("nobody beside 4,096 organisations of strangers", EMPTY, ORGANISATIONS[8][1], beside(ORGANISATIONS[8][1]), 0, "accepted org-blocking 1\nfrom\nfaulty\nset\n"),
+    ("an organisation of strangers", THREE, b'[{"id":"Z","validators":["z"]}]', (head(THREE, "org-blocking", version=2) + b"orgs " + hashlib.sha256(b'[{"id":"Z","validators":["z"]}]').hexdigest().encode() + b"\nb 1 org:Z\n"), 5, "refused unknown-node 7\n"),
+    ("another kind", THREE, TOGETHER, BLOCKING, 0, LISTED),
+    ("another kind beside what is no organisation", THREE, b"[1]", BLOCKING, 4, "orgs bad-org 0\n"),
+]
+
 # What 'check-lrat' says of a proof of the formula of two nodes, which has 6 variables and 12 clauses.
 FIRST = b"13 -1 0 7 6 3 4 2 0\n"
 LAST = b"14 0 13 1 8 5 0\n"
@@ -427,10 +474,12 @@ class Trial:
         with open(os.path.join(self.folder, name), "rb") as it:
             return it.read()
 
-    def full_files(self, *words):
+    def full_files(self, *words, beside=()):
         """A search whose certificate finds no room behind so many bytes, for each number below its length: the file is as it was."""
         self.put("config", THREE)
+        self.put("orgs", TOGETHER)
         self.put("made", OLD)
+        words += beside
         self.run(*words)
         whole = self.held("made")
         self.put("made", OLD)
@@ -441,7 +490,7 @@ class Trial:
             if most % 8 == 0:
                 line = 1 + whole[:most].count(b"\n")
                 self.put("front", whole[:most])
-                self.row("the first %d bytes" % most, 5, "refused truncated %d\n" % line, "check", "config", "front")
+                self.row("the first %d bytes" % most, 5, "refused truncated %d\n" % line, "check", "config", "front", *beside)
                 os.remove(os.path.join(self.folder, "front"))
 
 
@@ -458,6 +507,14 @@ def rows(trial):
         trial.put("config", config)
         trial.put("cert", cert)
         trial.row("certificate: " + name, status, text, "check", "config", "cert")
+    for name, config, orgs, cert, status, text in GROUPED:
+        for it, data in (("config", config), ("orgs", orgs), ("cert", cert)):
+            trial.put(it, data)
+        trial.row("certificate beside organisations: " + name, status, text, "check", "config", "cert", "--orgs", "orgs")
+    trial.put("config", THREE)
+    for name, cert, text in (("without them", GROUPS, "refused no-orgs\n"), ("without them and with a faulty line", GROUPS.replace(b"orgs ", b"orgs  "), "refused bad-line 6\n")):
+        trial.put("cert", cert)
+        trial.row("certificate beside organisations: " + name, 5, text, "check", "config", "cert")
     trial.put("config", TWO)
     for name, proof, status, text in PROOFS:
         trial.put("cert", proof)
@@ -480,6 +537,7 @@ def main(program=BUILT):
         trial.full_files("blocking", "config", "made")
         trial.full_files("quorums", "config", "made")
         trial.full_files("least", "config", "made")
+        trial.full_files("org-blocking", "config", "made", beside=("--orgs", "orgs"))
     print("malicious: %d passed, %d failed" % (trial.passed, trial.failed))
     return 1 if trial.failed else 0
 

@@ -2,7 +2,7 @@
 """A second checker of certificates, of proofs and of edits, plain and slow, written from docs/FORMATS.md and docs/DEFINITIONS.md and not from the code.
 
 It answers 'check CONFIG CERT', 'check-lrat CONFIG LRAT' and 'whatif CONFIG SCRIPT' with the program's status and text, and reads organisations, so
-that tests/fuzz.py can compare the two. Nothing here is proved. By hand: tests/plain_checker.py CONFIG CERT
+that tests/fuzz.py can compare the two. Nothing here is proved. By hand: tests/plain_checker.py CONFIG CERT [ORGS]
 """
 
 import hashlib
@@ -14,6 +14,7 @@ import sys
 MOST_BYTES = 16777216
 MOST_SCRIPT = 1048576
 MOST_NAMES = 16384
+MOST_ORGS = 4096
 MOST_ENTRIES = 1000000
 MOST_DEPTH = 32
 MOST_VARS = 4000000
@@ -22,10 +23,12 @@ MOST_ID = 2**63 - 1
 MOST_LIT = 2**31 - 1
 
 KINDS = ("pair", "refutation", "partial", "blocking", "partial-blocking", "quorums", "partial-quorums", "least", "partial-least")
+KINDS += ("org-blocking", "partial-org-blocking")
 # The kinds of version 2 alone.
 LATER = KINDS[5:]
 # The letter of the sets that a list is of.
-SOUGHT = {"blocking": b"b", "partial-blocking": b"b", "quorums": b"q", "partial-quorums": b"q", "least": b"s", "partial-least": b"s"}
+SOUGHT = {"blocking": b"b", "quorums": b"q", "least": b"s", "org-blocking": b"b"}
+SOUGHT.update({"partial-" + kind: letter for kind, letter in SOUGHT.items()})
 
 sys.setrecursionlimit(10000)
 
@@ -163,9 +166,16 @@ def orgs_of(data, system):
         if validators is None:
             raise Fault("bad-org %d" % place)
         orgs[it["id"]] = set(validators) & set(system)
-    if len(orgs) > MOST_NAMES:
+    if len(orgs) > MOST_ORGS:
         raise Fault("too-many-orgs %d" % len(orgs))
     return orgs
+
+
+def groups_of(orgs, part):
+    """The organisations by their texts, members cut to the part, and each node of the part that is in none."""
+    groups = {"org:" + name: members & part for name, members in orgs.items()}
+    groups.update({"node:" + node: {node} for node in part.difference(*orgs.values())})
+    return groups
 
 
 def listed(text, known):
@@ -493,8 +503,9 @@ def spelled(names):
 class Check:
     """Goes through a certificate line by line."""
 
-    def __init__(self, system, digest, data):
+    def __init__(self, system, digest, data, orgs=None, orgs_digest=None):
         self.whole, self.digest, self.data = system, digest, data
+        self.orgs, self.orgs_digest = orgs, orgs_digest
         self.at = 0
         self.line_number = 0
 
@@ -562,7 +573,8 @@ class Check:
         if kind in ("refutation", "partial"):
             self.formula()
         else:
-            self.order = sorted(greatest_in(self.system, self.faulty, set(self.system)))
+            greatest = greatest_in(self.system, self.faulty, set(self.system))
+            self.order = self.groups_line(greatest) if kind.endswith("org-blocking") else sorted(greatest)
             self.held = Held(len(self.order), [], takes_rat=False)
             if kind.endswith("least"):
                 self.counter()
@@ -572,7 +584,7 @@ class Check:
         if kind == "least":
             found = sets[-1] if sets else None
             return "least %s" % ("none" if found is None else len(found)), 0, "" if found is None else "set%s\n" % spelled(found)
-        if kind in ("blocking", "quorums"):
+        if kind in ("blocking", "quorums", "org-blocking"):
             return "%s %d" % (kind, len(set(sets))), 0, "".join("set%s\n" % spelled(each) for each in sorted(set(sets)))
         return "%s %d" % (kind, units), 2, ""
 
@@ -602,6 +614,16 @@ class Check:
             self.refuse("formula")
         self.held = Held(formula.variables, formula.clauses, takes_rat=True)
 
+    def groups_line(self, greatest):
+        """The groups that have a variable, in order, once the digest of the organisations is compared."""
+        (digits,) = self.matching(rb"orgs ([0-9a-f]{64})")
+        if self.orgs is None:
+            raise Refused("refused no-orgs")
+        if digits.decode() != self.orgs_digest:
+            raise Refused("refused orgs-digest %s %s" % (digits.decode(), self.orgs_digest))
+        self.groups = groups_of(self.orgs, set(self.system))
+        return sorted(text for text, members in self.groups.items() if members & greatest)
+
     def counter(self):
         said = self.matching(rb"counter (0|[1-9][0-9]*) (0|[1-9][0-9]*)")
         if any(len(it) > 19 or int(it) > MOST_ID for it in said):
@@ -616,7 +638,7 @@ class Check:
 
     def steps(self, kind):
         """The number of units, and the sets that a list is of, in their order."""
-        whole = kind in ("refutation", "blocking", "quorums", "least")
+        whole = not kind.startswith("partial")
         units, sets, closed = 0, [], False
         while True:
             line = self.line()
@@ -669,6 +691,8 @@ class Check:
             self.refuse("bad-line")
         number, names = int(digits), self.names(rest)
         self.judged(self.held.in_order, number)
+        if kind.endswith("org-blocking"):
+            return self.group_line(letter, number, names, kind)
         nodes = self.known(names, self.system)
         sought = letter == SOUGHT[kind]
         if letter == b"s" or letter == b"b" and not sought:
@@ -694,6 +718,27 @@ class Check:
         literals = [sign * (self.order.index(name) + 1) for name in sorted(nodes)]
         self.hold(number, literals, new=kind.startswith("partial") or sought)
         return nodes
+
+
+    def group_line(self, letter, number, names, kind):
+        """The same where a blocking set is one of groups."""
+        if letter == b"q":
+            nodes = self.known(names, self.system)
+            if not is_quorum(self.system, self.faulty, nodes):
+                self.refuse("not-quorum")
+            touched = {text for text in self.order if self.groups[text] & nodes}
+            self.hold(number, [self.order.index(text) + 1 for text in touched], new=kind.startswith("partial"))
+            return nodes
+        texts = self.known(names, self.order)
+        if not self.groups_block(texts):
+            self.refuse("not-blocking")
+        if any(self.groups_block(texts - {text}) for text in texts):
+            self.refuse("not-minimal")
+        self.hold(number, [-1 - self.order.index(text) for text in texts], new=True)
+        return texts
+
+    def groups_block(self, texts):
+        return blocks(self.system, self.faulty, set().union(*(self.groups[text] for text in texts)) - self.faulty)
 
 
 class Verification(Check):
@@ -875,26 +920,32 @@ def check_lrat(config, proof, start, faulty):
         return refused.status, refused.text
 
 
-def check(config, cert):
-    """The status and the text of 'check' of these bytes."""
+def check(config, cert, orgs=None):
+    """The status and the text of 'check' of these bytes, with a file of organisations or without."""
     try:
         system = system_of(config)
     except Fault as fault:
         return 4, "config %s\n" % fault
     try:
-        return Check(system, hashlib.sha256(config).hexdigest(), cert).accepted()
+        given = () if orgs is None else (orgs_of(orgs, system), hashlib.sha256(orgs).hexdigest())
+    except Fault as fault:
+        return 4, "orgs %s\n" % fault
+    try:
+        return Check(system, hashlib.sha256(config).hexdigest(), cert, *given).accepted()
     except Refused as refused:
         return refused.status, refused.text
 
 
-def main(config, cert):
-    with open(config, "rb") as it:
-        config_bytes = it.read(MOST_BYTES + 1)
-    with open(cert, "rb") as it:
-        status, text = check(config_bytes, it.read())
+def bytes_of(path):
+    with open(path, "rb") as it:
+        return it.read()
+
+
+def main(config, cert, orgs=None):
+    status, text = check(bytes_of(config)[: MOST_BYTES + 1], bytes_of(cert), None if orgs is None else bytes_of(orgs)[: MOST_BYTES + 1])
     sys.stdout.write(text)
     return status
 
 
 if __name__ == "__main__":
-    sys.exit(main(*sys.argv[1:3]))
+    sys.exit(main(*sys.argv[1:4]))

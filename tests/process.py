@@ -5,6 +5,7 @@ What no contract can say is shown here: that the machine's files are opened, rea
 device, a closed output or a file that may not be read ends as it should. Its last line is 'process: N passed, M failed'.
 """
 
+import hashlib
 import os
 import shutil
 import subprocess
@@ -31,12 +32,13 @@ blocks CONFIG --set NAMES [COMMON]
 vblocks CONFIG --node NAME --set NAMES
 splits CONFIG CERT --set NAMES [COMMON] [--budget UNITS]
 blocking CONFIG CERT [COMMON] [--budget UNITS]
-check CONFIG CERT
+check CONFIG CERT [--orgs ORGS]
 export CONFIG [COMMON]
 trial N CERT [--budget UNITS]
 check-lrat CONFIG LRAT [COMMON]
 quorums CONFIG CERT [COMMON] [--budget UNITS]
 least CONFIG CERT [COMMON] [--budget UNITS]
+org-blocking CONFIG CERT --orgs ORGS [--from NAME] [--faulty NAMES] [--faulty-orgs IDS] [--budget UNITS]
 whatif CONFIG SCRIPT --set NAMES
 COMMON: --from NAME --faulty NAMES --orgs ORGS --faulty-orgs IDS
 """
@@ -50,6 +52,10 @@ def system(nodes, threshold, is_rotated=False):
         names = ",".join('"%s"' % name for name in [*nodes[start:], *nodes[:start]])
         sets.append('{"publicKey":"%s","quorumSet":{"threshold":%d,"validators":[%s]}}' % (node, threshold, names))
     return "[" + ",".join(sets) + "]"
+
+
+def sha256(text):
+    return hashlib.sha256(text.encode()).hexdigest()
 
 
 def lemmas(certificate):
@@ -81,6 +87,8 @@ SPENT = HEAD + "faulty\nkind partial\nformula 16 25\nend\n"
 LISTED = HEAD + "faulty\nkind blocking\nq 1 a b\nq 2 a c\nq 3 b c\nb 4 a b\nb 5 a c\nb 6 b c\n7 -1 0 4 5 3 0\n8 0 7 1 2 6 0\nend\n"
 UNLISTED = HEAD + "faulty\nkind partial-blocking\nend\n"
 SETS = "set a b\nset a c\nset b c\n"
+# Two of them are one organisation.
+ORGS = '[{"id":"A","validators":["a","b"]}]'
 # Each needs both, and a proof of another solver that every two quorums share a node.
 TWO = system("pq", 2)
 PROOF = "c proof\n13 -1 0 7 6 3 4 2 0\n14 0 13 1 8 5 0\n"
@@ -101,6 +109,8 @@ FILES = {
     "one": organisations(1),
     "sixty": organisations(60),
     "none": "[]",
+    "orgs": ORGS,
+    "orgless": "[]",
     "bad": "{",
     "listed": LISTED,
     "cut": PAIR[:9],
@@ -148,6 +158,22 @@ ROWS = [
     ("check three fewest", 0, "accepted least 1\nfrom\nfaulty a b\nset c\n", {}),
     ("least three none --budget 0", 2, "least unknown 0\n", {}),
     ("check three none", 2, "accepted partial-least 0\nfrom\nfaulty\n", {}),
+    ("org-blocking three groups --orgs orgs", 0, "org-blocking 1\nset org:A\n", {"orgs": ORGS}),
+    ("check three groups --orgs orgs", 0, "accepted org-blocking 1\nfrom\nfaulty\nset org:A\n", {}),
+    ("check three groups", 5, "refused no-orgs\n", {}),
+    ("check three groups --orgs orgless", 5, "refused orgs-digest %s %s\n" % (sha256(ORGS), sha256("[]")), {}),
+    ("check three listed --orgs orgs", 0, "accepted blocking 3\nfrom\nfaulty\n" + SETS, {}),
+    ("check three listed --orgs bad", 4, "orgs not-json\n", {}),
+    ("check three listed --orgs missing", 6, "", {}),
+    ("check three orgs --orgs orgs", 3, "usage same-path\n", {"orgs": ORGS}),
+    ("org-blocking three orgs --orgs orgs", 3, "usage same-path\n", {"orgs": ORGS}),
+    ("org-blocking three kept --orgs bad", 4, "orgs not-json\n", {"kept": None}),
+    ("org-blocking three kept --orgs missing", 6, "", {"kept": None}),
+    ("org-blocking three kept", 3, USAGE, {"kept": None}),
+    ("org-blocking three fewer --orgs orgs --faulty-orgs A", 0, "org-blocking 1\nset node:c\n", {}),
+    ("check three fewer --orgs orgs", 0, "accepted org-blocking 1\nfrom\nfaulty a b\nset node:c\n", {}),
+    ("org-blocking three ungrouped --orgs orgs --budget 0", 2, "org-blocking unknown 0\n", {}),
+    ("check three ungrouped --orgs orgs", 2, "accepted partial-org-blocking 0\nfrom\nfaulty\n", {}),
     ("trial 1 tried", 0, TRIALS[1] + "intersects yes\n", {}),
     ("check one tried", 0, "accepted refutation\nfrom\nfaulty\n", {}),
     ("trial 4 tried --budget 10000", 0, TRIALS[4] + "intersects yes\n", {}),

@@ -1,8 +1,9 @@
 #!/usr/bin/env python3
-"""Compares `blocking`, `quorums` and `least` with trying all sets of nodes, on small random systems.
+"""Compares `blocking`, `quorums`, `least` and `org-blocking` with trying all sets of nodes or of organisations, on small random systems.
 
 Makes COUNT systems of up to 12 nodes; the listed sets have to be the minimal ones in name order, the set of `least` a quorum with
-as few nodes as any, and `check` has to accept each certificate and print the same. Beside the gate, by hand: tests/random_lists.py
+as few nodes as any, and `check` has to accept each certificate and print the same. The organisations overlap, lack members, or name
+strangers; some nodes lie, and some systems are the trust closure of a node. Beside the gate, by hand: tests/random_lists.py
 [COUNT [SEED]]; needs the built program. The last line is 'random_lists: N passed, M failed', or says why it is skipped.
 """
 import json
@@ -54,8 +55,10 @@ def satisfied(quorum_set, nodes):
     return sum(nodes >> v & 1 for v in validators) + sum(satisfied(it, nodes) for it in inner) >= threshold
 
 
-def is_quorum(system, nodes):
-    return nodes != 0 and all(system[v] is not None and satisfied(system[v], nodes) for v in range(len(system)) if nodes >> v & 1)
+def is_quorum(system, nodes, members=None):
+    """Whether each of the nodes, or of these among them, has a slice inside them, and there is one."""
+    members = nodes if members is None else members
+    return members != 0 and all(system[v] is not None and satisfied(system[v], nodes) for v in range(len(system)) if members >> v & 1)
 
 
 def minimal(sets):
@@ -79,6 +82,67 @@ def lines(word, sets, n):
     """What the program prints of these sets."""
     members = sorted([v for v in range(n) if it >> v & 1] for it in sets)
     return ["%s %d" % (word, len(members))] + ["set" + "".join(" " + named(v) for v in it) for it in members]
+
+
+# ---- organisations: an id, and its nodes, some of which are not there
+
+def random_orgs(n):
+    ids = random.sample("ABCDEF", random.randint(0, 6))
+    return [(it, random.sample(range(n + 3), random.randint(0, min(5, n)))) for it in ids]
+
+
+def orgs_as_json(orgs):
+    return json.dumps([dict({"id": it}, **({"validators": [named(v) for v in members]} if members else {})) for it, members in orgs])
+
+
+def closure_of(system, v):
+    """The node and those in its quorum set, in theirs, and so on."""
+    def mentioned(quorum_set):
+        return set(quorum_set[1]).union(*map(mentioned, quorum_set[2])) if quorum_set else set()
+
+    nodes, fresh = {v}, [v]
+    while fresh:
+        new = mentioned(system[fresh.pop()]) - nodes
+        nodes |= new
+        fresh += new
+    return sum(1 << v for v in nodes)
+
+
+def groups_of(orgs, n, part):
+    """The texts and the members of the groups, in order: the organisations, and the nodes of the part that are in none."""
+    masks = {"org:" + it: sum(1 << v for v in members if v < n) for it, members in orgs}
+    loose = [v for v in range(n) if part >> v & 1 and not any(it >> v & 1 for it in masks.values())]
+    return sorted([(text, it & part) for text, it in masks.items()] + [("node:" + named(v), 1 << v) for v in loose])
+
+
+def minimal_group_blocks(system, faulty, part, groups):
+    """The minimal blocking sets of groups, as the bits of their numbers: the quorums are those of the part that hold no faulty node."""
+    quorums = minimal(it for it in range(1 << len(system)) if it and not it & ~part and not it & faulty and is_quorum(system, it | faulty & part, it))
+
+    unions = [0]
+    for _, members in groups:
+        unions += [it | members & ~faulty for it in unions]
+    return minimal(it for it, nodes in enumerate(unions) if all(nodes & quorum for quorum in quorums))
+
+
+def agrees_by_groups(folder, system):
+    """Whether `org-blocking` lists these sets, and `check` beside the same organisations says so, some nodes lying and in the trust closure of a node."""
+    n = len(system)
+    orgs = random_orgs(n)
+    start = random.randrange(n) if random.random() < 0.3 else None
+    part = closure_of(system, start) if start is not None else (1 << n) - 1
+    faulty = sum(1 << v for v in range(n) if random.random() < 0.1)
+    config, cert, given = (os.path.join(folder, it) for it in ("config", "cert", "orgs"))
+    for name, text in ((config, as_json(system)), (given, orgs_as_json(orgs))):
+        with open(name, "w") as it:
+            it.write(text)
+    groups = groups_of(orgs, n, part)
+    sets = sorted([groups[k][0] for k in range(len(groups)) if it >> k & 1] for it in minimal_group_blocks(system, faulty, part, groups))
+    wanted = ["org-blocking %d" % len(sets)] + ["set" + "".join(" " + text for text in it) for it in sets]
+    lying = [named(v) for v in range(n) if faulty >> v & 1]
+    found = said("org-blocking", config, cert, "--orgs", given, "--faulty=" + ",".join(lying), *(["--from", named(start)] if start is not None else []))
+    head = ["from" + (" " + named(start) if start is not None else ""), "faulty" + "".join(" " + named(v) for v in range(n) if (faulty & part) >> v & 1)]
+    return found == wanted and said("check", config, cert, "--orgs", given) == ["accepted " + wanted[0], *head, *wanted[1:]]
 
 
 def said(*words):
@@ -119,6 +183,7 @@ def main(count=COUNT, seed=1):
             quorums = minimal_quorums(system)
             answers = [(word, agrees(folder, system, word, sets)) for word, sets in (("blocking", minimal_blocks(system)), ("quorums", quorums))]
             answers.append(("least", names_least(folder, system, quorums)))
+            answers.append(("org-blocking", agrees_by_groups(folder, system)))
             passed += sum(right for _, right in answers)
             failed += sum(not right for _, right in answers)
             for word in (word for word, right in answers if not right):

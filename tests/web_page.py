@@ -147,6 +147,12 @@ def node_cases(networks):
     yield ["whatif", "config", "script", "--set", "GWATCH"], {**net, "script": b"retire GNONE\n"}
     yield ["intersect", "config", "made", "--orgs", "orgs", "--faulty-orgs", "alder"], net
     yield ["intersect", "config", "made", "--orgs", "orgs", "--faulty-orgs", "elm"], net
+    for words in ([], ["--faulty-orgs", "alder"], ["--from", "GAAA1"], ["--budget", "2"]):
+        yield ["org-blocking", "config", "made", "--orgs", "orgs", *words], net
+    groups = {**three, "cert": e["groups.cert"], "orgs": e["groups.json"]}
+    yield ["check", "config", "cert", "--orgs", "orgs"], groups
+    yield ["check", "config", "cert"], groups
+    yield ["check", "config", "cert", "--orgs", "orgs"], {**groups, "orgs": b"[]"}
     for count in ("1", "4", "30", "0", "101"):
         yield ["trial", count, "made"], {}
     for config, orgs in networks:
@@ -462,6 +468,7 @@ class Trial:
             ("blocks", {"set": ["GAAA1", "GAAA2", "GBBB1"]}, "It goes on without them.", ["gaaa3, gbbb2, gbbb3, gccc1, gccc2, gccc3"]),
             ("blocks", {"set": ["GAAA1", "GAAA2", "GBBB1", "GBBB2"]}, "They stop it.", []),
             ("blocking", {}, "27 minimal blocking sets.", ["The smallest has 4 nodes", "Alder and Beech"]),
+            ("org-blocking", {}, "3 sets of organisations.", ["Alder and Beech", "Alder and Cedar", "Beech and Cedar"]),
             ("quorums", {}, "27 minimal quorums.", ["The smallest has 4 nodes"]),
             ("least", {}, "4 nodes can agree on their own, and no fewer.", ["gaaa1, gaaa3, gbbb1, gbbb3"]),
             ("available", {"set": alder}, "Not all others go on.", ["watcher"]),
