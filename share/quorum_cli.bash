@@ -2,7 +2,7 @@
 _quorum_cli() {
   local word=${COMP_WORDS[COMP_CWORD]} before=${COMP_WORDS[COMP_CWORD - 1]} options=''
   if [ "$COMP_CWORD" = 1 ]; then
-    mapfile -t COMPREPLY < <(compgen -W 'show closure greatest intersect available dset blocks vblocks splits blocking check export trial check-lrat quorums least whatif' -- "$word")
+    mapfile -t COMPREPLY < <(compgen -W 'show closure greatest intersect available dset blocks vblocks splits blocking check export trial check-lrat quorums least org-blocking whatif' -- "$word")
     return
   fi
   case ${COMP_WORDS[1]} in
@@ -16,12 +16,13 @@ _quorum_cli() {
     vblocks) options='--node --set' ;;
     splits) options='--set --budget --from --faulty --orgs --faulty-orgs' ;;
     blocking) options='--budget --from --faulty --orgs --faulty-orgs' ;;
-    check) options='' ;;
+    check) options='--orgs' ;;
     export) options='--from --faulty --orgs --faulty-orgs' ;;
     trial) options='--budget' ;;
     check-lrat) options='--from --faulty --orgs --faulty-orgs' ;;
     quorums) options='--budget --from --faulty --orgs --faulty-orgs' ;;
     least) options='--budget --from --faulty --orgs --faulty-orgs' ;;
+    org-blocking) options='--orgs --from --faulty --faulty-orgs --budget' ;;
     whatif) options='--set' ;;
   esac
   case $before in

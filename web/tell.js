@@ -124,11 +124,12 @@ const tellQuorums = (lines, of) => tellList(lines, of, () => tellSets(lines, of,
 
 // A list of sets of organisations and of nodes of none.
 function tellOrgSets(lines, { network }) {
-  const sets = setsIn(lines), orgs = new Map(network.orgs.map((org) => [org.id, org]));
-  const one = (id) => (orgs.has(id) ? named(orgs.get(id).name, id) : node(network, id));
-  const rows = sets.slice(0, MOST_LISTED).map((ids) => (ids.length ? between(ids.map(one), ' and ') : 'nobody: there is no quorum'));
+  const sets = setsIn(lines), orgs = new Map(network.orgs.map((org) => [`org:${org.id}`, org]));
+  const keyOf = (text) => text.replace(/^node:/, '');
+  const one = (text) => (orgs.has(text) ? named(orgs.get(text).name, orgs.get(text).id) : node(network, keyOf(text)));
+  const rows = sets.slice(0, MOST_LISTED).map((texts) => (texts.length ? between(texts.map(one), ' and ') : 'nobody: there is no quorum'));
   const text = 'Those of each, if they all fall silent, stop every agreement, and none of them can be left out.';
-  const marked = (sets[0] ?? []).flatMap((id) => orgs.get(id)?.keys ?? [id]);
+  const marked = (sets[0] ?? []).flatMap((text) => orgs.get(text)?.keys ?? [keyOf(text)]);
   return told('open', `${counted(sets.length, 'set')} of organisations.`, [noOthers(text), listed('ol', rows), others(sets.length - MOST_LISTED)], { marked, markedAs: 'of one smallest set that stops it' });
 }
 
