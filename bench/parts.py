@@ -1,55 +1,148 @@
 #!/usr/bin/env python3
-"""The table of parts: `check` of searches that a budget ended, beside that of whole ones.
+"""The table of parts: `check` of searches that a budget ended, each beside a whole one of about as many bytes.
 
-A part is asked of each lemma whether a clause held covers it, which a whole refutation is not; so the time of a byte is what the
-two can be compared by. Each figure of `check` is of the better of two runs.
+A part is asked of each lemma whether a held clause covers it, which a whole refutation is not, so the time of a byte is what the two
+are compared by. A figure of `check` is the least of three runs; of a run of more than a minute, that one. The searches take most of
+the time and leave 4 GB, so the certificates are kept in the folder PARTS, if that is set, and those there are taken. BESIDE names
+other programs that check the same certificates up to MOST_BESIDE lemmas, as "before=PATH"; each gets three columns. JOBS rows are
+made at a time, one without it; a run ends after LIMIT seconds of processor time.
 """
+import json
+import multiprocessing
 import os
 import tempfile
+from dataclasses import dataclass
 
+import growth
+import lists
 import runs
 import trials
 
-# A system, and the budgets of its searches; the last of the first ends with a refutation.
-SYSTEMS = {
-    "random:44:12:7:1": (40_000, 10_000_000),
-    "random:60:12:7:1": (40_000, 200_000),
-    "random:130:12:7:1": (40_000, 200_000),
-}
-QUICK = {"random:44:12:7:1": (1_000, 4_000)}
+FEW, MANY, LIST = "random:60:12:7:1", "random:185:12:7:1", "5 (3), each 3 of 5"
+# A system and the budget of its search; and a system whose whole search leaves about as many bytes.
+PAIRS = [
+    ("random:44:12:7:1", 40_000, "random:41:12:7:1"),
+    (FEW, 40_000, "random:41:12:7:1"),
+    (MANY, 40_000, "random:47:12:7:1"),
+    (FEW, 200_000, "random:50:12:7:1"),
+    (MANY, 200_000, "random:54:12:7:1"),
+    (LIST, 120_000, LIST),
+    (MANY, 500_000, "random:56:12:7:1"),
+    (FEW, 1_000_000, "random:56:12:7:1"),
+]
+QUICK = [("random:44:12:7:1", 4_000, "random:40:10:6:1")]
+WHOLE = 4_000_000_000
+LIMIT = int(os.environ.get("LIMIT", runs.MOST_SECONDS))
+BESIDE = dict(it.split("=", 1) for it in os.environ.get("BESIDE", "").split())
+# These check no part of more lemmas.
+MOST_BESIDE = 200_000
+# A run of so many seconds is not repeated.
+LONG = 60
+
+
+@dataclass
+class Searched:
+    """A search's certificate with the configuration: what it holds, in literals and bytes."""
+
+    system: str
+    config: str
+    cert: str
+    lemmas: int
+    literals: int
+    size: int
+
+    def check(self, program):
+        """The run of `check` of least processor time."""
+        words = [program, "check", self.config, self.cert]
+        least = runs.run(words, LIMIT)
+        for _ in range(2 if least.seconds < LONG else 0):
+            least = min(least, runs.run(words, LIMIT), key=lambda it: it.seconds)
+        if least.ended and not least.text.startswith("accepted"):
+            raise SystemExit("%s by %s: %r" % (self.system, program, least.text))
+        return least
 
 
 def lemmas_of(cert):
-    """The number of lemmas of a certificate, and of their literals."""
+    """The number of lemmas of a certificate, and of their literals; a set that is listed is one too."""
     lemmas = literals = 0
-    with open(cert, encoding="ascii") as it:
+    with open(cert, "rb") as it:
         for line in it:
-            words = line.split(" ", 2)
-            if words[0].isdigit() and words[1] not in ("d", "0"):
+            words = line[: line.find(b" 0")].split() if line[:1].isdigit() else line.split()
+            if words[0] in (b"q", b"b") or words[0].isdigit() and words[1:2] not in ([b"d"], []):
                 lemmas += 1
-                literals += line.split(" ").index("0") - 1
+                literals += len(words) - (1 if words[0].isdigit() else 2)
     return lemmas, literals
 
 
-def row(program, system, budget, folder):
-    config, cert = os.path.join(folder, "config"), os.path.join(folder, "cert")
+def searched(program, system, budget, folder):
+    """The search of a system up to a budget, or what an earlier run left of it."""
+    command = "blocking" if system in lists.BLOCKING else "intersect"
+    stem = os.path.join(folder, "".join(it if it.isalnum() else "-" for it in "%s %d" % (system, budget)))
+    config, cert = stem + ".json", stem + ".cert"
     with open(config, "w", encoding="utf-8") as it:
-        it.write(trials.configuration(system))
-    search = runs.run([program, "intersect", config, cert, "--budget", str(budget)])
-    check = runs.least([program, "check", config, cert], 2)
-    kind = "part" if check.text.startswith("accepted partial") else "whole"
-    if not check.text.startswith("accepted"):
-        raise SystemExit("%s: %r" % (system, check.text))
-    size = os.path.getsize(cert)
-    lemmas, literals = lemmas_of(cert)
-    cells = [system, kind, "{:,}".format(lemmas), "%.0f" % (literals / max(lemmas, 1)), runs.megabytes(size), runs.seconds(search)]
-    return runs.row([*cells, runs.seconds(check), "%.1f" % (1e9 * check.seconds / size), check.memory])
+        it.write(json.dumps(lists.BLOCKING[system]) if command == "blocking" else trials.configuration(system))
+    if not os.path.exists(cert):
+        made = runs.run([program, command, config, cert + ".new", "--budget", str(budget)], 4 * 3600)
+        if not made.ended:
+            raise SystemExit("%s: the search did not end" % system)
+        os.rename(cert + ".new", cert)
+    return Searched(system, config, cert, *lemmas_of(cert), os.path.getsize(cert))
+
+
+@dataclass
+class Pair:
+    """A part and a whole search, and of each program the runs of `check` on the one and on the other."""
+
+    part: Searched
+    whole: Searched
+    checks: list
+
+    def times(self, part_check, whole_check):
+        """How many times as long as a byte of the whole one a byte of the part takes."""
+        ratio = (part_check.seconds / self.part.size) / (whole_check.seconds / self.whole.size)
+        return "%s%.1f" % ("" if part_check.ended else "over ", ratio)
+
+    def row(self):
+        it = self.part
+        cells = [it.system, "{:,}".format(it.lemmas), "%.0f" % (it.literals / max(it.lemmas, 1)), runs.megabytes(it.size), runs.megabytes(self.whole.size)]
+        for part_check, whole_check in self.checks:
+            cells += [runs.seconds(part_check), runs.seconds(whole_check), self.times(part_check, whole_check)]
+        cells += ["-"] * (3 * (1 + len(BESIDE) - len(self.checks)))
+        return runs.row([*cells, self.checks[0][0].memory])
+
+
+def measured(task):
+    """A pair, made of a program, a row of PAIRS and a folder."""
+    program, (system, budget, whole_system), folder = task
+    part = searched(program, system, budget, folder)
+    programs = [program, *(BESIDE.values() if part.lemmas <= MOST_BESIDE else [])]
+    part_checks = [part.check(it) for it in programs]
+    whole = searched(program, whole_system, WHOLE, folder)
+    return Pair(part, whole, list(zip(part_checks, [whole.check(it) for it in programs])))
+
+
+def growth_line(system, pairs):
+    """How the time of each program grows from the smallest part of a system to the largest."""
+    powers = []
+    for at, name in enumerate(("`check`", *BESIDE)):
+        found = [(it.part.lemmas, it.checks[at][0].seconds) for it in pairs if it.part.system == system and at < len(it.checks) and it.checks[at][0].ended]
+        if len(found) > 1:
+            powers.append("%s as n^%.2f up to %s" % (name, growth.power(found), "{:,}".format(found[-1][0])))
+    return "On `%s` time grows: %s." % (system, ", ".join(powers))
 
 
 def made(program, quick):
     """The lines of the table, one by one."""
-    yield from runs.head(["system", "kind", "lemmas", "literals a lemma", "MB", "search, s", "`check`, s", "ns a byte", "memory, MB"])
-    with tempfile.TemporaryDirectory(dir=runs.MEMORY) as folder:
-        for system, budgets in (QUICK if quick else SYSTEMS).items():
-            for budget in budgets:
-                yield row(program, system, budget, folder)
+    head = ["part of", "lemmas", "literals each", "MB", "whole, MB", "`check`, s", "whole, s", "times"]
+    for name in BESIDE:
+        head += [name + ", s", "whole, s", "times"]
+    yield from runs.head([*head, "memory, MB"])
+    with tempfile.TemporaryDirectory() as folder, multiprocessing.Pool(int(os.environ.get("JOBS", "1"))) as pool:
+        tasks = [(program, it, os.environ.get("PARTS", folder)) for it in (QUICK if quick else PAIRS)]
+        pairs = []
+        for pair in pool.imap(measured, tasks):
+            pairs.append(pair)
+            yield pair.row()
+    if not quick:
+        yield ""
+        yield from (growth_line(system, pairs) for system in (FEW, MANY))

@@ -10,7 +10,7 @@ The parts, with the minutes that each takes of one processor at rest:
     networks  9   the same on networks of organisations, and docs/growth.svg
     lists     2   `blocking`, `quorums` and `least` beside clasp
     check     2   `check` beside sha256sum
-    parts     3   `check` of a part of a search, by the byte
+    parts    30   `check` of parts of searches beside whole ones, by the byte
     whatif    2   scripts of edits
     memory    4   memory beside jq, and the stack
 
