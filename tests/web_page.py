@@ -824,8 +824,8 @@ def page_of(asked, folder):
 
 def tried(asked, folder):
     judge, node, chromium = Judge(), shutil.which("node"), shutil.which("chromium")
-    if not asked.page and not shutil.which("wasm-opt"):
-        print("web_page: skipped, there is no wasm-opt (Debian's binaryen)")
+    if not asked.page and not (shutil.which("wasm-opt") and shutil.which("zopfli")):
+        print("web_page: skipped, there is no wasm-opt or no zopfli (Debian's binaryen, zopfli)")
         return 0
     page = page_of(asked, folder)
     module, networks = module_in(page), networks_of(asked, folder)
