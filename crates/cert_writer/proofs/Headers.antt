@@ -23,9 +23,9 @@ use Rattle.certificate_file.specs.declared.places.State.TheVariants.{Going}
 use Rattle.cert_writer.specs.Texts.{Text, worded, listed, name_if_any, header_lines}
 use Rattle.cert_writer.specs.Promises.{IsHeader, subject}
 use Rattle.cert_writer.proofs.Joined.{Takes, IsLine, AreLines}
-use Rattle.cert_writer.proofs.Words.{IsWordByte, IsWord, is_word, is_plain, same_text, words_of-worded, names_after-worded, plain-worded, length-spaced_keys}
+use Rattle.cert_writer.proofs.Words.{IsWordByte, IsWord, is_word, is_plain, same_text, words_of-worded, names_after-worded, plain-worded, length-spaced}
 use Rattle.fbas_model.proofs.SortedNames.{place-found}
-use Rattle.fbas_model.specs.declared.TheConstants.{MOST_NODES}
+use Rattle.fbas_model.specs.declared.TheConstants.{MOST_NODES, MOST_KEY_BYTES}
 use Rattle.cert_writer.proofs.Names.{AreNames, named-listed, keys-kept, words-keys, short-keys, key}
 
 -- ---- the digest
@@ -86,7 +86,7 @@ pub line_listed : (word : Text) (names : List Name) (set : Table) → IsWord wor
 line_listed word names set is short are few = record {
   plain = plain-worded word (kept set names) is (words-keys (kept set names) (keys-kept set names are.keys));
   short =
-      let rest = length-spaced_keys (kept set names) (short-keys (kept set names) (keys-kept set names are.keys)) in
+      let rest = length-spaced MOST_KEY_BYTES (kept set names) (short-keys (kept set names) (keys-kept set names are.keys)) in
       omega (arith, length-append word (spaced (kept set names)), kept_le set names);
 }
 
@@ -104,7 +104,7 @@ line_from names (Some v) are low =
     let name = slice_index_or names v [] in
     let k : is_key name ≡ true = All-from_recursion (λ (n : Name). is_key n ≡ true) names are.keys v [] low in
     let short = short-keys (name ∷ []) (k, tt) in
-    let least : length name ≤ 128 = short.0 in
+    let least : length name ≤ MOST_KEY_BYTES = short.0 in
     record {
       plain = plain-worded (codes "from") (name ∷ []) (is_word (codes "from") refl) ((key name k).0, tt);
       short = omega (arith, length-append (codes "from") (spaced (name ∷ [])), length-append name []);

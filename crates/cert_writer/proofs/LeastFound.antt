@@ -31,7 +31,7 @@ use Rattle.cert_writer.proofs.ListFound.{HasPlacesFor, lines_can}
 -- ---- what is found
 
 -- a counter of g nodes that is not too large has few of them
-few_nodes : (g : ℕ) → counter_vars g ≤ MOST_VARS → g ≤ 4000000
+few_nodes : (g : ℕ) → counter_vars g ≤ MOST_VARS → g ≤ MOST_VARS
 few_nodes g small = omega arith
 
 module _ (s : Search) (is : IsSystem s.whole.names s.whole.sets) (sorted : IsStrictlySortedBy name_cmp s.whole.names) (long : length s.digest ≡ 32) (bytes : IsBytes s.digest) (head : IsHeader s.whole s.header) (small : s.budget ≤ MOST_UNITS) where

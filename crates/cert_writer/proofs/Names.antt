@@ -1,5 +1,5 @@
 -- The names of a set, read back as the set.
-use Rattle.std.proofs.Common.{◌≡◌, ℕ, ◌≤◌, IsTrue, List, [], ◌∷◌, length, true, false, not, ◌&&◌, ◌==◌, nat_le, nat_lt, Some, Ok, Less, inl, inr, refl, sym, subst, arith}
+use Rattle.std.proofs.Common.{◌≡◌, ℕ, ◌+◌, ◌≤◌, IsTrue, List, [], ◌∷◌, length, true, false, not, ◌&&◌, ◌==◌, nat_le, nat_lt, Some, Ok, Less, inl, inr, refl, sym, subst, arith}
 use Rattle.std.specs.List.{All, AllByRecursion, list_all}
 use Rattle.std.specs.List.Sorted.{IsStrictlySortedBy}
 use Rattle.std.specs.Str.{bytes_eq}
@@ -12,6 +12,7 @@ use Rattle.fbas_model.specs.Nodes.{Table}
 use Rattle.fbas_model.proofs.SortedNames.{kept_sorted}
 use Rattle.fbas_model.specs.Names.{Name, name_cmp, is_key, is_key_byte, is_among, marks}
 use Rattle.fbas_model.specs.Restriction.{kept}
+use Rattle.fbas_model.specs.declared.TheConstants.{MOST_KEY_BYTES}
 use Rattle.cert_lines.specs.Words.{Word, is_name, is_name_byte, is_rising, names_in, names_after}
 use Rattle.certificate_file.specs.Acceptance.{named}
 use Rattle.reach_kinds.specs.Bodies.{all_among, nodes_of}
@@ -36,8 +37,8 @@ key_bytes (b ∷ bytes) h =
 
 pub key : (name : Name) → is_key name ≡ true → IsWord name × (is_name name ≡ true)
 key name h =
-    let p = and_parts (nat_le 1 (length name) && nat_le (length name) 128) (list_all is_key_byte name) h in
-    let q = and_parts (nat_le 1 (length name)) (nat_le (length name) 128) p.0 in
+    let p = and_parts (nat_le 1 (length name) && nat_le (length name) MOST_KEY_BYTES) (list_all is_key_byte name) h in
+    let q = and_parts (nat_le 1 (length name)) (nat_le (length name) MOST_KEY_BYTES) p.0 in
     let bytes = key_bytes name p.1 in
     let long : nat_lt 0 (length name) ≡ true = q.0 in
     (bytes.0, and_from (nat_lt 0 (length name)) (list_all is_name_byte name) long bytes.1)
@@ -62,23 +63,26 @@ pub named-keys : (names : List Name) → AreKeys names → list_all is_name name
 named-keys [] all = refl
 named-keys (n ∷ names) all = and_from (is_name n) (list_all is_name names) (key n all.0).1 (named-keys names all.1)
 
-pub key_short : (name : Name) → is_key name ≡ true → length name ≤ 128
+pub key_short : (name : Name) → is_key name ≡ true → length name ≤ MOST_KEY_BYTES
 key_short name h =
-    let p = and_parts (nat_le 1 (length name) && nat_le (length name) 128) (list_all is_key_byte name) h in
-    let q = and_parts (nat_le 1 (length name)) (nat_le (length name) 128) p.0 in
+    let p = and_parts (nat_le 1 (length name) && nat_le (length name) MOST_KEY_BYTES) (list_all is_key_byte name) h in
+    let q = and_parts (nat_le 1 (length name)) (nat_le (length name) MOST_KEY_BYTES) p.0 in
     grind (arith, nat_tests)
 
-pub short-keys : (names : List Name) → AreKeys names → AllByRecursion (λ (n : Name). length n ≤ 128) names
+pub short-keys : (names : List Name) → AreKeys names → AllByRecursion (λ (n : Name). length n ≤ MOST_KEY_BYTES) names
 short-keys [] all = tt
 short-keys (n ∷ names) all = (key_short n all.0, short-keys names all.1)
 
 -- ---- texts that a line may list: those of groups are longer than keys
 
--- a name of at most 133 bytes
+-- a key with `node:` before it is as long as a text can be
+abbrev pub most_text_bytes : ℕ
+most_text_bytes = MOST_KEY_BYTES + 5
+
 pub record IsText (text : Name) : Type 0 where
   pub word : IsWord text
   pub named : is_name text ≡ true
-  pub short : length text ≤ 133
+  pub short : length text ≤ most_text_bytes
 
 abbrev pub AreTexts : List Name → Type 0
 AreTexts names = AllByRecursion IsText names
@@ -104,7 +108,7 @@ named-texts : (names : List Name) → AreTexts names → list_all is_name names 
 named-texts [] all = refl
 named-texts (n ∷ names) all = and_from (is_name n) (list_all is_name names) all.0.named (named-texts names all.1)
 
-pub short-texts : (names : List Name) → AreTexts names → AllByRecursion (λ (n : Name). length n ≤ 133) names
+pub short-texts : (names : List Name) → AreTexts names → AllByRecursion (λ (n : Name). length n ≤ most_text_bytes) names
 short-texts [] all = tt
 short-texts (n ∷ names) all = (all.0.short, short-texts names all.1)
 

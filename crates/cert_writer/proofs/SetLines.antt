@@ -46,8 +46,8 @@ use Rattle.certificate_file.specs.declared.places.State.TheVariants.{Going as He
 use Rattle.reach_kinds.proofs.Inside.{apart_from_others}
 use Rattle.cert_writer.specs.Texts.{Text, letter, set_line}
 use Rattle.cert_writer.proofs.Joined.{IsLine}
-use Rattle.cert_writer.proofs.Words.{IsWord, is_word, words_of-worded, plain-worded, length-spaced_texts}
-use Rattle.cert_writer.proofs.Names.{AreNames, AreListable, listable, texts-kept, words-texts, short-texts, names_in-kept, nodes_of-kept}
+use Rattle.cert_writer.proofs.Words.{IsWord, is_word, words_of-worded, plain-worded, length-spaced}
+use Rattle.cert_writer.proofs.Names.{AreNames, AreListable, most_text_bytes, listable, texts-kept, words-texts, short-texts, names_in-kept, nodes_of-kept}
 use Rattle.cert_writer.proofs.Raised.{spread, length-spread, kept-spread, not_others}
 use Rattle.cert_writer.proofs.RaisedOrder.{kept_of_spread}
 use Rattle.cert_writer.proofs.Pairs.{out_spread}
@@ -97,7 +97,7 @@ line_set which id names set are few is = record {
   plain = plain-worded (letter which) (decimal id ∷ kept set names) (letter_word which) (decimal_word id (omega (arith, is.1)), words-texts (kept set names) (texts-kept set names are.texts));
   short =
       let head : length (decimal id) ≤ 19 = length-decimal-le 19 id (omega arith) (omega (arith, is.1)) (omega (arith, is.1)) in
-      let rest = length-spaced_texts (kept set names) (short-texts (kept set names) (texts-kept set names are.texts)) in
+      let rest = length-spaced most_text_bytes (kept set names) (short-texts (kept set names) (texts-kept set names are.texts)) in
       omega (arith, letter_short which, head, rest, kept_le set names, length-append (letter which) (spaced (decimal id ∷ kept set names)), length-append (decimal id) (spaced (kept set names)));
 }
 

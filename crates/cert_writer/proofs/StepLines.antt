@@ -19,7 +19,7 @@ use Rattle.lrat_text.specs.Texts.{literal_text, line_of, IsId, IsHint, IsLiteral
 use Rattle.lrat_text.proofs.BackLaws.{joined as joined_words}
 use Rattle.cdcl_core.specs.Log.{IsDistinct}
 use Rattle.cert_writer.proofs.Joined.{IsLine}
-use Rattle.cert_writer.proofs.Words.{IsWordByte, IsWord, AreWords, is_word, plain-worded, length-spaced_long, length-spaced_short}
+use Rattle.cert_writer.proofs.Words.{IsWordByte, IsWord, AreWords, is_word, plain-worded, length-spaced}
 use Rattle.cert_lines.specs.declared.lines.TheConstants.{MAX_LINE_BYTES}
 
 -- ---- the words of a step
@@ -100,8 +100,8 @@ line_addition id lits hints is hs ls few_lits few_hints =
     let rest : List Word = lemma_words lits hints in
     let first : IsWord (decimal id) = decimal_word id (omega (arith, is.1)) in
     let head : length (decimal id) ≤ 19 = length-decimal-le 19 id (omega arith) (omega (arith, is.1)) (omega (arith, is.1)) in
-    let a = length-spaced_short (map literal_text lits) (literal_words lits ls).1 in
-    let b = length-spaced_long (map signed_decimal hints) (hint_words hints hs).1 in
+    let a = length-spaced 11 (map literal_text lits) (literal_words lits ls).1 in
+    let b = length-spaced 20 (map signed_decimal hints) (hint_words hints hs).1 in
     let c = length-spaced-append (map literal_text lits) (codes "0" ∷ tail) in
     let e = length-spaced-append (map signed_decimal hints) ends in
     let total : length (decimal id ++ spaced rest) ≤ MAX_LINE_BYTES = omega (arith, a, b, c, e, length-append (decimal id) (spaced rest), length-map lits literal_text, length-map hints signed_decimal) in
@@ -127,7 +127,7 @@ line_deletion id ids is all few =
     let rest : List Word = deletion_words ids in
     let first : IsWord (decimal id) = decimal_word id (omega (arith, is.1)) in
     let head : length (decimal id) ≤ 19 = length-decimal-le 19 id (omega arith) (omega (arith, is.1)) (omega (arith, is.1)) in
-    let a = length-spaced_long (map decimal ids) (id_words ids all).1 in
+    let a = length-spaced 20 (map decimal ids) (id_words ids all).1 in
     let e = length-spaced-append (map decimal ids) ends in
     let total : length (decimal id ++ spaced rest) ≤ MAX_LINE_BYTES = omega (arith, a, e, length-append (decimal id) (spaced rest), length-map ids decimal) in
     subst IsLine (sym (deletion_line_words id ids)) (record { plain = plain-worded (decimal id) rest first (words_deletion ids all); short = total })

@@ -1,5 +1,5 @@
 -- A word and others behind it, read back.
-use Rattle.std.proofs.Common.{◌≡◌, ℕ, ◌*◌, ◌≤◌, List, [], ◌∷◌, ◌++◌, length, Bool, true, false, not, ◌&&◌, ◌==◌, Some, refl, ap, arith, length-append}
+use Rattle.std.proofs.Common.{◌≡◌, ℕ, suc, ◌*◌, ◌≤◌, List, [], ◌∷◌, ◌++◌, length, Bool, true, false, not, ◌&&◌, ◌==◌, Some, refl, ap, arith, length-append}
 use Rattle.std.specs.List.{AllByRecursion, list_all}
 use Rattle.std.specs.Str.{bytes_eq}
 use Rattle.std.proofs.lemmas.Bool.{and_parts}
@@ -56,25 +56,10 @@ plain-spaced (w ∷ words) are = (refl, plain-append w (spaced words) (plain-wor
 pub plain-worded : (word : Word) (words : List Word) → IsWord word → AreWords words → IsPlain (worded word words)
 plain-worded word words is are = plain-append word (spaced words) (plain-word word is) (plain-spaced words are)
 
--- how long words of at most 20 bytes are, with a space before each
-pub length-spaced_long : (words : List Word) → AllByRecursion (λ (w : Word). length w ≤ 20) words → length (spaced words) ≤ 21 * length words
-length-spaced_long [] all = omega arith
-length-spaced_long (w ∷ words) all = let rest = length-spaced_long words all.1 in let first : length w ≤ 20 = all.0 in omega (arith, length-append w (spaced words))
-
--- and of at most 11 bytes
-pub length-spaced_short : (words : List Word) → AllByRecursion (λ (w : Word). length w ≤ 11) words → length (spaced words) ≤ 12 * length words
-length-spaced_short [] all = omega arith
-length-spaced_short (w ∷ words) all = let rest = length-spaced_short words all.1 in let first : length w ≤ 11 = all.0 in omega (arith, length-append w (spaced words))
-
--- and of at most 128 bytes
-pub length-spaced_keys : (words : List Word) → AllByRecursion (λ (w : Word). length w ≤ 128) words → length (spaced words) ≤ 129 * length words
-length-spaced_keys [] all = omega arith
-length-spaced_keys (w ∷ words) all = let rest = length-spaced_keys words all.1 in let first : length w ≤ 128 = all.0 in omega (arith, length-append w (spaced words))
-
--- and of at most 133 bytes
-pub length-spaced_texts : (words : List Word) → AllByRecursion (λ (w : Word). length w ≤ 133) words → length (spaced words) ≤ 134 * length words
-length-spaced_texts [] all = omega arith
-length-spaced_texts (w ∷ words) all = let rest = length-spaced_texts words all.1 in let first : length w ≤ 133 = all.0 in omega (arith, length-append w (spaced words))
+-- how long words of at most so many bytes are, with a space before each
+pub length-spaced : (most : ℕ) (words : List Word) → AllByRecursion (λ (w : Word). length w ≤ most) words → length (spaced words) ≤ length words * suc most
+length-spaced most [] all = omega arith
+length-spaced most (w ∷ words) all = let rest = length-spaced most words all.1 in let first : length w ≤ most = all.0 in omega (arith, length-append w (spaced words))
 
 behind_word : (word : Word) (rest : Text) (words : List Word) → IsWord word → words_of rest ≡ [] ∷ words → words_of (word ++ rest) ≡ word ∷ words
 behind_word [] rest words is e = e

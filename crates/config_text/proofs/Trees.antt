@@ -15,6 +15,7 @@ use Rattle.serde_json.specs.Written.{has_float, items_have_float}
 use Rattle.serde_json.specs.declared.value.Value.{Value}
 use Rattle.fbas_model.specs.declared.TheConstants.{MOST_LEVELS}
 use Rattle.fbas_model.specs.Names.{Name, is_key, is_key_byte}
+use Rattle.fbas_model.specs.declared.TheConstants.{MOST_KEY_BYTES}
 use Rattle.fbas_model.specs.Trees.{QuorumSet, quorum_set, Entries, none, node, inner}
 use Rattle.fbas_model.specs.QuorumSets.{depth as levels, depth_of as levels_of}
 use Rattle.fbas_model.specs.Fbas.{Fbas}
@@ -177,5 +178,5 @@ key_bytes (b ∷ bytes) (suc i) h = key_bytes bytes i (and_parts (is_key_byte b)
 
 pub key_is_text : (name : Name) → is_key name ≡ true → IsUtf8 name
 key_is_text name h =
-    let bytes = (and_parts (nat_le 1 (length name) && nat_le (length name) 128) (list_all is_key_byte name) h).1 in
+    let bytes = (and_parts (nat_le 1 (length name) && nat_le (length name) MOST_KEY_BYTES) (list_all is_key_byte name) h).1 in
     IsUtf8-from_ascii name (λ i. key_bytes name i bytes)

@@ -7,6 +7,7 @@ use Rattle.std.specs.declared.cmp.Ordering.{Ordering}
 use Rattle.std.specs.Cmp.Lexicographic.{slice_cmp}
 use Rattle.std.specs.List.Sorted.{IsStrictlySortedBy}
 use Rattle.fbas_model.specs.Nodes.{Table}
+use Rattle.fbas_model.specs.declared.TheConstants.{MOST_KEY_BYTES}
 
 abbrev pub Name : Type 0
 Name = List ℕ
@@ -15,9 +16,9 @@ Name = List ℕ
 abbrev pub is_key_byte : ℕ → Bool
 is_key_byte b = nat_le 0x21 b && nat_le b 0x7E && not (b == 44)
 
--- a name that a configuration may give to a node: 1 to 128 such bytes
+-- a name that a configuration may give to a node: 1 to `MOST_KEY_BYTES` such bytes
 abbrev pub is_key : Name → Bool
-is_key name = nat_le 1 (length name) && nat_le (length name) 128 && list_all is_key_byte name
+is_key name = nat_le 1 (length name) && nat_le (length name) MOST_KEY_BYTES && list_all is_key_byte name
 
 -- byte order, where a prefix comes first
 abbrev pub name_cmp : Name → Name → Ordering

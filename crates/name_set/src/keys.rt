@@ -4,6 +4,8 @@ ghost use Rattle.std.specs.Prelude.{◌≡◌};
 ghost use Rattle.std.specs.List.{list_all};
 ghost use Rattle.fbas_model.specs.Names.{is_key, is_key_byte};
 
+use fbas_model::MOST_KEY_BYTES;
+
 fn is_key_byte(byte: u8) -> bool
     ensures { result ≡ is_key_byte byte }
 {
@@ -16,11 +18,11 @@ fn has_key_bytes(name: &[u8]) -> bool
     name.iter().all(|byte| is_key_byte(*byte))
 }
 
-/// Whether the bytes may be the name of a node: 1 to 128 printable bytes with no space and no comma. O(1).
+/// Whether the bytes may be the name of a node: 1 to `MOST_KEY_BYTES` printable bytes with no space and no comma. O(1).
 pub fn is_key(name: &[u8]) -> bool
     ensures { result ≡ is_key name.now }
 {
-    if name.is_empty() || name.len() > 128 {
+    if name.is_empty() || name.len() > MOST_KEY_BYTES {
         return false;
     }
     has_key_bytes(name)

@@ -152,8 +152,8 @@ fn orgs_in_tree(alloc: Global, tree: &Value, names: &Names) -> Result<Orgs, OrgF
 /// The organisations of a file among the nodes of a system, or its first fault.
 ///
 /// The file is a JSON array of objects. Each has an `id`, a key, and may have `validators`, an array of keys; other members
-/// are passed over. A key is 1 to 128 printable bytes with no space and no comma. A validator that is no node of the system
-/// is dropped.
+/// are passed over. A key is 1 to `MOST_KEY_BYTES` printable bytes with no space and no comma. A validator that is no node of
+/// the system is dropped.
 ///
 /// Faults come in this order: the text, the array, then for each element the object, its id, whether an earlier element has
 /// it, and its validators; at last the number of organisations. `Memory` stands for want of memory.

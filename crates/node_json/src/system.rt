@@ -180,8 +180,8 @@ fn system_in_tree(alloc: Global, text: usize, tree: &Value) -> Result<System, Co
 ///
 /// A configuration is a JSON array of objects. Each has a `publicKey`, and may have a `quorumSet`: an object with a
 /// `threshold`, and maybe `validators`, an array of keys, and `innerQuorumSets`, an array of such objects; other members are
-/// passed over. A key is 1 to 128 printable bytes with no space and no comma. The nodes are all keys that are declared or
-/// stand in a quorum set.
+/// passed over. A key is 1 to `MOST_KEY_BYTES` printable bytes with no space and no comma. The nodes are all keys that are
+/// declared or stand in a quorum set.
 ///
 /// Faults come in this order: the text, the array, then for each element the object, its key, whether an earlier element
 /// has it, and its quorum sets, each before those in it; at last the number of nodes and that of entries.

@@ -118,15 +118,15 @@ reply_small OrgBlocking f deleted budget (Shared found) a is = absurd is
 never : (a : Answer) (status : Status) (text : Text) → a ≡ record { status = status; text = text } → IsSmall status → (a.status ≡ TooLarge) ↔ ⊥
 never a status text is small = (small_as a (record { status = status; text = text }) is small, λ none. absurd none)
 
-by_size : (n : ℕ) (text more : Text) (a : Answer) → a ≡ (if nat_le n 4000000 then record { status = Yes; text = text } else record { status = TooLarge; text = more }) → (a.status ≡ TooLarge) ↔ (MOST_VARS < n)
-by_size n text more a is = elim (cases_Bool (nat_le n 4000000)) [
+by_size : (n : ℕ) (text more : Text) (a : Answer) → a ≡ (if nat_le n MOST_VARS then record { status = Yes; text = text } else record { status = TooLarge; text = more }) → (a.status ≡ TooLarge) ↔ (MOST_VARS < n)
+by_size n text more a is = elim (cases_Bool (nat_le n MOST_VARS)) [
   | inl e ↦
       let said : a ≡ record { status = Yes; text = text } = is ∙ rw e refl in
-      let low : n ≤ 4000000 = leb-true n 4000000 e in
+      let low : n ≤ MOST_VARS = leb-true n MOST_VARS e in
       (λ large. absurd (small_as a (record { status = Yes; text = text }) said yes_small large), λ less. absurd (omega arith))
   | inr e ↦
       let said : a ≡ record { status = TooLarge; text = more } = is ∙ rw e refl in
-      let high : 4000000 < n = leb-false n 4000000 e in
+      let high : MOST_VARS < n = leb-false n MOST_VARS e in
       (λ large. omega arith, λ less. ap (λ (x : Answer). x.status) said)
 ]
 

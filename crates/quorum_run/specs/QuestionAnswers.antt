@@ -7,6 +7,7 @@ use Rattle.fbas_model.specs.Nodes.{◌∖◌}
 use Rattle.greatest_quorum.specs.Greatest.{greatest_of}
 use Rattle.clause_encoder.specs.Formula.{formula_vars, formula_clauses}
 use Rattle.clause_encoder.specs.declared.version.Version.TheVariants.{Two}
+use Rattle.clause_encoder.specs.declared.limits.TheConstants.{MOST_VARS}
 use Rattle.clause_encoder.specs.Dimacs.{dimacs}
 use Rattle.report.specs.Lines.{Text, closure as printed_closure, exported, too_large, greatest, unavailable, not_blocking, shown}
 use Rattle.order_reading.specs.declared.status.Status.TheVariants.{Yes, No, TooLarge}
@@ -68,7 +69,7 @@ AnswersVblocks f v s a = (BlocksNode f.sets v (members s) × says (codes "vblock
 -- the formula that says whether quorums intersect, or that it has too many variables
 abbrev pub export_answer : System → Origin → Table → Table → Answer
 export_answer f origin b greatest =
-    if nat_le (formula_vars Two f.sets b greatest) 4000000 then record {
+    if nat_le (formula_vars Two f.sets b greatest) MOST_VARS then record {
       status = Yes;
       text = exported origin.digest origin.from f.names b (dimacs f.names (record { greatest = greatest; count = formula_vars Two f.sets b greatest }) (formula_clauses Two f.sets b greatest));
     } else record { status = TooLarge; text = too_large (formula_vars Two f.sets b greatest) }

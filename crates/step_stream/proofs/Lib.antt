@@ -1,3 +1,4 @@
 pub mod PartLaws
 pub mod WordSteps
 pub mod SpelledLaws
+mod LimitSamples

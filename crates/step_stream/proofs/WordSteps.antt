@@ -9,6 +9,7 @@ use Rattle.lrat_model.specs.declared.step.StepFault.{StepFault}
 use Rattle.lrat_checker.specs.Adding.{Adding, HasPlace, GoesOn, StopsAt}
 use Rattle.lrat_text.specs.Words.{Word}
 use Rattle.lrat_text.specs.Lines.{is_mark, after_id}
+use Rattle.step_stream.specs.declared.words.TheConstants.{MOST_HINTS}
 use Rattle.step_stream.specs.declared.words.StepWords.{StepWords}
 use Rattle.step_stream.specs.Outline.{outline_in}
 use Rattle.step_stream.specs.Ahead.{ahead, addition_from, fault_then, IsOpen}
@@ -45,6 +46,6 @@ module _ (rule : Rule) (held : Held) (hint : ℤ) (id : ℕ) (lits : List Litera
   stopped None (Some a) fault none is stops place hints = stops place hints
 
 -- the place of a hint after so many
-pub has_place : (now : Option Adding) (hints : ℕ) → IfSome now (λ a. hints ≡ a.hints) → hints < 1000000000000 → IfSome now (λ a. HasPlace a.hints)
+pub has_place : (now : Option Adding) (hints : ℕ) → IfSome now (λ a. hints ≡ a.hints) → hints < MOST_HINTS → IfSome now (λ a. HasPlace a.hints)
 has_place None hints is few = tt
 has_place (Some a) hints is few = omega (arith, is, few)

@@ -7,6 +7,7 @@ use Rattle.lrat_checker.specs.Adding.{Adding}
 use Rattle.lrat_text.specs.Words.{Word}
 use Rattle.lrat_text.specs.Numbers.{id_in, hint_in, literal_in}
 use Rattle.lrat_text.specs.Lines.{is_zero}
+use Rattle.step_stream.specs.declared.words.TheConstants.{MOST_HINTS}
 use Rattle.step_stream.specs.declared.words.Stage.{Stage}
 use Rattle.step_stream.specs.declared.words.Stage.TheVariants.{Start, Numbered, Literals, Hints, Added, Ids, Deleted, Bad}
 use Rattle.step_stream.specs.declared.words.StepWords.{StepWords}
@@ -21,7 +22,7 @@ LiteralWants vars database id lits word = (is_zero word ≡ true → IsSound var
 
 -- for a hint behind so many of an addition without a fault
 abbrev pub HintWants : Option StepFault → Option Adding → Word → Type 0
-HintWants fault now word = (is_zero word ≡ false) × IsSome (hint_in word) × (fault ≡ None) × IfSome now (λ a. 1000000000000 ≤ a.hints)
+HintWants fault now word = (is_zero word ≡ false) × IsSome (hint_in word) × (fault ≡ None) × IfSome now (λ a. MOST_HINTS ≤ a.hints)
 
 -- for an id of a deletion, which is kept
 abbrev pub IdWants : Word → Type 0

@@ -9,4 +9,4 @@ mod words;
 pub use lrat_checker::Checker;
 pub use lrat_model::{Lit, StepFault};
 pub use reader::StepReader;
-pub use words::{Stage, StepWords};
+pub use words::{MOST_HINTS, Stage, StepWords};

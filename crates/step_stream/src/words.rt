@@ -10,6 +10,7 @@ ghost use Rattle.lrat_text.specs.Words.{Word};
 ghost use Rattle.lrat_text.specs.Lines.{after_id, closed_list, step_of_words};
 ghost use Rattle.lrat_text.specs.Numbers.{hint_in};
 ghost use Rattle.step_stream.specs.Outline.{outline_in};
+ghost use Rattle.step_stream.specs.declared.words.TheConstants.{MOST_HINTS};
 ghost use Rattle.step_stream.specs.Ahead.{ahead, ahead_at, added, fault_then, addition_from, deletion_from, IsOpen, IsClear, FitsAt, Fits};
 ghost use Rattle.step_stream.specs.Wants.{IsSound, LiteralWants, HintWants, IdWants, WantsMemory};
 
@@ -19,7 +20,7 @@ use lrat_model::{Lit, StepFault};
 use std::alloc::{AllocError, Global};
 
 /// How many hints an addition may have before want of memory is answered: none that was ever written has.
-const MOST_HINTS: u64 = 1_000_000_000_000;
+pub const MOST_HINTS: u64 = 1_000_000_000_000;
 
 /// How far a step line is read, and so which word comes next. From the id on, that stands here.
 #[derive(Clone, Copy)]
@@ -219,7 +220,7 @@ impl StepWords {
         requires { (id : ℕ) × IsOpen id self.old.lits.items self.old.fault checker.old.open_addition }
         ensures opened { (id : ℕ) → IsOpen id self.old.lits.items self.old.fault checker.old.open_addition → OnOk result (IsOpen id self.new.lits.items self.new.fault checker.new.open_addition) }
         ensures fault { (id : ℕ) → IsOpen id self.old.lits.items self.old.fault checker.old.open_addition → OnOk result ((hints : List ℤ) → fault_then checker.old.rule checker.old.database.held self.old.fault checker.old.open_addition (hint ∷ hints) ≡ fault_then checker.old.rule checker.old.database.held self.new.fault checker.new.open_addition hints) }
-        ensures memory { OnErr result ((self.old.fault ≡ None) × IfSome checker.old.open_addition (λ a. 1000000000000 ≤ a.hints)) }
+        ensures memory { OnErr result ((self.old.fault ≡ None) × IfSome checker.old.open_addition (λ a. MOST_HINTS ≤ a.hints)) }
         ensures stage { self.new.stage ≡ self.old.stage }
         ensures lits { self.new.lits ≡ self.old.lits }
         ensures ids { self.new.ids ≡ self.old.ids }
