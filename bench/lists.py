@@ -71,11 +71,19 @@ def grouped(count, needed, size, threshold):
     return nodes, owned([node["publicKey"] for node in nodes], size)
 
 
+def apart(count, size):
+    """Organisations that agree each by itself."""
+    names = ["n%05d" % v for v in range(count * size)]
+    wanted = [{"threshold": size - 1, "validators": names[at : at + size]} for at in range(0, count * size, size)]
+    return [{"publicKey": name, "quorumSet": wanted[v // size]} for v, name in enumerate(names)], owned(names, size)
+
+
 SEVEN = watchers.Made("seven")
 ORGS = {
     "7 organisations (5 needed), each 2 of 3": grouped(7, 5, 3, 2),
     "16 (11), each 2 of 3": grouped(16, 11, 3, 2),
     "watchers:seven": (SEVEN.nodes, SEVEN.organisations()),
+    "4,096 apart, each 3 of 4": apart(4096, 4),
 }
 
 

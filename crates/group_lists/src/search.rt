@@ -26,8 +26,43 @@ use std::alloc::{AllocError, Global};
 /// A set of groups or of nodes that was listed.
 pub(crate) type GroupLine = ListedSet<GROUP_WORDS>;
 
-/// Takes whole groups out of a quorum, one after another, as long as a quorum is left. `scratch` holds nothing of use afterwards. The
-/// cost is that of `shrink` for each group that has a member in the quorum.
+/// Takes the groups from one place to another out of a quorum, all of them, and answers whether a quorum is left; where none is,
+/// nothing is taken. `scratch` holds nothing of use afterwards. The cost is that of `shrink` and O(n / 64) for each of these groups.
+fn lose_between(
+    system: &System,
+    groups: &Groups,
+    from: u32,
+    to: u32,
+    q: &mut NodeSet,
+    faulty: &NodeSet,
+    scratch: &mut NodeSet,
+) -> bool
+    requires sized { All (λ group. length group.members ≡ length system.now.sets) groups.now }
+    requires place { to ≤ length groups.now }
+    requires same_n { length q.old ≡ length system.now.sets }
+    requires same_faulty { length faulty.now ≡ length system.now.sets }
+    requires same_scratch { length scratch.old ≡ length system.now.sets }
+    requires quorum { Quorum system.now.sets (members faulty.now) (members q.old) }
+    ensures same_n { length q.new ≡ length q.old }
+    ensures same_scratch { length scratch.new ≡ length scratch.old }
+    ensures within { members q.new ⊆ members q.old }
+    ensures quorum { Quorum system.now.sets (members faulty.now) (members q.new) }
+{
+    scratch.copy_from(q);
+    for at in from..to {
+        scratch.minus(groups.members(at));
+    }
+    shrink(system, scratch, faulty);
+    if scratch.is_empty() {
+        return false;
+    }
+    q.copy_from(scratch);
+    true
+}
+
+/// Takes whole groups out of a quorum, in order, each if a quorum is left without it. After a trial that took some, twice as many
+/// are tried together; after one that took none, half as many. `scratch` holds nothing of use afterwards. Where k groups stay there
+/// are O((k + 1) log groups) trials, and never more than two for each group.
 fn lose_groups(
     system: &System,
     groups: &Groups,
@@ -45,15 +80,18 @@ fn lose_groups(
     ensures within { members q.new ⊆ members q.old }
     ensures quorum { Quorum system.now.sets (members faulty.now) (members q.new) }
 {
-    for at in 0..groups.len() {
-        let members = groups.members(at);
-        if members.meets(q) {
-            scratch.copy_from(q);
-            scratch.minus(members);
-            shrink(system, scratch, faulty);
-            if !scratch.is_empty() {
-                q.copy_from(scratch);
-            }
+    let count = groups.len();
+    let mut from = 0;
+    let mut together = 1;
+    while from < count {
+        together = together.min(count - from);
+        if lose_between(system, groups, from, from + together, q, faulty, scratch) {
+            from += together;
+            together *= 2;
+        } else if together > 1 {
+            together /= 2;
+        } else {
+            from += 1;
         }
     }
 }
