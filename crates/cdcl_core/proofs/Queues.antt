@@ -1,13 +1,12 @@
 -- A list that is taken out and put in again, and the queue's end.
-use Rattle.std.proofs.Common.{◌≡◌, ◌≢◌, ℕ, suc, ◌+◌, ◌*◌, ◌<◌, ◌≤◌, true, false, not, cond, List, [], ◌∷◌, ◌++◌, ⊎_elim, inl, inr, refl, sym, ap, ◌∙◌, subst, arith, length, get_or, set, get_or-set_same, get_or-set_other, Some}
+use Rattle.std.proofs.Common.{◌≡◌, ◌≢◌, ℕ, suc, ◌+◌, ◌*◌, ◌<◌, ◌≤◌, true, false, not, cond, List, [], ◌∷◌, ⊎_elim, inl, inr, refl, sym, ap, ◌∙◌, subst, arith, length, get_or, set, get_or-set_same, get_or-set_other, Some}
 use Rattle.std.specs.Prelude.{◌⊎◌, ◌==◌, All}
 use Rattle.std.specs.List.{list_all}
 use Rattle.std.proofs.lemmas.List.{take_all}
-use Rattle.std.proofs.lemmas.List.Folds.{list_any-append}
 use Rattle.cdcl_core.proofs.Walks.{has-at}
 use Rattle.cdcl_core.specs.Search.{IsState}
 use Rattle.std.proofs.lemmas.List.Elements.{All-nil}
-use Rattle.std.proofs.lemmas.Bool.{true≢false, false≢true, not_from_false, or_left}
+use Rattle.std.proofs.lemmas.Bool.{true≢false, false≢true, not_from_false}
 use Rattle.lrat_model.specs.Literal.{Literal, variable_of, negated, same, has}
 use Rattle.lrat_model.specs.Clauses.{Held, clause_at}
 use Rattle.lrat_model.specs.Propagation.{not_false, status_of, status}
@@ -26,13 +25,14 @@ module _ (held : Held) (pairs : List Pair) (lists : List (List Watch)) (trues : 
   at_others : (ws : List Watch) (k : Literal) → k ≢ l → list_at (set lists (index_of l) ws) k ≡ list_at lists k
   at_others ws k e = get_or-set_other lists (index_of l) (index_of k) ws [] (λ i. e (index-apart k l i))
 
-  -- the list of the literal that became false, taken out
-  pub take_out : (d : Literal) → head < length trues → l ≡ negated (get_or trues head d) → IsWatched held pairs lists l [] → IsQueued held pairs trues reasons head → IsVisiting held pairs (set lists (index_of l) []) trues reasons head l [] (list_at lists l)
-  take_out d within is w q =
+  visiting_none : head < length trues → ((d : Literal) → l ≡ negated (get_or trues head d)) → IsWatched held pairs lists l [] → IsQueued held pairs trues reasons head → IsVisiting held pairs (set lists (index_of l) []) trues reasons head l [] (list_at lists l)
+  visiting_none within is w q =
       let at : (p : ℕ) (k : Literal) → IsListed lists l [] p k → mentions (list_at lists k) p ≡ true = λ p k h. ⊎_elim (λ m. m) (λ none. absurd (false≢true none.1)) h in
       let move : (p : ℕ) (k : Literal) → IsListed lists l [] p k → IsListed (set lists (index_of l) []) l (list_at lists l) p k =
       λ p k h. ⊎_elim (λ e. inr (e, subst (λ x. mentions (list_at lists x) p ≡ true) e (at p k h))) (λ e. inl (subst (λ ws. mentions ws p ≡ true) (sym (at_others [] k e)) (at p k h))) (same_or_not l k) in
       record {
+        within = within;
+        at_head = is;
         watched = record {
           long = w.long;
           inside = w.inside;
@@ -53,12 +53,16 @@ module _ (held : Held) (pairs : List Pair) (lists : List (List Watch)) (trues : 
             let both = w.listed p less o.differ in
             ⊎_elim (λ e. inl (subst (λ x. mentions (list_at lists x) p ≡ true) e (at p pair.first both.0)))
             (λ first. ⊎_elim (λ e. inl (subst (λ x. mentions (list_at lists x) p ≡ true) e (at p pair.second both.1)))
-            (λ second. inr (kept_next trues (lits_at held p) head d l pair within is (λ _. (first, second)) (inr (inl o))))
+            (λ second. inr (kept_next trues (lits_at held p) head l l pair within (is l) (λ _. (first, second)) (inr (inl o))))
             (same_or_not l pair.second))
             (same_or_not l pair.first))
             (λ counted. inr (inr (inr counted))) rest)
             (q.kept p less);
       }
+
+  -- the list of the literal that became false, taken out
+  pub take_out : (t : Literal) → head < length trues → t ≡ get_or trues head t → l ≡ negated t → IsWatched held pairs lists l [] → IsQueued held pairs trues reasons head → (rest : List (List Watch)) (list : List Watch) → rest ≡ set lists (index_of l) [] → list ≡ list_at lists l → IsVisiting held pairs rest trues reasons head l [] list
+  take_out t within is l_is w q rest list rest_is list_is = rw (rest_is, list_is) (visiting_none within (λ d. l_is ∙ ap negated (is ∙ same_at trues head t d within)) w q)
 
   -- and what is left of it, put in again
   pub put_in : (spare : List Watch) → IsWatched held pairs lists l spare → list_at lists l ≡ [] → (k : Literal) → IsWatched held pairs (set lists (index_of l) spare) k []
@@ -80,9 +84,9 @@ module _ (held : Held) (pairs : List Pair) (lists : List (List Watch)) (trues : 
       }
 
 -- all watches of the literal at the head are visited
-pub queued_next : (held : Held) (pairs : List Pair) (lists : List (List Watch)) (trues : List Literal) (reasons : List ℕ) (head : ℕ) (l : Literal) (done : List Watch) → head < length trues → IsVisiting held pairs lists trues reasons head l done [] → IsQueued held pairs trues reasons (head + 1)
-queued_next held pairs lists trues reasons head l done within v = record {
-  within = omega (arith, within);
+pub queued_next : (held : Held) (pairs : List Pair) (lists : List (List Watch)) (trues : List Literal) (reasons : List ℕ) (head : ℕ) (l : Literal) (done : List Watch) → IsVisiting held pairs lists trues reasons head l done [] → IsQueued held pairs trues reasons (head + 1)
+queued_next held pairs lists trues reasons head l done v = record {
+  within = omega (arith, v.within);
   kept = λ p less. ⊎_elim (λ none. absurd (false≢true none)) (λ k. k) (v.visited p less);
   at_decisions = v.queued.at_decisions;
 }
@@ -131,12 +135,10 @@ kept_fixpoint held pairs trues consistent inside kept quiet id clause at =
 pub kept_at_end : (held : Held) (pairs : List Pair) (trues : List Literal) (reasons : List ℕ) (head : ℕ) → IsQueued held pairs trues reasons head → length trues ≤ head → AreKept held pairs trues trues
 kept_at_end held pairs trues reasons head q end p less = subst (λ ls. IsKept ls trues (lits_at held p) (pair_at pairs p)) (take_all head trues end) (q.kept p less)
 
--- the literal that became false is so still
-pub false_at : (trues more : List Literal) (head : ℕ) (l : Literal) → head < length trues → ((d : Literal) → l ≡ negated (get_or trues head d)) → has (trues ++ more) (negated l) ≡ true
-false_at trues more head l within is =
-    let t : Literal = get_or trues head l in
-    let there : negated l ≡ t = ap negated (is l) ∙ negated-negated t in
-    list_any-append (same (negated l)) trues more ∙ or_left (has trues (negated l)) (has more (negated l)) (has-at trues head (negated l) within (there ∙ same_at trues head l (negated l) within))
+-- the literal whose watches are visited is false
+pub visiting_false : (held : Held) (pairs : List Pair) (lists : List (List Watch)) (trues : List Literal) (reasons : List ℕ) (head : ℕ) (l : Literal) (done coming : List Watch) → IsVisiting held pairs lists trues reasons head l done coming → has trues (negated l) ≡ true
+visiting_false held pairs lists trues reasons head l done coming v =
+    has-at trues head (negated l) v.within (ap negated (v.at_head (negated l)) ∙ negated-negated (get_or trues head (negated l)))
 
 -- the list of the literal that becomes false is there
 pub index_of_false : (n : ℕ) (held : Held) (trues : List Literal) (reasons : List ℕ) (room head : ℕ) (t l : Literal) → IsState n held trues reasons → head < length trues → t ≡ get_or trues head t → l ≡ negated t → room ≡ 2 * (n + 1) → index_of l < room

@@ -105,12 +105,14 @@ same_or_not m k = elim (same k m) as (λ b. same k m ≡ b → (k ≡ m) ⊎ (k 
 
 module _ (held : Held) (pairs : List Pair) (lists : List (List Watch)) (trues : List Literal) (reasons : List ℕ) (head : ℕ) (l : Literal) (done coming : List Watch) where
   -- a forced literal more on the trail
-  pub visiting_push : IsVisiting held pairs lists trues reasons head l done coming → head < length trues → length reasons ≡ length trues → (o : Literal) (id : ℕ) → id ≢ 0 → IsVisiting held pairs lists (trues ++ o ∷ []) (reasons ++ id ∷ []) head l done coming
-  visiting_push v within long o id some = record {
+  pub visiting_push : IsVisiting held pairs lists trues reasons head l done coming → length reasons ≡ length trues → (o : Literal) (id : ℕ) → id ≢ 0 → IsVisiting held pairs lists (trues ++ o ∷ []) (reasons ++ id ∷ []) head l done coming
+  visiting_push v long o id some = record {
+    within = omega (arith, v.within, length-append trues (o ∷ []));
+    at_head = λ d. v.at_head d ∙ ap negated (sym (get_or-append trues (o ∷ []) d head v.within));
     watched = v.watched;
     taken_out = v.taken_out;
     queued = queued_more held pairs trues reasons head v.queued long o id (λ none. absurd (some none));
-    visited = λ p w. ⊎_elim (λ m. inl m) (λ k. inr (subst (λ ls. IsKept ls (trues ++ o ∷ []) (lits_at held p) (pair_at pairs p)) (sym (take-append-le (head + 1) trues (o ∷ []) (omega arith)))
+    visited = λ p w. ⊎_elim (λ m. inl m) (λ k. inr (subst (λ ls. IsKept ls (trues ++ o ∷ []) (lits_at held p) (pair_at pairs p)) (sym (take-append-le (head + 1) trues (o ∷ []) (omega (arith, v.within))))
         (kept_more (take (head + 1) trues) trues (o ∷ []) (lits_at held p) (pair_at pairs p) k))) (v.visited p w);
   }
 
@@ -124,6 +126,8 @@ module _ (held : Held) (pairs : List Pair) (lists : List (List Watch)) (trues : 
         λ p m. ap (λ ws. mentions ws p) split ∙ mentions-middle done coming now p ∙ sym (mentions-middle done coming watch p) ∙ m in
         let place_in : watch.place < length held = (All-middle (IsSound held l) done coming watch v.watched.sound_spare).0 in
         record {
+          within = v.within;
+          at_head = v.at_head;
           watched = record {
             long = v.watched.long;
             inside = v.watched.inside;
@@ -146,8 +150,10 @@ module _ (held : Held) (pairs : List Pair) (lists : List (List Watch)) (trues : 
         }
 
     -- a watch of a clause that watches other literals goes
-    pub visiting_stale : (d : Literal) → head < length trues → l ≡ negated (get_or trues head d) → (same (pair_at pairs watch.place).first (pair_at pairs watch.place).second ≡ false → ((pair_at pairs watch.place).first ≢ l) × ((pair_at pairs watch.place).second ≢ l)) → IsVisiting held pairs lists trues reasons head l done coming
-    visiting_stale d within is others = record {
+    pub visiting_stale : (same (pair_at pairs watch.place).first (pair_at pairs watch.place).second ≡ false → ((pair_at pairs watch.place).first ≢ l) × ((pair_at pairs watch.place).second ≢ l)) → IsVisiting held pairs lists trues reasons head l done coming
+    visiting_stale others = record {
+      within = v.within;
+      at_head = v.at_head;
       watched = record {
         long = v.watched.long;
         inside = v.watched.inside;
@@ -165,14 +171,14 @@ module _ (held : Held) (pairs : List Pair) (lists : List (List Watch)) (trues : 
       queued = v.queued;
       visited = λ p w. ⊎_elim
           (λ m. ⊎_elim
-          (λ own. inr (kept_next trues (lits_at held p) head d l (pair_at pairs p) within is (subst (λ k. same (pair_at pairs k).first (pair_at pairs k).second ≡ false → ((pair_at pairs k).first ≢ l) × ((pair_at pairs k).second ≢ l)) (eqb-true watch.place p own) others) (v.queued.kept p w)))
+          (λ own. inr (kept_next trues (lits_at held p) head l l (pair_at pairs p) v.within (v.at_head l) (subst (λ k. same (pair_at pairs k).first (pair_at pairs k).second ≡ false → ((pair_at pairs k).first ≢ l) × ((pair_at pairs k).second ≢ l)) (eqb-true watch.place p own) others) (v.queued.kept p w)))
           (λ rest. inl rest)
           (or_cases (watch.place == p) (mentions coming p) m))
           (λ k. inr k) (v.visited p w);
     }
 
     -- the clause watches another literal, which is not false, in the place of l
-    module _ (o m b t : Literal) (d : Literal) (within : head < length trues) (is : l ≡ negated (get_or trues head d)) (false_l : has trues (negated l) ≡ true)
+    module _ (o m b t : Literal) (false_l : has trues (negated l) ≡ true)
         (differ : same (pair_at pairs watch.place).first (pair_at pairs watch.place).second ≡ false)
         (pair_is : (((pair_at pairs watch.place).first ≡ l) × ((pair_at pairs watch.place).second ≡ o)) ⊎ (((pair_at pairs watch.place).second ≡ l) × ((pair_at pairs watch.place).first ≡ o)))
         (has_m : has (lits_at held watch.place) m ≡ true) (not_o : same m o ≡ false) (free : has trues (negated m) ≡ false) (has_b : has (lits_at held watch.place) b ≡ true) (short : same t m ≡ false → IsShort (lits_at held watch.place) m b t) (inside_m : index_of m < length lists) where
@@ -273,6 +279,8 @@ module _ (held : Held) (pairs : List Pair) (lists : List (List Watch)) (trues : 
 
       pub visiting_moved : IsVisiting held new_pairs new_lists trues reasons head l done coming
       visiting_moved = record {
+        within = v.within;
+        at_head = v.at_head;
         watched = record {
           long = length-set pairs place moved ∙ v.watched.long;
           inside = λ p w. ⊎_elim
@@ -302,13 +310,17 @@ module _ (held : Held) (pairs : List Pair) (lists : List (List Watch)) (trues : 
         };
         visited = λ p w. ⊎_elim
             (λ e. inr (at_place p e (take (head + 1) trues) trues
-            (kept_next trues (lits_at held place) head d l moved within is (λ _. (o_not_l, m_not_l)) (kept_here (take head trues) trues (free_in head) (v.queued.kept place place_in)))))
+            (kept_next trues (lits_at held place) head l l moved v.within (v.at_head l) (λ _. (o_not_l, m_not_l)) (kept_here (take head trues) trues (free_in head) (v.queued.kept place place_in)))))
             (λ e. ⊎_elim
             (λ h. ⊎_elim (λ own. absurd (e (sym (eqb-true place p own)))) (λ rest. inl rest) (or_cases (place == p) (mentions coming p) h))
             (λ k. inr (at_other p e (take (head + 1) trues) trues k))
             (v.visited p w))
             (cases_eq p place);
       }
+
+-- the next watch names a clause, and a literal of it
+pub sound_next : {held : Held} {pairs : List Pair} {lists : List (List Watch)} {trues : List Literal} {reasons : List ℕ} {l : Literal} {watch : Watch} → ((head : ℕ) × (done : List Watch) × (coming : List Watch) × IsVisiting held pairs lists trues reasons head l done (watch ∷ coming)) → IsSound held l watch
+sound_next {held = held} {l = l} {watch = watch} v = All-middle (IsSound held l) v.1 v.2 watch v.3.watched.sound_spare
 
 -- any default
 pub same_at : {X : Type 0} → (xs : List X) (i : ℕ) (d e : X) → i < length xs → get_or xs i d ≡ get_or xs i e

@@ -1,10 +1,12 @@
 -- Clauses that are watched, and what watches keep.
-use Rattle.std.specs.Prelude.{◌≡◌, ◌⊎◌, ℕ, ◌+◌, ◌*◌, ◌<◌, ◌≤◌, ◌==◌, ◌++◌, Bool, true, false, List, [], ◌∷◌, length, take, slice_index, slice_index_or, All, Option, None, Some}
+use Rattle.std.specs.Prelude.{◌≡◌, ◌⊎◌, ℕ, ◌+◌, ◌*◌, ◌^◌, ◌<◌, ◌≤◌, ◌==◌, ◌++◌, Bool, true, false, List, [], ◌∷◌, length, take, slice_index, slice_index_or, All, Option, None, Some}
 use Rattle.std.specs.List.{list_any}
 use Rattle.lrat_model.specs.Literal.{Literal, Plus, Minus, negated, same, has}
-use Rattle.lrat_model.specs.Clauses.{Held}
+use Rattle.lrat_model.specs.Clauses.{Held, clause_at}
 use Rattle.cdcl_core.specs.declared.watches.Watch.{Watch}
 use Rattle.cdcl_core.specs.declared.watches.Pair.{Pair}
+use Rattle.cdcl_core.specs.Search.{IsState}
+use Rattle.cdcl_core.specs.Trail.{InRange}
 
 -- where the list of a literal stands
 abbrev pub index_of : Literal → ℕ
@@ -77,8 +79,17 @@ pub record IsQueued (held : Held) (pairs : List Pair) (trues : List Literal) (re
   pub kept : AreKept held pairs (take head trues) trues
   pub at_decisions : (q : ℕ) → q < length trues → slice_index reasons q ≡ 0 → AreKept held pairs (take q trues) (take q trues)
 
+-- what is propagated: the clauses held are over the first n variables, each under its id; the trail is derived from them, and each literal has a list
+pub record IsPropagating (n : ℕ) (held : Held) (lists : List (List Watch)) (trues : List Literal) (reasons : List ℕ) : Type 0 where
+  pub range : InRange n held
+  pub ids : (p : ℕ) → p < length held → (0 < id_at held p) × (id_at held p < 2 ^ 63) × (clause_at held (id_at held p) ≡ Some (lits_at held p))
+  pub state : IsState n held trues reasons
+  pub long : length lists ≡ 2 * (n + 1)
+
 -- while the watches of l are visited, which the literal at the head makes false: these are done, those are to come
 pub record IsVisiting (held : Held) (pairs : List Pair) (lists : List (List Watch)) (trues : List Literal) (reasons : List ℕ) (head : ℕ) (l : Literal) (done coming : List Watch) : Type 0 where
+  pub within : head < length trues
+  pub at_head : (d : Literal) → l ≡ negated (slice_index_or trues head d)
   pub watched : IsWatched held pairs lists l (done ++ coming)
   pub taken_out : list_at lists l ≡ []
   pub queued : IsQueued held pairs trues reasons head

@@ -1,13 +1,8 @@
 //! A clause is visited that watches a literal which became false.
-ghost use Rattle.std.specs.Prelude.{◌≡◌, ◌≢◌, ◌⊎◌, ℕ, ◌<◌, ◌≤◌, ◌^◌, ◌+◌, ◌*◌, ◌++◌, [], ◌∷◌, true, false, List, Ok, Some, IfOk, IfSome, OnOk, None, length, slice_index_or, slice_set};
+ghost use Rattle.std.specs.Prelude.{◌≡◌, ◌≢◌, ◌⊎◌, ℕ, ◌<◌, ◌≤◌, ◌++◌, [], ◌∷◌, true, false, List, Ok, Some, IfSome, OnOk, None, length};
 ghost use Rattle.lrat_model.specs.Literal.{Literal, has, negated, same, variable_of};
-ghost use Rattle.lrat_model.specs.Clauses.{Held, clause_at};
-ghost use Rattle.lrat_model.specs.Propagation.{status};
-ghost use Rattle.lrat_model.specs.declared.step.ClauseStatus.TheVariants.{Falsified};
 ghost use Rattle.cdcl_core.specs.Fixpoint.{IsConflict};
-ghost use Rattle.cdcl_core.specs.Search.{IsState};
-ghost use Rattle.cdcl_core.specs.Trail.{InRange};
-ghost use Rattle.cdcl_core.specs.Watches.{id_at, lits_at, pair_at, IsShort, IsSound, IsVisiting};
+ghost use Rattle.cdcl_core.specs.Watches.{lits_at, pair_at, IsPropagating, IsShort, IsSound, IsVisiting};
 ghost use Rattle.cdcl_core.specs.Sights.{IsSeen};
 
 use crate::clauses::Clauses;
@@ -193,22 +188,15 @@ pub fn visit(
     l: Lit,
     watch: Watch,
 ) -> Result<Seen, AllocError>
-    requires range { InRange assignment.old.vars clauses.now }
-    requires ids { (p : ℕ) → p < length clauses.now → (0 < id_at clauses.now p) × (id_at clauses.now p < 2 ^ 63) × (clause_at clauses.now (id_at clauses.now p) ≡ Some (lits_at clauses.now p)) }
-    requires state { IsState assignment.old.vars clauses.now assignment.old.trues reasons.old.items }
-    requires sound { IsSound clauses.now l watch }
-    requires long { length pairs.old ≡ length clauses.now }
-    requires lists { length lists.old ≡ 2 * (assignment.old.vars + 1) }
-    requires false_now { has assignment.old.trues (negated l) ≡ true }
-    requires inside { (has (lits_at clauses.now watch.place) (pair_at pairs.old watch.place).first ≡ true) × (has (lits_at clauses.now watch.place) (pair_at pairs.old watch.place).second ≡ true) }
+    requires propagating { IsPropagating assignment.old.vars clauses.now lists.old assignment.old.trues reasons.old.items }
+    requires visiting { (head : ℕ) × (done : List Watch) × (coming : List Watch) × IsVisiting clauses.now pairs.old lists.old assignment.old.trues reasons.old.items head l done (watch ∷ coming) }
     ensures vars { assignment.new.vars ≡ assignment.old.vars }
     ensures long { OnOk result (length pairs.new ≡ length pairs.old) }
-    ensures lists { OnOk result (length lists.new ≡ length lists.old) }
-    ensures state { OnOk result (IsState assignment.old.vars clauses.now assignment.new.trues reasons.new.items) }
+    ensures propagating { OnOk result (IsPropagating assignment.new.vars clauses.now lists.new assignment.new.trues reasons.new.items) }
     ensures longer { OnOk result ((more : List Literal) × (assignment.new.trues ≡ assignment.old.trues ++ more)) }
     ensures counted { OnOk result ((p : ℕ) → (pair_at pairs.new p).is_counted ≡ true → (pair_at pairs.old p).is_counted ≡ true) }
-    ensures stays { (b t : Literal) → result ≡ Ok (Seen.Stays b t) → (head : ℕ) (d : Literal) (done coming : List Watch) → head < length assignment.old.trues → l ≡ negated (slice_index_or assignment.old.trues head d) → IsVisiting clauses.now pairs.old lists.old assignment.old.trues reasons.old.items head l done (watch ∷ coming) → IsVisiting clauses.now pairs.new lists.new assignment.new.trues reasons.new.items head l (done ++ record { place = watch.place; blocker = b; third = t } ∷ []) coming }
-    ensures goes { result ≡ Ok Seen.Goes → (head : ℕ) (d : Literal) (done coming : List Watch) → head < length assignment.old.trues → l ≡ negated (slice_index_or assignment.old.trues head d) → IsVisiting clauses.now pairs.old lists.old assignment.old.trues reasons.old.items head l done (watch ∷ coming) → IsVisiting clauses.now pairs.new lists.new assignment.new.trues reasons.new.items head l done coming }
+    ensures stays { (b t : Literal) → result ≡ Ok (Seen.Stays b t) → (head : ℕ) (done coming : List Watch) → IsVisiting clauses.now pairs.old lists.old assignment.old.trues reasons.old.items head l done (watch ∷ coming) → IsVisiting clauses.now pairs.new lists.new assignment.new.trues reasons.new.items head l (done ++ record { place = watch.place; blocker = b; third = t } ∷ []) coming }
+    ensures goes { result ≡ Ok Seen.Goes → (head : ℕ) (done coming : List Watch) → IsVisiting clauses.now pairs.old lists.old assignment.old.trues reasons.old.items head l done (watch ∷ coming) → IsVisiting clauses.now pairs.new lists.new assignment.new.trues reasons.new.items head l done coming }
     ensures conflict { (id : ℕ) → result ≡ Ok (Seen.Conflict id) → IsConflict clauses.now assignment.new.trues id × (pairs.new ≡ pairs.old) × (lists.new ≡ lists.old) × (assignment.new.trues ≡ assignment.old.trues) × (reasons.new.items ≡ reasons.old.items) }
 {
     let place = watch.place;

@@ -2,7 +2,6 @@ use Rattle.std.proofs.Common.{◌≡◌, ◌+◌, ◌*◌, ◌++◌, [], ◌∙�
 use Rattle.lrat_model.specs.Literal.{Literal, Plus}
 use Rattle.cdcl_core.specs.declared.watches.Pair.{Pair}
 use Rattle.cdcl_core.specs.Search.{IsState}
-use Rattle.cdcl_core.specs.Trail.{InRange}
 use Rattle.gate_counts.specs.Counts.{IsCounting}
 use Rattle.gate_counts.proofs.Countings.{counting_more}
 use Rattle.search_guide.specs.Open.{open_count}
@@ -11,17 +10,16 @@ use Rattle.cdcl_core.proofs.OpenCounts.{open_count-append}
 use Rattle.cdcl_core.proofs.Runs.{written_back, each_id}
 use Rattle.cdcl_core.proofs.search.Search.visit_watches.Goals as goal
 
-pub propagate-requires-clause-range : goal.propagate-requires-clause-range
-propagate-requires-clause-range c = subst (λ k. InRange k c.args.self.now.clauses) (sym c.requires.searching.vars) c.requires.holding.range
-
-pub propagate-requires-clause-ids : goal.propagate-requires-clause-ids
-propagate-requires-clause-ids c = each_id c.args.self.now.clauses c.args.self.now.last c.requires.holding.rise c.requires.holding.ids c.requires.room
-
-pub propagate-requires-clause-state : goal.propagate-requires-clause-state
-propagate-requires-clause-state c = subst (λ k. IsState k c.args.self.now.clauses c.args.self.now.assignment.trues c.args.self.now.reasons.items) (sym c.requires.searching.vars) c.requires.searching.state
-
-pub propagate-requires-clause-lists : goal.propagate-requires-clause-lists
-propagate-requires-clause-lists c = c.requires.searching.lists ∙ ap (λ k. 2 * (k + 1)) (sym c.requires.searching.vars)
+pub propagate-requires-clause-propagating : goal.propagate-requires-clause-propagating
+propagate-requires-clause-propagating c =
+    let s = c.args.self.now in
+    let was = c.requires.searching in
+    rw was.vars (record {
+      range = c.requires.holding.range;
+      ids = each_id s.clauses s.last c.requires.holding.rise c.requires.holding.ids c.requires.room;
+      state = was.state;
+      long = was.lists;
+    })
 
 pub propagate-requires-clause-watched : goal.propagate-requires-clause-watched
 propagate-requires-clause-watched c = λ l. subst (λ (ps : List Pair). IsWatched c.args.self.now.clauses ps c.args.self.now.lists l []) (sym c.deref_mut.ensures.value) (c.requires.searching.watched l)
@@ -39,8 +37,8 @@ returns-clause-searching c =
     record {
       vars = did.vars ∙ was.vars;
       guide = was.guide;
-      state = subst (λ k. IsState k s.clauses new.assignment.trues new.reasons.items) was.vars did.state;
-      lists = did.lists ∙ was.lists;
+      state = subst (λ k. IsState k s.clauses new.assignment.trues new.reasons.items) (did.vars ∙ was.vars) did.propagating.state;
+      lists = did.propagating.long ∙ ap (λ k. 2 * (k + 1)) (did.vars ∙ was.vars);
       watched = λ l. subst (λ (ps : List Pair). IsWatched s.clauses ps new.lists l []) (sym pairs_are) (did.watched l);
       queued = subst (λ (ps : List Pair). IsQueued s.clauses ps new.assignment.trues new.reasons.items new.head) (sym pairs_are) did.queued;
       gated = record {
