@@ -61,10 +61,10 @@ impl Hints {
         ensures { AreNamed checker.now.database.held self.new.ids.items }
     {
         self.begin(lits)?;
-        match hints {
-            HintsRef::Short(ids) => self.follow_short(checker, written, bases, ids),
-            HintsRef::Wide(ids) => self.follow_wide(checker, written, bases, ids),
+        for place in 0..count_of(hints) {
+            self.follow(checker, written, bases, id_at(hints, place))?;
         }
+        Ok(())
     }
 
     /// The lemma's literals are false, and there is no hint yet.
@@ -76,38 +76,6 @@ impl Hints {
         self.has_conflict = false;
         for l in lits {
             self.values.make_true(l.negated())?;
-        }
-        Ok(())
-    }
-
-    fn follow_short(
-        &mut self,
-        checker: &Checker,
-        written: &Written,
-        bases: Bases,
-        ids: &[u32],
-    ) -> Result<(), AllocError>
-        requires { AreNamed checker.now.database.held self.old.ids.items }
-        ensures { AreNamed checker.now.database.held self.new.ids.items }
-    {
-        for id in ids {
-            self.follow(checker, written, bases, u64::from(*id))?;
-        }
-        Ok(())
-    }
-
-    fn follow_wide(
-        &mut self,
-        checker: &Checker,
-        written: &Written,
-        bases: Bases,
-        ids: &[i64],
-    ) -> Result<(), AllocError>
-        requires { AreNamed checker.now.database.held self.old.ids.items }
-        ensures { AreNamed checker.now.database.held self.new.ids.items }
-    {
-        for id in ids {
-            self.follow(checker, written, bases, id.unsigned_abs())?;
         }
         Ok(())
     }
@@ -309,6 +277,22 @@ impl Hints {
         };
         self.ids.push(id)?;
         Ok(())
+    }
+}
+
+/// The number of hints.
+fn count_of(hints: HintsRef<'_>) -> usize {
+    match hints {
+        HintsRef::Short(ids) => ids.len(),
+        HintsRef::Wide(ids) => ids.len(),
+    }
+}
+
+/// The id of the hint at a place; 0, which is none, past the last.
+fn id_at(hints: HintsRef<'_>, place: usize) -> u64 {
+    match hints {
+        HintsRef::Short(ids) => ids.get(place).map_or(0, |id| u64::from(*id)),
+        HintsRef::Wide(ids) => ids.get(place).map_or(0, |id| id.unsigned_abs()),
     }
 }
 
