@@ -1,16 +1,15 @@
 //! The questions.
-ghost use Rattle.std.specs.Prelude.{◌≡◌, ℕ, ◌<◌, ◌≤◌, length, IsTrue, ◌↔◌, Err, IfOk, IfErr, IfSome, OnOk};
+ghost use Rattle.std.specs.Prelude.{◌≡◌, ℕ, ◌<◌, ◌≤◌, length, IsTrue, ◌↔◌, Err, IfOk, IfSome, OnOk};
 ghost use Rattle.fbas_model.specs.Nodes.{members};
 ghost use Rattle.fbas_model.specs.Fbas.{Available, AreUnmet};
 ghost use Rattle.clause_encoder.specs.declared.limits.TheConstants.{MOST_VARS};
 ghost use Rattle.fbas_model.specs.Restriction.{union};
 ghost use Rattle.quorum_questions.specs.Evidence.{vars_of, Shows};
-ghost use Rattle.quorum_questions.specs.Searching.{IsFormula, IsStarted};
+ghost use Rattle.quorum_questions.specs.Searching.{IsAsked, IsFormulaFor, IsStartedFor, IsAnswerTo};
 
 use crate::answers::{Answer, AskError};
 use crate::gates::by_gates;
-use crate::searching::{End, Formula, Search, end_of, formula_of, start, with_plan};
-use cdcl_core::Plan;
+use crate::searching::{Asked, End, Formula, Search, end_of, formula_of, start, with_plan};
 use counter_pairs::{has_rivals, plan_of};
 use fbas_core::System;
 use gate_search::has_gates;
@@ -51,35 +50,43 @@ pub fn intersect(
     ensures small { OnOk result (vars_of system.now.sets faulty.now ≤ MOST_VARS) }
     ensures too_large { (vars : ℕ) → result ≡ Err (AskError.TooLarge vars) → (vars ≡ vars_of system.now.sets faulty.now) × (MOST_VARS < vars) }
 {
-    match formula_of(alloc, system, faulty) {
-        Ok(formula) => by_formula(alloc, system, faulty, formula, budget),
-        Err(error) => Err(error),
+    let asked = Asked {
+        system,
+        faulty,
+        budget,
+    };
+    let formula = formula_of(alloc, &asked)?;
+    if let Some(answer) = at_once(alloc, &asked, formula)? {
+        return Ok(answer);
+    }
+    let formula = formula_of(alloc, &asked)?;
+    Ok(at_length(alloc, &asked, formula)?)
+}
+
+/// What is found over the formula itself. None where there is another way, and few lemmas showed nothing.
+fn at_once(alloc: Global, asked: &Asked, formula: Formula) -> Result<Option<Answer>, AllocError>
+    requires asked { IsAsked asked.now }
+    requires formula { IsFormulaFor asked.now formula }
+    ensures { IfOk result (λ found. IfSome found (IsAnswerTo asked.now)) }
+{
+    let first = first_units(formula.size.clauses);
+    if asked.budget <= first || !has_other_way(alloc, &formula)? {
+        return Ok(Some(search_on(alloc, asked, formula)?));
+    }
+    let few = Asked {
+        budget: first,
+        ..*asked
+    };
+    match search_on(alloc, &few, formula)? {
+        Answer::Yes(log, size) => Ok(Some(Answer::Yes(log, size))),
+        Answer::No(pair) => Ok(Some(Answer::No(pair))),
+        Answer::Spent(_, _) => Ok(None),
     }
 }
 
-/// What is found within the budget: over the formula itself, unless it has gates that are worth another way.
-fn by_formula(
-    alloc: Global,
-    system: &System,
-    faulty: &NodeSet,
-    formula: Formula,
-    budget: u64,
-) -> Result<Answer, AskError>
-    requires same_n { length faulty.now ≡ length system.now.sets }
-    requires few { budget ≤ MOST_UNITS }
-    requires formula { IsFormula system.now.sets faulty.now formula }
-    ensures shows { IfOk result (Shows system.now.sets faulty.now budget) }
-    ensures too_large { (vars : ℕ) → result ≡ Err (AskError.TooLarge vars) → (vars ≡ vars_of system.now.sets faulty.now) × (MOST_VARS < vars) }
-{
-    let first = first_units(formula.size.clauses);
-    if budget <= first {
-        return search_on(alloc, system, faulty, formula, budget);
-    }
-    match has_other_way(alloc, &formula) {
-        Ok(true) => in_turn(alloc, system, faulty, formula, first, budget),
-        Ok(false) => search_on(alloc, system, faulty, formula, budget),
-        Err(_) => Err(AskError::Memory),
-    }
+/// How many lemmas over a formula of this many clauses are learnt before it is searched another way.
+fn first_units(clauses: u64) -> u64 {
+    (clauses / CLAUSES_PER_UNIT).clamp(FEWEST_UNITS, FEW_UNITS)
 }
 
 /// Whether the formula has gates that are worth writing out, or gates of members that exclude each other.
@@ -90,180 +97,43 @@ fn has_other_way(alloc: Global, formula: &Formula) -> Result<bool, AllocError> {
     has_rivals(alloc, &formula.store, formula.size.vars)
 }
 
-/// How many lemmas over a formula of this many clauses are learnt before it is searched another way.
-fn first_units(clauses: u64) -> u64 {
-    (clauses / CLAUSES_PER_UNIT).clamp(FEWEST_UNITS, FEW_UNITS)
-}
-
-/// What few lemmas over the formula show, or else the whole budget, another way.
-fn in_turn(
-    alloc: Global,
-    system: &System,
-    faulty: &NodeSet,
-    formula: Formula,
-    first: u64,
-    budget: u64,
-) -> Result<Answer, AskError>
-    requires same_n { length faulty.now ≡ length system.now.sets }
-    requires few { budget ≤ MOST_UNITS }
-    requires more { first < budget }
-    requires formula { IsFormula system.now.sets faulty.now formula }
-    ensures shows { IfOk result (Shows system.now.sets faulty.now budget) }
-    ensures too_large { (vars : ℕ) → result ≡ Err (AskError.TooLarge vars) → (vars ≡ vars_of system.now.sets faulty.now) × (MOST_VARS < vars) }
+/// What is found within the budget: by a plan that counts both sides, if it is worth following; else with the formula's
+/// gates written out, and where that led nowhere over the formula itself.
+fn at_length(alloc: Global, asked: &Asked, formula: Formula) -> Result<Answer, AllocError>
+    requires asked { IsAsked asked.now }
+    requires formula { IsFormulaFor asked.now formula }
+    ensures { IfOk result (IsAnswerTo asked.now) }
 {
-    match at_once(alloc, system, faulty, formula, first, budget) {
-        Ok(Some(answer)) => Ok(answer),
-        Ok(None) => at_length(alloc, system, faulty, budget),
-        Err(error) => Err(error),
+    if let Some(plan) = plan_of(alloc, &formula.store, formula.size.vars)? {
+        return search_from(alloc, asked, with_plan(start(alloc, formula)?, plan));
     }
-}
-
-/// What few lemmas over the formula show, of a greater budget.
-fn at_once(
-    alloc: Global,
-    system: &System,
-    faulty: &NodeSet,
-    formula: Formula,
-    first: u64,
-    budget: u64,
-) -> Result<Option<Answer>, AskError>
-    requires same_n { length faulty.now ≡ length system.now.sets }
-    requires few { budget ≤ MOST_UNITS }
-    requires more { first < budget }
-    requires formula { IsFormula system.now.sets faulty.now formula }
-    ensures shows { IfOk result (λ found. IfSome found (Shows system.now.sets faulty.now budget)) }
-    ensures memory { IfErr result (λ error. error ≡ AskError.Memory) }
-{
-    match search_on(alloc, system, faulty, formula, first) {
-        Ok(Answer::Yes(log, size)) => Ok(Some(Answer::Yes(log, size))),
-        Ok(Answer::No(pair)) => Ok(Some(Answer::No(pair))),
-        Ok(Answer::Spent(_, _)) => Ok(None),
-        Err(error) => Err(error),
-    }
-}
-
-/// What the whole budget shows: by a plan, if there is one, or with the formula's gates written out.
-fn at_length(
-    alloc: Global,
-    system: &System,
-    faulty: &NodeSet,
-    budget: u64,
-) -> Result<Answer, AskError>
-    requires same_n { length faulty.now ≡ length system.now.sets }
-    requires few { budget ≤ MOST_UNITS }
-    ensures shows { IfOk result (Shows system.now.sets faulty.now budget) }
-    ensures too_large { (vars : ℕ) → result ≡ Err (AskError.TooLarge vars) → (vars ≡ vars_of system.now.sets faulty.now) × (MOST_VARS < vars) }
-{
-    match formula_of(alloc, system, faulty) {
-        Ok(formula) => by_gates_or_plan(alloc, system, faulty, formula, budget),
-        Err(error) => Err(error),
-    }
-}
-
-/// What is found within the budget: by a plan that counts both sides, if it is worth following, or with gates written out.
-fn by_gates_or_plan(
-    alloc: Global,
-    system: &System,
-    faulty: &NodeSet,
-    formula: Formula,
-    budget: u64,
-) -> Result<Answer, AskError>
-    requires same_n { length faulty.now ≡ length system.now.sets }
-    requires few { budget ≤ MOST_UNITS }
-    requires formula { IsFormula system.now.sets faulty.now formula }
-    ensures shows { IfOk result (Shows system.now.sets faulty.now budget) }
-    ensures memory { IfErr result (λ error. error ≡ AskError.Memory) }
-{
-    match plan_of(alloc, &formula.store, formula.size.vars) {
-        Ok(Some(plan)) => by_plan(alloc, system, faulty, formula, plan, budget),
-        Ok(None) => answer(alloc, system, faulty, formula, budget),
-        Err(_) => Err(AskError::Memory),
-    }
-}
-
-/// What a search over this formula finds within the budget, where a plan decides first.
-fn by_plan(
-    alloc: Global,
-    system: &System,
-    faulty: &NodeSet,
-    formula: Formula,
-    plan: Plan,
-    budget: u64,
-) -> Result<Answer, AskError>
-    requires same_n { length faulty.now ≡ length system.now.sets }
-    requires few { budget ≤ MOST_UNITS }
-    requires formula { IsFormula system.now.sets faulty.now formula }
-    ensures shows { IfOk result (Shows system.now.sets faulty.now budget) }
-    ensures memory { IfErr result (λ error. error ≡ AskError.Memory) }
-{
-    match start(alloc, formula) {
-        Ok(search) => search_from(alloc, system, faulty, with_plan(search, plan), budget),
-        Err(_) => Err(AskError::Memory),
-    }
-}
-
-/// What is found within the budget: with the formula's gates written out, and where that led nowhere over the formula itself.
-fn answer(
-    alloc: Global,
-    system: &System,
-    faulty: &NodeSet,
-    formula: Formula,
-    budget: u64,
-) -> Result<Answer, AskError>
-    requires same_n { length faulty.now ≡ length system.now.sets }
-    requires few { budget ≤ MOST_UNITS }
-    requires formula { IsFormula system.now.sets faulty.now formula }
-    ensures shows { IfOk result (Shows system.now.sets faulty.now budget) }
-    ensures memory { IfErr result (λ error. error ≡ AskError.Memory) }
-{
-    match by_gates(alloc, system, faulty, &formula, budget) {
-        Ok(Some(answer)) => Ok(answer),
-        Ok(None) => search_on(alloc, system, faulty, formula, budget),
-        Err(error) => Err(error),
+    match by_gates(alloc, asked, &formula)? {
+        Some(answer) => Ok(answer),
+        None => search_on(alloc, asked, formula),
     }
 }
 
 /// What a search over this formula finds within the budget.
-fn search_on(
-    alloc: Global,
-    system: &System,
-    faulty: &NodeSet,
-    formula: Formula,
-    budget: u64,
-) -> Result<Answer, AskError>
-    requires same_n { length faulty.now ≡ length system.now.sets }
-    requires few { budget ≤ MOST_UNITS }
-    requires formula { IsFormula system.now.sets faulty.now formula }
-    ensures shows { IfOk result (Shows system.now.sets faulty.now budget) }
-    ensures memory { IfErr result (λ error. error ≡ AskError.Memory) }
+fn search_on(alloc: Global, asked: &Asked, formula: Formula) -> Result<Answer, AllocError>
+    requires asked { IsAsked asked.now }
+    requires formula { IsFormulaFor asked.now formula }
+    ensures { IfOk result (IsAnswerTo asked.now) }
 {
-    match start(alloc, formula) {
-        Ok(search) => search_from(alloc, system, faulty, search, budget),
-        Err(_) => Err(AskError::Memory),
-    }
+    search_from(alloc, asked, start(alloc, formula)?)
 }
 
 /// What a search that has not begun finds within the budget. The solver is borrowed until its log is all that is wanted of it.
-fn search_from(
-    alloc: Global,
-    system: &System,
-    faulty: &NodeSet,
-    mut search: Search,
-    budget: u64,
-) -> Result<Answer, AskError>
-    requires same_n { length faulty.now ≡ length system.now.sets }
-    requires few { budget ≤ MOST_UNITS }
-    requires started { IsStarted system.now.sets faulty.now search }
-    ensures shows { IfOk result (Shows system.now.sets faulty.now budget) }
-    ensures memory { IfErr result (λ error. error ≡ AskError.Memory) }
+fn search_from(alloc: Global, asked: &Asked, mut search: Search) -> Result<Answer, AllocError>
+    requires asked { IsAsked asked.now }
+    requires started { IsStartedFor asked.now search }
+    ensures { IfOk result (IsAnswerTo asked.now) }
 {
-    let end = end_of(alloc, system, faulty, &mut search, budget);
+    let end = end_of(alloc, asked, &mut search)?;
     let log = search.solver.into_log();
     match end {
-        Ok(End::Told(pair)) => Ok(Answer::No(pair)),
-        Ok(End::Refuted) => Ok(Answer::Yes(log, search.size)),
-        Ok(End::Spent) => Ok(Answer::Spent(log, search.size)),
-        Err(error) => Err(error),
+        End::Told(pair) => Ok(Answer::No(pair)),
+        End::Refuted => Ok(Answer::Yes(log, search.size)),
+        End::Spent => Ok(Answer::Spent(log, search.size)),
     }
 }
 

@@ -1,16 +1,11 @@
 //! The search for an assignment that tells two quorums which share no node.
-ghost use Rattle.std.specs.Prelude.{◌≡◌, ℕ, ◌<◌, ◌≤◌, ◌^◌, length, Err, IfOk, IfErr};
-ghost use Rattle.lrat_model.specs.Clauses.{numbered, Satisfies};
+ghost use Rattle.std.specs.Prelude.{◌≡◌, ℕ, ◌<◌, ◌^◌, length, Err, IfOk};
 ghost use Rattle.lrat_model.specs.Ranges.{AreInRange};
-ghost use Rattle.fbas_model.specs.Nodes.{Table, members};
-ghost use Rattle.fbas_model.specs.Fbas.{Fbas, IsGreatestQuorum, all_nodes};
-ghost use Rattle.clause_encoder.specs.declared.version.Version.TheVariants.{Two};
-ghost use Rattle.clause_encoder.specs.Formula.{formula_clauses};
+ghost use Rattle.fbas_model.specs.Nodes.{Table};
+ghost use Rattle.fbas_model.specs.Fbas.{Fbas};
 ghost use Rattle.clause_encoder.specs.declared.limits.TheConstants.{MOST_VARS};
-ghost use Rattle.clause_encoder.specs.Meaning.{value_of};
 ghost use Rattle.quorum_questions.specs.Evidence.{vars_of, IsWitness};
-ghost use Rattle.quorum_questions.specs.Searching.{IsFormula, IsStarted, Ends};
-ghost use Rattle.quorum_questions.specs.declared.asking.TheConstants.{MOST_UNITS};
+ghost use Rattle.quorum_questions.specs.Searching.{IsAsked, IsFormula, IsFormulaFor, IsStarted, IsStartedFor, Tells, Ends};
 
 use crate::answers::{AskError, Size, no_formula};
 use cdcl_core::{Budget, Plan, Solver, Verdict};
@@ -21,6 +16,15 @@ use greatest_quorum::greatest;
 use name_set::NodeSet;
 use std::alloc::{AllocError, Global};
 use witness_pair::{Pair, make_pair};
+
+/// What is asked: whether every two quorums of this system share a node once the faulty nodes are deleted, within a budget
+/// of units.
+#[derive(Clone, Copy)]
+pub struct Asked<'a> {
+    pub system: &'a System,
+    pub faulty: &'a NodeSet,
+    pub budget: u64,
+}
 
 /// The intersection formula of version 2 once the faulty nodes are deleted, what its variables stand for, and its size.
 #[derive(Drop)]
@@ -39,13 +43,13 @@ pub struct Search {
 }
 
 /// The intersection formula of a system once the faulty nodes are deleted.
-pub fn formula_of(alloc: Global, system: &System, faulty: &NodeSet) -> Result<Formula, AskError>
-    requires { length faulty.now ≡ length system.now.sets }
-    ensures formula { IfOk result (IsFormula system.now.sets faulty.now) }
-    ensures too_large { (vars : ℕ) → result ≡ Err (AskError.TooLarge vars) → (vars ≡ vars_of system.now.sets faulty.now) × (MOST_VARS < vars) }
+pub fn formula_of(alloc: Global, asked: &Asked) -> Result<Formula, AskError>
+    requires asked { IsAsked asked.now }
+    ensures formula { IfOk result (IsFormulaFor asked.now) }
+    ensures too_large { (vars : ℕ) → result ≡ Err (AskError.TooLarge vars) → (vars ≡ vars_of asked.now.system.now.sets asked.now.faulty.now) × (MOST_VARS < vars) }
 {
-    let greatest = greatest(system, faulty);
-    match encode(alloc, Version::Two, system, faulty, &greatest) {
+    let greatest = greatest(asked.system, asked.faulty);
+    match encode(alloc, Version::Two, asked.system, asked.faulty, &greatest) {
         Ok((store, map)) => {
             let size = Size {
                 vars: map.vars(),
@@ -97,44 +101,29 @@ pub enum End {
 }
 
 /// Runs a search that has not begun, and says how it ended.
-pub fn end_of(
-    alloc: Global,
-    system: &System,
-    faulty: &NodeSet,
-    search: &mut Search,
-    budget: u64,
-) -> Result<End, AskError>
-    requires same_n { length faulty.now ≡ length system.now.sets }
-    requires few { budget ≤ MOST_UNITS }
-    requires started { IsStarted system.now.sets faulty.now search.old }
-    ensures ends { IfOk result (Ends system.now.sets faulty.now budget search.new) }
-    ensures memory { IfErr result (λ error. error ≡ AskError.Memory) }
+pub fn end_of(alloc: Global, asked: &Asked, search: &mut Search) -> Result<End, AllocError>
+    requires asked { IsAsked asked.now }
+    requires started { IsStartedFor asked.now search.old }
+    ensures { IfOk result (Ends asked.now.system.now.sets asked.now.faulty.now asked.now.budget search.new) }
 {
-    let mut units = Budget::of(budget);
-    match search.solver.solve(&mut units) {
-        Ok(Verdict::Sat) => told(alloc, system, faulty, search),
-        Ok(Verdict::Unsat) => Ok(End::Refuted),
-        Ok(Verdict::Spent) => Ok(End::Spent),
-        Err(_) => Err(AskError::Memory),
+    let mut units = Budget::of(asked.budget);
+    match search.solver.solve(&mut units)? {
+        Verdict::Sat => Ok(End::Told(told(alloc, asked, search)?)),
+        Verdict::Unsat => Ok(End::Refuted),
+        Verdict::Spent => Ok(End::Spent),
     }
 }
 
-/// The end of a search that found an assignment.
-fn told(alloc: Global, system: &System, faulty: &NodeSet, search: &Search) -> Result<End, AskError>
-    requires same_n { length faulty.now ≡ length system.now.sets }
-    requires places { length search.now.map.greatest ≡ length system.now.sets }
-    requires greatest { IsGreatestQuorum system.now.sets (members faulty.now) (all_nodes system.now.sets) (members search.now.map.greatest) }
+/// The two quorums that the assignment which a search found tells.
+fn told(alloc: Global, asked: &Asked, search: &Search) -> Result<Pair, AllocError>
+    requires asked { IsAsked asked.now }
     requires vars { search.now.size.vars ≡ search.now.solver.vars }
-    requires valued { length search.now.solver.values ≡ search.now.size.vars }
     requires count { search.now.map.count ≡ search.now.size.vars }
-    requires satisfied { Satisfies (value_of search.now.solver.values) (numbered 1 (formula_clauses Two system.now.sets faulty.now search.now.map.greatest)) }
-    ensures ends { (budget : ℕ) → IfOk result (Ends system.now.sets faulty.now budget search.now) }
-    ensures memory { IfErr result (λ error. error ≡ AskError.Memory) }
+    requires tells { Tells asked.now search.now.map search.now.solver.values }
+    ensures { IfOk result (IsWitness asked.now.system.now.sets asked.now.faulty.now) }
 {
-    match values_of(alloc, &search.solver, search.size.vars) {
-        Ok(values) => Ok(End::Told(witness(system, faulty, &search.map, &values))),
-        Err(_) => Err(AskError::Memory),
-    }
+    let values = values_of(alloc, &search.solver, search.size.vars)?;
+    Ok(witness(asked, &search.map, &values))
 }
 
 /// The value of each variable: linear in their number.
@@ -151,16 +140,13 @@ fn values_of(alloc: Global, solver: &Solver, vars: u64) -> Result<Vec<bool>, All
 }
 
 /// The two quorums that a satisfying assignment tells.
-fn witness(system: &System, faulty: &NodeSet, map: &VarMap, values: &[bool]) -> Pair
-    requires same_n { length faulty.now ≡ length system.now.sets }
-    requires places { length map.now.greatest ≡ length system.now.sets }
-    requires greatest { IsGreatestQuorum system.now.sets (members faulty.now) (all_nodes system.now.sets) (members map.now.greatest) }
-    requires values { length values.now ≡ map.now.count }
-    requires satisfied { Satisfies (value_of values.now) (numbered 1 (formula_clauses Two system.now.sets faulty.now map.now.greatest)) }
-    ensures { IsWitness system.now.sets faulty.now result }
+fn witness(asked: &Asked, map: &VarMap, values: &[bool]) -> Pair
+    requires asked { IsAsked asked.now }
+    requires tells { Tells asked.now map.now values.now }
+    ensures { IsWitness asked.now.system.now.sets asked.now.faulty.now result }
 {
     let (first, second) = map.pair(values);
-    match make_pair(system, faulty, first, second) {
+    match make_pair(asked.system, asked.faulty, first, second) {
         Ok(pair) => pair,
         Err(_) => unreachable!(),
     }

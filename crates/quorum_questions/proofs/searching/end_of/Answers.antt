@@ -16,43 +16,47 @@ use Rattle.quorum_questions.proofs.searching.end_of.Goals as goal
 still_held : (log : List ProofStep) (held : Held) (id : ℕ) (clause : List Literal) → log ≡ [] → (clause_at held id ≡ Some clause) ⊎ ((has_id (live_in log) id ≡ true) × (0 < length clause)) → clause_at held id ≡ Some clause
 still_held log held id clause none kept = ⊎_elim (λ there. there) (λ gone. absurd (false≢true (subst (λ (steps : List ProofStep). has_id (live_in steps) id ≡ true) none gone.0))) kept
 
-pub told-requires-clause-satisfied : goal.told-requires-clause-satisfied
-told-requires-clause-satisfied c = λ id clause at.
-    let f = c.args.system.now.sets in
-    let b = c.args.faulty.now in
+pub told-requires-clause-tells : goal.told-requires-clause-tells
+told-requires-clause-tells c =
+    let f = c.args.asked.now.system.now.sets in
+    let b = c.args.asked.now.faulty.now in
     let s = c.requires.started in
     let old = c.args.search.now.solver in
-    let at_g = subst (λ (m : Variables). clause_at (formula_database (formula_clauses Two f b m.greatest)).held id ≡ Some clause) s.map at in
-    let at_held = subst (λ (d : Database). clause_at d.held id ≡ Some clause) (sym s.database) at_g in
-    let is : c.solve.result ≡ Ok Sat = c.in-Ok-Sat.is ∙ ap Ok c.in-Ok-Sat.field-0-is in
-    c.solve.ensures.sat is id clause (still_held old.log c.solve.new.self.database.held id clause s.log (c.solve.ensures.kept id clause at_held))
-
-pub returns-in-Ok-Sat-clause-ends : goal.returns-in-Ok-Sat-clause-ends
-returns-in-Ok-Sat-clause-ends c = c.told.ensures.ends c.args.budget
-
-pub returns-in-Ok-Unsat-clause-ends : goal.returns-in-Ok-Unsat-clause-ends
-returns-in-Ok-Unsat-clause-ends c = λ numbers.
-    let s = c.requires.started in
-    let is : c.solve.result ≡ Ok Unsat = c.in-Ok-Unsat.is ∙ ap Ok c.in-Ok-Unsat.field-0-is in
     record {
-      intersects = s.exact.0 (c.solve.ensures.refutes is);
+      places = s.places;
+      greatest = s.greatest;
+      valued = search rules;
+      satisfied = λ id clause at.
+          let at_g = subst (λ (m : Variables). clause_at (formula_database (formula_clauses Two f b m.greatest)).held id ≡ Some clause) s.map at in
+          let at_held = subst (λ (d : Database). clause_at d.held id ≡ Some clause) (sym s.database) at_g in
+          c.in_ok-solve.ensures.sat (ap Ok c.in-Sat.is) id clause (still_held old.log c.solve.new.self.database.held id clause s.log (c.solve.ensures.kept id clause at_held));
+    }
+
+pub returns-in-Unsat : goal.returns-in-Unsat
+returns-in-Unsat c = λ numbers.
+    let s = c.requires.started in
+    let asked = c.args.asked.now in
+    let is = ap Ok c.in-Unsat.is in
+    record {
+      intersects = s.exact.0 (c.in_ok-solve.ensures.refutes is);
       sized = s.size;
       new = c.solve.new.self.database;
-      run = log_of c.args.system.now.sets c.args.faulty.now c.args.search.now.solver c.solve.new.self s.vars s.database c.args.search.now.size.vars s.size.vars s.size.small s.log c.solve.ensures.run c.solve.ensures.lemmas c.solve.ensures.vars c.solve.ensures.bounds c.solve.ensures.short numbers;
-      ends = c.solve.ensures.unsat is;
+      run = log_of asked.system.now.sets asked.faulty.now c.args.search.now.solver c.solve.new.self s.vars s.database c.args.search.now.size.vars s.size.vars s.size.small s.log c.solve.ensures.run c.solve.ensures.lemmas c.solve.ensures.vars c.solve.ensures.bounds c.solve.ensures.short numbers;
+      ends = c.in_ok-solve.ensures.unsat is;
       taken = search rules;
     }
 
-pub returns-in-Ok-Spent-clause-ends : goal.returns-in-Ok-Spent-clause-ends
-returns-in-Ok-Spent-clause-ends c = λ numbers.
+pub returns-in-Spent : goal.returns-in-Spent
+returns-in-Spent c = λ numbers.
     let s = c.requires.started in
-    let is : c.solve.result ≡ Ok Spent = c.in-Ok-Spent.is ∙ ap Ok c.in-Ok-Spent.field-0-is in
+    let asked = c.args.asked.now in
+    let is = ap Ok c.in-Spent.is in
     record {
       sized = s.size;
       new = c.solve.new.self.database;
-      run = log_of c.args.system.now.sets c.args.faulty.now c.args.search.now.solver c.solve.new.self s.vars s.database c.args.search.now.size.vars s.size.vars s.size.small s.log c.solve.ensures.run c.solve.ensures.lemmas c.solve.ensures.vars c.solve.ensures.bounds c.solve.ensures.short numbers;
+      run = log_of asked.system.now.sets asked.faulty.now c.args.search.now.solver c.solve.new.self s.vars s.database c.args.search.now.size.vars s.size.vars s.size.small s.log c.solve.ensures.run c.solve.ensures.lemmas c.solve.ensures.vars c.solve.ensures.bounds c.solve.ensures.short numbers;
       unrefuted = search rules;
       taken = search rules;
-      unclosed = c.solve.ensures.unclosed is;
-      due = c.solve.ensures.due is;
+      unclosed = c.in_ok-solve.ensures.unclosed is;
+      due = c.in_ok-solve.ensures.due is;
     }

@@ -16,8 +16,8 @@ use Rattle.quorum_questions.proofs.searching.formula_of.Goals as goal
 
 pub returns-in-Ok-clause-formula : goal.returns-in-Ok-clause-formula
 returns-in-Ok-clause-formula c =
-    let f = c.args.system.now.sets in
-    let b = c.args.faulty.now in
+    let f = c.args.asked.now.system.now.sets in
+    let b = c.args.asked.now.faulty.now in
     let same : c.greatest-greatest.result ≡ greatest_of f b = c.greatest-greatest.ensures.counted in
     let map : c.in-Ok.map ≡ record { greatest = greatest_of f b; count = vars_of f b } = c.in-Ok.ensures.variables ∙ ap {B = Variables} (λ (g : Table). record { greatest = g; count = formula_vars Two f b g }) same in
     let store : c.in-Ok.store ≡ formula_database (clauses_of f b) = c.in-Ok.ensures.store ∙ ap {B = Database} (λ (g : Table). formula_database (formula_clauses Two f b g)) same in
@@ -47,4 +47,4 @@ told f b g EncodeError.Memory asked same large memory known vars e = let there =
 
 pub returns-in-Err-clause-too_large : goal.returns-in-Err-clause-too_large
 returns-in-Err-clause-too_large c = λ vars e.
-    told c.args.system.now.sets c.args.faulty.now c.greatest-greatest.result c.in-Err.error c.no_formula.result c.greatest-greatest.ensures.counted c.no_formula.ensures.too_large c.no_formula.ensures.memory (λ n is. c.encode.ensures.too_large n (c.in-Err.is ∙ ap Err is)) vars cc
+    told c.args.asked.now.system.now.sets c.args.asked.now.faulty.now c.greatest-greatest.result c.in-Err.error c.no_formula.result c.greatest-greatest.ensures.counted c.no_formula.ensures.too_large c.no_formula.ensures.memory (λ n is. c.encode.ensures.too_large n (c.in-Err.is ∙ ap Err is)) vars cc

@@ -6,10 +6,10 @@ use Rattle.quorum_questions.proofs.searching.witness.Goals as goal
 
 pub unreachable-requires : goal.unreachable-requires
 unreachable-requires c =
-    let f = c.args.system.now.sets in
-    let b = c.args.faulty.now in
+    let f = c.args.asked.now.system.now.sets in
+    let b = c.args.asked.now.faulty.now in
     no_fault f (members b) (members c.pair-first.result.0) (members c.pair-first.result.1) c.in-Err.field-0
-    (c.pair-first.ensures.quorums Two f b c.requires.greatest c.requires.satisfied) c.in-Err.ensures.fault
+    (c.pair-first.ensures.quorums Two f b c.requires.tells.greatest c.requires.tells.satisfied) c.in-Err.ensures.fault
 
 pub returns : goal.returns
 returns c = record {
