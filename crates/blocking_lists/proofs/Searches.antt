@@ -3,7 +3,7 @@ use Rattle.std.proofs.Common.{◌≡◌, ℕ, zero, suc, ◌+◌, ◌*◌, ◌^�
 use Rattle.std.specs.Prelude.{All}
 use Rattle.std.proofs.lemmas.Bool.{both_ways, false≢true}
 use Rattle.std.proofs.lemmas.List.{length-append}
-use Rattle.std.proofs.lemmas.List.Elements.{All-nil, All-cons, All-tail, All-append}
+use Rattle.std.proofs.lemmas.List.Elements.{All-nil, All-cons, All-tail}
 use Rattle.fbas_model.specs.Nodes.{Nodes, Table, members, IsInhabited, size, listed_from}
 use Rattle.fbas_model.specs.Fbas.{Fbas}
 use Rattle.fbas_model.proofs.Sizes.{empty_or_not}
@@ -14,18 +14,16 @@ use Rattle.lrat_model.specs.Runs.{Run}
 use Rattle.lrat_model.specs.Propagation.{Closes}
 use Rattle.lrat_model.specs.declared.step.Progress.TheVariants.{Going}
 use Rattle.lrat_model.proofs.Literals.{has-first, has-rest}
-use Rattle.lrat_model.proofs.Runs.{clause_at-more}
 use Rattle.cdcl_core.specs.Log.{AreLemmas, IsBoundedLog, live_in, units, HasNoEmptyLemma, EndsEmpty}
 use Rattle.cdcl_core.specs.Solving.{Solving, logged}
 use Rattle.list_journal.specs.Kinds.{is_sought, signed, asks_new, IsMinimal}
 use Rattle.list_journal.specs.Numbering.{variable_in, clause_for}
 use Rattle.list_journal.specs.Journals.{JournalLine, SetLine, Rules, list_of, RightFor, IsNewIf, nothing_held, JournalRun, line_progress, IsOpen, EndsRefuted, IsWholeJournal, journal_units, AreUseful}
 use Rattle.list_journal.specs.declared.kinds.ListKind.TheVariants.{Whole, Partial}
-use Rattle.lrat_text.specs.Texts.{IsId}
 use Rattle.blocking_lists.specs.Lines.{ListLine, step_lines, merged, AreBetween, AreForgetting}
 use Rattle.list_journal.specs.Lists.{IsMinimalSet}
 use Rattle.blocking_lists.specs.Outcomes.{rules, HasFewSteps, PartHolds}
-use Rattle.blocking_lists.specs.Search.{HoldsEmpty, IsSearch, AreMinimalLines, IsListing, IsShortLog, IsWholeListing}
+use Rattle.blocking_lists.specs.Search.{HoldsEmpty, IsSearch, IsListing, IsListed, IsShortLog, IsWholeListing}
 use Rattle.list_journal.specs.declared.kinds.Listed.{Listed}
 use Rattle.list_journal.proofs.Greatest.{IsGreatest}
 use Rattle.list_journal.proofs.Duality.{is_of, minimal_within}
@@ -34,7 +32,8 @@ use Rattle.blocking_lists.proofs.Models.{new_where_false, useful_where_false, em
 use Rattle.list_journal.proofs.Runs.{AsksMore, lists_ask_more, run_append, whole_from_partial, useful_append, units_append, open_append}
 use Rattle.blocking_lists.proofs.Runs.{steps_partial, steps_whole, steps_useful, forgetting_append, steps_forgetting, units_steps, open_steps, ends_in_steps, ends_refuted}
 use Rattle.list_journal.proofs.Ids.{AreBelow, below_run, found_new}
-use Rattle.blocking_lists.proofs.Merged.{between_more, between_push, merged_steps, merged_line}
+use Rattle.blocking_lists.proofs.Listed.{database_then, still_empty, journal_more, places_more, each_more, ids_more, short_more}
+use Rattle.blocking_lists.proofs.Merged.{between_more, merged_steps}
 use Rattle.blocking_lists.proofs.Short.{short_log}
 use Rattle.list_journal.proofs.Places.{next_place, same_place}
 
@@ -47,55 +46,77 @@ all_later P (x ∷ log) steps h = all_later P log steps (All-tail P x (log ++ st
 no_empty_later : (log steps : List ProofStep) → HasNoEmptyLemma (log ++ steps) → HasNoEmptyLemma steps
 no_empty_later log steps h = all_later (λ s. progress_of s ≡ Going) log steps h
 
-module _ (r : Rules) (more : AsksMore r) (total left left_then top : ℕ) (journal journal_then : List JournalLine) (old new : Solving) (steps : List ProofStep)
-    (is : IsSearch r total left top journal old) (journal_is : journal_then ≡ journal ++ step_lines steps) (log_is : new.log ≡ old.log ++ steps)
-    (run : Run old.vars old.database steps new.database) (lemmas : AreLemmas old.vars old.database steps) (count : left_then + units steps ≡ left) where
-  counted : journal_units r journal_then + left_then ≡ total
-  counted = omega (arith, ap (journal_units r) journal_is, units_append r journal (step_lines steps), units_steps r steps, is.taken, count)
+module _ (r : Rules) (more : AsksMore r) (total left left_then top : ℕ) (lines : List ListLine) (old new : Solving)
+    (between : AreBetween 0 (length old.log) lines) (short : IsShortLog r.vars old.log) (is : IsSearch r total left top (merged 0 lines old.log) old) (log_is : new.log ≡ old.log ++ logged old new)
+    (run : Run old.vars old.database (logged old new) new.database) (lemmas : AreLemmas old.vars old.database (logged old new)) (count : left_then + units (logged old new) ≡ left)
+    (vars : new.vars ≡ old.vars) (bounds : IsBoundedLog new.vars new.log) (few : length new.log ≤ 2 * units new.log + 1) where
+  journal_is : merged 0 lines new.log ≡ merged 0 lines old.log ++ step_lines (logged old new)
+  journal_is = ap (λ (steps : List ProofStep). merged 0 lines steps) log_is ∙ merged_steps 0 (length old.log) lines old.log (logged old new) between (omega arith)
 
-  run_is : Run r.vars old.database steps new.database
-  run_is = subst (λ (n : ℕ). Run n old.database steps new.database) is.vars run
+  counted : journal_units r (merged 0 lines new.log) + left_then ≡ total
+  counted = omega (arith, ap (journal_units r) journal_is, units_append r (merged 0 lines old.log) (step_lines (logged old new)), units_steps r (logged old new), is.taken, count)
 
-  lemmas_are : AreLemmas r.vars old.database steps
-  lemmas_are = subst (λ (n : ℕ). AreLemmas n old.database steps) is.vars lemmas
+  run_is : Run r.vars old.database (logged old new) new.database
+  run_is = subst (λ (n : ℕ). Run n old.database (logged old new) new.database) is.vars run
 
-  still_forgets : AreForgetting r r.start journal_then
+  lemmas_are : AreLemmas r.vars old.database (logged old new)
+  lemmas_are = subst (λ (n : ℕ). AreLemmas n old.database (logged old new)) is.vars lemmas
+
+  still_forgets : AreForgetting r r.start (merged 0 lines new.log)
   still_forgets = subst (λ (ls : List JournalLine). AreForgetting r r.start ls) (sym journal_is)
-      (forgetting_append r Partial r.start journal (step_lines steps) old.database is.run is.forgets (steps_forgetting old.vars r old.database steps lemmas))
+      (forgetting_append r Partial r.start (merged 0 lines old.log) (step_lines (logged old new)) old.database is.run is.forgets (steps_forgetting old.vars r old.database (logged old new) lemmas))
+
+  still_between : AreBetween 0 (length new.log) lines
+  still_between = between_more 0 (length old.log) (length new.log) lines between (omega (arith, ap (λ (steps : List ProofStep). length steps) log_is, length-append old.log (logged old new)))
+
+  still_short : IsShortLog r.vars new.log
+  still_short = short_log r.vars old.database old.log (logged old new) new.log log_is lemmas_are short (subst (λ (n : ℕ). IsBoundedLog n new.log) (vars ∙ is.vars) bounds) few
 
   -- by steps without the empty lemma
-  pub search_steps : new.vars ≡ old.vars → HasNoEmptyLemma new.log → new.database.last + left_then ≡ old.database.last + left
-      → (HoldsEmpty old.database.held → HoldsEmpty new.database.held) → IsSearch r total left_then top journal_then new
-  search_steps vars opens room kept =
+  pub search_steps : HasNoEmptyLemma new.log → new.database.last + left_then ≡ old.database.last + left → (HoldsEmpty old.database.held → HoldsEmpty new.database.held)
+      → AreBetween 0 (length new.log) lines × IsShortLog r.vars new.log × IsSearch r total left_then top (merged 0 lines new.log) new
+  search_steps opens room kept =
+      let steps : List ProofStep = logged old new in
+      let journal : List JournalLine = merged 0 lines old.log in
       let steps_open : HasNoEmptyLemma steps = no_empty_later old.log steps (subst (λ (ls : List ProofStep). HasNoEmptyLemma ls) log_is opens) in
-      let back = sym journal_is in record {
-        vars = vars ∙ is.vars;
-        run = subst (λ (ls : List JournalLine). JournalRun r Partial r.start ls new.database) back
-            (run_append r Partial r.start journal (step_lines steps) old.database new.database is.run (steps_partial r old.database steps new.database run_is lemmas_are steps_open));
-        useful = ⊎_elim
-            (λ (empty : HoldsEmpty old.database.held). inl (kept empty))
-            (λ useful. inr (subst (λ (ls : List JournalLine). AreUseful r r.start ls) back
-            (useful_append r Partial r.start journal (step_lines steps) old.database is.run useful (steps_useful old.vars r old.database steps lemmas steps_open))))
-            is.useful;
-        forgets = still_forgets;
-        opens = subst (λ (ls : List JournalLine). IsOpen ls) back (open_append journal (step_lines steps) is.opens (open_steps steps steps_open));
-        log_opens = opens;
-        taken = counted;
-        room = room ∙ is.room;
-      }
+      let back = sym journal_is in (
+        still_between,
+        still_short,
+        record {
+          vars = vars ∙ is.vars;
+          run = subst (λ (ls : List JournalLine). JournalRun r Partial r.start ls new.database) back
+              (run_append r Partial r.start journal (step_lines steps) old.database new.database is.run (steps_partial r old.database steps new.database run_is lemmas_are steps_open));
+          useful = ⊎_elim
+              (λ (empty : HoldsEmpty old.database.held). inl (kept empty))
+              (λ useful. inr (subst (λ (ls : List JournalLine). AreUseful r r.start ls) back
+              (useful_append r Partial r.start journal (step_lines steps) old.database is.run useful (steps_useful old.vars r old.database steps lemmas steps_open))))
+              is.useful;
+          forgets = still_forgets;
+          opens = subst (λ (ls : List JournalLine). IsOpen ls) back (open_append journal (step_lines steps) is.opens (open_steps steps steps_open));
+          log_opens = opens;
+          taken = counted;
+          room = room ∙ is.room;
+        },
+      )
 
   -- by steps that end with the empty lemma
-  pub search_refuted : EndsEmpty new.log → IsWholeJournal r journal_then × AreForgetting r r.start journal_then × (journal_units r journal_then + left_then ≡ total)
-  search_refuted (before, last, log_then, ends, only) = (
-    record {
-      ends = subst (λ (ls : List JournalLine). EndsRefuted ls) (sym journal_is) (ends_refuted journal steps is.opens (ends_in_steps old.log steps before last (sym log_is ∙ log_then) is.log_opens only ends));
-      after = new.database;
-      run = subst (λ (ls : List JournalLine). JournalRun r Whole r.start ls new.database) (sym journal_is)
-          (run_append r Whole r.start journal (step_lines steps) old.database new.database (whole_from_partial r more r.start journal old.database is.run) (steps_whole r old.database steps new.database run_is));
-    },
-    still_forgets,
-    counted,
-  )
+  pub search_refuted : EndsEmpty new.log
+      → AreBetween 0 (length new.log) lines × IsShortLog r.vars new.log × IsWholeJournal r (merged 0 lines new.log) × AreForgetting r r.start (merged 0 lines new.log) × (journal_units r (merged 0 lines new.log) + left_then ≡ total)
+  search_refuted (before, last, log_then, ends, only) =
+      let steps : List ProofStep = logged old new in
+      let journal : List JournalLine = merged 0 lines old.log in
+      let back = sym journal_is in (
+        still_between,
+        still_short,
+        record {
+          ends = subst (λ (ls : List JournalLine). EndsRefuted ls) back (ends_refuted journal steps is.opens (ends_in_steps old.log steps before last (sym log_is ∙ log_then) is.log_opens only ends));
+          after = new.database;
+          run = subst (λ (ls : List JournalLine). JournalRun r Whole r.start ls new.database) back
+              (run_append r Whole r.start journal (step_lines steps) old.database new.database (whole_from_partial r more r.start journal old.database is.run) (steps_whole r old.database steps new.database run_is));
+        },
+        still_forgets,
+        counted,
+      )
 
 -- a search that spent its units
 pub search_spent : (k : Listed) (f : Fbas) (b : Table) (total left top : ℕ) (journal : List JournalLine) (solver : Solving) → IsSearch (rules k f b) total left top journal solver → HasFewSteps (rules k f b) journal → left ≡ 0 → (Closes solver.database.held → ⊥) → PartHolds k f b total journal
@@ -158,51 +179,33 @@ line_open which id set = All-cons (λ line. line_progress line ≡ Going) (SetLi
 empty_database : AreBelow nothing_held
 empty_database k h = refl
 
-pub same_database : (d e : Database) → d.held ≡ e.held → d.last ≡ e.last → d ≡ e
-same_database d e held_is last_is =
-    let one : d ≡ record { held = e.held; last = d.last } = ap (λ (h : Held). record { held = h; last = d.last }) held_is in
-    let two : record { held = e.held; last = d.last } ≡ e = ap (λ (n : ℕ). record { held = e.held; last = n }) last_is in
-    one ∙ two
-
 -- a set listed by any rules, where its line may stand and is of use
-pub search_set : (r : Rules) (total left left_then top top_then : ℕ) (journal journal_then : List JournalLine) (old new : Solving) (which : Listed) (id : ℕ) (set : Table)
-    → IsSearch r total left top journal old → JournalRun r Partial old.database (SetLine which id set ∷ []) new.database → HoldsEmpty new.database.held ⊎ AreUseful r old.database (SetLine which id set ∷ [])
-    → (HoldsEmpty old.database.held → HoldsEmpty new.database.held) → journal_then ≡ journal ++ SetLine which id set ∷ [] → left_then + r.cost which ≡ left → new.database.last + left_then ≡ top_then
-    → new.log ≡ old.log → new.vars ≡ old.vars → IsSearch r total left_then top_then journal_then new
-search_set r total left left_then top top_then journal journal_then old new which id set is one useful_one stays journal_is cost room log_is vars_are =
-    let line : JournalLine = SetLine which id set in
-    let back = sym journal_is in record {
-      vars = vars_are ∙ is.vars;
-      run = subst (λ (ls : List JournalLine). JournalRun r Partial r.start ls new.database) back (run_append r Partial r.start journal (line ∷ []) old.database new.database is.run one);
-      useful = ⊎_elim
-          (λ (empty : HoldsEmpty old.database.held). inl (stays empty))
-          (λ useful. ⊎_elim
-          (λ (empty : HoldsEmpty new.database.held). inl empty)
-          (λ one_is. inr (subst (λ (ls : List JournalLine). AreUseful r r.start ls) back (useful_append r Partial r.start journal (line ∷ []) old.database is.run useful one_is)))
-          useful_one)
-          is.useful;
-      forgets = subst (λ (ls : List JournalLine). AreForgetting r r.start ls) back (forgetting_append r Partial r.start journal (line ∷ []) old.database is.run is.forgets (tt, tt));
-      opens = subst (λ (ls : List JournalLine). IsOpen ls) back (open_append journal (line ∷ []) is.opens (line_open which id set));
-      log_opens = subst (λ (ls : List ProofStep). HasNoEmptyLemma ls) (sym log_is) is.log_opens;
-      taken = omega (arith, ap (journal_units r) journal_is, units_append r journal (line ∷ []), is.taken, cost);
-      room = room;
-    }
-
-search_line : (k : Listed) (f : Fbas) (b : Nodes) (g : Table) (total left : ℕ) (journal journal_then : List JournalLine) (old new : Solving) (which : Listed) (set : Table)
-    → IsSearch (list_of k f b g) total (left + 1) total journal old → (a : ℕ → Bool) → Satisfies a old.database.held → IsGreatest f b g → IsMinimalSet which f b set → clause_true a (clause_for k g which set) ≡ false
-    → journal_then ≡ journal ++ SetLine which (old.database.last + 1) set ∷ []
-    → new.database.held ≡ with_clause old.database.held (old.database.last + 1) (clause_for k g which set) → new.database.last ≡ old.database.last + 1 → new.log ≡ old.log → new.vars ≡ old.vars
-    → IsSearch (list_of k f b g) total left total journal_then new
-search_line k f b g total left journal journal_then old new which set is a solves greatest minimal out journal_is held_is last_is log_is vars_are =
-    let d : Database = old.database in
-    let clause : List Literal = clause_for k g which set in
-    let new_is : new.database ≡ record { held = with_clause d.held (d.last + 1) clause; last = d.last + 1 } = same_database new.database (record { held = with_clause d.held (d.last + 1) clause; last = d.last + 1 }) held_is last_is in
-    let below : AreBelow d = below_run (list_of k f b g) Partial nothing_held journal d is.run empty_database in
-    search_set (list_of k f b g) total (left + 1) left total total journal journal_then old new which (d.last + 1) set is
-    (line_run k f b g which set d new.database greatest minimal a solves out new_is)
-    (⊎_elim (λ empty. inl (subst (λ (h : Held). HoldsEmpty h) (sym held_is) empty)) (λ useful. inr useful) (line_useful k f b g which set d below a solves out))
-    (λ empty. subst (λ (h : Held). HoldsEmpty h) (sym held_is) (empty.0, clause_at-more d.held (d.last + 1) clause empty.0 [] empty.1))
-    journal_is refl (omega (arith, last_is, is.room)) log_is vars_are
+module _ (r : Rules) (which : Listed) (clause : List Literal) (set : Table) (lines lines_then : List ListLine) (old new : Solving)
+    (listed : IsListed which clause set lines lines_then old new) (between : AreBetween 0 (length old.log) lines) where
+  pub search_set : (total left left_then top top_then : ℕ) → IsSearch r total left top (merged 0 lines old.log) old
+      → JournalRun r Partial old.database (SetLine which (old.database.last + 1) set ∷ []) new.database
+      → HoldsEmpty new.database.held ⊎ AreUseful r old.database (SetLine which (old.database.last + 1) set ∷ [])
+      → left_then + r.cost which ≡ left → new.database.last + left_then ≡ top_then → IsSearch r total left_then top_then (merged 0 lines_then new.log) new
+  search_set total left left_then top top_then is one useful_one cost room =
+      let line : JournalLine = SetLine which (old.database.last + 1) set in
+      let journal : List JournalLine = merged 0 lines old.log in
+      let journal_is : merged 0 lines_then new.log ≡ journal ++ line ∷ [] = journal_more which clause set lines lines_then old new listed between in
+      let back = sym journal_is in record {
+        vars = listed.vars ∙ is.vars;
+        run = subst (λ (ls : List JournalLine). JournalRun r Partial r.start ls new.database) back (run_append r Partial r.start journal (line ∷ []) old.database new.database is.run one);
+        useful = ⊎_elim
+            (λ (empty : HoldsEmpty old.database.held). inl (still_empty which clause set lines lines_then old new listed empty))
+            (λ useful. ⊎_elim
+            (λ (empty : HoldsEmpty new.database.held). inl empty)
+            (λ one_is. inr (subst (λ (ls : List JournalLine). AreUseful r r.start ls) back (useful_append r Partial r.start journal (line ∷ []) old.database is.run useful one_is)))
+            useful_one)
+            is.useful;
+        forgets = subst (λ (ls : List JournalLine). AreForgetting r r.start ls) back (forgetting_append r Partial r.start journal (line ∷ []) old.database is.run is.forgets (tt, tt));
+        opens = subst (λ (ls : List JournalLine). IsOpen ls) back (open_append journal (line ∷ []) is.opens (line_open which (old.database.last + 1) set));
+        log_opens = subst (λ (ls : List ProofStep). HasNoEmptyLemma ls) (sym listed.log) is.log_opens;
+        taken = omega (arith, ap (journal_units r) journal_is, units_append r journal (line ∷ []), is.taken, cost);
+        room = room;
+      }
 
 -- ---- listed sets among the steps
 
@@ -217,60 +220,44 @@ module _ (k : Listed) (f : Fbas) (b : Nodes) (g : Table) (total left left_then :
     (is : IsListing k f b g total left lines old) (log_is : new.log ≡ old.log ++ logged old new)
     (run : Run old.vars old.database (logged old new) new.database) (lemmas : AreLemmas old.vars old.database (logged old new)) (count : left_then + units (logged old new) ≡ left)
     (vars : new.vars ≡ old.vars) (bounds : IsBoundedLog new.vars new.log) (few : length new.log ≤ 2 * units new.log + 1) where
-  longer : length old.log ≤ length new.log
-  longer = omega (arith, ap (λ (steps : List ProofStep). length steps) log_is, length-append old.log (logged old new))
-
-  still_between : AreBetween 0 (length new.log) lines
-  still_between = between_more 0 (length old.log) (length new.log) lines is.between longer
-
-  journal_goes_on : merged 0 lines new.log ≡ merged 0 lines old.log ++ step_lines (logged old new)
-  journal_goes_on = ap (λ (steps : List ProofStep). merged 0 lines steps) log_is ∙ merged_steps 0 (length old.log) lines old.log (logged old new) is.between (omega arith)
-
-  still_short : IsShortLog (size g) new.log
-  still_short =
-      let n_is = is.search.vars in
-      short_log (size g) old.database old.log (logged old new) new.log log_is (subst (λ (n : ℕ). AreLemmas n old.database (logged old new)) n_is lemmas) is.short (subst (λ (n : ℕ). IsBoundedLog n new.log) (vars ∙ n_is) bounds) few
-
   pub listing_steps : HasNoEmptyLemma new.log → new.database.last + left_then ≡ old.database.last + left
       → (HoldsEmpty old.database.held → HoldsEmpty new.database.held) → IsListing k f b g total left_then lines new
-  listing_steps opens room kept = record {
-    between = still_between;
-    ids = is.ids;
-    minimal = is.minimal;
-    short = still_short;
-    search = search_steps (list_of k f b g) (lists_ask_more k f b g) total left left_then total (merged 0 lines old.log) (merged 0 lines new.log) old new (logged old new) is.search journal_goes_on log_is run lemmas count vars opens room kept;
-  }
+  listing_steps opens room kept =
+      let on = search_steps (list_of k f b g) (lists_ask_more k f b g) total left left_then total lines old new is.between is.short is.search log_is run lemmas count vars bounds few opens room kept in record {
+        between = on.0;
+        ids = is.ids;
+        minimal = is.minimal;
+        short = on.1;
+        search = on.2;
+      }
 
   pub listing_refuted : EndsEmpty new.log → IsWholeListing k f b g total left_then lines new.log
   listing_refuted ends =
-      let whole = search_refuted (list_of k f b g) (lists_ask_more k f b g) total left left_then total (merged 0 lines old.log) (merged 0 lines new.log) old new (logged old new) is.search journal_goes_on log_is run lemmas count ends in record {
-        between = still_between;
+      let whole = search_refuted (list_of k f b g) (lists_ask_more k f b g) total left left_then total lines old new is.between is.short is.search log_is run lemmas count vars bounds few ends in record {
+        between = whole.0;
         ids = is.ids;
         minimal = is.minimal;
-        short = still_short;
-        journal_is = whole.0;
-        forgets = whole.1;
-        taken = whole.2;
+        short = whole.1;
+        journal_is = whole.2;
+        forgets = whole.3;
+        taken = whole.4;
       }
 
 -- a set more
 pub listing_line : (k : Listed) (f : Fbas) (b : Nodes) (g : Table) (total left : ℕ) → total < 2 ^ 63 → (lines lines_then : List ListLine) (old new : Solving) (which : Listed) (set : Table)
     → IsListing k f b g total (left + 1) lines old → (a : ℕ → Bool) → Satisfies a old.database.held → IsGreatest f b g → IsMinimalSet which f b set → clause_true a (clause_for k g which set) ≡ false
-    → lines_then ≡ lines ++ record { after = length old.log; which = which; id = old.database.last + 1; set = set } ∷ []
-    → new.database.held ≡ with_clause old.database.held (old.database.last + 1) (clause_for k g which set) → new.database.last ≡ old.database.last + 1 → new.log ≡ old.log → new.vars ≡ old.vars
-    → IsListing k f b g total left lines_then new
-listing_line k f b g total left small lines lines_then old new which set is a solves greatest minimal out lines_are held_is last_is log_is vars_are =
-    let l : ListLine = record { after = length old.log; which = which; id = old.database.last + 1; set = set } in
-    let back = sym lines_are in
+    → IsListed which (clause_for k g which set) set lines lines_then old new → IsListing k f b g total left lines_then new
+listing_line k f b g total left small lines lines_then old new which set is a solves greatest minimal out listed =
+    let d : Database = old.database in
+    let clause : List Literal = clause_for k g which set in
     let room = is.search.room in
-    let id_is : IsId l.id = (omega arith, omega arith) in
-    let journal_is : merged 0 lines_then new.log ≡ merged 0 lines old.log ++ SetLine which (old.database.last + 1) set ∷ [] =
-    ap (λ (ls : List ListLine). merged 0 ls new.log) lines_are
-    ∙ ap (λ (steps : List ProofStep). merged 0 (lines ++ l ∷ []) steps) log_is
-    ∙ merged_line 0 (length old.log) lines l old.log is.between (omega arith) refl in record {
-      between = subst (λ (ls : List ListLine). AreBetween 0 (length new.log) ls) back (between_push 0 (length old.log) (length new.log) lines l is.between (omega arith) (omega (arith, ap (λ (steps : List ProofStep). length steps) log_is)));
-      ids = subst (λ (ls : List ListLine). All (λ x. IsId x.id) ls) back (All-append (λ (x : ListLine). IsId x.id) lines (l ∷ []) is.ids (All-cons (λ (x : ListLine). IsId x.id) l [] id_is (All-nil (λ (x : ListLine). IsId x.id))));
-      minimal = subst (λ (ls : List ListLine). AreMinimalLines f b ls) back (All-append (λ (x : ListLine). IsMinimalSet x.which f b x.set) lines (l ∷ []) is.minimal (All-cons (λ (x : ListLine). IsMinimalSet x.which f b x.set) l [] minimal (All-nil (λ (x : ListLine). IsMinimalSet x.which f b x.set))));
-      short = subst (λ (steps : List ProofStep). IsShortLog (size g) steps) (sym log_is) is.short;
-      search = search_line k f b g total left (merged 0 lines old.log) (merged 0 lines_then new.log) old new which set is.search a solves greatest minimal out journal_is held_is last_is log_is vars_are;
+    let below : AreBelow d = below_run (list_of k f b g) Partial nothing_held (merged 0 lines old.log) d is.search.run empty_database in record {
+      between = places_more which clause set lines lines_then old new listed is.between;
+      ids = ids_more which clause set lines lines_then old new listed (omega arith) is.ids;
+      minimal = each_more which clause set lines lines_then old new listed (λ (l : ListLine). IsMinimalSet l.which f b l.set) minimal is.minimal;
+      short = short_more which clause set lines lines_then old new listed (size g) is.short;
+      search = search_set (list_of k f b g) which clause set lines lines_then old new listed is.between total (left + 1) left total total is.search
+          (line_run k f b g which set d new.database greatest minimal a solves out (database_then which clause set lines lines_then old new listed))
+          (⊎_elim (λ empty. inl (subst (λ (h : Held). HoldsEmpty h) (sym listed.held) empty)) (λ useful. inr useful) (line_useful k f b g which set d below a solves out))
+          refl (omega (arith, listed.last, room));
     }

@@ -1,15 +1,15 @@
 //! The list of all minimal sets of a kind.
 ghost use Rattle.std.specs.Prelude.{◌≡◌, ◌≢◌, ◌+◌, ◌<◌, ◌^◌, [], length, None, Ok, Err, All, IfOk, IfErr, IfSome, OnOk};
-ghost use Rattle.fbas_model.specs.Nodes.{members, size};
+ghost use Rattle.fbas_model.specs.Nodes.{size};
 ghost use Rattle.lrat_model.specs.Propagation.{Closes};
 ghost use Rattle.greatest_quorum.specs.Greatest.{greatest_of};
 ghost use Rattle.blocking_lists.specs.Lines.{AreBetween, HasLineNumbers, HasFewWords, listed_in, merged};
 ghost use Rattle.blocking_lists.specs.Outcomes.{OutcomeHolds, journal_in};
-ghost use Rattle.blocking_lists.specs.Search.{AreInNameOrder, IsListing, IsWholeListing};
+ghost use Rattle.blocking_lists.specs.Search.{AreInNameOrder, IsReady, IsListingIn, IsWholeListingIn};
 
 use crate::journal::{Journal, ListLine, sets_of};
 use crate::outcome::ListOutcome;
-use crate::search::run;
+use crate::search::{Searched, run};
 use cdcl_core::{Budget, Log, Solver};
 use clause_store::Store;
 use fbas_core::System;
@@ -41,20 +41,17 @@ pub fn list_all(
     // A system has at most 16,384 nodes, so there are as few variables.
     let _nodes = system.len();
     let greatest = greatest(system, faulty);
+    let searched = Searched {
+        sought,
+        system,
+        faulty,
+        greatest: &greatest,
+    };
     let mut listed = Vec::new(alloc);
     match solver_over(alloc, greatest.count()) {
         Ok(mut solver) => {
             guide(sought, &mut solver);
-            let found = found_sets(
-                alloc,
-                sought,
-                system,
-                faulty,
-                &greatest,
-                &mut solver,
-                &mut listed,
-                budget,
-            );
+            let found = found_sets(alloc, &searched, &mut solver, &mut listed, budget);
             outcome_of(found, listed, solver.into_log())
         }
         Err(e) => Err(e),
@@ -137,29 +134,22 @@ fn outcome_of(
 /// one is dear to prove at each of its ways out.
 fn found_sets(
     alloc: Global,
-    sought: Listed,
-    system: &System,
-    faulty: &NodeSet,
-    greatest: &NodeSet,
+    searched: &Searched<'_>,
     solver: &mut Solver,
     listed: &mut Vec<ListLine>,
     budget: &mut Budget,
 ) -> Result<Option<Vec<NodeSet>>, AllocError>
-    requires kind { sought ≢ Listed.Smaller }
-    requires same_faulty { length faulty.now ≡ length system.now.sets }
-    requires greatest { greatest.now ≡ greatest_of system.now.sets faulty.now }
+    requires ready { IsReady searched.now }
     requires room { budget.old + 1 < 2 ^ 63 }
-    requires start { IsListing sought system.now.sets (members faulty.now) greatest.now budget.old budget.old listed.old.items solver.old }
+    requires start { IsListingIn searched.now budget.old budget.old listed.old.items solver.old }
     ensures between { OnOk result (AreBetween 0 (length solver.new.log) listed.new.items) }
-    ensures whole { IfOk result (λ found. IfSome found (λ sets. IsWholeListing sought system.now.sets (members faulty.now) greatest.now budget.old budget.new listed.new.items solver.new.log × AreInNameOrder (listed_in sought listed.new.items) sets.items)) }
-    ensures part { result ≡ Ok None → IsListing sought system.now.sets (members faulty.now) greatest.now budget.old budget.new listed.new.items solver.new }
+    ensures whole { IfOk result (λ found. IfSome found (λ sets. IsWholeListingIn searched.now budget.old budget.new listed.new.items solver.new.log × AreInNameOrder (listed_in searched.now.sought listed.new.items) sets.items)) }
+    ensures part { result ≡ Ok None → IsListingIn searched.now budget.old budget.new listed.new.items solver.new }
     ensures spent { result ≡ Ok None → budget.new ≡ 0 }
     ensures unclosed { result ≡ Ok None → Closes solver.new.database.held → ⊥ }
 {
-    if run(
-        alloc, sought, system, faulty, greatest, solver, listed, budget,
-    )? {
-        let sets = sets_of(alloc, sought, listed)?;
+    if run(alloc, searched, solver, listed, budget)? {
+        let sets = sets_of(alloc, searched.sought, listed)?;
         let ordered = rising(sets);
         return Ok(Some(ordered));
     }

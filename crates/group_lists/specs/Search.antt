@@ -9,7 +9,10 @@ use Rattle.cdcl_core.specs.Solving.{Solving}
 use Rattle.list_journal.specs.Journals.{Rules, IsWholeJournal, journal_units}
 use Rattle.blocking_lists.specs.Lines.{ListLine, merged, AreBetween, AreForgetting}
 use Rattle.blocking_lists.specs.Search.{IsSearch, IsShortLog}
+use Rattle.node_json.specs.Groups.{Group, tables_of}
+use Rattle.group_journal.specs.Groups.{touching}
 use Rattle.group_journal.specs.Rules.{group_list_of}
+use Rattle.group_lists.specs.declared.search.SearchedGroups.{SearchedGroups}
 
 -- the rules of the search, where the greatest quorum is found by counting
 abbrev pub group_rules : Fbas → Table → List Table → Rules
@@ -36,3 +39,16 @@ pub record IsWholeGroupListing (f : Fbas) (b : Table) (groups : List Table) (uni
   pub journal_is : IsWholeJournal (group_rules f b groups) (merged 0 lines log)
   pub forgets : AreForgetting (group_rules f b groups) (group_rules f b groups).start (merged 0 lines log)
   pub taken : journal_units (group_rules f b groups) (merged 0 lines log) + left ≡ units
+
+-- the groups and the faulty nodes are of the system's nodes, and the groups that are touched are those with a node of the greatest quorum
+pub record IsReady (s : SearchedGroups) : Type 0 where
+  pub sized : All (λ (group : Group). length group.members ≡ length s.system.now.sets) s.groups.now
+  pub same_faulty : length s.faulty.now ≡ length s.system.now.sets
+  pub touched : s.touched.now ≡ touching (tables_of s.groups.now) (greatest_of s.system.now.sets s.faulty.now)
+
+-- the sets of what is searched that are listed so far
+abbrev pub IsGroupListingIn : SearchedGroups → ℕ → ℕ → List ListLine → Solving → Type 0
+IsGroupListingIn s units left lines solver = IsGroupListing s.system.now.sets s.faulty.now (tables_of s.groups.now) units left lines solver
+
+abbrev pub IsWholeGroupListingIn : SearchedGroups → ℕ → ℕ → List ListLine → List ProofStep → Type 0
+IsWholeGroupListingIn s units left lines log = IsWholeGroupListing s.system.now.sets s.faulty.now (tables_of s.groups.now) units left lines log

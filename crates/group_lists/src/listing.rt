@@ -9,10 +9,10 @@ ghost use Rattle.blocking_lists.specs.Lines.{AreBetween, HasLineNumbers, HasFewW
 ghost use Rattle.blocking_lists.specs.Search.{AreInNameOrder};
 ghost use Rattle.group_journal.specs.Groups.{touching};
 ghost use Rattle.group_lists.specs.Outcomes.{GroupOutcomeHolds, group_journal_in};
-ghost use Rattle.group_lists.specs.Search.{IsGroupListing, IsWholeGroupListing};
+ghost use Rattle.group_lists.specs.Search.{IsReady, IsGroupListingIn, IsWholeGroupListingIn};
 
 use crate::outcome::{GroupJournal, GroupOutcome};
-use crate::search::{GroupLine, run};
+use crate::search::{GroupLine, SearchedGroups, run};
 use blocking_lists::{sets_of, solver_over};
 use cdcl_core::{Budget, Log, Solver};
 use fbas_core::System;
@@ -50,21 +50,18 @@ pub fn list_groups(
 {
     let greatest = greatest(system, faulty);
     let touched = touching(groups, &greatest);
+    let searched = SearchedGroups {
+        system,
+        groups,
+        faulty,
+        touched: &touched,
+    };
     let mut listed = Vec::new(alloc);
     // This call says how many groups there are at most, and so that their variables fit.
     let _groups = groups.len();
     match solver_over(alloc, touched.count()) {
         Ok(mut solver) => {
-            let found = found_sets(
-                alloc,
-                system,
-                groups,
-                faulty,
-                &touched,
-                &mut solver,
-                &mut listed,
-                budget,
-            );
+            let found = found_sets(alloc, &searched, &mut solver, &mut listed, budget);
             outcome_of(found, listed, solver.into_log())
         }
         Err(e) => Err(e),
@@ -94,28 +91,21 @@ fn outcome_of(
 /// one is dear to prove at each of its ways out.
 fn found_sets(
     alloc: Global,
-    system: &System,
-    groups: &Groups,
-    faulty: &NodeSet,
-    touched: &GroupSet,
+    searched: &SearchedGroups<'_>,
     solver: &mut Solver,
     listed: &mut Vec<GroupLine>,
     budget: &mut Budget,
 ) -> Result<Option<Vec<GroupSet>>, AllocError>
-    requires sized { All (λ group. length group.members ≡ length system.now.sets) groups.now }
-    requires same_faulty { length faulty.now ≡ length system.now.sets }
-    requires touched { touched.now ≡ touching (tables_of groups.now) (greatest_of system.now.sets faulty.now) }
+    requires ready { IsReady searched.now }
     requires room { budget.old + 1 < 2 ^ 63 }
-    requires start { IsGroupListing system.now.sets faulty.now (tables_of groups.now) budget.old budget.old listed.old.items solver.old }
+    requires start { IsGroupListingIn searched.now budget.old budget.old listed.old.items solver.old }
     ensures between { OnOk result (AreBetween 0 (length solver.new.log) listed.new.items) }
-    ensures whole { IfOk result (λ found. IfSome found (λ sets. IsWholeGroupListing system.now.sets faulty.now (tables_of groups.now) budget.old budget.new listed.new.items solver.new.log × AreInNameOrder (listed_in listing.Blocking listed.new.items) sets.items)) }
-    ensures part { result ≡ Ok None → IsGroupListing system.now.sets faulty.now (tables_of groups.now) budget.old budget.new listed.new.items solver.new }
+    ensures whole { IfOk result (λ found. IfSome found (λ sets. IsWholeGroupListingIn searched.now budget.old budget.new listed.new.items solver.new.log × AreInNameOrder (listed_in listing.Blocking listed.new.items) sets.items)) }
+    ensures part { result ≡ Ok None → IsGroupListingIn searched.now budget.old budget.new listed.new.items solver.new }
     ensures spent { result ≡ Ok None → budget.new ≡ 0 }
     ensures unclosed { result ≡ Ok None → Closes solver.new.database.held → ⊥ }
 {
-    if run(
-        alloc, system, groups, faulty, touched, solver, listed, budget,
-    )? {
+    if run(alloc, searched, solver, listed, budget)? {
         let sets = sets_of(alloc, Listed::Blocking, listed)?;
         let ordered = rising(sets);
         return Ok(Some(ordered));

@@ -1,16 +1,16 @@
 //! The search for all minimal blocking sets of groups, line by line.
-ghost use Rattle.std.specs.Prelude.{◌≡◌, ℕ, true, false, Ok, ◌+◌, ◌<◌, ◌≤◌, ◌^◌, ◌++◌, [], ◌∷◌, length, All, OnOk};
+ghost use Rattle.std.specs.Prelude.{◌≡◌, ℕ, true, false, Ok, ◌+◌, ◌<◌, ◌≤◌, ◌^◌, length, All, OnOk};
 ghost use Rattle.fbas_model.specs.Nodes.{members, ◌⊆◌, size};
 ghost use Rattle.fbas_model.specs.Fbas.{Quorum};
-ghost use Rattle.lrat_model.specs.Clauses.{Satisfies, with_clause};
+ghost use Rattle.lrat_model.specs.Clauses.{Satisfies};
 ghost use Rattle.lrat_model.specs.Propagation.{Closes};
 ghost use Rattle.cdcl_core.specs.Solving.{assignment};
-ghost use Rattle.greatest_quorum.specs.Greatest.{greatest_of};
 ghost use Rattle.node_json.specs.Groups.{tables_of};
+ghost use Rattle.blocking_lists.specs.Search.{IsListed};
 ghost use Rattle.group_journal.specs.Groups.{touching};
 ghost use Rattle.group_journal.specs.Rules.{group_clause};
 ghost use Rattle.list_journal.specs.declared.kinds.Listed.TheVariants as listing;
-ghost use Rattle.group_lists.specs.Search.{IsGroupListing, IsWholeGroupListing};
+ghost use Rattle.group_lists.specs.Search.{IsReady, IsGroupListingIn, IsWholeGroupListingIn};
 
 use blocking_lists::{ListedSet, list_set, tried_units};
 use cdcl_core::{Budget, Solver, Verdict};
@@ -25,6 +25,16 @@ use std::alloc::{AllocError, Global};
 
 /// A set of groups or of nodes that was listed.
 pub(crate) type GroupLine = ListedSet<GROUP_WORDS>;
+
+/// What is searched for all minimal blocking sets of groups: a system with its groups and its faulty nodes, and the groups that have
+/// a node of the greatest quorum once these are deleted.
+#[derive(Clone, Copy)]
+pub(crate) struct SearchedGroups<'a> {
+    pub(crate) system: &'a System,
+    pub(crate) groups: &'a Groups,
+    pub(crate) faulty: &'a NodeSet,
+    pub(crate) touched: &'a GroupSet,
+}
 
 /// Takes the groups from one place to another out of a quorum, all of them, and answers whether a quorum is left; where none is,
 /// nothing is taken. `scratch` holds nothing of use afterwards. The cost is that of `shrink` and O(n / 64) for each of these groups.
@@ -111,11 +121,7 @@ fn add_quorum(
     requires within { members (touching (tables_of groups.now) quorum.now) ⊆ members touched.now }
     requires vars { solver.old.vars ≡ size touched.now }
     requires room { solver.old.database.last + 1 < 2 ^ 63 }
-    ensures listed { OnOk result (listed.new.items ≡ listed.old.items ++ record { after = length solver.old.log; which = listing.Quorum; id = solver.old.database.last + 1; set = quorum.now } ∷ []) }
-    ensures held { OnOk result (solver.new.database.held ≡ with_clause solver.old.database.held (solver.old.database.last + 1) (group_clause (tables_of groups.now) touched.now listing.Quorum quorum.now)) }
-    ensures last { OnOk result (solver.new.database.last ≡ solver.old.database.last + 1) }
-    ensures log { solver.new.log ≡ solver.old.log }
-    ensures vars { solver.new.vars ≡ solver.old.vars }
+    ensures { OnOk result (IsListed listing.Quorum (group_clause (tables_of groups.now) touched.now listing.Quorum quorum.now) quorum.now listed.old.items listed.new.items solver.old solver.new) }
 {
     let clause = quorum_clause(alloc, groups, touched, quorum)?;
     list_set(Listed::Quorum, &clause, resized(quorum), solver, listed)
@@ -135,11 +141,7 @@ fn add_block(
     requires within { members set.now ⊆ members touched.now }
     requires vars { solver.old.vars ≡ size touched.now }
     requires room { solver.old.database.last + 1 < 2 ^ 63 }
-    ensures listed { OnOk result (listed.new.items ≡ listed.old.items ++ record { after = length solver.old.log; which = listing.Blocking; id = solver.old.database.last + 1; set = set.now } ∷ []) }
-    ensures held { OnOk result (solver.new.database.held ≡ with_clause solver.old.database.held (solver.old.database.last + 1) (group_clause (tables_of groups.now) touched.now listing.Blocking set.now)) }
-    ensures last { OnOk result (solver.new.database.last ≡ solver.old.database.last + 1) }
-    ensures log { solver.new.log ≡ solver.old.log }
-    ensures vars { solver.new.vars ≡ solver.old.vars }
+    ensures { OnOk result (IsListed listing.Blocking (group_clause (tables_of groups.now) touched.now listing.Blocking set.now) set.now listed.old.items listed.new.items solver.old solver.new) }
 {
     let clause = block_clause(alloc, groups, touched, set)?;
     list_set(Listed::Blocking, &clause, set.copy(), solver, listed)
@@ -149,22 +151,22 @@ fn add_block(
 /// whole groups and then nodes are lost, or where there is none a minimal blocking set of groups inside it.
 fn turn(
     alloc: Global,
-    system: &System,
-    groups: &Groups,
-    faulty: &NodeSet,
-    touched: &GroupSet,
+    searched: &SearchedGroups<'_>,
     solver: &mut Solver,
     listed: &mut Vec<GroupLine>,
 ) -> Result<(), AllocError>
-    requires sized { All (λ group. length group.members ≡ length system.now.sets) groups.now }
-    requires same_faulty { length faulty.now ≡ length system.now.sets }
-    requires touched { touched.now ≡ touching (tables_of groups.now) (greatest_of system.now.sets faulty.now) }
-    requires vars { solver.old.vars ≡ size touched.now }
+    requires ready { IsReady searched.now }
+    requires vars { solver.old.vars ≡ size searched.now.touched.now }
     requires room { solver.old.database.last + 1 < 2 ^ 63 }
     requires solves { Satisfies (assignment solver.old) solver.old.database.held }
-    ensures goes_on { OnOk result ((total left : ℕ) → total < 2 ^ 63
-        → IsGroupListing system.now.sets faulty.now (tables_of groups.now) total (left + 1) listed.old.items solver.old → IsGroupListing system.now.sets faulty.now (tables_of groups.now) total left listed.new.items solver.new) }
+    ensures goes_on { OnOk result ((total left : ℕ) → total < 2 ^ 63 → IsGroupListingIn searched.now total (left + 1) listed.old.items solver.old → IsGroupListingIn searched.now total left listed.new.items solver.new) }
 {
+    let SearchedGroups {
+        system,
+        groups,
+        faulty,
+        touched,
+    } = *searched;
     let n = system.len();
     let tried = tried_units(solver, Listed::Blocking, groups.len(), touched);
     let mut marked = MarkedGroups::none(alloc, groups, n)?;
@@ -183,21 +185,16 @@ fn turn(
 /// Lists a set for each assignment of the solver, until there is none more, which it answers by true, or no unit is left.
 pub(crate) fn run(
     alloc: Global,
-    system: &System,
-    groups: &Groups,
-    faulty: &NodeSet,
-    touched: &GroupSet,
+    searched: &SearchedGroups<'_>,
     solver: &mut Solver,
     listed: &mut Vec<GroupLine>,
     budget: &mut Budget,
 ) -> Result<bool, AllocError>
-    requires sized { All (λ group. length group.members ≡ length system.now.sets) groups.now }
-    requires same_faulty { length faulty.now ≡ length system.now.sets }
-    requires touched { touched.now ≡ touching (tables_of groups.now) (greatest_of system.now.sets faulty.now) }
+    requires ready { IsReady searched.now }
     requires room { budget.old + 1 < 2 ^ 63 }
-    requires start { IsGroupListing system.now.sets faulty.now (tables_of groups.now) budget.old budget.old listed.old.items solver.old }
-    ensures whole { result ≡ Ok true → IsWholeGroupListing system.now.sets faulty.now (tables_of groups.now) budget.old budget.new listed.new.items solver.new.log }
-    ensures part { result ≡ Ok false → IsGroupListing system.now.sets faulty.now (tables_of groups.now) budget.old budget.new listed.new.items solver.new }
+    requires start { IsGroupListingIn searched.now budget.old budget.old listed.old.items solver.old }
+    ensures whole { result ≡ Ok true → IsWholeGroupListingIn searched.now budget.old budget.new listed.new.items solver.new.log }
+    ensures part { result ≡ Ok false → IsGroupListingIn searched.now budget.old budget.new listed.new.items solver.new }
     ensures spent { result ≡ Ok false → budget.new ≡ 0 }
     ensures unclosed { result ≡ Ok false → Closes solver.new.database.held → ⊥ }
 {
@@ -210,7 +207,7 @@ pub(crate) fn run(
                     return Ok(false);
                 }
                 budget.take();
-                turn(alloc, system, groups, faulty, touched, solver, listed)?;
+                turn(alloc, searched, solver, listed)?;
             }
         }
     }

@@ -1,13 +1,14 @@
 //! The search for a smallest quorum, line by line.
-ghost use Rattle.std.specs.Prelude.{◌≡◌, ◌⊎◌, ℕ, true, false, Ok, ◌+◌, ◌<◌, ◌≤◌, ◌^◌, ◌++◌, [], ◌∷◌, length, OnOk};
+ghost use Rattle.std.specs.Prelude.{◌≡◌, ◌⊎◌, ℕ, true, false, Ok, ◌+◌, ◌<◌, ◌≤◌, ◌^◌, length, OnOk};
 ghost use Rattle.fbas_model.specs.Nodes.{members, IsInhabited, ◌⊆◌, size};
-ghost use Rattle.lrat_model.specs.Clauses.{Satisfies, with_clause};
+ghost use Rattle.lrat_model.specs.Clauses.{Satisfies};
 ghost use Rattle.lrat_model.specs.Lemmas.{IsDue};
 ghost use Rattle.lrat_model.specs.Propagation.{Closes};
 ghost use Rattle.cdcl_core.specs.Solving.{assignment};
 ghost use Rattle.clause_encoder.specs.declared.limits.TheConstants.{MOST_VARS};
 ghost use Rattle.clause_encoder.specs.NameCounter.{counter_vars};
 ghost use Rattle.greatest_quorum.specs.Greatest.{greatest_of};
+ghost use Rattle.blocking_lists.specs.Search.{IsListed};
 ghost use Rattle.least_journal.specs.Least.{clause_in};
 ghost use Rattle.least_quorum.specs.Outcomes.{IsWanted};
 ghost use Rattle.least_quorum.specs.Search.{best_in, IsLeastListing, IsWholeLeastListing};
@@ -40,11 +41,7 @@ fn add_line(
     requires small { counter_vars (size greatest.now) ≤ MOST_VARS }
     requires vars { solver.old.vars ≡ counter_vars (size greatest.now) }
     requires room { solver.old.database.last + 1 < 2 ^ 63 }
-    ensures listed { OnOk result (listed.new.items ≡ listed.old.items ++ record { after = length solver.old.log; which = which; id = solver.old.database.last + 1; set = set } ∷ []) }
-    ensures held { OnOk result (solver.new.database.held ≡ with_clause solver.old.database.held (solver.old.database.last + 1) (clause_in greatest.now which set)) }
-    ensures last { OnOk result (solver.new.database.last ≡ solver.old.database.last + 1) }
-    ensures log { solver.new.log ≡ solver.old.log }
-    ensures vars { solver.new.vars ≡ solver.old.vars }
+    ensures { OnOk result (IsListed which (clause_in greatest.now which set) set listed.old.items listed.new.items solver.old solver.new) }
 {
     let clause = clause_in(alloc, which, n, greatest, &set)?;
     list_set(which, &clause, set, solver, listed)

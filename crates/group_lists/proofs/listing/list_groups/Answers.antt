@@ -68,6 +68,13 @@ returns-in-Ok-clause-few_words c =
     groups_few f b gs lines log journal journal_is found.0.short.steps)
     (λ is. groups_few f b gs lines log journal journal_is (c.found_sets-found.ensures.part is).short.steps)
 
+pub found_sets-found-requires-clause-ready : goal.found_sets-found-requires-clause-ready
+found_sets-found-requires-clause-ready c = record {
+  sized = c.requires.sized;
+  same_faulty = c.requires.same_faulty;
+  touched = c.touching-touched.ensures ∙ ap (touching (tables_of c.args.groups.now)) c.greatest-greatest.ensures.counted;
+}
+
 pub found_sets-found-requires-clause-start : goal.found_sets-found-requires-clause-start
 found_sets-found-requires-clause-start c =
     let f = c.args.system.now.sets in

@@ -17,28 +17,28 @@ not_refuted_sat v e h = cc
 pub returns-in-Unsat-clause-whole : goal.returns-in-Unsat-clause-whole
 returns-in-Unsat-clause-whole c = λ _.
     let now = c.in_ok-solve.ensures in
-    group_refuted c.args.system.now.sets c.args.faulty.now (tables_of c.args.groups.now) c.args.budget.now c.lines.budget c.solve.new.budget c.lines.listed.items c.lines.solver c.solve.new.self c.lines.invariant now.log now.run now.lemmas now.units now.vars now.bounds now.short (now.unsat (ap Ok c.in-Unsat.is))
+    group_refuted c.args.searched.now.system.now.sets c.args.searched.now.faulty.now (tables_of c.args.searched.now.groups.now) c.args.budget.now c.lines.budget c.solve.new.budget c.lines.listed.items c.lines.solver c.solve.new.self c.lines.invariant now.log now.run now.lemmas now.units now.vars now.bounds now.short (now.unsat (ap Ok c.in-Unsat.is))
 
 pub returns-in-Spent-clause-part : goal.returns-in-Spent-clause-part
 returns-in-Spent-clause-part c = λ _.
     let now = c.in_ok-solve.ensures in
     let other = not_refuted_spent c.in_ok-solve.field-0 c.in-Spent.is in
-    group_steps c.args.system.now.sets c.args.faulty.now (tables_of c.args.groups.now) c.args.budget.now c.lines.budget c.solve.new.budget c.lines.listed.items c.lines.solver c.solve.new.self c.lines.invariant now.log now.run now.lemmas now.units now.vars now.bounds now.short (now.open other) (now.room (λ e. other (cc))) (empty_stays c.lines.solver c.solve.new.self now.kept)
+    group_steps c.args.searched.now.system.now.sets c.args.searched.now.faulty.now (tables_of c.args.searched.now.groups.now) c.args.budget.now c.lines.budget c.solve.new.budget c.lines.listed.items c.lines.solver c.solve.new.self c.lines.invariant now.log now.run now.lemmas now.units now.vars now.bounds now.short (now.open other) (now.room (λ e. other (cc))) (empty_stays c.lines.solver c.solve.new.self now.kept)
 
 pub returns-then-left-eq0-clause-part : goal.returns-then-left-eq0-clause-part
 returns-then-left-eq0-clause-part c = λ _.
     let now = c.in_ok-solve.ensures in
     let other = not_refuted_sat c.in_ok-solve.field-0 c.in-Sat.is in
-    group_steps c.args.system.now.sets c.args.faulty.now (tables_of c.args.groups.now) c.args.budget.now c.lines.budget c.solve.new.budget c.lines.listed.items c.lines.solver c.solve.new.self c.lines.invariant now.log now.run now.lemmas now.units now.vars now.bounds now.short (now.open other) (now.room (λ e. other (cc))) (empty_stays c.lines.solver c.solve.new.self now.kept)
+    group_steps c.args.searched.now.system.now.sets c.args.searched.now.faulty.now (tables_of c.args.searched.now.groups.now) c.args.budget.now c.lines.budget c.solve.new.budget c.lines.listed.items c.lines.solver c.solve.new.self c.lines.invariant now.log now.run now.lemmas now.units now.vars now.bounds now.short (now.open other) (now.room (λ e. other (cc))) (empty_stays c.lines.solver c.solve.new.self now.kept)
 
 pub returns-then-left-eq0-clause-unclosed : goal.returns-then-left-eq0-clause-unclosed
 returns-then-left-eq0-clause-unclosed c = λ _. satisfied_is_open (assignment c.solve.new.self) c.solve.new.self.database.held (c.in_ok-solve.ensures.sat (ap Ok c.in-Sat.is))
 
 pub lines-preserved : goal.lines-preserved
 lines-preserved c =
-    let f = c.args.system.now.sets in
-    let b = c.args.faulty.now in
-    let gs = tables_of c.args.groups.now in
+    let f = c.args.searched.now.system.now.sets in
+    let b = c.args.searched.now.faulty.now in
+    let gs = tables_of c.args.searched.now.groups.now in
     let total = c.args.budget.now in
     let now = c.in_ok-solve.ensures in
     let other = not_refuted_sat c.in_ok-solve.field-0 c.in-Sat.is in

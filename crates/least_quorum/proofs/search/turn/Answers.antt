@@ -66,8 +66,8 @@ returns-then-blocks-clause-goes_on c = λ yes total is.
     let out : clause_true a (clause_in g Blocking s) ≡ false = blocking_out Quorum g a c.model_set-set.result s c.model_set-set.ensures.model c.minimal_block.ensures.within in
     let places : length s ≡ length f = c.minimal_block.ensures.same_n ∙ c.model_set-set.ensures.same_n ∙ c.len-n.ensures.sets in
     let done = c.in_ok-add_line.ensures in
-    least_block_line f (members b) g greatest total c.args.listed.now.items c.add_line.new.listed.items c.args.solver.now c.add_line.new.solver c.requires.room done.last done.log done.vars
-    s places c.minimal_block.ensures.minimal a c.requires.solves out done.listed done.held c.take.new.self
+    least_block_line f (members b) g greatest total c.args.listed.now.items c.add_line.new.listed.items c.args.solver.now c.add_line.new.solver c.requires.room
+    s places c.minimal_block.ensures.minimal a c.requires.solves out done c.take.new.self
     (subst (λ (n : ℕ). IsLeastListing f (members b) g total n c.args.listed.now.items c.args.solver.now) (sym c.take.ensures) is)
 
 pub returns-then-blocks-clause-falls : goal.returns-then-blocks-clause-falls
@@ -81,8 +81,8 @@ returns-then-blocks-clause-falls c = λ yes total is.
     let out : clause_true a (clause_in g Blocking s) ≡ false = blocking_out Quorum g a c.model_set-set.result s c.model_set-set.ensures.model c.minimal_block.ensures.within in
     let places : length s ≡ length f = c.minimal_block.ensures.same_n ∙ c.model_set-set.ensures.same_n ∙ c.len-n.ensures.sets in
     let done = c.in_ok-add_line.ensures in
-    let same = same_best f (members b) g greatest total c.args.listed.now.items c.add_line.new.listed.items c.args.solver.now c.add_line.new.solver c.requires.room done.last done.log done.vars
-    s places c.minimal_block.ensures.minimal a c.requires.solves out done.listed done.held in
+    let same = same_best f (members b) g greatest total c.args.listed.now.items c.add_line.new.listed.items c.args.solver.now c.add_line.new.solver c.requires.room
+    s places c.minimal_block.ensures.minimal a c.requires.solves out done in
     omega (arith, c.take.ensures, same)
 
 pub returns-clause-goes_on : goal.returns-clause-goes_on
@@ -100,8 +100,8 @@ returns-clause-goes_on c = λ yes total is.
     let trues = true_outside g a c.model_set-set.result u c.model_set-set.ensures.model within outside in
     let fewer : size u < best_in g c.args.listed.now.items = found_smaller f (members b) g total c.args.budget.now c.args.listed.now.items c.args.solver.now a u is c.requires.solves (places ∙ sym greatest.places) within trues in
     let done = c.in_ok-add_line-2.ensures in
-    least_quorum_line f (members b) g greatest total c.args.listed.now.items c.add_line-2.new.listed.items c.args.solver.now c.add_line-2.new.solver c.requires.room done.last done.log done.vars
-    u places quorum fewer done.listed done.held c.args.budget.now is
+    least_quorum_line f (members b) g greatest total c.args.listed.now.items c.add_line-2.new.listed.items c.args.solver.now c.add_line-2.new.solver c.requires.room
+    u places quorum fewer done c.args.budget.now is
 
 pub returns-clause-falls : goal.returns-clause-falls
 returns-clause-falls c = λ yes total is.
@@ -118,6 +118,6 @@ returns-clause-falls c = λ yes total is.
     let trues = true_outside g a c.model_set-set.result u c.model_set-set.ensures.model within outside in
     let fewer : size u < best_in g c.args.listed.now.items = found_smaller f (members b) g total c.args.budget.now c.args.listed.now.items c.args.solver.now a u is c.requires.solves (places ∙ sym greatest.places) within trues in
     let done = c.in_ok-add_line-2.ensures in
-    let then = best_then f (members b) g greatest total c.args.listed.now.items c.add_line-2.new.listed.items c.args.solver.now c.add_line-2.new.solver c.requires.room done.last done.log done.vars
-    u places quorum fewer done.listed done.held in
+    let then = best_then f (members b) g greatest total c.args.listed.now.items c.add_line-2.new.listed.items c.args.solver.now c.add_line-2.new.solver c.requires.room
+    u places quorum fewer done in
     omega (arith, then, fewer)
