@@ -5,8 +5,8 @@ use Rattle.std.proofs.lemmas.Bool.{or_parts}
 use Rattle.fbas_model.specs.Nodes.{Table}
 use Rattle.fbas_model.specs.Systems.{System}
 use Rattle.lrat_model.specs.Clauses.{with_clause}
-use Rattle.lrat_model.specs.Steps.{ProofStep, Addition, Deletion, Database, deletion_fault, after_step, progress_at}
-use Rattle.lrat_model.specs.Rules.{addition_fault_by, step_fault_by}
+use Rattle.lrat_model.specs.Steps.{ProofStep, Addition, Deletion, Database, deletion_fault, progress_at}
+use Rattle.lrat_model.specs.Rules.{addition_fault_by}
 use Rattle.lrat_model.specs.declared.step.Rule.{Rule}
 use Rattle.lrat_model.specs.declared.step.Progress.{Progress}
 use Rattle.lrat_model.specs.declared.step.Progress.TheVariants.{Going as going, Refuted}
@@ -26,7 +26,7 @@ use Rattle.cert_lines.specs.Limits.{unless}
 use Rattle.cert_lines.specs.declared.faults.CertError.TheVariants.{NotNew}
 use Rattle.certificate_file.specs.declared.given.Given.{Given}
 use Rattle.certificate_file.specs.Acceptance.{in_reach, step_unless, take_step, step_line, lemma_unless, take_lemma, lemma_line, after_progress, take_line}
-use Rattle.reach_kinds.specs.Bodies.{and_then, holding, is_covered, adds_covered, counted, with_literal, listed_by, literal_in, list_step_unless, list_step, list_line, list_text, after_list_step}
+use Rattle.reach_kinds.specs.Bodies.{and_then, is_covered, with_literal, listed_by, literal_in, list_step_unless, list_step, list_line, list_text, after_list_step}
 use Rattle.certificate_file.specs.Known.{IsKnown, IsKnownState}
 use Rattle.certificate_file.proofs.Meaning.{known_step, known_lemma, known_reach}
 use Rattle.certificate_file.specs.Streamed.{Finished, after_deletion, read, is_part_kind, is_part, place_of, after_step_of, checking_of, HasSizedSets}
@@ -45,7 +45,6 @@ use Rattle.reach_kinds.specs.declared.places.ReachState.{ReachState}
 use Rattle.list_journal.specs.declared.kinds.Listed.{Listed}
 use Rattle.list_journal.specs.declared.kinds.Listed.TheVariants as listed
 use Rattle.certificate_file.specs.declared.places.State.{State}
-use Rattle.certificate_file.specs.declared.places.State.TheVariants.{Going}
 
 not_end : (text : List ℕ) → is_other text ≡ false → bytes_eq text (codes "end") ≡ false
 not_end [] is = refl
@@ -73,19 +72,6 @@ not_listed sought (b ∷ bytes) is =
       | true ↦ no_word sought (words_of bytes)
       | false ↦ first_word sought b (words_of bytes) later.0 last.0 last.1
     ]
-
--- checkers with the same rule, variables and clauses
-pub same_checking : (a b : Checking) → a.rule ≡ b.rule → a.vars ≡ b.vars → a.database ≡ b.database → a ≡ b
-same_checking a b rule vars database =
-    ap (λ (r : Rule). record { rule = r; vars = a.vars; database = a.database }) rule ∙ ap (λ (n : ℕ). record { rule = b.rule; vars = n; database = a.database }) vars
-    ∙ ap (λ (d : Database). record { rule = b.rule; vars = b.vars; database = d }) database
-
--- a lemma that has no fault and is new
-pub taken_lemma : (l : ℕ) (h : Header) (c now : Checking) (n units : ℕ) (step : ProofStep) → step_fault_by c.rule c.vars c.database step ≡ None → adds_covered c.database.held step ≡ false → units ≡ counted n step
-    → now.rule ≡ c.rule → now.vars ≡ c.vars → now.database ≡ after_step c.database step → take_lemma l h c n step ≡ Ok (Going (AtLemmas h now units))
-taken_lemma l h c now n units step right is_new count rule vars database =
-    let same = same_checking now (holding c (after_step c.database step)) rule vars database in
-    rw (right, is_new, same, count) refl
 
 -- the places of steps, where lines are taken so
 pub at_steps : (f : System) (given : Given) (h : Header) (c : Checking) (l : ℕ) (text : List ℕ) → take_line f given (AtSteps h c) l text ≡ step_line h c l text

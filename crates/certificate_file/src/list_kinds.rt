@@ -10,7 +10,7 @@ use cert_lines::CertError;
 use clause_encoder::Version;
 use fbas_core::System;
 use list_journal::{ListKind, Listed};
-use reach_kinds::body_begins;
+use reach_kinds::{Scope, body_begins};
 use std::alloc::Global;
 
 /// The list of the sought sets that a kind names, whole or in part.
@@ -74,14 +74,12 @@ fn list_from(
     ensures ok { IfOk result (λ s. s ≡ State.Going (Place.AtReach subject (body_begins system.now sought kind subject.nodes subject.header.faulty))) }
     ensures err { IfErr result (λ e. e ≡ CertError.Memory) }
 {
-    let place = body_begins(
-        alloc,
+    let scope = Scope {
         system,
-        sought,
-        kind,
-        &subject.nodes,
-        &subject.header.faulty,
-    )?;
+        nodes: &subject.nodes,
+        faulty: &subject.header.faulty,
+    };
+    let place = body_begins(alloc, &scope, sought, kind)?;
     Ok(State::Going(Place::AtReach(subject, place)))
 }
 

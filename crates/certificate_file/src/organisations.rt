@@ -16,7 +16,7 @@ use digest_text::read_digits;
 use fbas_core::System;
 use list_journal::ListKind;
 use node_json::Orgs;
-use reach_kinds::groups_begin;
+use reach_kinds::{Scope, groups_begin};
 use std::alloc::Global;
 
 /// Whether a kind of version two is a list over organisations, whole or in part.
@@ -62,14 +62,12 @@ fn list_over(
     ensures known { IfOk result (λ _. IsReachPlace system.now subject.nodes subject.header.faulty (groups_begin system.now kind subject.nodes subject.header.faulty orgs.now)) }
     ensures err { IfErr result (λ e. e ≡ CertError.Memory) }
 {
-    let place = groups_begin(
-        alloc,
+    let scope = Scope {
         system,
-        kind,
-        &subject.nodes,
-        &subject.header.faulty,
-        orgs,
-    )?;
+        nodes: &subject.nodes,
+        faulty: &subject.header.faulty,
+    };
+    let place = groups_begin(alloc, &scope, kind, orgs)?;
     Ok(State::Going(Place::AtReach(subject, place)))
 }
 

@@ -18,40 +18,6 @@ use fbas_core::System;
 use std::alloc::Global;
 use step_stream::StepReader;
 
-/// What the next line says at its place.
-fn next_line<D: Desk>(
-    alloc: Global,
-    lines: &mut Lines,
-    desk: &mut D,
-    system: &System,
-    given: &Given,
-    place: Place,
-) -> Result<State, CertError>
-    requires fresh { lines.old.taken ≡ 0 }
-    requires fits { FitsGiven system.now given.now }
-    requires known { IsKnown system.now given.now place }
-    ensures known { IfOk result (IsKnownState system.now given.now) }
-    ensures few { OnOk result (lines.new.number ≤ MAX_LINES + 1) }
-    ensures number { OnOk result (lines.old.number < lines.new.number) }
-    ensures taken { OnOk result (lines.new.taken ≡ 0) }
-    ensures ok { IfOk result (λ s. IsTrue D.tells → check_lines system.now given.now lines.old.number (State.Going place) (lines_of (lines.old.unread ++ left_of Which.Cert (D.state desk.old)))
-        ≡ check_lines system.now given.now lines.new.number s (lines_of (lines.new.unread ++ left_of Which.Cert (D.state desk.new)))) }
-    ensures err { IfErr result (λ e. IsTrue D.tells → (e ≡ CertError.Memory) ⊎ (e ≡ CertError.Read)
-        ⊎ (check_lines system.now given.now lines.old.number (State.Going place) (lines_of (lines.old.unread ++ left_of Which.Cert (D.state desk.old))) ≡ Err e)) }
-    ensures plain { IsErrOf result CertError.Read → IsTrue D.tells → IsTrue (D.state desk.old).plain → ⊥ }
-    ensures rest { IsTrue D.tells → D.state desk.new ≡ with_left Which.Cert (left_of Which.Cert (D.state desk.new)) (D.state desk.old) }
-    ensures faults { ReadFails (D.faults desk.old) (D.faults desk.new) (IsErrOf result CertError.Read) }
-{
-    let line = lines.number();
-    match lines.line(alloc, desk) {
-        Ok(text) => take_line(alloc, system, given, place, line, &text),
-        Err(fault) => {
-            drop(place);
-            Err(fault)
-        }
-    }
-}
-
 /// What is so after the next line. Where steps may stand, it is taken with the steps behind it, to the first line that begins as
 /// no step does or to the empty lemma.
 pub fn next_state<D: Desk>(
@@ -80,6 +46,15 @@ pub fn next_state<D: Desk>(
 {
     match Steps::of(place) {
         Ok(steps) => next_steps(alloc, lines, desk, reader, system, given, steps),
-        Err(other) => next_line(alloc, lines, desk, system, given, other),
+        Err(other) => {
+            let line = lines.number();
+            match lines.line(alloc, desk) {
+                Ok(text) => take_line(alloc, system, given, other, line, &text),
+                Err(fault) => {
+                    drop(other);
+                    Err(fault)
+                }
+            }
+        }
     }
 }

@@ -1,5 +1,5 @@
 //! One step that was read as a stream.
-ghost use Rattle.std.specs.Prelude.{◌≡◌, ◌⊎◌, [], ℕ, Option, None, IfOk, IfErr, IfSome, IsErrOf, OnOk, Ok, Err};
+ghost use Rattle.std.specs.Prelude.{◌≡◌, ◌≢◌, ◌⊎◌, ◌≤◌, ◌^◌, [], ℕ, Option, None, IfOk, IfErr, IfSome, IsErrOf, OnOk, Ok, Err};
 ghost use Rattle.lrat_model.specs.Steps.{Database};
 ghost use Rattle.lrat_model.specs.declared.step.Rule.{Rule};
 ghost use Rattle.lrat_checker.specs.Adding.{Adding};
@@ -26,12 +26,7 @@ pub fn finish(
     match words.stage {
         Stage::Added(_) => finish_addition(checker, words, line),
         Stage::Deleted(_) => finish_deletion(checker, words, line),
-        Stage::Start
-        | Stage::Numbered(_)
-        | Stage::Literals(_)
-        | Stage::Hints(_)
-        | Stage::Ids(_)
-        | Stage::Bad => Err(CertError::BadLine(line)),
+        _ => Err(CertError::BadLine(line)),
     }
 }
 
@@ -66,6 +61,7 @@ fn finish_deletion(
     requires { (id : ℕ) × (words.old.stage ≡ Stage.Deleted id) × (checker.old.open_addition ≡ None) }
     ensures closed { OnOk result (checker.new.open_addition ≡ None) }
     ensures unread { IsErrOf result CertError.Read → ⊥ }
+    ensures no_memory { result ≢ Err CertError.Memory }
     ensures ok { IfOk result (λ p. finished line checker.old.rule checker.old.vars checker.old.database (ahead checker.old.rule checker.old.vars checker.old.database words.old checker.old.open_addition []) ≡ Ok (checking_of checker.new, p)) }
     ensures err { IfErr result (λ e. (e ≡ CertError.Memory) ⊎ (finished line checker.old.rule checker.old.vars checker.old.database (ahead checker.old.rule checker.old.vars checker.old.database words.old checker.old.open_addition []) ≡ Err e)) }
 {
@@ -81,13 +77,7 @@ fn is_empty_lemma(words: &StepWords) -> bool
 {
     match words.stage {
         Stage::Added(_) => words.lits.is_empty(),
-        Stage::Start
-        | Stage::Numbered(_)
-        | Stage::Literals(_)
-        | Stage::Hints(_)
-        | Stage::Ids(_)
-        | Stage::Deleted(_)
-        | Stage::Bad => false,
+        _ => false,
     }
 }
 
@@ -97,29 +87,18 @@ fn covers_read(checker: &Checker, words: &StepWords) -> bool
 {
     match words.stage {
         Stage::Added(id) => checker.covers(id, &words.lits),
-        Stage::Start
-        | Stage::Numbered(_)
-        | Stage::Literals(_)
-        | Stage::Hints(_)
-        | Stage::Ids(_)
-        | Stage::Deleted(_)
-        | Stage::Bad => false,
+        _ => false,
     }
 }
 
 /// The units after it, while they can be counted.
 fn counted_read(units: u64, words: &StepWords) -> Option<u64>
-    ensures { (rule : Rule) (vars : ℕ) (database : Database) (now : Option Adding) → IfSome result (λ n. n ≡ counted_read units (ahead rule vars database words.now now [])) }
+    ensures some { (rule : Rule) (vars : ℕ) (database : Database) (now : Option Adding) → IfSome result (λ n. n ≡ counted_read units (ahead rule vars database words.now now [])) }
+    ensures none { (rule : Rule) (vars : ℕ) (database : Database) (now : Option Adding) → result ≡ None → 2 ^ 64 ≤ counted_read units (ahead rule vars database words.now now []) }
 {
     match words.stage {
         Stage::Added(_) => units.checked_add(1),
-        Stage::Start
-        | Stage::Numbered(_)
-        | Stage::Literals(_)
-        | Stage::Hints(_)
-        | Stage::Ids(_)
-        | Stage::Deleted(_)
-        | Stage::Bad => Some(units),
+        _ => Some(units),
     }
 }
 

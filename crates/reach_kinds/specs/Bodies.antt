@@ -277,6 +277,17 @@ abbrev pub asks_steps : ListKind → Bool
 asks_steps Whole = false
 asks_steps Part = true
 
+-- a step's fault, or that it is not as new as is asked, or else what follows
+abbrev pub unless_refused : {A : Type 0} → ℕ → Bool → Option StepFault → Result A CertError → Result A CertError
+unless_refused l old (Some fault) r = Err (Step l fault)
+unless_refused l old None r = unless (NotNew l) (not old) r
+
+-- what is held after a step, which is new where the kind asks for it, and where it led, with the units
+abbrev pub counted_step : ℕ → ListKind → Checking → ℕ → ProofStep → Result ((Checking × Progress) × ℕ) CertError
+counted_step l kind c n step =
+    unless_refused l (asks_steps kind && adds_covered c.database.held step) (step_fault_by c.rule c.vars c.database step)
+    (Ok ((holding c (after_step c.database step), progress_of step), counted n step))
+
 -- a part's step has to be new and is not
 abbrev pub is_old_step : Listing → ProofStep → Bool
 is_old_step k step = asks_steps k.kind && adds_covered k.checker.database.held step
@@ -309,8 +320,7 @@ after_list_step k Refuted = Going (AtEnd (whole_of k.sought (in_order k.sought k
 
 -- what is so after a step, if it has no fault and is as new as the kind asks
 abbrev pub list_step_unless : ℕ → Listing → ProofStep → Option StepFault → Result ReachState CertError
-list_step_unless l k step (Some fault) = Err (Step l fault)
-list_step_unless l k step None = unless (NotNew l) (not (is_old_step k step)) (Ok (after_list_step (with_step k step) (progress_of step)))
+list_step_unless l k step fault = unless_refused l (is_old_step k step) fault (Ok (after_list_step (with_step k step) (progress_of step)))
 
 abbrev pub list_step : Listing → ℕ → ProofStep → Result ReachState CertError
 list_step k l step = list_step_unless l k step (step_fault_by k.checker.rule k.checker.vars k.checker.database step)

@@ -31,7 +31,7 @@ use Rattle.cert_lines.specs.Words.{words_of}
 use Rattle.cert_lines.specs.Saying.{or_bad_line}
 use Rattle.cert_lines.specs.declared.faults.CertError.{CertError}
 use Rattle.cert_lines.specs.declared.faults.CertError.TheVariants.{BadLine, NotQuorum, NotBlocking, NotMinimal, Step, NotNew, NotRefuted}
-use Rattle.reach_kinds.specs.Bodies.{and_then, nodes_of, within, holding, is_covered, adds_covered, counted, list_part, list_checking, listed_by, Numbered, numbered_in, with_sought, literal_in, asks_steps}
+use Rattle.reach_kinds.specs.Bodies.{and_then, nodes_of, within, holding, is_covered, adds_covered, counted, list_part, list_checking, listed_by, Numbered, numbered_in, with_sought, literal_in, asks_steps, unless_refused}
 use Rattle.reach_kinds.specs.declared.places.Reached.TheVariants.{OrgBlocking, PartialOrgBlocking}
 use Rattle.reach_kinds.specs.declared.places.ListPart.{ListPart}
 use Rattle.reach_kinds.specs.declared.places.GroupPart.{GroupPart}
@@ -124,8 +124,7 @@ after_group_step k Refuted = Going (AtEnd (OrgBlocking k.over.groups (ordered k.
 
 -- what is so after a step, if it has no fault and is as new as the kind asks
 abbrev pub group_step_unless : ℕ → GroupListing → ProofStep → Option StepFault → Result ReachState CertError
-group_step_unless l k step (Some fault) = Err (Step l fault)
-group_step_unless l k step None = unless (NotNew l) (not (is_old_group_step k step)) (Ok (after_group_step (with_group_step k step) (progress_of step)))
+group_step_unless l k step fault = unless_refused l (is_old_group_step k step) fault (Ok (after_group_step (with_group_step k step) (progress_of step)))
 
 abbrev pub group_step : GroupListing → ℕ → ProofStep → Result ReachState CertError
 group_step k l step = group_step_unless l k step (step_fault_by k.checker.rule k.checker.vars k.checker.database step)

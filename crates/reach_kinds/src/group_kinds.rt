@@ -10,11 +10,10 @@ ghost use Rattle.reach_kinds.specs.GroupBodies.{grouped_part, no_group_listing, 
 ghost use Rattle.reach_kinds.specs.Known.{IsPartNodes, IsReachPlace};
 
 use crate::list_kinds::{list_checker, list_part};
-use crate::places::{GroupListing, GroupPart, GroupSets, ListPart, ReachPlace};
+use crate::places::{GroupListing, GroupPart, GroupSets, ListPart, ReachPlace, Scope};
 use fbas_core::System;
 use group_journal::touching;
 use list_journal::ListKind;
-use name_set::NodeSet;
 use node_json::{Orgs, groups_of};
 use std::alloc::{AllocError, Global};
 
@@ -80,19 +79,17 @@ fn no_group_listing(
 /// the cost is that of `groups_of`, beside the restriction and its greatest quorum.
 pub fn groups_begin(
     alloc: Global,
-    system: &System,
+    scope: &Scope<'_>,
     kind: ListKind,
-    nodes: &NodeSet,
-    faulty: &NodeSet,
     orgs: &Orgs,
 ) -> Result<ReachPlace, AllocError>
-    requires part { IsPartNodes system.now nodes.now faulty.now }
-    requires orgs { All (λ org. length org.members ≡ length system.now.names) orgs.now }
-    ensures place { IfOk result (λ place. place ≡ groups_begin system.now kind nodes.now faulty.now orgs.now) }
-    ensures known { IfOk result (IsReachPlace system.now nodes.now faulty.now) }
+    requires part { IsPartNodes scope.now.system.now scope.now.nodes.now scope.now.faulty.now }
+    requires orgs { All (λ org. length org.members ≡ length scope.now.system.now.names) orgs.now }
+    ensures place { IfOk result (λ place. place ≡ groups_begin scope.now.system.now kind scope.now.nodes.now scope.now.faulty.now orgs.now) }
+    ensures known { IfOk result (IsReachPlace scope.now.system.now scope.now.nodes.now scope.now.faulty.now) }
 {
-    let part = list_part(alloc, system, nodes, faulty)?;
-    let over = grouped_part(alloc, system, orgs, part)?;
+    let part = list_part(alloc, scope)?;
+    let over = grouped_part(alloc, scope.system, orgs, part)?;
     let listing = no_group_listing(alloc, kind, over)?;
     Ok(ReachPlace::AtGroups(listing))
 }

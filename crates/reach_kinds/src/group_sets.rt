@@ -18,9 +18,8 @@ use crate::group_texts::groups_by_text;
 use crate::list_sets::{is_covered, is_quorum_in};
 use crate::lists::nodes_of;
 use crate::parts::within;
-use crate::places::{GroupListing, GroupPart};
+use crate::places::{GroupListing, GroupPart, Scope};
 use cert_lines::{CertError, Words};
-use fbas_core::System;
 use group_journal::{MarkedGroups, block_clause, is_group_block, is_least_block, quorum_clause};
 use list_journal::{ListKind, Listed};
 use lrat_model::Lit;
@@ -29,22 +28,20 @@ use std::alloc::Global;
 
 /// The quorum of the part that the names are those of, by its nodes' numbers there. The cost is that of `shrink`.
 fn named_quorum(
-    system: &System,
-    nodes: &NodeSet,
-    faulty: &NodeSet,
+    scope: &Scope<'_>,
     over: &GroupPart,
     line: u64,
     names: &mut Words<'_>,
 ) -> Result<NodeSet, CertError>
-    requires part { IsPartNodes system.now nodes.now faulty.now }
-    requires over { IsGroupedPart system.now nodes.now faulty.now over.now }
+    requires part { IsPartNodes scope.now.system.now scope.now.nodes.now scope.now.faulty.now }
+    requires over { IsGroupedPart scope.now.system.now scope.now.nodes.now scope.now.faulty.now over.now }
     requires names { names_in names.old ≡ Some names.old }
     ensures unread { IsErrOf result CertError.Read → ⊥ }
-    ensures value { result ≡ listed_set system.now nodes.now over.now line Listed.Quorum names.old }
+    ensures value { result ≡ listed_set scope.now.system.now scope.now.nodes.now over.now line Listed.Quorum names.old }
 {
-    let named = nodes_of(system, line, names)?;
-    let set = within(nodes, line, named)?;
-    let cut = system.cut(&set, nodes);
+    let named = nodes_of(scope.system, line, names)?;
+    let set = within(scope.nodes, line, named)?;
+    let cut = scope.system.cut(&set, scope.nodes);
     if !is_quorum_in(&over.part, &cut) {
         return Err(CertError::NotQuorum(line));
     }
@@ -143,22 +140,20 @@ fn add_clause(
 /// A quorum of nodes under an id above the last one.
 pub fn list_quorum(
     alloc: Global,
-    system: &System,
-    nodes: &NodeSet,
-    faulty: &NodeSet,
+    scope: &Scope<'_>,
     listing: &mut GroupListing,
     line: u64,
     id: u64,
     names: &mut Words<'_>,
 ) -> Result<(), CertError>
-    requires known { IsListOver system.now nodes.now faulty.now listing.old }
+    requires known { IsListOver scope.now.system.now scope.now.nodes.now scope.now.faulty.now listing.old }
     requires above { listing.old.checker.database.last < id }
     requires names { names_in names.old ≡ Some names.old }
     ensures unread { IsErrOf result CertError.Read → ⊥ }
-    ensures ok { OnOk result (and_then (list_group_set listing.old line Listed.Quorum id) (listed_set system.now nodes.now listing.old.over line Listed.Quorum names.old) ≡ Ok (Going (AtGroups listing.new))) }
-    ensures err { IfErr result (λ e. (e ≡ CertError.Memory) ⊎ (and_then (list_group_set listing.old line Listed.Quorum id) (listed_set system.now nodes.now listing.old.over line Listed.Quorum names.old) ≡ Err e)) }
+    ensures ok { OnOk result (and_then (list_group_set listing.old line Listed.Quorum id) (listed_set scope.now.system.now scope.now.nodes.now listing.old.over line Listed.Quorum names.old) ≡ Ok (Going (AtGroups listing.new))) }
+    ensures err { IfErr result (λ e. (e ≡ CertError.Memory) ⊎ (and_then (list_group_set listing.old line Listed.Quorum id) (listed_set scope.now.system.now scope.now.nodes.now listing.old.over line Listed.Quorum names.old) ≡ Err e)) }
 {
-    let quorum = named_quorum(system, nodes, faulty, &listing.over, line, names)?;
+    let quorum = named_quorum(scope, &listing.over, line, names)?;
     let clause = quorum_clause(alloc, &listing.over.groups, &listing.over.touched, &quorum)?;
     add_clause(listing, line, Listed::Quorum, id, &clause)
 }
@@ -166,19 +161,17 @@ pub fn list_quorum(
 /// A minimal blocking set of groups under an id above the last one.
 pub fn list_block(
     alloc: Global,
-    system: &System,
-    nodes: &NodeSet,
-    faulty: &NodeSet,
+    scope: &Scope<'_>,
     listing: &mut GroupListing,
     line: u64,
     id: u64,
     texts: &mut Words<'_>,
 ) -> Result<(), CertError>
-    requires known { IsListOver system.now nodes.now faulty.now listing.old }
+    requires known { IsListOver scope.now.system.now scope.now.nodes.now scope.now.faulty.now listing.old }
     requires above { listing.old.checker.database.last < id }
     ensures unread { IsErrOf result CertError.Read → ⊥ }
-    ensures ok { OnOk result (and_then (list_group_set listing.old line Listed.Blocking id) (listed_set system.now nodes.now listing.old.over line Listed.Blocking texts.old) ≡ Ok (Going (AtGroups listing.new))) }
-    ensures err { IfErr result (λ e. (e ≡ CertError.Memory) ⊎ (and_then (list_group_set listing.old line Listed.Blocking id) (listed_set system.now nodes.now listing.old.over line Listed.Blocking texts.old) ≡ Err e)) }
+    ensures ok { OnOk result (and_then (list_group_set listing.old line Listed.Blocking id) (listed_set scope.now.system.now scope.now.nodes.now listing.old.over line Listed.Blocking texts.old) ≡ Ok (Going (AtGroups listing.new))) }
+    ensures err { IfErr result (λ e. (e ≡ CertError.Memory) ⊎ (and_then (list_group_set listing.old line Listed.Blocking id) (listed_set scope.now.system.now scope.now.nodes.now listing.old.over line Listed.Blocking texts.old) ≡ Err e)) }
 {
     let set = named_block(alloc, &listing.over, line, texts)?;
     let clause = block_clause(alloc, &listing.over.groups, &listing.over.touched, &set)?;

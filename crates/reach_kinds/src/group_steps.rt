@@ -3,54 +3,15 @@ ghost use Rattle.std.specs.Prelude.{◌≡◌, ◌⊎◌, ℕ, length, All, IfOk
 ghost use Rattle.lrat_model.specs.Steps.{step_of};
 ghost use Rattle.list_journal.specs.Order.{ordered};
 ghost use Rattle.reach_kinds.specs.Bodies.{and_then, literal_in};
-ghost use Rattle.reach_kinds.specs.GroupBodies.{is_old_group_step, after_group_step, group_step, group_end};
+ghost use Rattle.reach_kinds.specs.GroupBodies.{after_group_step, group_step, group_end};
 ghost use Rattle.reach_kinds.specs.declared.places.Reached.TheVariants.{OrgBlocking};
 
 use crate::list_steps::literal_in;
 use crate::places::{GroupListing, GroupPart, GroupSets, ReachPlace, ReachState, Reached};
-use crate::steps::{adds_covered, counted};
+use crate::steps::take_counted_step;
 use cert_lines::CertError;
 use list_journal::ListKind;
-use lrat_model::{Progress, Step, StepFault};
-
-/// Whether the step had to be new and is not.
-fn is_old_group_step(listing: &GroupListing, step: &Step) -> bool
-    ensures { result ≡ is_old_group_step listing.now (step_of step.now) }
-{
-    match listing.kind {
-        ListKind::Whole => false,
-        ListKind::Partial => adds_covered(&listing.checker, step),
-    }
-}
-
-/// The step taken: where it led.
-fn take_group_step(
-    listing: &mut GroupListing,
-    line: u64,
-    step: &Step,
-) -> Result<Progress, CertError>
-    ensures unread { IsErrOf result CertError.Read → ⊥ }
-    ensures over { listing.new.over ≡ listing.old.over }
-    ensures sets { listing.new.sets ≡ listing.old.sets }
-    ensures ok { IfOk result (λ p. group_step listing.old line (step_of step.now) ≡ Ok (after_group_step listing.new p)) }
-    ensures err { IfErr result (λ e. (e ≡ CertError.Memory) ⊎ (group_step listing.old line (step_of step.now) ≡ Err e)) }
-{
-    let is_old = is_old_group_step(listing, step);
-    match listing.checker.step(step) {
-        Ok(progress) => {
-            if is_old {
-                return Err(CertError::NotNew(line));
-            }
-            let Some(units) = counted(listing.units, step) else {
-                return Err(CertError::Memory);
-            };
-            listing.units = units;
-            Ok(progress)
-        }
-        Err(StepFault::Memory) => Err(CertError::Memory),
-        Err(fault) => Err(CertError::Step(line, fault)),
-    }
-}
+use lrat_model::{Progress, Step};
 
 /// A step of a list: where it led.
 pub fn group_step(listing: &mut GroupListing, line: u64, step: Step) -> Result<Progress, CertError>
@@ -61,7 +22,13 @@ pub fn group_step(listing: &mut GroupListing, line: u64, step: Step) -> Result<P
     ensures err { IfErr result (λ e. (e ≡ CertError.Memory) ⊎ (and_then (group_step listing.old line) (literal_in listing.old.kind line (step_of step)) ≡ Err e)) }
 {
     let literal = literal_in(listing.kind, line, step)?;
-    take_group_step(listing, line, &literal)
+    take_counted_step(
+        listing.kind,
+        &mut listing.checker,
+        &mut listing.units,
+        line,
+        &literal,
+    )
 }
 
 /// What a whole list shows: its groups, and its sets put in order.

@@ -5,14 +5,12 @@ ghost use Rattle.list_journal.specs.Journals.{nothing_held};
 ghost use Rattle.reach_kinds.specs.Bodies.{list_part, list_checking, listing_on, body_begins};
 ghost use Rattle.reach_kinds.specs.Known.{IsPartNodes};
 
-use crate::places::{ListPart, Listing, ReachPlace};
+use crate::places::{ListPart, Listing, ReachPlace, Scope};
 use clause_store::Store;
-use fbas_core::System;
 use greatest_quorum::greatest;
 use list_journal::{ListKind, Listed, NodeSets};
 use lrat_checker::IdleChecker;
 use lrat_model::Rule;
-use name_set::NodeSet;
 use std::alloc::{AllocError, Global};
 
 /// A checker that holds nothing, with so many variables.
@@ -27,18 +25,13 @@ pub(crate) fn list_checker(alloc: Global, vars: u32) -> Result<IdleChecker, Allo
 }
 
 /// The part of the system that a list is of.
-pub(crate) fn list_part(
-    alloc: Global,
-    system: &System,
-    nodes: &NodeSet,
-    faulty: &NodeSet,
-) -> Result<ListPart, AllocError>
-    requires { IsPartNodes system.now nodes.now faulty.now }
-    ensures part { IfOk result (λ part. part ≡ list_part system.now nodes.now faulty.now) }
+pub(crate) fn list_part(alloc: Global, scope: &Scope<'_>) -> Result<ListPart, AllocError>
+    requires { IsPartNodes scope.now.system.now scope.now.nodes.now scope.now.faulty.now }
+    ensures part { IfOk result (λ part. part ≡ list_part scope.now.system.now scope.now.nodes.now scope.now.faulty.now) }
     ensures few { IfOk result (λ part. size part.greatest < 2 ^ 31) }
 {
-    let restricted = system.restrict(alloc, nodes)?;
-    let faulty = system.cut(faulty, nodes);
+    let restricted = scope.system.restrict(alloc, scope.nodes)?;
+    let faulty = scope.system.cut(scope.faulty, scope.nodes);
     let greatest = greatest(&restricted, &faulty);
     Ok(ListPart {
         system: restricted,
@@ -76,16 +69,14 @@ fn no_listing(
 /// The place of the first line of a body: that of the counter where a smallest quorum is sought, else that of the list.
 pub fn body_begins(
     alloc: Global,
-    system: &System,
+    scope: &Scope<'_>,
     sought: Listed,
     kind: ListKind,
-    nodes: &NodeSet,
-    faulty: &NodeSet,
 ) -> Result<ReachPlace, AllocError>
-    requires { IsPartNodes system.now nodes.now faulty.now }
-    ensures { IfOk result (λ place. place ≡ body_begins system.now sought kind nodes.now faulty.now) }
+    requires { IsPartNodes scope.now.system.now scope.now.nodes.now scope.now.faulty.now }
+    ensures { IfOk result (λ place. place ≡ body_begins scope.now.system.now sought kind scope.now.nodes.now scope.now.faulty.now) }
 {
-    let part = list_part(alloc, system, nodes, faulty)?;
+    let part = list_part(alloc, scope)?;
     match sought {
         Listed::Smaller => Ok(ReachPlace::AtCounter(kind, part)),
         Listed::Quorum | Listed::Blocking => {

@@ -11,13 +11,11 @@ use crate::list_sets::list_set;
 use crate::list_steps::{after_list_step, list_end, list_step};
 use crate::lists::nodes_of;
 use crate::parts::within;
-use crate::places::{Listing, ReachPlace, ReachState, Reached};
+use crate::places::{Listing, ReachPlace, ReachState, Reached, Scope};
 use cert_lines::{CertError, Words, follows, is_name, step_in};
-use fbas_core::System;
 use list_journal::Listed;
 use lrat_model::{Progress, StepFault};
 use lrat_text::read_id;
-use name_set::NodeSet;
 use std::alloc::Global;
 
 /// As what a quorum is listed: where ever smaller ones are sought, as one of them.
@@ -89,45 +87,41 @@ pub(crate) fn numbered_in(text: &[u8]) -> Option<(u64, Words<'_>)>
 /// A set under an id: the id is above the last one, and the names are those of nodes of the part.
 fn set_line(
     alloc: Global,
-    system: &System,
-    nodes: &NodeSet,
-    faulty: &NodeSet,
+    scope: &Scope<'_>,
     listing: &mut Listing,
     line: u64,
     which: Listed,
     id: u64,
     names: &mut Words<'_>,
 ) -> Result<(), CertError>
-    requires known { IsList system.now nodes.now faulty.now listing.old }
+    requires known { IsList scope.now.system.now scope.now.nodes.now scope.now.faulty.now listing.old }
     requires names { names_in names.old ≡ Some names.old }
     ensures unread { IsErrOf result CertError.Read → ⊥ }
-    ensures ok { OnOk result (set_line system.now nodes.now listing.old line which (record { id = id; names = names.old }) ≡ Ok (ReachState.Going (ReachPlace.AtList listing.new))) }
-    ensures err { IfErr result (λ e. (e ≡ CertError.Memory) ⊎ (set_line system.now nodes.now listing.old line which (record { id = id; names = names.old }) ≡ Err e)) }
+    ensures ok { OnOk result (set_line scope.now.system.now scope.now.nodes.now listing.old line which (record { id = id; names = names.old }) ≡ Ok (ReachState.Going (ReachPlace.AtList listing.new))) }
+    ensures err { IfErr result (λ e. (e ≡ CertError.Memory) ⊎ (set_line scope.now.system.now scope.now.nodes.now listing.old line which (record { id = id; names = names.old }) ≡ Err e)) }
 {
     let last = listing.checker.last();
     if id <= last {
         return Err(CertError::Step(line, StepFault::IdOrder(last, id)));
     }
-    let named = nodes_of(system, line, names)?;
-    let set = within(nodes, line, named)?;
-    list_set(alloc, system, nodes, faulty, listing, line, which, id, set)
+    let named = nodes_of(scope.system, line, names)?;
+    let set = within(scope.nodes, line, named)?;
+    list_set(alloc, scope, listing, line, which, id, set)
 }
 
 /// A line of a list before its end: a listed set, or a step, which may refute.
 fn list_text(
     alloc: Global,
-    system: &System,
-    nodes: &NodeSet,
-    faulty: &NodeSet,
+    scope: &Scope<'_>,
     listing: &mut Listing,
     line: u64,
     text: &[u8],
 ) -> Result<Progress, CertError>
-    requires { IsList system.now nodes.now faulty.now listing.old }
+    requires { IsList scope.now.system.now scope.now.nodes.now scope.now.faulty.now listing.old }
     ensures unread { IsErrOf result CertError.Read → ⊥ }
     ensures sets { result ≡ Ok Progress.Refuted → listing.new.sets ≡ listing.old.sets }
-    ensures ok { IfOk result (λ p. list_text system.now nodes.now listing.old line text.now (listed_by listing.old.sought (words_of text.now)) ≡ Ok (after_list_step listing.new p)) }
-    ensures err { IfErr result (λ e. (e ≡ CertError.Memory) ⊎ (list_text system.now nodes.now listing.old line text.now (listed_by listing.old.sought (words_of text.now)) ≡ Err e)) }
+    ensures ok { IfOk result (λ p. list_text scope.now.system.now scope.now.nodes.now listing.old line text.now (listed_by listing.old.sought (words_of text.now)) ≡ Ok (after_list_step listing.new p)) }
+    ensures err { IfErr result (λ e. (e ≡ CertError.Memory) ⊎ (list_text scope.now.system.now scope.now.nodes.now listing.old line text.now (listed_by listing.old.sought (words_of text.now)) ≡ Err e)) }
 {
     let Some(which) = listed_by(listing.sought, text) else {
         return list_step(listing, line, step_in(alloc, line, text)?);
@@ -135,9 +129,7 @@ fn list_text(
     let Some((id, mut names)) = numbered_in(text) else {
         return Err(CertError::BadLine(line));
     };
-    set_line(
-        alloc, system, nodes, faulty, listing, line, which, id, &mut names,
-    )?;
+    set_line(alloc, scope, listing, line, which, id, &mut names)?;
     Ok(Progress::Going)
 }
 
@@ -145,22 +137,20 @@ fn list_text(
 /// and those of the clauses that its hints name; and a clause that has to be new is linear in the literals that are held.
 fn list_line(
     alloc: Global,
-    system: &System,
-    nodes: &NodeSet,
-    faulty: &NodeSet,
+    scope: &Scope<'_>,
     mut listing: Listing,
     line: u64,
     text: &[u8],
 ) -> Result<ReachState, CertError>
-    requires { IsList system.now nodes.now faulty.now listing }
+    requires { IsList scope.now.system.now scope.now.nodes.now scope.now.faulty.now listing }
     ensures unread { IsErrOf result CertError.Read → ⊥ }
-    ensures ok { IfOk result (λ s. list_line system.now nodes.now listing line text.now ≡ Ok s) }
-    ensures err { IfErr result (λ e. (e ≡ CertError.Memory) ⊎ (list_line system.now nodes.now listing line text.now ≡ Err e)) }
+    ensures ok { IfOk result (λ s. list_line scope.now.system.now scope.now.nodes.now listing line text.now ≡ Ok s) }
+    ensures err { IfErr result (λ e. (e ≡ CertError.Memory) ⊎ (list_line scope.now.system.now scope.now.nodes.now listing line text.now ≡ Err e)) }
 {
     if text == b"end".as_slice() {
         return list_end(listing, line);
     }
-    match list_text(alloc, system, nodes, faulty, &mut listing, line, text) {
+    match list_text(alloc, scope, &mut listing, line, text) {
         Ok(progress) => Ok(ReachState::Going(after_list_step(listing, progress))),
         Err(fault) => {
             drop(listing);
@@ -180,30 +170,24 @@ fn end_line(line: u64, text: &[u8], reached: Reached) -> Result<ReachState, Cert
     Err(CertError::BadLine(line))
 }
 
-/// What a line says at its place, where the body speaks of these nodes of the system, of which these are faulty.
+/// What a line of a body says at its place.
 pub fn reach_line(
     alloc: Global,
-    system: &System,
-    nodes: &NodeSet,
-    faulty: &NodeSet,
+    scope: &Scope<'_>,
     place: ReachPlace,
     line: u64,
     text: &[u8],
 ) -> Result<ReachState, CertError>
-    requires { IsReachPlace system.now nodes.now faulty.now place }
+    requires { IsReachPlace scope.now.system.now scope.now.nodes.now scope.now.faulty.now place }
     ensures unread { IsErrOf result CertError.Read → ⊥ }
-    ensures ok { IfOk result (λ s. reach_line system.now nodes.now place line text.now ≡ Ok s) }
-    ensures err { IfErr result (λ e. (e ≡ CertError.Memory) ⊎ (reach_line system.now nodes.now place line text.now ≡ Err e)) }
-    ensures known { IfOk result (IsReachState system.now nodes.now faulty.now) }
+    ensures ok { IfOk result (λ s. reach_line scope.now.system.now scope.now.nodes.now place line text.now ≡ Ok s) }
+    ensures err { IfErr result (λ e. (e ≡ CertError.Memory) ⊎ (reach_line scope.now.system.now scope.now.nodes.now place line text.now ≡ Err e)) }
+    ensures known { IfOk result (IsReachState scope.now.system.now scope.now.nodes.now scope.now.faulty.now) }
 {
     match place {
         ReachPlace::AtCounter(kind, part) => counter_line(alloc, kind, part, line, text),
-        ReachPlace::AtList(listing) => {
-            list_line(alloc, system, nodes, faulty, listing, line, text)
-        }
-        ReachPlace::AtGroups(listing) => {
-            group_line(alloc, system, nodes, faulty, listing, line, text)
-        }
+        ReachPlace::AtList(listing) => list_line(alloc, scope, listing, line, text),
+        ReachPlace::AtGroups(listing) => group_line(alloc, scope, listing, line, text),
         ReachPlace::AtEnd(reached) => end_line(line, text, reached),
     }
 }

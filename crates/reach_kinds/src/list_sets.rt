@@ -11,9 +11,8 @@ ghost use Rattle.reach_kinds.specs.Known.{IsList, IsPartSet, IsSmallIf};
 ghost use Rattle.reach_kinds.specs.declared.places.ReachPlace.TheVariants.{AtList};
 ghost use Rattle.reach_kinds.specs.declared.places.ReachState.TheVariants.{Going};
 
-use crate::places::{ListPart, Listing};
+use crate::places::{ListPart, Listing, Scope};
 use cert_lines::CertError;
-use fbas_core::System;
 use least_journal::clause_in;
 use list_journal::{ListKind, Listed, NodeSets, clause_of, is_blocking, is_minimal};
 use lrat_checker::IdleChecker;
@@ -281,23 +280,21 @@ fn with_sought(
 /// The set of the part listed under an id above the last one.
 pub fn list_set(
     alloc: Global,
-    system: &System,
-    nodes: &NodeSet,
-    faulty: &NodeSet,
+    scope: &Scope<'_>,
     listing: &mut Listing,
     line: u64,
     which: Listed,
     id: u64,
     set: NodeSet,
 ) -> Result<(), CertError>
-    requires known { IsList system.now nodes.now faulty.now listing.old }
+    requires known { IsList scope.now.system.now scope.now.nodes.now scope.now.faulty.now listing.old }
     requires above { listing.old.checker.database.last < id }
-    requires set { IsPartSet system.now nodes.now set }
+    requires set { IsPartSet scope.now.system.now scope.now.nodes.now set }
     ensures unread { IsErrOf result CertError.Read → ⊥ }
-    ensures ok { OnOk result (list_set nodes.now listing.old line which id set ≡ Ok (Going (AtList listing.new))) }
-    ensures err { IfErr result (λ e. (e ≡ CertError.Memory) ⊎ (list_set nodes.now listing.old line which id set ≡ Err e)) }
+    ensures ok { OnOk result (list_set scope.now.nodes.now listing.old line which id set ≡ Ok (Going (AtList listing.new))) }
+    ensures err { IfErr result (λ e. (e ≡ CertError.Memory) ⊎ (list_set scope.now.nodes.now listing.old line which id set ≡ Err e)) }
 {
-    let cut = system.cut(&set, nodes);
+    let cut = scope.system.cut(&set, scope.nodes);
     right_set(listing, line, which, &cut)?;
     let clause = new_clause(alloc, listing, line, which, id, &cut)?;
     listing.checker.give(id, &clause)?;

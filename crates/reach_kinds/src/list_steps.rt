@@ -2,13 +2,13 @@
 ghost use Rattle.std.specs.Prelude.{◌≡◌, ◌⊎◌, ◌&&◌, ℕ, length, All, None, IfOk, IfErr, IsErrOf, Ok, Err};
 ghost use Rattle.lrat_model.specs.Steps.{step_of};
 ghost use Rattle.least_journal.specs.Least.{last_of};
-ghost use Rattle.reach_kinds.specs.Bodies.{and_then, literal_in, is_old_step, in_order, whole_of, part_of, after_list_step, list_step, list_end};
+ghost use Rattle.reach_kinds.specs.Bodies.{and_then, literal_in, in_order, whole_of, part_of, after_list_step, list_step, list_end};
 
 use crate::places::{Listing, ReachPlace, ReachState, Reached};
-use crate::steps::{adds_covered, counted, with_literal};
+use crate::steps::{take_counted_step, with_literal};
 use cert_lines::CertError;
 use list_journal::{ListKind, Listed, NodeSets};
-use lrat_model::{Progress, Step, StepFault};
+use lrat_model::{Progress, Step};
 use name_set::NodeSet;
 
 /// The step, which is not the empty lemma in a part of a list.
@@ -23,40 +23,6 @@ pub(crate) fn literal_in(kind: ListKind, line: u64, step: Step) -> Result<Step, 
     }
 }
 
-/// Whether the step had to be new and is not.
-fn is_old_step(listing: &Listing, step: &Step) -> bool
-    ensures { result ≡ is_old_step listing.now (step_of step.now) }
-{
-    match listing.kind {
-        ListKind::Whole => false,
-        ListKind::Partial => adds_covered(&listing.checker, step),
-    }
-}
-
-/// The step taken: where it led.
-fn take_list_step(listing: &mut Listing, line: u64, step: &Step) -> Result<Progress, CertError>
-    ensures unread { IsErrOf result CertError.Read → ⊥ }
-    ensures sets { listing.new.sets ≡ listing.old.sets }
-    ensures ok { IfOk result (λ p. list_step listing.old line (step_of step.now) ≡ Ok (after_list_step listing.new p)) }
-    ensures err { IfErr result (λ e. (e ≡ CertError.Memory) ⊎ (list_step listing.old line (step_of step.now) ≡ Err e)) }
-{
-    let is_old = is_old_step(listing, step);
-    match listing.checker.step(step) {
-        Ok(progress) => {
-            if is_old {
-                return Err(CertError::NotNew(line));
-            }
-            let Some(units) = counted(listing.units, step) else {
-                return Err(CertError::Memory);
-            };
-            listing.units = units;
-            Ok(progress)
-        }
-        Err(StepFault::Memory) => Err(CertError::Memory),
-        Err(fault) => Err(CertError::Step(line, fault)),
-    }
-}
-
 /// A step of a list: where it led.
 pub fn list_step(listing: &mut Listing, line: u64, step: Step) -> Result<Progress, CertError>
     ensures unread { IsErrOf result CertError.Read → ⊥ }
@@ -65,7 +31,13 @@ pub fn list_step(listing: &mut Listing, line: u64, step: Step) -> Result<Progres
     ensures err { IfErr result (λ e. (e ≡ CertError.Memory) ⊎ (and_then (list_step listing.old line) (literal_in listing.old.kind line (step_of step)) ≡ Err e)) }
 {
     let literal = literal_in(listing.kind, line, step)?;
-    take_list_step(listing, line, &literal)
+    take_counted_step(
+        listing.kind,
+        &mut listing.checker,
+        &mut listing.units,
+        line,
+        &literal,
+    )
 }
 
 /// The set that is listed last.

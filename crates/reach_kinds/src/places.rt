@@ -5,6 +5,14 @@ use lrat_checker::IdleChecker;
 use name_set::{GROUP_WORDS, GroupSet, NodeSet};
 use node_json::Groups;
 
+/// What a body speaks of: nodes of the whole system that form a part of their own, and faulty ones of the whole.
+#[derive(Clone, Copy)]
+pub struct Scope<'a> {
+    pub system: &'a System,
+    pub nodes: &'a NodeSet,
+    pub faulty: &'a NodeSet,
+}
+
 /// The part of the system that a list is of, with its faulty nodes and its greatest quorum once they are deleted. Its nodes
 /// have their numbers there.
 #[derive(Drop)]

@@ -11,13 +11,13 @@ use Rattle.reach_kinds.proofs.group_kinds.groups_begin.Goals as goal
 
 pub grouped_part-requires-clause-places : goal.grouped_part-requires-clause-places
 grouped_part-requires-clause-places c =
-    subst (λ (p : ListPart). length p.greatest ≡ length p.system.sets) (sym c.in_ok-part.ensures.part) (part_greatest c.args.system.now c.args.nodes.now c.args.faulty.now c.requires.part).places
+    subst (λ (p : ListPart). length p.greatest ≡ length p.system.sets) (sym c.in_ok-part.ensures.part) (part_greatest c.args.scope.now.system.now c.args.scope.now.nodes.now c.args.scope.now.faulty.now c.requires.part).places
 
 pub returns-clause-known : goal.returns-clause-known
 returns-clause-known c =
-    let f = c.args.system.now in
-    let nodes = c.args.nodes.now in
-    let gone = c.args.faulty.now in
+    let f = c.args.scope.now.system.now in
+    let nodes = c.args.scope.now.nodes.now in
+    let gone = c.args.scope.now.faulty.now in
     let over : GroupPart = c.in_ok-over.over in
     let over_is = c.in_ok-over.ensures.over in
     let part_is : over.part ≡ c.in_ok-part.part = ap (λ (p : GroupPart). p.part) over_is in

@@ -20,7 +20,7 @@ returns-in-Quorum-clause-ok c =
     let k = c.args.listing.now in
     let l = c.args.line in
     let above : k.checker.database.last < c.args.id = omega (arith, c.last-last.ensures.value, c.if-id-last.false) in
-    let same = above_last l k.checker.database.last c.args.id (and_then (list_group_set k l listed.Quorum c.args.id) (listed_set c.args.system.now c.args.nodes.now k.over l listed.Quorum c.args.names.now)) above in
+    let same = above_last l k.checker.database.last c.args.id (and_then (list_group_set k l listed.Quorum c.args.id) (listed_set c.args.scope.now.system.now c.args.scope.now.nodes.now k.over l listed.Quorum c.args.names.now)) above in
     rw c.in-Quorum.is (IfOk-weaker c.list_quorum.result _ _ (λ _ e. same ∙ e) c.list_quorum.ensures.ok)
 
 pub returns-in-Quorum-clause-err : goal.returns-in-Quorum-clause-err
@@ -28,7 +28,7 @@ returns-in-Quorum-clause-err c =
     let k = c.args.listing.now in
     let l = c.args.line in
     let above : k.checker.database.last < c.args.id = omega (arith, c.last-last.ensures.value, c.if-id-last.false) in
-    let same = above_last l k.checker.database.last c.args.id (and_then (list_group_set k l listed.Quorum c.args.id) (listed_set c.args.system.now c.args.nodes.now k.over l listed.Quorum c.args.names.now)) above in
+    let same = above_last l k.checker.database.last c.args.id (and_then (list_group_set k l listed.Quorum c.args.id) (listed_set c.args.scope.now.system.now c.args.scope.now.nodes.now k.over l listed.Quorum c.args.names.now)) above in
     rw c.in-Quorum.is (IfErr-weaker c.list_quorum.result _ _ (λ _ came. elim came [ inl memory ↦ inl memory | inr e ↦ inr (same ∙ e) ]) c.list_quorum.ensures.err)
 
 pub returns-in-Blocking-clause-ok : goal.returns-in-Blocking-clause-ok
@@ -36,7 +36,7 @@ returns-in-Blocking-clause-ok c =
     let k = c.args.listing.now in
     let l = c.args.line in
     let above : k.checker.database.last < c.args.id = omega (arith, c.last-last.ensures.value, c.if-id-last.false) in
-    let same = above_last l k.checker.database.last c.args.id (and_then (list_group_set k l listed.Blocking c.args.id) (listed_set c.args.system.now c.args.nodes.now k.over l listed.Blocking c.args.names.now)) above in
+    let same = above_last l k.checker.database.last c.args.id (and_then (list_group_set k l listed.Blocking c.args.id) (listed_set c.args.scope.now.system.now c.args.scope.now.nodes.now k.over l listed.Blocking c.args.names.now)) above in
     rw c.in-Blocking.is (IfOk-weaker c.list_block.result _ _ (λ _ e. same ∙ e) c.list_block.ensures.ok)
 
 pub returns-in-Blocking-clause-err : goal.returns-in-Blocking-clause-err
@@ -44,5 +44,5 @@ returns-in-Blocking-clause-err c =
     let k = c.args.listing.now in
     let l = c.args.line in
     let above : k.checker.database.last < c.args.id = omega (arith, c.last-last.ensures.value, c.if-id-last.false) in
-    let same = above_last l k.checker.database.last c.args.id (and_then (list_group_set k l listed.Blocking c.args.id) (listed_set c.args.system.now c.args.nodes.now k.over l listed.Blocking c.args.names.now)) above in
+    let same = above_last l k.checker.database.last c.args.id (and_then (list_group_set k l listed.Blocking c.args.id) (listed_set c.args.scope.now.system.now c.args.scope.now.nodes.now k.over l listed.Blocking c.args.names.now)) above in
     rw c.in-Blocking.is (IfErr-weaker c.list_block.result _ _ (λ _ came. elim came [ inl memory ↦ inl memory | inr e ↦ inr (same ∙ e) ]) c.list_block.ensures.err)

@@ -10,7 +10,7 @@ use Rattle.reach_kinds.proofs.GroupTaken.{listed_new, listed_old}
 use Rattle.reach_kinds.proofs.group_sets.list_block.Goals as goal
 
 pub named_block-requires-clause-same_faulty : goal.named_block-requires-clause-same_faulty
-named_block-requires-clause-same_faulty c = over_faulty c.args.system.now c.args.nodes.now c.args.faulty.now c.args.listing.now.over c.requires.known.subject c.requires.known.over
+named_block-requires-clause-same_faulty c = over_faulty c.args.scope.now.system.now c.args.scope.now.nodes.now c.args.scope.now.faulty.now c.args.listing.now.over c.requires.known.subject c.requires.known.over
 
 pub returns-in_err-add_clause-clause-err : goal.returns-in_err-add_clause-clause-err
 returns-in_err-add_clause-clause-err c =
@@ -22,7 +22,7 @@ returns-in_err-add_clause-clause-err c =
       | inl memory ↦ inl memory
       | inr old ↦ inr (
           ap (λ (x : Result Table CertError). and_then (list_group_set k c.args.line listed.Blocking c.args.id) x) c.in_ok-set.ensures.ok
-          ∙ (listed_old c.args.system.now c.args.nodes.now c.args.faulty.now k c.requires.known c.args.line listed.Blocking c.args.id c.in_ok-set.set c.deref.result.now clause_is old.1 ∙ ap (λ (x : CertError). Err x) (sym old.0)))
+          ∙ (listed_old c.args.scope.now.system.now c.args.scope.now.nodes.now c.args.scope.now.faulty.now k c.requires.known c.args.line listed.Blocking c.args.id c.in_ok-set.set c.deref.result.now clause_is old.1 ∙ ap (λ (x : CertError). Err x) (sym old.0)))
     ])
 
 pub returns-clause-ok : goal.returns-clause-ok
@@ -37,4 +37,4 @@ returns-clause-ok c =
     ap (λ (xs : List Table). group_listing_on n.kind n.over n.checker xs n.units) pushed
     ∙ ap (λ (m : GroupListing). group_listing_on m.kind m.over m.checker (k.sets ++ s ∷ []) m.units) listing_is in
     ap (λ (x : Result Table CertError). and_then (list_group_set k c.args.line listed.Blocking c.args.id) x) c.in_ok-set.ensures.ok
-    ∙ listed_new c.args.system.now c.args.nodes.now c.args.faulty.now k c.requires.known c.args.line listed.Blocking c.args.id s c.deref.result.now clause_is _ c.in_ok-add_clause.ensures.new new_is
+    ∙ listed_new c.args.scope.now.system.now c.args.scope.now.nodes.now c.args.scope.now.faulty.now k c.requires.known c.args.line listed.Blocking c.args.id s c.deref.result.now clause_is _ c.in_ok-add_clause.ensures.new new_is

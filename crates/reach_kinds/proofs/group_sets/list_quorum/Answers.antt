@@ -14,14 +14,14 @@ use Rattle.reach_kinds.proofs.group_sets.list_quorum.Goals as goal
 pub quorum_clause-requires-clause-sized : goal.quorum_clause-requires-clause-sized
 quorum_clause-requires-clause-sized c =
     let k = c.args.listing.now in
-    let right = right_over c.args.system.now c.args.nodes.now c.args.faulty.now k.over c.requires.known.subject c.requires.known.over c.args.line listed.Quorum c.args.names.now c.in_ok-quorum.quorum (sym c.in_ok-quorum.ensures.value) in
+    let right = right_over c.args.scope.now.system.now c.args.scope.now.nodes.now c.args.scope.now.faulty.now k.over c.requires.known.subject c.requires.known.over c.args.line listed.Quorum c.args.names.now c.in_ok-quorum.quorum (sym c.in_ok-quorum.ensures.value) in
     subst (λ (n : ℕ). All (λ (group : Group). length group.members ≡ n) k.over.groups) (sym right.0) c.requires.known.over.sized
 
 pub quorum_clause-requires-clause-within : goal.quorum_clause-requires-clause-within
 quorum_clause-requires-clause-within c =
     let k = c.args.listing.now in
-    let right = right_over c.args.system.now c.args.nodes.now c.args.faulty.now k.over c.requires.known.subject c.requires.known.over c.args.line listed.Quorum c.args.names.now c.in_ok-quorum.quorum (sym c.in_ok-quorum.ensures.value) in
-    quorum_touches c.args.system.now c.args.nodes.now c.args.faulty.now k c.requires.known c.in_ok-quorum.quorum right
+    let right = right_over c.args.scope.now.system.now c.args.scope.now.nodes.now c.args.scope.now.faulty.now k.over c.requires.known.subject c.requires.known.over c.args.line listed.Quorum c.args.names.now c.in_ok-quorum.quorum (sym c.in_ok-quorum.ensures.value) in
+    quorum_touches c.args.scope.now.system.now c.args.scope.now.nodes.now c.args.scope.now.faulty.now k c.requires.known c.in_ok-quorum.quorum right
 
 -- what is so once each of two things is
 on_both : {T E A B C : Type 0} (r : Result T E) → OnOk r A → OnOk r B → (A → B → C) → OnOk r C
@@ -35,7 +35,7 @@ returns-clause-ok c =
     let clause_is = c.deref.ensures.value ∙ c.in_ok-clause.ensures.clause in
     on_both c.add_clause.result c.add_clause.ensures.new c.add_clause.ensures.listing (λ off new_is.
     ap (λ (r : Result Table CertError). and_then (list_group_set k c.args.line listed.Quorum c.args.id) r) (sym c.in_ok-quorum.ensures.value)
-    ∙ listed_new c.args.system.now c.args.nodes.now c.args.faulty.now k c.requires.known c.args.line listed.Quorum c.args.id u c.deref.result.now clause_is c.add_clause.new.listing off new_is)
+    ∙ listed_new c.args.scope.now.system.now c.args.scope.now.nodes.now c.args.scope.now.faulty.now k c.requires.known c.args.line listed.Quorum c.args.id u c.deref.result.now clause_is c.add_clause.new.listing off new_is)
 
 pub returns-clause-err : goal.returns-clause-err
 returns-clause-err c =
@@ -46,5 +46,5 @@ returns-clause-err c =
       | inl memory ↦ inl memory
       | inr old ↦ inr (
           ap (λ (r : Result Table CertError). and_then (list_group_set k c.args.line listed.Quorum c.args.id) r) (sym c.in_ok-quorum.ensures.value)
-          ∙ (listed_old c.args.system.now c.args.nodes.now c.args.faulty.now k c.requires.known c.args.line listed.Quorum c.args.id u c.deref.result.now clause_is old.1 ∙ ap (λ (x : CertError). Err x) (sym old.0)))
+          ∙ (listed_old c.args.scope.now.system.now c.args.scope.now.nodes.now c.args.scope.now.faulty.now k c.requires.known c.args.line listed.Quorum c.args.id u c.deref.result.now clause_is old.1 ∙ ap (λ (x : CertError). Err x) (sym old.0)))
     ]) c.add_clause.ensures.err
