@@ -6,15 +6,13 @@ use Rattle.desk_io.specs.State.{DeskState, written}
 use Rattle.desk_io.specs.Faults.{Faults, Rose, WriteFails}
 use Rattle.desk_io.specs.declared.desk.To.TheVariants.{Cert}
 use Rattle.cert_writer.specs.Texts.{Text, joined}
-use Rattle.cert_writer.specs.Promises.{PutsPart}
-use Rattle.cert_writer.specs.Writing.{Pending, WroteAll, WrotePart, Wrote, CountsFailing, Writes}
+use Rattle.cert_writer.specs.Promises.{PutsPart, PutsCertificate}
+use Rattle.cert_writer.specs.Writing.{Pending, IsFresh, WroteAll, WrotePart, Wrote, CountsFailing, Writes}
+use Rattle.cert_writer.proofs.WritingLaws.{writes_more, writes_same}
 use Rattle.cert_writer.proofs.TextSteps.{joined-append}
 
-pub ends_text : (xs ys : List Text) → joined (xs ++ ys) ++ codes "end\n" ≡ joined (xs ++ (ys ++ codes "end" ∷ []))
+ends_text : (xs ys : List Text) → joined (xs ++ ys) ++ codes "end\n" ≡ joined (xs ++ (ys ++ codes "end" ∷ []))
 ends_text xs ys = sym (joined-append (xs ++ ys) (codes "end" ∷ [])) ∙ ap joined (append_assoc xs ys (codes "end" ∷ []))
-
-abbrev pub fresh : Pending
-fresh = record { held = []; failed = false }
 
 wrote_whole : (text held : List ℕ) (s v : DeskState) → held ≡ [] → WroteAll text [] s held v → v ≡ written Cert text s
 wrote_whole text held s v none x =
@@ -28,18 +26,18 @@ wrote_some text s v x = record {
   lacks = x.lacks;
 }
 
-module _ (tells : Bool) (text : List ℕ) (old : Pending) (s : DeskState) (f : Faults) (new : old ≡ fresh) where
-  pub puts_all : {T E : Type 0} (held : List ℕ) (failed : Bool) (v : DeskState) (g : Faults) (r : Result T E) → (IsTrue failed ↔ IsErr r) → OnOk r (held ≡ []) → Writes tells text old s f (record { held = held; failed = failed }) v g → OnOk r (IsTrue tells → v ≡ written Cert text s)
+module _ (tells : Bool) (text : List ℕ) (old : Pending) (s : DeskState) (f : Faults) (new : IsFresh old) where
+  puts_all : {T E : Type 0} (held : List ℕ) (failed : Bool) (v : DeskState) (g : Faults) (r : Result T E) → (IsTrue failed ↔ IsErr r) → OnOk r (held ≡ []) → Writes tells text old s f (record { held = held; failed = failed }) v g → OnOk r (IsTrue tells → v ≡ written Cert text s)
   puts_all held failed v g (Err e) same none w = tt
   puts_all held true v g (Ok u) same none w = absurd (let k = same.0 refl in cc)
   puts_all held false v g (Ok u) same none w = λ tell. wrote_whole text held s v none (subst (λ (p : Pending). Wrote text p s (record { held = held; failed = false }) v) new (w.wrote tell))
 
-  pub puts_part : {T E : Type 0} (held : List ℕ) (failed : Bool) (v : DeskState) (g : Faults) (r : Result T E) → (IsTrue failed ↔ IsErr r) → Writes tells text old s f (record { held = held; failed = failed }) v g → OnErr r (IsTrue tells → PutsPart text s v)
+  puts_part : {T E : Type 0} (held : List ℕ) (failed : Bool) (v : DeskState) (g : Faults) (r : Result T E) → (IsTrue failed ↔ IsErr r) → Writes tells text old s f (record { held = held; failed = failed }) v g → OnErr r (IsTrue tells → PutsPart text s v)
   puts_part held failed v g (Ok u) same w = tt
   puts_part held false v g (Err e) same w = absurd (let k = same.1 refl in cc)
   puts_part held true v g (Err e) same w = λ tell. wrote_some text s v (subst (λ (p : Pending). Wrote text p s (record { held = held; failed = true }) v) new (w.wrote tell))
 
-  pub puts_faults : {T E : Type 0} (held : List ℕ) (failed : Bool) (v : DeskState) (g : Faults) (r : Result T E) → (IsTrue failed ↔ IsErr r) → Writes tells text old s f (record { held = held; failed = failed }) v g → WriteFails f g (IsErr r)
+  puts_faults : {T E : Type 0} (held : List ℕ) (failed : Bool) (v : DeskState) (g : Faults) (r : Result T E) → (IsTrue failed ↔ IsErr r) → Writes tells text old s f (record { held = held; failed = failed }) v g → WriteFails f g (IsErr r)
   puts_faults held failed v g r same w =
       let counts = subst (λ (p : Pending). CountsFailing p.failed failed f g) new w.counts in
       record {
@@ -52,3 +50,20 @@ module _ (tells : Bool) (text : List ℕ) (old : Pending) (s : DeskState) (f : F
       off : (b : Bool) → (b ≡ true → ⊥) → MatchBool b (Rose f.writes g.writes) (g.writes ≡ f.writes) → g.writes ≡ f.writes
       off true not_it m = absurd (not_it refl)
       off false not_it m = m
+
+  puts_certificate : {T E : Type 0} (now : Pending) (v : DeskState) (g : Faults) (r : Result T E) → (IsTrue now.failed ↔ IsErr r) → OnOk r (now.held ≡ []) → Writes tells text old s f now v g → PutsCertificate tells text r s f v g
+  puts_certificate now v g r same none w = record {
+    all = puts_all now.held now.failed v g r same none w;
+    part = puts_part now.held now.failed v g r same w;
+    faults = puts_faults now.held now.failed v g r same w;
+  }
+
+-- the first lines and those of the evidence were written, and then the last one
+pub ends_certificate : {T E : Type 0} (tells : Bool) (head front : List Text) (a b c : Pending) (s v z : DeskState) (e f g : Faults) (r : Result T E) → IsFresh a
+    → Writes tells (joined (head ++ front)) a s e b v f → Writes tells (codes "end\n") b v f c z g → (IsTrue c.failed ↔ IsErr r) → OnOk r (c.held ≡ []) → PutsCertificate tells (joined (head ++ (front ++ codes "end" ∷ []))) r s e z g
+ends_certificate tells head front a b c s v z e f g r new x y same none =
+    puts_certificate tells (joined (head ++ (front ++ codes "end" ∷ []))) a s e new c z g r same none (writes_same _ _ _ _ _ _ _ _ _ (ends_text head front) (writes_more _ _ _ _ _ _ _ _ _ _ _ _ x y))
+
+-- the same text
+pub puts_same : {T E : Type 0} (tells : Bool) (t u : List ℕ) (r : Result T E) (s : DeskState) (e : Faults) (v : DeskState) (f : Faults) → t ≡ u → PutsCertificate tells t r s e v f → PutsCertificate tells u r s e v f
+puts_same tells t u r s e v f same x = subst (λ (z : List ℕ). PutsCertificate tells z r s e v f) same x

@@ -1,7 +1,8 @@
 -- What is asked of a certificate that is written, and what is out then.
-use Rattle.std.specs.Prelude.{◌≡◌, ℕ, ◌+◌, ◌<◌, ◌≤◌, List, map, length, take, All, IsTrue, Option, Some, None, IfSome, option_map, Ok}
+use Rattle.std.specs.Prelude.{◌≡◌, ℕ, Bool, ◌+◌, ◌<◌, ◌≤◌, List, map, length, take, All, IsTrue, Option, Some, None, IfSome, option_map, Result, Ok, OnOk, OnErr, IsErr}
 use Rattle.hex.specs.Hex.{IsBytes}
 use Rattle.desk_io.specs.State.{DeskState, written, CannotPut}
+use Rattle.desk_io.specs.Faults.{Faults, WriteFails}
 use Rattle.desk_io.specs.declared.desk.To.TheVariants.{Cert}
 use Rattle.fbas_model.specs.Nodes.{Table, members, size}
 use Rattle.fbas_model.specs.Systems.{System}
@@ -43,6 +44,7 @@ use Rattle.cert_writer.specs.Texts.{raised_table}
 use Rattle.cert_lines.specs.declared.lines.TheConstants.{MAX_LINES}
 use Rattle.clause_encoder.specs.declared.limits.TheConstants.{MOST_VARS}
 use Rattle.clause_encoder.specs.declared.version.Version.TheVariants.{Two}
+use Rattle.cert_writer.specs.declared.certified.Certified.{Certified}
 use Rattle.cert_writer.specs.declared.writer.TheConstants.{BUFFER}
 
 -- the header of a certificate: its node is one of the system, and its faulty nodes are cut to the part
@@ -58,6 +60,11 @@ subject f h = record { version = Two; header = h; nodes = part_from f h.from }
 abbrev pub part_of : System → Option ℕ → System
 part_of f None = f
 part_of f (Some v) = restricted (closure_of f.sets v) f
+
+-- the header is one of the whole system, and the part is the one that it names
+pub record HasPart (about : Certified) : Type 0 where
+  pub header : IsHeader about.whole.now about.header.now
+  pub part : about.part.now ≡ part_of about.whole.now about.header.now.from
 
 abbrev pub faulty_in : System → Header → Table
 faulty_in f h = kept (part_from f h.from) h.faulty
@@ -177,3 +184,9 @@ pub record PutsPart (text : List ℕ) (old new : DeskState) : Type 0 where
   pub short : count < length text
   pub put : new ≡ written Cert (take count text) old
   pub lacks : IsTrue old.plain → CannotPut Cert (count + BUFFER) old
+
+-- the text is put to the created file, on a desk that tells or not: all of it, or a proper prefix where a write failed; a write fault is counted where one did, and nowhere else
+pub record PutsCertificate {T E : Type 0} (tells : Bool) (text : List ℕ) (result : Result T E) (old : DeskState) (before : Faults) (new : DeskState) (after : Faults) : Type 0 where
+  pub all : OnOk result (IsTrue tells → new ≡ written Cert text old)
+  pub part : OnErr result (IsTrue tells → PutsPart text old new)
+  pub faults : WriteFails before after (IsErr result)

@@ -1,5 +1,5 @@
 -- What comes of writing through a buffer.
-use Rattle.std.specs.Prelude.{◌≡◌, ℕ, ◌+◌, ◌<◌, ◌≤◌, Bool, true, List, ◌++◌, length, IsTrue, MatchBool}
+use Rattle.std.specs.Prelude.{◌≡◌, ℕ, ◌+◌, ◌<◌, ◌≤◌, Bool, true, false, List, [], ◌++◌, length, IsTrue, MatchBool}
 use Rattle.desk_io.specs.State.{DeskState, written, CannotPut}
 use Rattle.desk_io.specs.Faults.{Faults, Rose}
 use Rattle.desk_io.specs.declared.desk.To.TheVariants.{Cert}
@@ -9,6 +9,10 @@ use Rattle.cert_writer.specs.declared.writer.TheConstants.{BUFFER}
 pub record Pending : Type 0 where
   pub held : List ℕ
   pub failed : Bool
+
+-- nothing was written yet
+abbrev pub IsFresh : Pending → Type 0
+IsFresh w = w ≡ record { held = []; failed = false }
 
 -- what was put and what is held now are what was held and the text
 pub record WroteAll (text before : List ℕ) (old : DeskState) (now : List ℕ) (new : DeskState) : Type 0 where

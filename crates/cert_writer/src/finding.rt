@@ -1,62 +1,52 @@
 //! The certificates of what a search finds.
-ghost use Rattle.std.specs.Prelude.{◌≡◌, ◌≤◌, ℕ, [], false, length, IsTrue, IsErr, OnOk, OnErr};
+ghost use Rattle.std.specs.Prelude.{◌≡◌, ◌≤◌, ℕ, length};
 ghost use Rattle.std.specs.List.Sorted.{IsStrictlySortedBy};
 ghost use Rattle.hex.specs.Hex.{IsBytes};
-ghost use Rattle.desk_io.specs.Faults.{WriteFails};
-ghost use Rattle.desk_io.specs.State.{written};
 ghost use Rattle.fbas_model.specs.Names.{name_cmp};
 ghost use Rattle.fbas_model.specs.Nodes.{Table};
 ghost use Rattle.fbas_model.specs.Systems.{System, IsSystem};
 ghost use Rattle.quorum_questions.specs.Evidence.{Shows};
 ghost use Rattle.quorum_questions.specs.declared.answers.Answer.{Answer as Found};
 ghost use Rattle.quorum_questions.specs.declared.asking.TheConstants.{MOST_UNITS};
-ghost use Rattle.cert_writer.specs.Promises.{IsHeader, part_of, PutsPart};
+ghost use Rattle.cert_writer.specs.Promises.{IsHeader, HasPart, PutsCertificate};
 ghost use Rattle.cert_writer.specs.Finding.{Search, part, faulty, cert_over, cert_of, Finds, CanBeWritten};
+ghost use Rattle.cert_writer.specs.Writing.{IsFresh};
 
+use crate::certified::Certified;
 use crate::whole::{write_log, write_pair};
 use crate::writer::CertWriter;
-use certificate_file::{Aim, Header};
-use desk_io::{Desk, To, WriteFailed};
-use fbas_core::System;
+use certificate_file::Aim;
+use desk_io::{Desk, WriteFailed};
 use quorum_questions::Answer;
 
 /// Writes the certificate of what a search found to the created file, as `write_pair` and `write_log` do.
 pub fn write_found<D: Desk>(
     writer: &mut CertWriter,
     desk: &mut D,
-    digest: &[u8; 32],
-    header: &Header,
-    whole: &System,
-    kept: &System,
+    about: &Certified<'_>,
     found: &Answer,
 ) -> Result<(), WriteFailed>
-    requires fresh { writer.old ≡ record { held = []; failed = false } }
-    requires header { IsHeader whole.now header.now }
-    requires part { kept.now ≡ part_of whole.now header.now.from }
-    requires found { CanBeWritten (length kept.now.names) found.now }
-    ensures all { OnOk result (IsTrue D.tells → D.state desk.new ≡ written To.Cert (cert_over whole.now digest.now header.now found.now) (D.state desk.old)) }
-    ensures part { OnErr result (IsTrue D.tells → PutsPart (cert_over whole.now digest.now header.now found.now) (D.state desk.old) (D.state desk.new)) }
-    ensures faults { WriteFails (D.faults desk.old) (D.faults desk.new) (IsErr result) }
+    requires fresh { IsFresh writer.old }
+    requires part { HasPart about.now }
+    requires found { CanBeWritten (length about.now.part.now.names) found.now }
+    ensures { PutsCertificate D.tells (cert_over about.now.whole.now about.now.digest.now about.now.header.now found.now)
+        result (D.state desk.old) (D.faults desk.old) (D.state desk.new) (D.faults desk.new) }
 {
     match found {
         Answer::Yes(log, size) => write_log(
             writer,
             desk,
-            digest,
-            header,
-            whole,
+            about,
             Aim::Refutation,
             log,
             size.vars,
             size.clauses,
         ),
-        Answer::No(pair) => write_pair(writer, desk, digest, header, whole, kept, pair),
+        Answer::No(pair) => write_pair(writer, desk, about, pair),
         Answer::Spent(log, size) => write_log(
             writer,
             desk,
-            digest,
-            header,
-            whole,
+            about,
             Aim::Partial,
             log,
             size.vars,

@@ -1,9 +1,7 @@
 //! The certificates of lists of blocking sets of groups.
-ghost use Rattle.std.specs.Prelude.{◌≡◌, ◌≤◌, ℕ, List, All, Some, [], false, length, IsTrue, IsErr, OnOk, OnErr};
+ghost use Rattle.std.specs.Prelude.{◌≡◌, ◌≤◌, ℕ, List, Some, length};
 ghost use Rattle.std.specs.List.Sorted.{IsStrictlySortedBy};
 ghost use Rattle.hex.specs.Hex.{IsBytes};
-ghost use Rattle.desk_io.specs.Faults.{WriteFails};
-ghost use Rattle.desk_io.specs.State.{written};
 ghost use Rattle.fbas_model.specs.Names.{name_cmp};
 ghost use Rattle.fbas_model.specs.Nodes.{Table};
 ghost use Rattle.fbas_model.specs.Systems.{System, IsSystem};
@@ -12,15 +10,15 @@ ghost use Rattle.group_lists.specs.Outcomes.{group_journal_in};
 ghost use Rattle.group_lists.specs.declared.outcome.GroupOutcome.{GroupOutcome};
 ghost use Rattle.quorum_questions.specs.declared.asking.TheConstants.{MOST_UNITS};
 ghost use Rattle.certificate_file.specs.declared.given.GivenOrgs.{GivenOrgs};
-ghost use Rattle.cert_writer.specs.Promises.{IsHeader, part_of, groups_in, AreOrgs, PutsPart};
+ghost use Rattle.cert_writer.specs.Promises.{IsHeader, groups_in, AreOrgs, HasPart, PutsCertificate};
 ghost use Rattle.cert_writer.specs.Finding.{Search, part, faulty};
 ghost use Rattle.cert_writer.specs.Grouping.{kind_of, group_cert_over, group_cert_of, GroupsShow, FindsGroups, CanBeGroups};
+ghost use Rattle.cert_writer.specs.Writing.{IsFresh};
 
+use crate::certified::Certified;
 use crate::whole::write_group_journal;
 use crate::writer::CertWriter;
-use certificate_file::Header;
-use desk_io::{Desk, To, WriteFailed};
-use fbas_core::System;
+use desk_io::{Desk, WriteFailed};
 use group_lists::{GroupJournal, GroupOutcome};
 use list_journal::ListKind;
 use node_json::Groups;
@@ -47,33 +45,27 @@ fn journal_of(outcome: &GroupOutcome) -> &GroupJournal
 /// Writes the certificate of a list of blocking sets of groups, whole or in part, to the created file, where this is the digest of
 /// the organisations' file. `check` accepts it.
 ///
-/// The header has the numbers of the whole system, and the list those of the part that the header names and of its groups.
+/// The list has the numbers of the part and of its groups.
 pub fn write_groups<D: Desk>(
     writer: &mut CertWriter,
     desk: &mut D,
-    digest: &[u8; 32],
-    header: &Header,
-    whole: &System,
-    kept: &System,
+    about: &Certified<'_>,
     orgs_digest: &[u8; 32],
     groups: &Groups,
     outcome: &GroupOutcome,
 ) -> Result<(), WriteFailed>
-    requires fresh { writer.old ≡ record { held = []; failed = false } }
-    requires header { IsHeader whole.now header.now }
-    requires part { kept.now ≡ part_of whole.now header.now.from }
-    requires found { CanBeGroups (length kept.now.names) (length groups.now) outcome.now }
-    ensures all { OnOk result (IsTrue D.tells → D.state desk.new ≡ written To.Cert (group_cert_over whole.now digest.now header.now orgs_digest.now groups.now outcome.now) (D.state desk.old)) }
-    ensures part { OnErr result (IsTrue D.tells → PutsPart (group_cert_over whole.now digest.now header.now orgs_digest.now groups.now outcome.now) (D.state desk.old) (D.state desk.new)) }
-    ensures faults { WriteFails (D.faults desk.old) (D.faults desk.new) (IsErr result) }
+    requires fresh { IsFresh writer.old }
+    requires part { HasPart about.now }
+    requires found { CanBeGroups (length about.now.part.now.names) (length groups.now) outcome.now }
+    ensures { PutsCertificate D.tells
+        (group_cert_over about.now.whole.now about.now.digest.now about.now.header.now
+        orgs_digest.now groups.now outcome.now)
+        result (D.state desk.old) (D.faults desk.old) (D.state desk.new) (D.faults desk.new) }
 {
     write_group_journal(
         writer,
         desk,
-        digest,
-        header,
-        whole,
-        kept,
+        about,
         orgs_digest,
         groups,
         kind_of(outcome),

@@ -1,9 +1,7 @@
 //! The certificates of a search for a smallest quorum.
-ghost use Rattle.std.specs.Prelude.{◌≡◌, ◌≤◌, ℕ, [], false, length, IsTrue, IsErr, OnOk, OnErr};
+ghost use Rattle.std.specs.Prelude.{◌≡◌, ◌≤◌, ℕ, length};
 ghost use Rattle.std.specs.List.Sorted.{IsStrictlySortedBy};
 ghost use Rattle.hex.specs.Hex.{IsBytes};
-ghost use Rattle.desk_io.specs.Faults.{WriteFails};
-ghost use Rattle.desk_io.specs.State.{written};
 ghost use Rattle.fbas_model.specs.Names.{name_cmp};
 ghost use Rattle.fbas_model.specs.Nodes.{Table, size};
 ghost use Rattle.fbas_model.specs.Systems.{System, IsSystem};
@@ -12,16 +10,16 @@ ghost use Rattle.clause_encoder.specs.declared.limits.TheConstants.{MOST_VARS};
 ghost use Rattle.least_quorum.specs.Outcomes.{least_journal_of};
 ghost use Rattle.least_quorum.specs.declared.outcome.LeastOutcome.{LeastOutcome};
 ghost use Rattle.quorum_questions.specs.declared.asking.TheConstants.{MOST_UNITS};
-ghost use Rattle.cert_writer.specs.Promises.{IsHeader, part_of, greatest_in, PutsPart};
+ghost use Rattle.cert_writer.specs.Promises.{IsHeader, greatest_in, HasPart, PutsCertificate};
 ghost use Rattle.cert_writer.specs.Finding.{Search, part, faulty};
 ghost use Rattle.cert_writer.specs.Least.{kind_of, least_cert_over, least_cert_of, LeastShows, FindsLeast, CanBeLeast};
+ghost use Rattle.cert_writer.specs.Writing.{IsFresh};
 
+use crate::certified::Certified;
 use crate::whole::write_least_journal;
 use crate::writer::CertWriter;
 use blocking_lists::Journal;
-use certificate_file::Header;
-use desk_io::{Desk, To, WriteFailed};
-use fbas_core::System;
+use desk_io::{Desk, WriteFailed};
 use least_quorum::LeastOutcome;
 use list_journal::ListKind;
 
@@ -48,35 +46,27 @@ fn journal_of(outcome: &LeastOutcome) -> &Journal
 
 /// Writes the certificate of a search for a smallest quorum, whole or in part, to the created file. `check` accepts it.
 ///
-/// The header has the numbers of the whole system, and the journal those of the part that the header names, whose greatest quorum
-/// has so many nodes.
+/// The journal has the numbers of the part, whose greatest quorum has so many nodes.
 pub fn write_least<D: Desk>(
     writer: &mut CertWriter,
     desk: &mut D,
-    digest: &[u8; 32],
-    header: &Header,
-    whole: &System,
-    kept: &System,
+    about: &Certified<'_>,
     nodes: u32,
     outcome: &LeastOutcome,
 ) -> Result<(), WriteFailed>
-    requires fresh { writer.old ≡ record { held = []; failed = false } }
-    requires header { IsHeader whole.now header.now }
-    requires part { kept.now ≡ part_of whole.now header.now.from }
-    requires nodes { nodes ≡ size (greatest_in whole.now header.now) }
+    requires fresh { IsFresh writer.old }
+    requires part { HasPart about.now }
+    requires nodes { nodes ≡ size (greatest_in about.now.whole.now about.now.header.now) }
     requires small { counter_vars nodes ≤ MOST_VARS }
-    requires found { CanBeLeast (length kept.now.names) outcome.now }
-    ensures all { OnOk result (IsTrue D.tells → D.state desk.new ≡ written To.Cert (least_cert_over whole.now digest.now header.now outcome.now) (D.state desk.old)) }
-    ensures part { OnErr result (IsTrue D.tells → PutsPart (least_cert_over whole.now digest.now header.now outcome.now) (D.state desk.old) (D.state desk.new)) }
-    ensures faults { WriteFails (D.faults desk.old) (D.faults desk.new) (IsErr result) }
+    requires found { CanBeLeast (length about.now.part.now.names) outcome.now }
+    ensures { PutsCertificate D.tells
+        (least_cert_over about.now.whole.now about.now.digest.now about.now.header.now outcome.now)
+        result (D.state desk.old) (D.faults desk.old) (D.state desk.new) (D.faults desk.new) }
 {
     write_least_journal(
         writer,
         desk,
-        digest,
-        header,
-        whole,
-        kept,
+        about,
         nodes,
         kind_of(outcome),
         journal_of(outcome),

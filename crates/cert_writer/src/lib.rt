@@ -1,6 +1,7 @@
 //! Certificates, written through a buffer: pairs, refutations, lists of minimal sets, a smallest quorum, blocking sets of groups, and partial ones. The check of `certificate_file` accepts each.
 #![tactic(auto)]
 
+mod certified;
 mod finding;
 mod grouping;
 mod least;
@@ -8,6 +9,7 @@ mod listing;
 mod whole;
 mod writer;
 
+pub use certified::Certified;
 pub use finding::{what_is_shown_is_found, write_found};
 pub use grouping::{what_is_grouped_is_found, write_groups};
 pub use least::{what_is_least_is_found, write_least};

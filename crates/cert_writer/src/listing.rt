@@ -1,56 +1,47 @@
 //! The certificates of lists.
-ghost use Rattle.std.specs.Prelude.{◌≡◌, ◌≤◌, ℕ, [], false, length, IsTrue, IsErr, OnOk, OnErr};
+ghost use Rattle.std.specs.Prelude.{◌≡◌, ◌≤◌, ℕ, length};
 ghost use Rattle.std.specs.List.Sorted.{IsStrictlySortedBy};
 ghost use Rattle.hex.specs.Hex.{IsBytes};
-ghost use Rattle.desk_io.specs.Faults.{WriteFails};
-ghost use Rattle.desk_io.specs.State.{written};
 ghost use Rattle.fbas_model.specs.Names.{name_cmp};
 ghost use Rattle.fbas_model.specs.Nodes.{Table};
 ghost use Rattle.fbas_model.specs.Systems.{System, IsSystem};
 ghost use Rattle.list_journal.specs.declared.kinds.Listed.{Listed};
 ghost use Rattle.blocking_lists.specs.declared.outcome.ListOutcome.{ListOutcome};
 ghost use Rattle.quorum_questions.specs.declared.asking.TheConstants.{MOST_UNITS};
-ghost use Rattle.cert_writer.specs.Promises.{IsHeader, part_of, PutsPart};
+ghost use Rattle.cert_writer.specs.Promises.{IsHeader, HasPart, PutsCertificate};
 ghost use Rattle.cert_writer.specs.Finding.{Search, part, faulty};
 ghost use Rattle.cert_writer.specs.Listing.{list_cert_over, list_cert_of, ListShows, FindsList, CanBeListed};
+ghost use Rattle.cert_writer.specs.Writing.{IsFresh};
 
+use crate::certified::Certified;
 use crate::whole::write_journal;
 use crate::writer::CertWriter;
 use blocking_lists::ListOutcome;
-use certificate_file::Header;
-use desk_io::{Desk, To, WriteFailed};
-use fbas_core::System;
+use desk_io::{Desk, WriteFailed};
 use list_journal::{ListKind, Listed};
 
 /// Writes the certificate of a list, whole or in part, to the created file. `check` accepts it.
 ///
-/// The header has the numbers of the whole system, and the list those of the part that the header names.
+/// The list has the numbers of the part.
 pub fn write_list<D: Desk>(
     writer: &mut CertWriter,
     desk: &mut D,
-    digest: &[u8; 32],
-    header: &Header,
-    whole: &System,
-    kept: &System,
+    about: &Certified<'_>,
     sought: Listed,
     outcome: &ListOutcome,
 ) -> Result<(), WriteFailed>
-    requires fresh { writer.old ≡ record { held = []; failed = false } }
-    requires header { IsHeader whole.now header.now }
-    requires part { kept.now ≡ part_of whole.now header.now.from }
-    requires found { CanBeListed (length kept.now.names) outcome.now }
-    ensures all { OnOk result (IsTrue D.tells → D.state desk.new ≡ written To.Cert (list_cert_over sought whole.now digest.now header.now outcome.now) (D.state desk.old)) }
-    ensures part { OnErr result (IsTrue D.tells → PutsPart (list_cert_over sought whole.now digest.now header.now outcome.now) (D.state desk.old) (D.state desk.new)) }
-    ensures faults { WriteFails (D.faults desk.old) (D.faults desk.new) (IsErr result) }
+    requires fresh { IsFresh writer.old }
+    requires part { HasPart about.now }
+    requires found { CanBeListed (length about.now.part.now.names) outcome.now }
+    ensures { PutsCertificate D.tells
+        (list_cert_over sought about.now.whole.now about.now.digest.now about.now.header.now outcome.now)
+        result (D.state desk.old) (D.faults desk.old) (D.state desk.new) (D.faults desk.new) }
 {
     match outcome {
         ListOutcome::Whole(_, journal) => write_journal(
             writer,
             desk,
-            digest,
-            header,
-            whole,
-            kept,
+            about,
             sought,
             ListKind::Whole,
             journal,
@@ -58,10 +49,7 @@ pub fn write_list<D: Desk>(
         ListOutcome::Spent(journal) => write_journal(
             writer,
             desk,
-            digest,
-            header,
-            whole,
-            kept,
+            about,
             sought,
             ListKind::Partial,
             journal,

@@ -18,12 +18,12 @@ ghost use Rattle.cert_writer.specs.Listing.{CanBeLine};
 ghost use Rattle.cert_writer.specs.Grouping.{CanBeGroupLine};
 ghost use Rattle.cert_writer.specs.Writing.{Writes};
 
+use crate::certified::Certified;
 use blocking_lists::{Journal, Line};
-use certificate_file::{Aim, Header, Pair};
+use certificate_file::{Aim, Pair};
 use clause_encoder::counter_vars;
 use desk_io::{Desk, To, WriteFailed, put_all};
 use digest_text::digits;
-use fbas_core::System;
 use group_lists::GroupJournal;
 use itoa::{Buffer, Integer};
 use list_journal::{ListKind, Listed};
@@ -244,17 +244,19 @@ impl CertWriter {
     }
 
     /// Writes the first four lines.
-    fn header<D: Desk>(&mut self, desk: &mut D, digest: &[u8; 32], header: &Header, names: &Names)
-        requires from { IfSome header.now.from (λ v. v < length names.now) }
-        requires faulty { length header.now.faulty ≡ length names.now }
-        ensures { Writes D.tells (joined (header_lines names.now digest.now header.now)) self.old (D.state desk.old) (D.faults desk.old) self.new (D.state desk.new) (D.faults desk.new) }
+    fn header<D: Desk>(&mut self, desk: &mut D, about: &Certified<'_>)
+        requires from { IfSome about.now.header.now.from (λ v. v < length about.now.whole.now.names) }
+        requires faulty { length about.now.header.now.faulty ≡ length about.now.whole.now.names }
+        ensures { Writes D.tells (joined (header_lines about.now.whole.now.names about.now.digest.now about.now.header.now))
+            self.old (D.state desk.old) (D.faults desk.old) self.new (D.state desk.new) (D.faults desk.new) }
     {
+        let names = about.whole.names();
         self.text(desk, b"fbas-cert 2\nconfig");
-        self.word(desk, &digits(digest));
+        self.word(desk, &digits(about.digest));
         self.text(desk, b"\nfrom");
-        self.from(desk, names, header.from);
+        self.from(desk, names, about.header.from);
         self.text(desk, b"\nfaulty");
-        self.names(desk, names, &header.faulty);
+        self.names(desk, names, &about.header.faulty);
         self.text(desk, b"\n");
     }
 
@@ -494,25 +496,25 @@ impl CertWriter {
 
     /// Writes the certificate of a pair, up to its last line.
     ///
-    /// The header has the numbers of the whole system, whose names come first, and the pair those of the part.
+    /// The pair has the numbers of the part.
     pub fn pair<D: Desk>(
         &mut self,
         desk: &mut D,
-        digest: &[u8; 32],
-        header: &Header,
-        whole: &System,
-        kept: &System,
+        about: &Certified<'_>,
         pair: &Pair,
     ) -> Result<(), WriteFailed>
-        requires from { IfSome header.now.from (λ v. v < length whole.now.names) }
-        requires faulty { length header.now.faulty ≡ length whole.now.names }
-        requires first { length pair.now.first ≡ length kept.now.names }
-        requires second { length pair.now.second ≡ length kept.now.names }
-        ensures writes { Writes D.tells (joined (header_lines whole.now.names digest.now header.now ++ pair_front kept.now.names pair.now)) self.old (D.state desk.old) (D.faults desk.old) self.new (D.state desk.new) (D.faults desk.new) }
+        requires from { IfSome about.now.header.now.from (λ v. v < length about.now.whole.now.names) }
+        requires faulty { length about.now.header.now.faulty ≡ length about.now.whole.now.names }
+        requires first { length pair.now.first ≡ length about.now.part.now.names }
+        requires second { length pair.now.second ≡ length about.now.part.now.names }
+        ensures writes { Writes D.tells
+            (joined (header_lines about.now.whole.now.names about.now.digest.now about.now.header.now
+            ++ pair_front about.now.part.now.names pair.now))
+            self.old (D.state desk.old) (D.faults desk.old) self.new (D.state desk.new) (D.faults desk.new) }
         ensures failed { IsTrue self.new.failed ↔ IsErr result }
     {
-        self.header(desk, digest, header, whole.names());
-        self.pair_lines(desk, kept.names(), pair);
+        self.header(desk, about);
+        self.pair_lines(desk, about.part.names(), pair);
         self.outcome()
     }
 
@@ -520,100 +522,101 @@ impl CertWriter {
     pub fn log<D: Desk>(
         &mut self,
         desk: &mut D,
-        digest: &[u8; 32],
-        header: &Header,
-        whole: &System,
+        about: &Certified<'_>,
         to: Aim,
         log: &Log,
         vars: u64,
         clauses: u64,
     ) -> Result<(), WriteFailed>
-        requires from { IfSome header.now.from (λ v. v < length whole.now.names) }
-        requires faulty { length header.now.faulty ≡ length whole.now.names }
+        requires from { IfSome about.now.header.now.from (λ v. v < length about.now.whole.now.names) }
+        requires faulty { length about.now.header.now.faulty ≡ length about.now.whole.now.names }
         requires numbers { All HasNumbers log.now }
-        ensures writes { Writes D.tells (joined (header_lines whole.now.names digest.now header.now ++ log_front to vars clauses log.now)) self.old (D.state desk.old) (D.faults desk.old) self.new (D.state desk.new) (D.faults desk.new) }
+        ensures writes { Writes D.tells
+            (joined (header_lines about.now.whole.now.names about.now.digest.now about.now.header.now
+            ++ log_front to vars clauses log.now))
+            self.old (D.state desk.old) (D.faults desk.old) self.new (D.state desk.new) (D.faults desk.new) }
         ensures failed { IsTrue self.new.failed ↔ IsErr result }
     {
-        self.header(desk, digest, header, whole.names());
+        self.header(desk, about);
         self.log_lines(desk, to, log, vars, clauses);
         self.outcome()
     }
 
     /// Writes the certificate of a list up to its last line: all minimal sets of a kind, or a part of them.
     ///
-    /// The header has the numbers of the whole system, whose names come first, and the journal those of the part.
+    /// The journal has the numbers of the part.
     pub fn list<D: Desk>(
         &mut self,
         desk: &mut D,
-        digest: &[u8; 32],
-        header: &Header,
-        whole: &System,
-        kept: &System,
+        about: &Certified<'_>,
         sought: Listed,
         kind: ListKind,
         journal: &Journal,
     ) -> Result<(), WriteFailed>
-        requires from { IfSome header.now.from (λ v. v < length whole.now.names) }
-        requires faulty { length header.now.faulty ≡ length whole.now.names }
-        requires lines { All (CanBeLine (length kept.now.names)) journal.now }
-        ensures writes { Writes D.tells (joined (header_lines whole.now.names digest.now header.now ++ list_front kept.now.names sought kind journal.now)) self.old (D.state desk.old) (D.faults desk.old) self.new (D.state desk.new) (D.faults desk.new) }
+        requires from { IfSome about.now.header.now.from (λ v. v < length about.now.whole.now.names) }
+        requires faulty { length about.now.header.now.faulty ≡ length about.now.whole.now.names }
+        requires lines { All (CanBeLine (length about.now.part.now.names)) journal.now }
+        ensures writes { Writes D.tells
+            (joined (header_lines about.now.whole.now.names about.now.digest.now about.now.header.now
+            ++ list_front about.now.part.now.names sought kind journal.now))
+            self.old (D.state desk.old) (D.faults desk.old) self.new (D.state desk.new) (D.faults desk.new) }
         ensures failed { IsTrue self.new.failed ↔ IsErr result }
     {
-        self.header(desk, digest, header, whole.names());
-        self.list_lines(desk, sought, kind, kept.names(), journal);
+        self.header(desk, about);
+        self.list_lines(desk, sought, kind, about.part.names(), journal);
         self.outcome()
     }
 
     /// Writes the certificate of a search for a smallest quorum up to its last line, where the greatest quorum has so many nodes.
     ///
-    /// The header has the numbers of the whole system, whose names come first, and the journal those of the part.
+    /// The journal has the numbers of the part.
     pub fn least<D: Desk>(
         &mut self,
         desk: &mut D,
-        digest: &[u8; 32],
-        header: &Header,
-        whole: &System,
-        kept: &System,
+        about: &Certified<'_>,
         size: u32,
         kind: ListKind,
         journal: &Journal,
     ) -> Result<(), WriteFailed>
-        requires from { IfSome header.now.from (λ v. v < length whole.now.names) }
-        requires faulty { length header.now.faulty ≡ length whole.now.names }
+        requires from { IfSome about.now.header.now.from (λ v. v < length about.now.whole.now.names) }
+        requires faulty { length about.now.header.now.faulty ≡ length about.now.whole.now.names }
         requires small { counter_vars size ≤ MOST_VARS }
-        requires lines { All (CanBeLine (length kept.now.names)) journal.now }
-        ensures writes { Writes D.tells (joined (header_lines whole.now.names digest.now header.now ++ least_front kept.now.names size kind journal.now)) self.old (D.state desk.old) (D.faults desk.old) self.new (D.state desk.new) (D.faults desk.new) }
+        requires lines { All (CanBeLine (length about.now.part.now.names)) journal.now }
+        ensures writes { Writes D.tells
+            (joined (header_lines about.now.whole.now.names about.now.digest.now about.now.header.now
+            ++ least_front about.now.part.now.names size kind journal.now))
+            self.old (D.state desk.old) (D.faults desk.old) self.new (D.state desk.new) (D.faults desk.new) }
         ensures failed { IsTrue self.new.failed ↔ IsErr result }
     {
-        self.header(desk, digest, header, whole.names());
-        self.least_lines(desk, size, kind, kept.names(), journal);
+        self.header(desk, about);
+        self.least_lines(desk, size, kind, about.part.names(), journal);
         self.outcome()
     }
 
     /// Writes the certificate of a list of blocking sets of groups up to its last line, where this is the digest of the
     /// organisations' file.
     ///
-    /// The header has the numbers of the whole system, whose names come first, and the journal those of the part and its groups.
+    /// The journal has the numbers of the part and of its groups.
     pub fn groups<D: Desk>(
         &mut self,
         desk: &mut D,
-        digest: &[u8; 32],
-        header: &Header,
-        whole: &System,
-        kept: &System,
+        about: &Certified<'_>,
         orgs_digest: &[u8; 32],
         groups: &Groups,
         kind: ListKind,
         journal: &GroupJournal,
     ) -> Result<(), WriteFailed>
-        requires from { IfSome header.now.from (λ v. v < length whole.now.names) }
-        requires faulty { length header.now.faulty ≡ length whole.now.names }
-        requires lines { All (CanBeGroupLine (length kept.now.names) (length groups.now)) journal.now }
-        ensures writes { Writes D.tells (joined (header_lines whole.now.names digest.now header.now ++ group_front kept.now.names (texts_of groups.now) orgs_digest.now kind journal.now)) self.old (D.state desk.old) (D.faults desk.old) self.new (D.state desk.new) (D.faults desk.new) }
+        requires from { IfSome about.now.header.now.from (λ v. v < length about.now.whole.now.names) }
+        requires faulty { length about.now.header.now.faulty ≡ length about.now.whole.now.names }
+        requires lines { All (CanBeGroupLine (length about.now.part.now.names) (length groups.now)) journal.now }
+        ensures writes { Writes D.tells
+            (joined (header_lines about.now.whole.now.names about.now.digest.now about.now.header.now
+            ++ group_front about.now.part.now.names (texts_of groups.now) orgs_digest.now kind journal.now))
+            self.old (D.state desk.old) (D.faults desk.old) self.new (D.state desk.new) (D.faults desk.new) }
         ensures failed { IsTrue self.new.failed ↔ IsErr result }
     {
-        self.header(desk, digest, header, whole.names());
-        self.group_lines(desk, orgs_digest, kind, kept.names(), groups, journal);
+        self.header(desk, about);
+        self.group_lines(desk, orgs_digest, kind, about.part.names(), groups, journal);
         self.outcome()
     }
 

@@ -6,6 +6,7 @@ use Rattle.fbas_model.specs.Nodes.{Table}
 use Rattle.fbas_model.specs.Systems.{System}
 use Rattle.cli_words.specs.declared.orders.Goal.{Goal}
 use Rattle.std.specs.declared.alloc.AllocError.{AllocError}
+use Rattle.cert_writer.specs.Writing.{IsFresh}
 use Rattle.order_reading.specs.declared.reply.Reply.{Reply}
 use Rattle.quorum_run.specs.declared.found.Found.{Found as Finding}
 use Rattle.quorum_run.specs.Finding.{FoundShows, HasGroups}
@@ -19,7 +20,7 @@ pub record FitsHeld (goal : Goal) (part : System) (deleted : Table) (budget : �
   pub small : Encodes goal → IsLargeFor goal part deleted → ⊥
   pub shows : FoundShows part.sets deleted budget h.found
   pub replies : Replies goal part deleted budget h.found h.reply
-  pub fresh : h.writer ≡ record { held = []; failed = false }
+  pub fresh : IsFresh h.writer
 
 abbrev pub FitsReady : Goal → System → Table → ℕ → Ready → Type 0
 FitsReady goal part deleted budget (Found h) = FitsHeld goal part deleted budget h

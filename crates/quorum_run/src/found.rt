@@ -1,25 +1,23 @@
 //! What a search found, and its certificate.
-ghost use Rattle.std.specs.Prelude.{◌≡◌, ◌≤◌, ℕ, [], false, length, IfSome, IsTrue, IsErr, OnOk, OnErr};
+ghost use Rattle.std.specs.Prelude.{◌≡◌, ◌≤◌, ℕ, length, IfSome};
 ghost use Rattle.std.specs.List.Sorted.{IsStrictlySortedBy};
 ghost use Rattle.hex.specs.Hex.{IsBytes};
-ghost use Rattle.desk_io.specs.State.{written};
-ghost use Rattle.desk_io.specs.Faults.{WriteFails};
 ghost use Rattle.fbas_model.specs.Names.{name_cmp};
 ghost use Rattle.fbas_model.specs.Nodes.{Table};
 ghost use Rattle.fbas_model.specs.Systems.{System, IsSystem};
 ghost use Rattle.quorum_questions.specs.declared.asking.TheConstants.{MOST_UNITS};
-ghost use Rattle.cert_writer.specs.Promises.{IsHeader, AreOrgs, part_of, PutsPart};
+ghost use Rattle.cert_writer.specs.Promises.{IsHeader, AreOrgs, HasPart, PutsCertificate};
+ghost use Rattle.cert_writer.specs.Writing.{IsFresh};
 ghost use Rattle.cert_writer.specs.Finding.{Search, part, faulty};
 ghost use Rattle.quorum_run.specs.Finding.{cert_over, cert_of, FoundShows, FindsFound, IsWritable, HasGreatest, HasGroups};
 
 use blocking_lists::ListOutcome;
 use cert_writer::{
-    CertWriter, what_is_grouped_is_found, what_is_least_is_found, what_is_listed_is_found,
-    what_is_shown_is_found, write_found, write_groups, write_least, write_list,
+    CertWriter, Certified, what_is_grouped_is_found, what_is_least_is_found,
+    what_is_listed_is_found, what_is_shown_is_found, write_found, write_groups, write_least,
+    write_list,
 };
-use certificate_file::Header;
-use desk_io::{Desk, To, WriteFailed};
-use fbas_core::System;
+use desk_io::{Desk, WriteFailed};
 use group_lists::GroupOutcome;
 use least_quorum::LeastOutcome;
 use list_journal::Listed;
@@ -43,40 +41,23 @@ pub enum Found {
 pub fn write_certificate<D: Desk>(
     writer: &mut CertWriter,
     desk: &mut D,
-    digest: &[u8; 32],
-    header: &Header,
-    whole: &System,
-    kept: &System,
+    about: &Certified<'_>,
     found: &Found,
 ) -> Result<(), WriteFailed>
-    requires fresh { writer.old ≡ record { held = []; failed = false } }
-    requires header { IsHeader whole.now header.now }
-    requires part { kept.now ≡ part_of whole.now header.now.from }
-    requires found { IsWritable (length kept.now.names) found.now }
-    requires greatest { HasGreatest whole.now header.now found.now }
-    ensures all { OnOk result (IsTrue D.tells → D.state desk.new ≡ written To.Cert (cert_over whole.now digest.now header.now found.now) (D.state desk.old)) }
-    ensures part { OnErr result (IsTrue D.tells → PutsPart (cert_over whole.now digest.now header.now found.now) (D.state desk.old) (D.state desk.new)) }
-    ensures faults { WriteFails (D.faults desk.old) (D.faults desk.new) (IsErr result) }
+    requires fresh { IsFresh writer.old }
+    requires part { HasPart about.now }
+    requires found { IsWritable (length about.now.part.now.names) found.now }
+    requires greatest { HasGreatest about.now.whole.now about.now.header.now found.now }
+    ensures { PutsCertificate D.tells (cert_over about.now.whole.now about.now.digest.now about.now.header.now found.now)
+        result (D.state desk.old) (D.faults desk.old) (D.state desk.new) (D.faults desk.new) }
 {
     match found {
-        Found::Shared(answer) => write_found(writer, desk, digest, header, whole, kept, answer),
-        Found::Listed(sought, outcome) => write_list(
-            writer, desk, digest, header, whole, kept, *sought, outcome,
-        ),
-        Found::Smallest(nodes, outcome) => write_least(
-            writer, desk, digest, header, whole, kept, *nodes, outcome,
-        ),
-        Found::Grouped(orgs_digest, groups, outcome) => write_groups(
-            writer,
-            desk,
-            digest,
-            header,
-            whole,
-            kept,
-            orgs_digest,
-            groups,
-            outcome,
-        ),
+        Found::Shared(answer) => write_found(writer, desk, about, answer),
+        Found::Listed(sought, outcome) => write_list(writer, desk, about, *sought, outcome),
+        Found::Smallest(nodes, outcome) => write_least(writer, desk, about, *nodes, outcome),
+        Found::Grouped(orgs_digest, groups, outcome) => {
+            write_groups(writer, desk, about, orgs_digest, groups, outcome)
+        }
     }
 }
 

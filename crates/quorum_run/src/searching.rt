@@ -1,11 +1,12 @@
 //! A search: its answer, its certificate, and what is put out. All memory is taken before the certificate's file is created.
-ghost use Rattle.std.specs.Prelude.{◌≡◌, ◌⊎◌, ◌≤◌, ◌<◌, [], All, Some, false, length, IsTrue, IsErr, OnOk, OnErr, IfOk};
+ghost use Rattle.std.specs.Prelude.{◌≡◌, ◌⊎◌, ◌≤◌, ◌<◌, All, Some, length, IsTrue, IsErr, OnOk, OnErr, IfOk};
 ghost use Rattle.fbas_model.specs.Nodes.{members};
 ghost use Rattle.fbas_model.specs.Fbas.{Intersects};
 ghost use Rattle.fbas_model.specs.Restriction.{closure_of, kept, restricted};
 ghost use Rattle.report.specs.Lines.{too_large as too_large_line};
 ghost use Rattle.desk_io.specs.Faults.{WriteFails};
 ghost use Rattle.cert_writer.specs.Promises.{IsHeader, part_of, faulty_in};
+ghost use Rattle.cert_writer.specs.Writing.{IsFresh};
 ghost use Rattle.quorum_questions.specs.declared.asking.TheConstants.{MOST_UNITS};
 ghost use Rattle.quorum_run.specs.Finding.{cert_over, IsWritable, HasGreatest, HasGroups};
 ghost use Rattle.quorum_run.specs.Putting.{put_whole, PutsSome};
@@ -23,7 +24,7 @@ use crate::replies::{
 };
 use blocking_lists::list_all;
 use cdcl_core::Budget;
-use cert_writer::{CertWriter, what_is_shown_is_found};
+use cert_writer::{CertWriter, Certified, what_is_shown_is_found};
 use certificate_file::GivenOrgs;
 use clause_encoder::EncodeError;
 use cli_words::Goal;
@@ -287,7 +288,7 @@ fn put_both<D: Desk>(
     found: &Found,
     text: &[u8],
 ) -> Result<(), WriteFailed>
-    requires fresh { writer.old ≡ record { held = []; failed = false } }
+    requires fresh { IsFresh writer.old }
     requires header { IsHeader search.now.whole search.now.header }
     requires part { part.now ≡ part_of search.now.whole search.now.header.from }
     requires found { IsWritable (length part.now.names) found.now }
@@ -296,16 +297,14 @@ fn put_both<D: Desk>(
     ensures part { OnErr result (IsTrue D.tells → PutsSome path.now (cert_over search.now.whole search.now.digest search.now.header found.now) text.now (D.state desk.old) (D.state desk.new)) }
     ensures faults { WriteFails (D.faults desk.old) (D.faults desk.new) (IsErr result) }
 {
-    desk.create(path)?;
-    write_certificate(
-        writer,
-        desk,
-        &search.digest,
-        &search.header,
-        &search.whole,
+    let about = Certified {
+        digest: &search.digest,
+        header: &search.header,
+        whole: &search.whole,
         part,
-        found,
-    )?;
+    };
+    desk.create(path)?;
+    write_certificate(writer, desk, &about, found)?;
     put_all(desk, To::Out, text)
 }
 
