@@ -1,13 +1,22 @@
 //! Why a file is refused.
-ghost use Rattle.std.specs.Prelude.{◌≡◌, ◌<◌, ◌++◌, ◌∷◌, [], length, codes, OnOk, IfOk};
+ghost use Rattle.std.specs.Prelude.{◌≡◌, ◌++◌, codes, OnOk, IfOk};
 ghost use Rattle.hex.specs.Hex.{encode_lower};
-ghost use Rattle.report.specs.Lines.{numbered, worded, config_fault, config_refused as spec_config_refused, orgs_fault, orgs_refused as spec_orgs_refused, cert_fault, cert_refused as spec_cert_refused, literal_word, step_fault, names_fault, names_refused as spec_names_refused, script_fault, script_refused as spec_script_refused, set_fault};
+ghost use Rattle.report.specs.Lines.{line as spec_line, numbered, worded, config_fault, config_refused as spec_config_refused, orgs_fault, orgs_refused as spec_orgs_refused, cert_fault, cert_refused as spec_cert_refused, literal_word, step_fault, names_fault, names_refused as spec_names_refused, script_fault, script_refused as spec_script_refused, set_fault};
 
 use crate::words::{name_at, push_behind, push_decimal, push_number};
 use certificate_file::{CertError, Lit, StepFault};
 use name_set::{NameFault, Names};
 use node_json::{ConfigFault, OrgFault, SetFault};
 use std::alloc::{AllocError, Global};
+
+// The text as a line.
+fn line_of(text: Vec<u8>) -> Result<Vec<u8>, AllocError>
+    ensures { IfOk result (λ ended. ended.items ≡ spec_line text.items) }
+{
+    let mut text = text;
+    text.push(b'\n')?;
+    Ok(text)
+}
 
 // A word and a number.
 fn numbered_word(alloc: Global, word: &str, number: u64) -> Result<Vec<u8>, AllocError>
@@ -58,9 +67,7 @@ fn config_words(alloc: Global, fault: ConfigFault) -> Result<Vec<u8>, AllocError
 pub fn config_refused(alloc: Global, fault: ConfigFault) -> Result<Vec<u8>, AllocError>
     ensures { IfOk result (λ text. text.items ≡ spec_config_refused fault) }
 {
-    let mut text = config_words(alloc, fault)?;
-    text.push(b'\n')?;
-    Ok(text)
+    line_of(config_words(alloc, fault)?)
 }
 
 fn orgs_words(alloc: Global, fault: OrgFault) -> Result<Vec<u8>, AllocError>
@@ -80,9 +87,7 @@ fn orgs_words(alloc: Global, fault: OrgFault) -> Result<Vec<u8>, AllocError>
 pub fn orgs_refused(alloc: Global, fault: OrgFault) -> Result<Vec<u8>, AllocError>
     ensures { IfOk result (λ text. text.items ≡ spec_orgs_refused fault) }
 {
-    let mut text = orgs_words(alloc, fault)?;
-    text.push(b'\n')?;
-    Ok(text)
+    line_of(orgs_words(alloc, fault)?)
 }
 
 // A word and two digests, which differ.
@@ -193,9 +198,7 @@ fn cert_words(alloc: Global, names: &Names, fault: &CertError) -> Result<Vec<u8>
 pub fn cert_refused(alloc: Global, names: &Names, fault: &CertError) -> Result<Vec<u8>, AllocError>
     ensures { IfOk result (λ text. text.items ≡ spec_cert_refused names.now fault.now) }
 {
-    let mut text = cert_words(alloc, names, fault)?;
-    text.push(b'\n')?;
-    Ok(text)
+    line_of(cert_words(alloc, names, fault)?)
 }
 
 fn name_words(alloc: Global, word: &str, option: &str, at: u64) -> Result<Vec<u8>, AllocError>
@@ -243,16 +246,12 @@ pub fn script_refused(
 ) -> Result<Vec<u8>, AllocError>
     ensures { IfOk result (λ text. text.items ≡ spec_script_refused word.now line number) }
 {
-    let mut text = script_words(alloc, word, line, number)?;
-    text.push(b'\n')?;
-    Ok(text)
+    line_of(script_words(alloc, word, line, number)?)
 }
 
 /// The line for a list of names that is refused, behind this option.
 pub fn names_refused(alloc: Global, option: &str, fault: NameFault) -> Result<Vec<u8>, AllocError>
     ensures { IfOk result (λ text. text.items ≡ spec_names_refused option.now fault) }
 {
-    let mut text = names_words(alloc, option, fault)?;
-    text.push(b'\n')?;
-    Ok(text)
+    line_of(names_words(alloc, option, fault)?)
 }
