@@ -21,8 +21,9 @@ use Rattle.node_json.specs.Organisations.{Org, orgs_of}
 use Rattle.node_json.specs.declared.faults.OrgFault.{OrgFault}
 use Rattle.trial_network.specs.Tree.{trial_text}
 use Rattle.certificate_file.specs.Acceptance.{checked}
+use Rattle.certificate_file.specs.Known.{FitsHeader}
+use Rattle.certificate_file.specs.Organisations.{FitsGiven}
 use Rattle.certificate_file.specs.Verification.{verified}
-use Rattle.certificate_file.specs.declared.given.Given.{Given}
 use Rattle.certificate_file.specs.declared.given.GivenOrgs.{GivenOrgs}
 use Rattle.certificate_file.specs.declared.places.Header.{Header}
 use Rattle.certificate_file.specs.declared.places.Accepted.{Accepted}
@@ -37,6 +38,8 @@ use Rattle.order_reading.specs.declared.reply.Reply.{Reply as Answer}
 use Rattle.order_reading.specs.declared.early.Early.{Early}
 use Rattle.order_reading.specs.declared.early.Early.TheVariants.{Told, Read, Memory}
 use Rattle.order_reading.specs.declared.files.TheConstants.{MAX_FILE, MAX_SCRIPT}
+use Rattle.order_reading.specs.declared.checking.Claim.{Claim}
+use Rattle.order_reading.specs.declared.checking.Claim.TheVariants as claim
 use Rattle.order_reading.specs.declared.reading.Asked.{Asked}
 use Rattle.order_reading.specs.declared.reading.Asked.TheVariants as asked
 use Rattle.order_reading.specs.declared.question.Inquiry.{Inquiry}
@@ -112,17 +115,6 @@ abbrev pub checked_answer : List Name → Result Accepted CertError → Answer
 checked_answer names (Ok a) = record { status = accepted_status a.answer; text = accepted names a }
 checked_answer names (Err e) = refused_answer names e
 
--- what `check` says of a file
-abbrev pub check_in : System → Given → Option (List ℕ) → Result Answer Early
-check_in f given None = Err Read
-check_in f given (Some cert) = Ok (checked_answer f.names (checked f given cert))
-
--- what `check` says over a configuration that was read: the organisations are read before the certificate, if a file of them is named
-abbrev pub check_asked : Ordered → System → List ℕ → Files → Result Answer Early
-check_asked o f config files = do
-  orgs ← orgs_given f.names files o.orgs
-  check_in f (given_by config orgs) (files o.cert)
-
 -- ---- a proof of another solver
 
 -- a proof is verified, or its first fault is named
@@ -130,17 +122,35 @@ abbrev pub verified_answer : List Name → Header → Result (Unit {0}) CertErro
 verified_answer names h (Ok done) = record { status = Yes; text = verified_lines names h }
 verified_answer names h (Err e) = refused_answer names e
 
--- what is said of a file as a proof for a part of the system, without the faulty nodes
-abbrev pub verify_in : System → Header → Option (List ℕ) → Result Answer Early
-verify_in f h None = Err Read
-verify_in f h (Some proof) = Ok (verified_answer f.names h (verified f h proof))
+-- ---- a file that is checked
+
+-- what is given is over the system
+abbrev pub FitsClaim : System → Claim → Type 0
+FitsClaim f (claim.Cert given) = FitsGiven f given
+FitsClaim f (claim.Proof h) = FitsHeader f h
+
+-- what is said of the bytes of a file: as a certificate, or as a proof for a part of the system without the faulty nodes
+abbrev pub claim_answer : System → Claim → List ℕ → Answer
+claim_answer f (claim.Cert given) cert = checked_answer f.names (checked f given cert)
+claim_answer f (claim.Proof h) proof = verified_answer f.names h (verified f h proof)
+
+-- what is said of a file
+abbrev pub claim_in : System → Claim → Option (List ℕ) → Result Answer Early
+claim_in f c None = Err Read
+claim_in f c (Some bytes) = Ok (claim_answer f c bytes)
+
+-- what `check` says over a configuration that was read: the organisations are read before the certificate, if a file of them is named
+abbrev pub check_asked : Ordered → System → List ℕ → Files → Result Answer Early
+check_asked o f config files = do
+  orgs ← orgs_given f.names files o.orgs
+  claim_in f (claim.Cert (given_by config orgs)) (files o.cert)
 
 -- what `check-lrat` says over a configuration that was read
 abbrev pub verify_asked : Ordered → System → Files → Result Answer Early
 verify_asked o f files = do
   given ← orgs_given f.names files o.orgs
   header ← header_named f (orgs_among given) o
-  verify_in f header (files o.cert)
+  claim_in f (claim.Proof header) (files o.cert)
 
 -- ---- what is asked
 

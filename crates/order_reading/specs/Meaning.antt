@@ -15,6 +15,8 @@ use Rattle.certificate_file.specs.declared.given.Given.{Given}
 use Rattle.certificate_file.specs.declared.given.GivenOrgs.{GivenOrgs}
 use Rattle.certificate_file.specs.declared.places.Header.{Header}
 use Rattle.certificate_file.specs.declared.places.Accepted.{Accepted}
+use Rattle.order_reading.specs.declared.checking.Claim.{Claim}
+use Rattle.order_reading.specs.declared.checking.Claim.TheVariants.{Cert, Proof}
 use Rattle.order_reading.specs.declared.status.Status.TheVariants.{Yes, Usage}
 use Rattle.order_reading.specs.declared.early.Early.{Early}
 use Rattle.order_reading.specs.Answers.{orgs_given, is_told}
@@ -31,11 +33,15 @@ pub record Shows (system : System) (given : Given) (cert : List ℕ) : Type 0 wh
   pub checks : checked system given cert ≡ Ok accepted
   pub holds : Holds system given accepted
 
+-- the named file has bytes that mean this
+pub record HasFile (Means : List ℕ → Type 0) (files : Files) (name : List ℕ) : Type 0 where
+  pub bytes : List ℕ
+  pub held : files name ≡ Some bytes
+  pub means : Means bytes
+
 -- the named file is such a certificate
-pub record HasCert (system : System) (given : Given) (files : Files) (name : List ℕ) : Type 0 where
-  pub cert : List ℕ
-  pub held : files name ≡ Some cert
-  pub shows : Shows system given cert
+abbrev pub HasCert : System → Given → Files → List ℕ → Type 0
+HasCert system given files name = HasFile (Shows system given) files name
 
 -- the order names such a certificate for the configuration, and for the organisations that its option names
 pub record HasAccepted (order : Ordered) (system : System) (config : List ℕ) (files : Files) : Type 0 where
@@ -49,10 +55,13 @@ pub record Verifies (system : System) (header : Header) (proof : List ℕ) : Typ
   pub meets : PartIntersects system (part_from system header.from) header.faulty
 
 -- the named file is such a proof
-pub record HasProof (system : System) (header : Header) (files : Files) (name : List ℕ) : Type 0 where
-  pub proof : List ℕ
-  pub held : files name ≡ Some proof
-  pub shows : Verifies system header proof
+abbrev pub HasProof : System → Header → Files → List ℕ → Type 0
+HasProof system header files name = HasFile (Verifies system header) files name
+
+-- what a yes means of the bytes that are checked
+abbrev pub ShowsClaim : System → Claim → List ℕ → Type 0
+ShowsClaim system (Cert given) = Shows system given
+ShowsClaim system (Proof header) = Verifies system header
 
 -- the order names such a proof for the part and the faulty nodes that its options name
 pub record HasVerified (order : Ordered) (system : System) (files : Files) : Type 0 where

@@ -1,5 +1,7 @@
 -- Reading that may end early: with an answer, by a file that is not there, or for want of memory.
-use Rattle.std.specs.Prelude.{◌≡◌, Bool, true, false, IsTrue, Result, Ok, Err}
+use Rattle.std.specs.Prelude.{◌≡◌, Bool, true, false, IsTrue, Result, Ok, Err, IfOk, IfErr}
+use Rattle.desk_io.specs.State.{DeskState, OnlyReads}
+use Rattle.desk_io.specs.Faults.{Faults, ReadFails}
 use Rattle.order_reading.specs.declared.early.Early.{Early}
 use Rattle.order_reading.specs.declared.early.Early.TheVariants.{Told, Read, Memory}
 use Rattle.order_reading.specs.declared.status.Status.{Status}
@@ -54,3 +56,16 @@ IsRefusal e = TellsStatus (λ status. IsTrue (is_refusal status)) e
 -- an answer to the words and the files, if one is told
 abbrev pub IsAnswer : Early → Type 0
 IsAnswer e = TellsStatus (λ status. IsTrue (is_answer status)) e
+
+-- ---- what calls that read promise
+
+-- what is defined comes, or a refusal, and what comes fits
+pub record ReadsTo {A : Type 0} (result defined : Result A Early) (Fits : A → Type 0) : Type 0 where
+  pub gives : Gives result defined
+  pub refused : IfErr result IsRefusal
+  pub fits : IfOk result Fits
+
+-- of a desk that tells, only what is left to read changes, and calls that read failed where this is so
+pub record ReadsDesk {S : Type 0} (tells : Bool) (state : S → DeskState) (count : S → Faults) (old new : S) (failed : Type 0) : Type 0 where
+  pub reads : IsTrue tells → OnlyReads (state old) (state new)
+  pub faults : ReadFails (count old) (count new) failed

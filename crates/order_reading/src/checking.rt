@@ -1,26 +1,33 @@
-//! The check of a certificate.
-ghost use Rattle.std.specs.Prelude.{◌≡◌, ◌⊎◌, Ok, Err, IsTrue, IfOk, IfErr, IsErrOf, length};
-ghost use Rattle.desk_io.specs.State.{OnlyReads, left_of};
-ghost use Rattle.desk_io.specs.Faults.{ReadFails};
+//! The check of a certificate, or of another solver's proof.
+ghost use Rattle.std.specs.Prelude.{◌≡◌, ◌⊎◌, ◌↔◌, Ok, IsTrue, IfOk, IfErr, IsOk, IsErrOf, length};
+ghost use Rattle.desk_io.specs.State.{left_of};
 ghost use Rattle.cli_words.specs.Order.{order_view};
-ghost use Rattle.certificate_file.specs.Acceptance.{checked};
+ghost use Rattle.certificate_file.specs.Known.{FitsHeader};
 ghost use Rattle.certificate_file.specs.Meaning.{HasPlaces};
-ghost use Rattle.certificate_file.specs.Organisations.{FitsGiven};
-ghost use Rattle.order_reading.specs.Answers.{check_asked, check_in, checked_answer, refused_answer, cert_status as spec_cert_status, accepted_status as spec_accepted_status};
-ghost use Rattle.order_reading.specs.Meaning.{Shows, HasAccepted, HasCert};
-ghost use Rattle.order_reading.specs.Reading.{GivesReading, IsRefusal};
+ghost use Rattle.order_reading.specs.Answers.{check_asked, claim_answer, claim_in, checked_answer, refused_answer, verified_answer, FitsClaim, cert_status as spec_cert_status, accepted_status as spec_accepted_status};
+ghost use Rattle.order_reading.specs.Meaning.{HasAccepted, HasFile, ShowsClaim};
+ghost use Rattle.order_reading.specs.Reading.{GivesReading, IsRefusal, ReadsDesk};
 ghost use Rattle.order_reading.specs.Status.{is_answer};
 
 use crate::early::Early;
 use crate::orgs::orgs_for;
 use crate::reply::Reply;
 use crate::status::Status;
-use certificate_file::{Accepted, Answer, CertError, Given};
+use certificate_file::{Accepted, Answer, CertError, Given, Header};
 use cli_words::Order;
 use desk_io::{Desk, Which};
 use digest_text::digest;
 use fbas_core::System;
 use std::alloc::{AllocError, Global};
+
+/// What a file is checked as.
+#[derive(Drop)]
+pub enum Claim {
+    /// A certificate, which is held against this.
+    Cert(Given),
+    /// A proof for this part of the system, without its faulty nodes.
+    Proof(Header),
+}
 
 // How the program ends where a certificate has this fault.
 fn cert_status(fault: &CertError) -> Status
@@ -31,15 +38,6 @@ fn cert_status(fault: &CertError) -> Status
         CertError::TooLarge(_) => Status::TooLarge,
         _ => Status::CertRefused,
     }
-}
-
-/// The answer to a certificate, or to a proof, that is refused.
-pub fn refuse(alloc: Global, system: &System, fault: &CertError) -> Result<Reply, AllocError>
-    ensures ok { IfOk result (λ a. a ≡ refused_answer system.now.names fault.now) }
-    ensures refused { IfOk result (λ a. (a.status ≡ Status.TooLarge) ⊎ (a.status ≡ Status.CertRefused)) }
-{
-    let text = report::cert_refused(alloc, system.names(), fault)?;
-    Ok(Reply::new(cert_status(fault), text))
 }
 
 // How the program ends where a certificate is accepted.
@@ -72,57 +70,86 @@ fn accept(alloc: Global, system: &System, accepted: &Accepted) -> Result<Reply, 
     Ok(Reply::new(accepted_status(&accepted.answer), text))
 }
 
-// What is said of the begun certificate.
-fn check_begun<D: Desk>(
-    alloc: Global,
-    system: &System,
-    given: &Given,
-    desk: &mut D,
-) -> Result<Reply, Early>
-    requires { FitsGiven system.now given.now }
-    ensures answer { IfOk result (λ a. IsTrue D.tells →
-        a ≡ checked_answer system.now.names (checked system.now given.now (left_of Which.Cert (D.state desk.old)))) }
-    ensures answers { IfOk result (λ a. IsTrue (is_answer a.status)) }
-    ensures shows { IfOk result (λ a. IsTrue D.tells → a.status ≡ Status.Yes →
-        Shows system.now given.now (left_of Which.Cert (D.state desk.old))) }
-    ensures failing { IfErr result (λ e. (e ≡ Early.Read) ⊎ (e ≡ Early.Memory)) }
-    ensures plain { IsErrOf result Early.Read → IsTrue D.tells → IsTrue (D.state desk.old).plain → ⊥ }
-    ensures reads { IsTrue D.tells → OnlyReads (D.state desk.old) (D.state desk.new) }
-    ensures faults { ReadFails (D.faults desk.old) (D.faults desk.new) (IsErrOf result Early.Read) }
+// The answer to a proof that is verified.
+fn verified(alloc: Global, system: &System, header: &Header) -> Result<Reply, AllocError>
+    requires { FitsHeader system.now header.now }
+    ensures { IfOk result (λ a. a ≡ verified_answer system.now.names header.now (Ok tt)) }
 {
-    match certificate_file::check(alloc, system, given, desk) {
-        Ok(accepted) => {
-            let reply = accept(alloc, system, &accepted);
-            drop(accepted);
-            Ok(reply?)
+    let text = report::verified(alloc, system, header)?;
+    Ok(Reply::new(Status::Yes, text))
+}
+
+// The answer to a certificate, or to a proof, that is refused, or the failing that kept it from being read.
+fn refuse(alloc: Global, system: &System, fault: CertError) -> Result<Reply, Early>
+    ensures ok { IfOk result (λ a. a ≡ refused_answer system.now.names fault) }
+    ensures refused { IfOk result (λ a. (a.status ≡ Status.TooLarge) ⊎ (a.status ≡ Status.CertRefused)) }
+    ensures fault { IsOk result → (fault ≡ CertError.Read → ⊥) × (fault ≡ CertError.Memory → ⊥) }
+    ensures failing { IfErr result (λ e. (e ≡ Early.Read) ⊎ (e ≡ Early.Memory)) }
+    ensures read { IsErrOf result Early.Read ↔ (fault ≡ CertError.Read) }
+{
+    match fault {
+        CertError::Read => Err(Early::Read),
+        CertError::Memory => Err(Early::Memory),
+        fault => {
+            let text = report::cert_refused(alloc, system.names(), &fault)?;
+            Ok(Reply::new(cert_status(&fault), text))
         }
-        Err(CertError::Read) => Err(Early::Read),
-        Err(CertError::Memory) => Err(Early::Memory),
-        Err(fault) => Ok(refuse(alloc, system, &fault)?),
     }
 }
 
-// What is said of a file as a certificate for a system and what is given beside it.
-fn check<D: Desk>(
+// What is said of the begun file.
+fn check_begun<D: Desk>(
     alloc: Global,
     system: &System,
-    given: &Given,
+    claim: &Claim,
     desk: &mut D,
-    cert: &str,
 ) -> Result<Reply, Early>
-    requires { FitsGiven system.now given.now }
-    ensures gives { IsTrue D.tells → GivesReading (D.state desk.old).plain result (check_in system.now given.now ((D.state desk.old).files cert.now)) }
+    requires { FitsClaim system.now claim.now }
+    ensures answer { IfOk result (λ a. IsTrue D.tells →
+        a ≡ claim_answer system.now claim.now (left_of Which.Cert (D.state desk.old))) }
     ensures answers { IfOk result (λ a. IsTrue (is_answer a.status)) }
     ensures shows { IfOk result (λ a. IsTrue D.tells → a.status ≡ Status.Yes →
-        HasCert system.now given.now (D.state desk.old).files cert.now) }
+        ShowsClaim system.now claim.now (left_of Which.Cert (D.state desk.old))) }
     ensures failing { IfErr result (λ e. (e ≡ Early.Read) ⊎ (e ≡ Early.Memory)) }
-    ensures reads { IsTrue D.tells → OnlyReads (D.state desk.old) (D.state desk.new) }
-    ensures faults { ReadFails (D.faults desk.old) (D.faults desk.new) (IsErrOf result Early.Read) }
+    ensures plain { IsErrOf result Early.Read → IsTrue D.tells → IsTrue (D.state desk.old).plain → ⊥ }
+    ensures desk { ReadsDesk D.tells D.state D.faults desk.old desk.new (IsErrOf result Early.Read) }
 {
-    let Ok(()) = desk.begin(Which::Cert, cert) else {
+    match claim {
+        Claim::Cert(given) => match certificate_file::check(alloc, system, given, desk) {
+            Ok(accepted) => {
+                let reply = accept(alloc, system, &accepted);
+                drop(accepted);
+                Ok(reply?)
+            }
+            Err(fault) => refuse(alloc, system, fault),
+        },
+        Claim::Proof(header) => match certificate_file::check_lrat(alloc, system, header, desk) {
+            Ok(()) => Ok(verified(alloc, system, header)?),
+            Err(fault) => refuse(alloc, system, fault),
+        },
+    }
+}
+
+/// What is said of a file as a certificate, or as a proof.
+pub fn check_file<D: Desk>(
+    alloc: Global,
+    system: &System,
+    claim: &Claim,
+    desk: &mut D,
+    name: &str,
+) -> Result<Reply, Early>
+    requires { FitsClaim system.now claim.now }
+    ensures gives { IsTrue D.tells → GivesReading (D.state desk.old).plain result (claim_in system.now claim.now ((D.state desk.old).files name.now)) }
+    ensures answers { IfOk result (λ a. IsTrue (is_answer a.status)) }
+    ensures shows { IfOk result (λ a. IsTrue D.tells → a.status ≡ Status.Yes →
+        HasFile (ShowsClaim system.now claim.now) (D.state desk.old).files name.now) }
+    ensures failing { IfErr result (λ e. (e ≡ Early.Read) ⊎ (e ≡ Early.Memory)) }
+    ensures desk { ReadsDesk D.tells D.state D.faults desk.old desk.new (IsErrOf result Early.Read) }
+{
+    let Ok(()) = desk.begin(Which::Cert, name) else {
         return Err(Early::Read);
     };
-    check_begun(alloc, system, given, desk)
+    check_begun(alloc, system, claim, desk)
 }
 
 /// What `check` says over a configuration that was read. The organisations are read before the certificate, if a file of them is
@@ -140,15 +167,14 @@ pub fn check_by<D: Desk>(
     ensures refused { IfErr result IsRefusal }
     ensures shows { IfOk result (λ a. IsTrue D.tells → a.status ≡ Status.Yes →
         HasAccepted (order_view order.now) system.now config.now (D.state desk.old).files) }
-    ensures reads { IsTrue D.tells → OnlyReads (D.state desk.old) (D.state desk.new) }
-    ensures faults { ReadFails (D.faults desk.old) (D.faults desk.new) (IsErrOf result Early.Read) }
+    ensures desk { ReadsDesk D.tells D.state D.faults desk.old desk.new (IsErrOf result Early.Read) }
 {
     let orgs = orgs_for(alloc, system, desk, &order.orgs)?;
-    let given = Given {
+    let claim = Claim::Cert(Given {
         digest: digest(config),
         orgs,
-    };
-    let reply = check(alloc, system, &given, desk, &order.cert);
-    drop(given);
+    });
+    let reply = check_file(alloc, system, &claim, desk, &order.cert);
+    drop(claim);
     reply
 }

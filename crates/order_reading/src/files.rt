@@ -1,13 +1,10 @@
 //! The files that are read whole.
 ghost use Rattle.std.specs.Prelude.{◌≡◌, ◌≤◌, Ok, IsTrue, IfOk, IfErr, IsErrOf, length};
-ghost use Rattle.desk_io.specs.State.{OnlyReads};
-ghost use Rattle.desk_io.specs.Faults.{ReadFails};
 ghost use Rattle.order_reading.specs.Answers.{file_in, file_within, script_in};
-ghost use Rattle.order_reading.specs.Reading.{FailsReading, GivesReading, IsRefusal, is_refusal};
+ghost use Rattle.order_reading.specs.Reading.{FailsReading, GivesReading, IsRefusal, is_refusal, ReadsDesk};
 
 use crate::early::Early;
-use crate::edits::Script;
-use crate::reply::says;
+use crate::reply::{Text, says};
 use crate::status::Status;
 use desk_io::{Desk, ReadError, Which, read_all};
 use std::alloc::Global;
@@ -39,8 +36,7 @@ fn read_within<D: Desk>(
     ensures err { IfErr result (λ e. IsTrue D.tells → FailsReading (D.state desk.old).plain e (file_within limit.entry.most (record { status = limit.entry.status; text = limit.entry.too_long.now }) ((D.state desk.old).files name.now))) }
     ensures within { IfOk result (λ bytes. length bytes.items ≤ limit.entry.most) }
     ensures refused { IfErr result IsRefusal }
-    ensures reads { IsTrue D.tells → OnlyReads (D.state desk.old) (D.state desk.new) }
-    ensures faults { ReadFails (D.faults desk.old) (D.faults desk.new) (IsErrOf result Early.Read) }
+    ensures desk { ReadsDesk D.tells D.state D.faults desk.old desk.new (IsErrOf result Early.Read) }
 {
     let Ok(()) = desk.begin(which, name) else {
         return Err(Early::Read);
@@ -66,8 +62,7 @@ pub fn read_file<D: Desk>(
     ensures err { IfErr result (λ e. IsTrue D.tells → FailsReading (D.state desk.old).plain e (file_in too_long.now ((D.state desk.old).files name.now))) }
     ensures within { IfOk result (λ bytes. length bytes.items ≤ MAX_FILE) }
     ensures refused { IfErr result IsRefusal }
-    ensures reads { IsTrue D.tells → OnlyReads (D.state desk.old) (D.state desk.new) }
-    ensures faults { ReadFails (D.faults desk.old) (D.faults desk.new) (IsErrOf result Early.Read) }
+    ensures desk { ReadsDesk D.tells D.state D.faults desk.old desk.new (IsErrOf result Early.Read) }
 {
     let limit = Limit {
         most: MAX_FILE,
@@ -78,11 +73,10 @@ pub fn read_file<D: Desk>(
 }
 
 /// The script of a file. Linear in the file, and reads at most one piece past the limit.
-pub fn read_script<D: Desk>(alloc: Global, desk: &mut D, name: &str) -> Result<Script, Early>
+pub fn read_script<D: Desk>(alloc: Global, desk: &mut D, name: &str) -> Result<Text, Early>
     ensures gives { IsTrue D.tells → GivesReading (D.state desk.old).plain result (script_in ((D.state desk.old).files name.now)) }
     ensures refused { IfErr result IsRefusal }
-    ensures reads { IsTrue D.tells → OnlyReads (D.state desk.old) (D.state desk.new) }
-    ensures faults { ReadFails (D.faults desk.old) (D.faults desk.new) (IsErrOf result Early.Read) }
+    ensures desk { ReadsDesk D.tells D.state D.faults desk.old desk.new (IsErrOf result Early.Read) }
 {
     let limit = Limit {
         most: MAX_SCRIPT,
@@ -90,5 +84,5 @@ pub fn read_script<D: Desk>(alloc: Global, desk: &mut D, name: &str) -> Result<S
         too_long: "script too-long\n",
     };
     let bytes = read_within(alloc, desk, Which::Script, name, limit)?;
-    Ok(Script::of(bytes))
+    Ok(Text::of(bytes))
 }

@@ -17,7 +17,7 @@ mod verifying;
 mod word;
 
 pub use early::Early;
-pub use edits::{Edits, Script};
+pub use edits::Edits;
 pub use question::{Origin, Question};
 pub use reading::{Asked, ask_by_words};
 pub use reply::{Reply, Text, says};

@@ -1,12 +1,10 @@
 //! The organisations that an order names.
 ghost use Rattle.std.specs.Prelude.{◌≡◌, All, IsTrue, IfOk, IfErr, IsErrOf, length, option_map, string_bytes};
-ghost use Rattle.desk_io.specs.State.{OnlyReads};
-ghost use Rattle.desk_io.specs.Faults.{ReadFails};
 ghost use Rattle.node_json.specs.Organisations.{orgs_of};
 ghost use Rattle.report.specs.Lines.{orgs_refused};
 ghost use Rattle.order_reading.specs.Answers.{or_orgs_refused, orgs_with_digest, orgs_given};
 ghost use Rattle.order_reading.specs.Given.{AreOver, AreRead};
-ghost use Rattle.order_reading.specs.Reading.{Gives, GivesReading, IsRefusal};
+ghost use Rattle.order_reading.specs.Reading.{Gives, GivesReading, IsRefusal, ReadsDesk, ReadsTo};
 
 use crate::early::Early;
 use crate::files::read_file;
@@ -30,9 +28,8 @@ fn refuse_orgs(alloc: Global, fault: OrgFault) -> Result<Reply, AllocError>
 
 // The organisations of a file's bytes.
 fn orgs_read(alloc: Global, system: &System, bytes: &[u8]) -> Result<Orgs, Early>
-    ensures gives { Gives result (or_orgs_refused (orgs_of system.now.names bytes.now)) }
-    ensures refused { IfErr result IsRefusal }
-    ensures fits { IfOk result (All (λ org. length org.members ≡ length system.now.names)) }
+    ensures { ReadsTo result (or_orgs_refused (orgs_of system.now.names bytes.now))
+        (All (λ org. length org.members ≡ length system.now.names)) }
 {
     match read_orgs(alloc, bytes, system) {
         Ok(orgs) => Ok(orgs),
@@ -70,8 +67,7 @@ pub fn orgs_for<D: Desk>(
     ensures refused { IfErr result IsRefusal }
     ensures over { IfOk result (AreOver system.now) }
     ensures read { IfOk result (AreRead system.now) }
-    ensures reads { IsTrue D.tells → OnlyReads (D.state desk.old) (D.state desk.new) }
-    ensures faults { ReadFails (D.faults desk.old) (D.faults desk.new) (IsErrOf result Early.Read) }
+    ensures desk { ReadsDesk D.tells D.state D.faults desk.old desk.new (IsErrOf result Early.Read) }
 {
     let Some(path) = path else {
         return Ok(None);

@@ -1,8 +1,8 @@
 //! The part of a system that is asked about: the whole, or the trust closure of a node.
-ghost use Rattle.std.specs.Prelude.{◌≡◌, ◌<◌, IfOk, IfErr, IfSome, length, option_map, string_bytes};
+ghost use Rattle.std.specs.Prelude.{◌≡◌, ◌<◌, IfOk, IfSome, length, option_map, string_bytes};
 ghost use Rattle.order_reading.specs.Questions.{from_named as from_by_option, closure_named, part_of as spec_part_of, cut_to, FitsClosure};
 ghost use Rattle.fbas_model.specs.Restriction.{closure_of};
-ghost use Rattle.order_reading.specs.Reading.{Gives, IsRefusal};
+ghost use Rattle.order_reading.specs.Reading.{ReadsTo};
 
 use crate::early::Early;
 use crate::names::node_named;
@@ -16,9 +16,8 @@ pub fn from_named(
     system: &System,
     from: &Option<String>,
 ) -> Result<Option<u32>, Early>
-    ensures gives { Gives result (from_by_option system.now (option_map string_bytes from.now)) }
-    ensures refused { IfErr result IsRefusal }
-    ensures below { IfOk result (λ node. IfSome node (λ v. v < length system.now.sets)) }
+    ensures { ReadsTo result (from_by_option system.now (option_map string_bytes from.now))
+        (λ node. IfSome node (λ v. v < length system.now.sets)) }
 {
     if from.is_none() {
         return Ok(None);
@@ -45,9 +44,7 @@ pub fn closure_named(
     system: &System,
     from: &Option<String>,
 ) -> Result<Option<NodeSet>, Early>
-    ensures gives { Gives result (closure_named system.now (option_map string_bytes from.now)) }
-    ensures refused { IfErr result IsRefusal }
-    ensures fits { IfOk result (FitsClosure system.now) }
+    ensures { ReadsTo result (closure_named system.now (option_map string_bytes from.now)) (FitsClosure system.now) }
 {
     let node = from_named(alloc, system, from)?;
     Ok(closure_from(system, node))

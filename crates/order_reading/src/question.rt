@@ -1,9 +1,9 @@
 //! What is asked of a system.
-ghost use Rattle.std.specs.Prelude.{◌≡◌, None, [], IfOk, IfErr};
+ghost use Rattle.std.specs.Prelude.{◌≡◌, None, []};
 ghost use Rattle.cli_words.specs.Order.{order_view};
 ghost use Rattle.order_reading.specs.Given.{AreOver, orgs_among};
 ghost use Rattle.order_reading.specs.Questions.{question_of, FitsInquiry};
-ghost use Rattle.order_reading.specs.Reading.{Gives, IsRefusal};
+ghost use Rattle.order_reading.specs.Reading.{ReadsTo};
 
 use crate::early::Early;
 use crate::names::{faulty_named, node_named, set_named};
@@ -63,9 +63,7 @@ fn of_the_whole(question: Question) -> Inquiry
 
 // The order `closure`.
 fn closure_asked(alloc: Global, order: &Order, system: &System) -> Result<Inquiry, Early>
-    ensures gives { Gives result (question_of Query.Closure system.now [] [] (order_view order.now)) }
-    ensures refused { IfErr result IsRefusal }
-    ensures fits { IfOk result (FitsInquiry system.now) }
+    ensures { ReadsTo result (question_of Query.Closure system.now [] [] (order_view order.now)) (FitsInquiry system.now) }
 {
     let node = node_named(alloc, system, "--node", &order.node)?;
     Ok(of_the_whole(Question::Closure(node)))
@@ -79,9 +77,8 @@ fn greatest_asked(
     given: &Option<GivenOrgs>,
 ) -> Result<Inquiry, Early>
     requires { AreOver system.now given.now }
-    ensures gives { Gives result (question_of Query.Greatest system.now [] (orgs_among given.now) (order_view order.now)) }
-    ensures refused { IfErr result IsRefusal }
-    ensures fits { IfOk result (FitsInquiry system.now) }
+    ensures { ReadsTo result (question_of Query.Greatest system.now [] (orgs_among given.now) (order_view order.now))
+        (FitsInquiry system.now) }
 {
     let closure = closure_named(alloc, system, &order.from)?;
     let named = faulty_named(alloc, system, given, order)?;
@@ -92,9 +89,7 @@ fn greatest_asked(
 
 // The order `available`.
 fn available_asked(alloc: Global, order: &Order, system: &System) -> Result<Inquiry, Early>
-    ensures gives { Gives result (question_of Query.Available system.now [] [] (order_view order.now)) }
-    ensures refused { IfErr result IsRefusal }
-    ensures fits { IfOk result (FitsInquiry system.now) }
+    ensures { ReadsTo result (question_of Query.Available system.now [] [] (order_view order.now)) (FitsInquiry system.now) }
 {
     let closure = closure_named(alloc, system, &order.from)?;
     let named = set_named(alloc, system, "--set", &order.set)?;
@@ -111,9 +106,8 @@ fn blocks_asked(
     given: &Option<GivenOrgs>,
 ) -> Result<Inquiry, Early>
     requires { AreOver system.now given.now }
-    ensures gives { Gives result (question_of Query.Blocks system.now [] (orgs_among given.now) (order_view order.now)) }
-    ensures refused { IfErr result IsRefusal }
-    ensures fits { IfOk result (FitsInquiry system.now) }
+    ensures { ReadsTo result (question_of Query.Blocks system.now [] (orgs_among given.now) (order_view order.now))
+        (FitsInquiry system.now) }
 {
     let closure = closure_named(alloc, system, &order.from)?;
     let named_faulty = faulty_named(alloc, system, given, order)?;
@@ -126,9 +120,7 @@ fn blocks_asked(
 
 // The order `vblocks`.
 fn vblocks_asked(alloc: Global, order: &Order, system: &System) -> Result<Inquiry, Early>
-    ensures gives { Gives result (question_of Query.Vblocks system.now [] [] (order_view order.now)) }
-    ensures refused { IfErr result IsRefusal }
-    ensures fits { IfOk result (FitsInquiry system.now) }
+    ensures { ReadsTo result (question_of Query.Vblocks system.now [] [] (order_view order.now)) (FitsInquiry system.now) }
 {
     let node = node_named(alloc, system, "--node", &order.node)?;
     let set = set_named(alloc, system, "--set", &order.set)?;
@@ -144,9 +136,8 @@ fn export_asked(
     given: &Option<GivenOrgs>,
 ) -> Result<Inquiry, Early>
     requires { AreOver system.now given.now }
-    ensures gives { Gives result (question_of Query.Export system.now config.now (orgs_among given.now) (order_view order.now)) }
-    ensures refused { IfErr result IsRefusal }
-    ensures fits { IfOk result (FitsInquiry system.now) }
+    ensures { ReadsTo result (question_of Query.Export system.now config.now (orgs_among given.now) (order_view order.now))
+        (FitsInquiry system.now) }
 {
     let closure = closure_named(alloc, system, &order.from)?;
     let named = faulty_named(alloc, system, given, order)?;
@@ -171,9 +162,8 @@ pub fn question_asked(
     given: &Option<GivenOrgs>,
 ) -> Result<Inquiry, Early>
     requires { AreOver system.now given.now }
-    ensures gives { Gives result (question_of query system.now config.now (orgs_among given.now) (order_view order.now)) }
-    ensures refused { IfErr result IsRefusal }
-    ensures fits { IfOk result (FitsInquiry system.now) }
+    ensures { ReadsTo result (question_of query system.now config.now (orgs_among given.now) (order_view order.now))
+        (FitsInquiry system.now) }
 {
     match query {
         Query::Show => Ok(of_the_whole(Question::Show)),

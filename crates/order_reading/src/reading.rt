@@ -8,12 +8,11 @@ ghost use Rattle.cli_words.specs.Words.{order_of};
 ghost use Rattle.cli_words.specs.declared.budget.TheConstants.{MOST_BUDGET};
 ghost use Rattle.cli_words.specs.declared.organisations.TheConstants.{MOST_ORGANISATIONS};
 ghost use Rattle.report.specs.Lines.{config_refused};
-ghost use Rattle.order_reading.specs.Answers.{words_of, asked_of, or_words_refused, order_asked, refused_words, file_asked, trial_asked, config_asked, command_asked, query_asked, verify_asked, asked_about as spec_asked_about, is_told, system_in, FitsAsked};
-ghost use Rattle.order_reading.specs.Meaning.{HasVerified, MeansYes, OfConfig, OfFile, OfWords, YesMeans, IsTold, IsUsage};
+ghost use Rattle.order_reading.specs.Answers.{words_of, asked_of, or_words_refused, order_asked, refused_words, file_asked, trial_asked, config_asked, command_asked, query_asked, asked_about as spec_asked_about, is_told, system_in, FitsAsked};
+ghost use Rattle.order_reading.specs.Meaning.{MeansYes, OfConfig, OfFile, OfWords, YesMeans, IsTold, IsUsage};
 ghost use Rattle.order_reading.specs.Given.{AreOver};
 ghost use Rattle.order_reading.specs.Questions.{FitsInquiry};
-ghost use Rattle.order_reading.specs.Reading.{Fails, Gives, GivesReading, IsRefusal, IsAnswer};
-ghost use Rattle.order_reading.specs.Status.{is_answer};
+ghost use Rattle.order_reading.specs.Reading.{Fails, Gives, GivesReading, IsRefusal, IsAnswer, ReadsDesk, ReadsTo};
 
 use crate::checking::check_by;
 use crate::early::Early;
@@ -25,7 +24,7 @@ use crate::question::{Inquiry, Question, question_asked};
 use crate::reply::{Reply, says};
 use crate::searches::{Search, search_asked, trial_search};
 use crate::status::Status;
-use crate::verifying::{header_named, verify};
+use crate::verifying::verify_by;
 use certificate_file::GivenOrgs;
 use cli_words::{Command, Goal, Order, OrderFault, Query};
 use desk_io::{Desk, Which};
@@ -112,9 +111,7 @@ fn ask_about(
     given: &Option<GivenOrgs>,
 ) -> Result<Asked, Early>
     requires { AreOver system given.now }
-    ensures gives { Gives result (query_asked query (order_view order.now) system config.now given.now) }
-    ensures refused { IfErr result IsRefusal }
-    ensures fits { IfOk result FitsAsked }
+    ensures { ReadsTo result (query_asked query (order_view order.now) system config.now given.now) FitsAsked }
 {
     match question_asked(alloc, query, order, &system, config, given) {
         Ok(inquiry) => Ok(asked_about(alloc, system, inquiry)?),
@@ -138,8 +135,7 @@ fn ask<D: Desk>(
         (command_asked (Command.Query query) (order_view order.now) system config.now (D.state desk.old).files) }
     ensures refused { IfErr result IsRefusal }
     ensures fits { IfOk result FitsAsked }
-    ensures reads { IsTrue D.tells → OnlyReads (D.state desk.old) (D.state desk.new) }
-    ensures faults { ReadFails (D.faults desk.old) (D.faults desk.new) (IsErrOf result Early.Read) }
+    ensures desk { ReadsDesk D.tells D.state D.faults desk.old desk.new (IsErrOf result Early.Read) }
 {
     match orgs_for(alloc, &system, desk, &order.orgs) {
         Ok(given) => ask_about(alloc, query, order, system, config, &given),
@@ -165,8 +161,7 @@ fn seek<D: Desk>(
         (command_asked (Command.Search goal) (order_view order.now) system config.now (D.state desk.old).files) }
     ensures refused { IfErr result IsRefusal }
     ensures fits { IfOk result FitsAsked }
-    ensures reads { IsTrue D.tells → OnlyReads (D.state desk.old) (D.state desk.new) }
-    ensures faults { ReadFails (D.faults desk.old) (D.faults desk.new) (IsErrOf result Early.Read) }
+    ensures desk { ReadsDesk D.tells D.state D.faults desk.old desk.new (IsErrOf result Early.Read) }
 {
     match orgs_for(alloc, &system, desk, &order.orgs) {
         Ok(given) => Ok(Asked::Search(search_asked(alloc, goal, order, system, config, given)?)),
@@ -175,28 +170,6 @@ fn seek<D: Desk>(
             Err(early)
         }
     }
-}
-
-// What `check-lrat` says over a configuration that was read. The organisations and the names are read before the proof.
-fn verify_by<D: Desk>(
-    alloc: Global,
-    order: &Order,
-    system: &System,
-    desk: &mut D,
-) -> Result<Reply, Early>
-    ensures gives { IsTrue D.tells → GivesReading (D.state desk.old).plain result
-        (verify_asked (order_view order.now) system.now (D.state desk.old).files) }
-    ensures answers { IfOk result (λ a. IsTrue (is_answer a.status)) }
-    ensures refused { IfErr result IsRefusal }
-    ensures verified { IfOk result (λ a. IsTrue D.tells → a.status ≡ Status.Yes →
-        HasVerified (order_view order.now) system.now (D.state desk.old).files) }
-    ensures reads { IsTrue D.tells → OnlyReads (D.state desk.old) (D.state desk.new) }
-    ensures faults { ReadFails (D.faults desk.old) (D.faults desk.new) (IsErrOf result Early.Read) }
-{
-    let given = orgs_for(alloc, system, desk, &order.orgs)?;
-    let header = header_named(alloc, system, &given, order);
-    drop(given);
-    verify(alloc, system, &header?, desk, &order.cert)
 }
 
 // What a command asks over a configuration that was read.
@@ -216,8 +189,7 @@ fn command<D: Desk>(
     ensures told { IsTrue (is_told order.now.command) → IsErr result }
     ensures shows { IfErr result (λ e. IsTrue D.tells → YesMeans
         (MeansYes order.now.command (order_view order.now) system config.now (D.state desk.old).files) e) }
-    ensures reads { IsTrue D.tells → OnlyReads (D.state desk.old) (D.state desk.new) }
-    ensures faults { ReadFails (D.faults desk.old) (D.faults desk.new) (IsErrOf result Early.Read) }
+    ensures desk { ReadsDesk D.tells D.state D.faults desk.old desk.new (IsErrOf result Early.Read) }
 {
     match order.command {
         Command::Check => {
@@ -252,8 +224,7 @@ fn over_config<D: Desk>(
     ensures told { IsTrue (is_told order.now.command) → IsErr result }
     ensures shows { IfErr result (λ e. IsTrue D.tells → YesMeans
         (OfConfig (λ system. MeansYes order.now.command (order_view order.now) system config.now (D.state desk.old).files) config.now) e) }
-    ensures reads { IsTrue D.tells → OnlyReads (D.state desk.old) (D.state desk.new) }
-    ensures faults { ReadFails (D.faults desk.old) (D.faults desk.new) (IsErrOf result Early.Read) }
+    ensures desk { ReadsDesk D.tells D.state D.faults desk.old desk.new (IsErrOf result Early.Read) }
 {
     let system = system_in(alloc, config)?;
     command(alloc, order, system, config, desk)
@@ -269,8 +240,7 @@ fn over_file<D: Desk>(alloc: Global, order: &Order, desk: &mut D) -> Result<Aske
     ensures told { IsTrue (is_told order.now.command) → IsErr result }
     ensures shows { IfErr result (λ e. IsTrue D.tells → YesMeans
         (OfFile (λ system config. MeansYes order.now.command (order_view order.now) system config (D.state desk.old).files) (D.state desk.old).files (order_view order.now).config) e) }
-    ensures reads { IsTrue D.tells → OnlyReads (D.state desk.old) (D.state desk.new) }
-    ensures faults { ReadFails (D.faults desk.old) (D.faults desk.new) (IsErrOf result Early.Read) }
+    ensures desk { ReadsDesk D.tells D.state D.faults desk.old desk.new (IsErrOf result Early.Read) }
 {
     let config = read_file(
         alloc,
@@ -306,8 +276,7 @@ fn carry_out<D: Desk>(alloc: Global, order: &Order, desk: &mut D) -> Result<Aske
     ensures told { IsTrue (is_told order.now.command) → IsErr result }
     ensures shows { IfErr result (λ e. IsTrue D.tells → YesMeans
         (OfFile (λ system config. MeansYes order.now.command (order_view order.now) system config (D.state desk.old).files) (D.state desk.old).files (order_view order.now).config) e) }
-    ensures reads { IsTrue D.tells → OnlyReads (D.state desk.old) (D.state desk.new) }
-    ensures faults { ReadFails (D.faults desk.old) (D.faults desk.new) (IsErrOf result Early.Read) }
+    ensures desk { ReadsDesk D.tells D.state D.faults desk.old desk.new (IsErrOf result Early.Read) }
 {
     if order.command.has_configuration() {
         return over_file(alloc, order, desk);

@@ -5,7 +5,7 @@ use crate::status::Status;
 use std::alloc::{AllocError, Global};
 use std::marker::Model;
 
-/// Printed text, seen as its bytes.
+/// Text that is read or printed, seen as its bytes.
 #[derive(Drop)]
 pub struct Text {
     bytes: Vec<u8>,

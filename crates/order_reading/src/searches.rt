@@ -1,19 +1,18 @@
 //! What a search is asked for.
-ghost use Rattle.std.specs.Prelude.{◌≡◌, ◌≤◌, ◌<◌, IfOk, IfErr, IfSome, IsSome, IsTrue, Ok, length, option_map, string_bytes};
+ghost use Rattle.std.specs.Prelude.{◌≡◌, ◌≤◌, ◌<◌, IfOk, IfSome, IsSome, IsTrue, Ok, length};
 ghost use Rattle.fbas_model.specs.Nodes.{members, ∅};
 ghost use Rattle.fbas_model.specs.Fbas.{Intersects};
 ghost use Rattle.cli_words.specs.Order.{order_view};
 ghost use Rattle.cli_words.specs.Table.{has_configuration};
 ghost use Rattle.cli_words.specs.Usage.{usage};
 ghost use Rattle.cli_words.specs.declared.budget.TheConstants.{MOST_BUDGET};
-ghost use Rattle.order_reading.specs.Questions.{set_named as set_by_option, faulty_named as faulty_by_options};
 ghost use Rattle.order_reading.specs.Searches.{deleted_by, nobody as spec_nobody, cut_within as spec_cut_within, header_by_goal, orgs_needed as spec_orgs_needed, orgs_sought as spec_orgs_sought, search_of, trial_of, FitsSearch};
 ghost use Rattle.order_reading.specs.Given.{AreOver, AreRead, orgs_among};
 ghost use Rattle.hex.specs.Hex.{IsBytes};
 ghost use Rattle.sha2.specs.Sha256.{sha256};
 ghost use Rattle.cert_writer.specs.Promises.{IsHeader};
 ghost use Rattle.certificate_file.specs.Known.{FitsHeader};
-ghost use Rattle.order_reading.specs.Reading.{Gives, IsRefusal};
+ghost use Rattle.order_reading.specs.Reading.{ReadsTo};
 
 use crate::early::Early;
 use crate::names::{faulty_named, set_named};
@@ -64,9 +63,8 @@ fn deleted(
     order: &Order,
 ) -> Result<NodeSet, Early>
     requires { AreOver system.now given.now }
-    ensures gives { Gives result (deleted_by goal system.now (orgs_among given.now) (order_view order.now)) }
-    ensures refused { IfErr result IsRefusal }
-    ensures fits { IfOk result (λ s. length s ≡ length system.now.sets) }
+    ensures { ReadsTo result (deleted_by goal system.now (orgs_among given.now) (order_view order.now))
+        (λ s. length s ≡ length system.now.sets) }
 {
     match goal {
         Goal::Intersect | Goal::Blocking | Goal::Quorums | Goal::Least | Goal::OrgBlocking => {
@@ -86,9 +84,8 @@ fn both_named(
     order: &Order,
 ) -> Result<NodeSet, Early>
     requires { AreOver system.now given.now }
-    ensures gives { Gives result (deleted_by Goal.Splits system.now (orgs_among given.now) (order_view order.now)) }
-    ensures refused { IfErr result IsRefusal }
-    ensures fits { IfOk result (λ s. length s ≡ length system.now.sets) }
+    ensures { ReadsTo result (deleted_by Goal.Splits system.now (orgs_among given.now) (order_view order.now))
+        (λ s. length s ≡ length system.now.sets) }
 {
     let mut faulty = faulty_named(alloc, system, given, order)?;
     let set = set_named(alloc, system, "--set", &order.set)?;
@@ -143,9 +140,7 @@ fn refuse_without_orgs(alloc: Global) -> Result<Reply, AllocError>
 
 // Blocking sets of organisations are sought over a file of them.
 fn orgs_needed(alloc: Global, goal: Goal, given: &Option<GivenOrgs>) -> Result<(), Early>
-    ensures gives { Gives result (spec_orgs_needed goal given.now) }
-    ensures refused { IfErr result IsRefusal }
-    ensures needed { IfOk result (λ _. goal ≡ Goal.OrgBlocking → IsSome given.now) }
+    ensures { ReadsTo result (spec_orgs_needed goal given.now) (λ _. goal ≡ Goal.OrgBlocking → IsSome given.now) }
 {
     match goal {
         Goal::OrgBlocking => match given {
@@ -180,9 +175,7 @@ fn header_asked(
     given: &Option<GivenOrgs>,
 ) -> Result<Header, Early>
     requires { AreOver system.now given.now }
-    ensures gives { Gives result (header_by_goal goal system.now given.now (order_view order.now)) }
-    ensures refused { IfErr result IsRefusal }
-    ensures fits { IfOk result (IsHeader system.now) }
+    ensures reads { ReadsTo result (header_by_goal goal system.now given.now (order_view order.now)) (IsHeader system.now) }
     ensures needed { IfOk result (λ _. goal ≡ Goal.OrgBlocking → IsSome given.now) }
 {
     orgs_needed(alloc, goal, given)?;
@@ -233,9 +226,7 @@ pub fn search_asked(
     requires read { AreRead system given }
     requires few { order.now.budget ≤ MOST_BUDGET }
     requires file { IsTrue (has_configuration (Command.Search goal)) }
-    ensures gives { Gives result (search_of goal system config.now given (order_view order.now)) }
-    ensures refused { IfErr result IsRefusal }
-    ensures fits { IfOk result FitsSearch }
+    ensures { ReadsTo result (search_of goal system config.now given (order_view order.now)) FitsSearch }
 {
     match header_asked(alloc, goal, order, &system, &given) {
         Ok(header) => {

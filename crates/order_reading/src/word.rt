@@ -1,5 +1,5 @@
 //! A word of the command line: a path or a name.
-ghost use Rattle.std.specs.Prelude.{◌≡◌, IfOk, option_map, string_bytes};
+ghost use Rattle.std.specs.Prelude.{◌≡◌, [], IfOk, option_map, string_bytes, unwrap_or};
 
 use std::alloc::{AllocError, Global};
 use std::marker::Model;
@@ -33,6 +33,16 @@ impl Word {
         ensures { result.now ≡ self.now }
     {
         self.text.as_str()
+    }
+}
+
+/// The word that an option gives, empty where it is not given.
+pub fn word_or_empty(word: &Option<String>) -> &str
+    ensures { result.now ≡ unwrap_or (option_map string_bytes word.now) [] }
+{
+    match word {
+        Some(word) => word.as_str(),
+        None => "",
     }
 }
 

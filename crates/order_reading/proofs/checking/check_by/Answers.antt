@@ -6,8 +6,8 @@ pub returns-clause-shows : goal.returns-clause-shows
 returns-clause-shows g c =
     let old = g.D.Desk.state c.args.desk.now in
     let new = g.D.Desk.state c.orgs_for.new.desk in
-    IfOk-weaker c.check-reply.result _ _ (λ reply shows tells yes. record {
+    IfOk-weaker c.check_file-reply.result _ _ (λ reply shows tells yes. record {
       orgs = c.in_ok-orgs.orgs;
       given = c.in_ok-orgs.ensures.gives tells;
-      cert = cert_held c.args.system.now c.args.config.now c.digest.result c.deref.result.now _ c.in_ok-orgs.orgs old new c.digest.ensures (c.in_ok-orgs.ensures.reads tells) c.deref.ensures (shows tells yes);
-    }) c.check-reply.ensures.shows
+      cert = cert_held c.args.system.now c.args.config.now c.digest.result c.deref.result.now _ c.in_ok-orgs.orgs old new c.digest.ensures (c.in_ok-orgs.ensures.desk.reads tells) c.deref.ensures (shows tells yes);
+    }) c.check_file-reply.ensures.shows

@@ -14,5 +14,5 @@ returns-clause-shows g c =
     IfErr-weaker c.over_config.result _ _ (λ e has tells. YesMeans-weaker _ _ e (λ means. record {
       config = c.in_ok-config.config.items;
       held = subst (λ (name : List ℕ). files name ≡ Some c.in_ok-config.config.items) c.deref.ensures (file_held _ (files c.deref.result.now) c.in_ok-config.config.items (c.in_ok-config.ensures.ok tells));
-      means = subst (λ (bytes : List ℕ). OfConfig (Means bytes files) bytes) c.deref-2.ensures.value (subst (λ (s : DeskState). OfConfig (Means c.deref-2.result.now s.files) c.deref-2.result.now) (c.in_ok-config.ensures.reads tells) means);
+      means = subst (λ (bytes : List ℕ). OfConfig (Means bytes files) bytes) c.deref-2.ensures.value (subst (λ (s : DeskState). OfConfig (Means c.deref-2.result.now s.files) c.deref-2.result.now) (c.in_ok-config.ensures.desk.reads tells) means);
     }) (has tells)) c.over_config.ensures.shows

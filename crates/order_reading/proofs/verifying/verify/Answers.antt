@@ -1,7 +1,0 @@
-use Rattle.desk_io.specs.State.{left_of}
-use Rattle.desk_io.specs.declared.desk.Which.TheVariants.{Cert}
-use Rattle.std.proofs.lemmas.Result.{IfOk-weaker}
-use Rattle.order_reading.proofs.verifying.verify.Goals as goal
-
-pub returns-clause-shows : goal.returns-clause-shows
-returns-clause-shows g c = IfOk-weaker c.verify_begun.result _ _ (λ reply shows tells yes. record { proof = left_of Cert (g.D.Desk.state c.begin.new.self); held = (c.in-Ok.ensures.begun tells).file; shows = shows tells yes }) c.verify_begun.ensures.shows
