@@ -1,11 +1,15 @@
 #!/usr/bin/env python3
 """Runs tools/hints and tools/pair on files that a slip hands them: what they say, and that they put out nothing then.
 
-Whether what they make is right is shown by the examples of the documents, where `check-lrat` and `check` read it. The program
-is not needed. The last line is 'tools: N passed, M failed'.
+Whether what they make is right is shown by the examples of the documents, where `check-lrat` and `check` read it. Of
+tools/arguments and tools/twice it shows what they count, and that docs/DECISIONS.md names each contract that the former lists.
+The program is not needed. The last line is 'tools: N passed, M failed'.
 """
 
+import importlib.machinery
+import importlib.util
 import os
+import re
 import subprocess
 import sys
 import tempfile
@@ -34,6 +38,67 @@ ROWS = [
     ("pair", b"UNSAT\n", 1, "", "no satisfying assignment"),
 ]
 
+# Functions, and of each how many arguments and clauses it has.
+CODE = """
+/// fn of_a_comment(one, two)
+fn none() { inner(|ensures| { "requires { fn(" }) }
+pub fn two<A: Fn(u8) -> u8, const N: usize>(first: [u8; 3], // one, two
+    second: &Map<u8, (u8, u8)>, // the last
+) -> Result<[u8; 3], Fault>
+    requires some { a < b }
+    ensures { OnOk result (λ r. { r } ≡ codes "}") }
+    ensures last { elim x [ (λ y. y) ] }
+{ let quote = b'"'; }
+fn declared(&self, x: [u8; 2]) -> u8
+    ensures { result ≡ 1 };
+"""
+COUNTS = [("none", 0, 0), ("two", 2, 3), ("declared", 2, 1)]
+
+# An import, and the names that another crate brings in by it.
+IMPORTS = [
+    ("use Rattle.low.specs.Found.{Lines as Other, word_of}", "low", {"", "Lines", "word_of"}),
+    ("use Rattle.low.specs.declared.answers.Answer.TheVariants as shown", "low", {"", "Answer", "TheVariants"}),
+    ("use low::{Answer, Search};", "low", {"", "Answer", "Search"}),
+    ("    low::verified(alloc)", "low", {"", "verified", "alloc"}),
+]
+
+# A name, its crates, which crates bring it in from which, and whether it may stand twice.
+TWICE = [
+    ("word", ["a", "b"], {}, True),
+    ("word", ["a", "b"], {"a": {"word": {"c"}}}, True),
+    ("word", ["a", "b"], {"a": {"word": {"c"}}, "b": {"word": {"d"}}}, False),
+    ("Found", ["a", "b"], {"a": {"Found": {"c"}}, "b": {"Found": {"d"}}}, True),
+    ("Found", ["a", "b"], {"a": {"Found": {"c"}}, "b": {"Found": {"c", "d"}}}, False),
+    ("Found", ["a", "b"], {"a": {"Found": {"b"}}, "b": {"Found": {"d"}}}, False),
+    ("unless", ["a", "b"], {"a": {"unless": {"c"}}, "b": {"unless": {"c"}}}, True),
+    ("Text", ["a", "b", "cert_lines"], {"a": {"Text": {"c"}}, "b": {"Text": {"c"}}, "cert_lines": {"Text": {"d"}}}, True),
+    ("Text", ["a", "b", "cert_lines"], {"a": {"Text": {"c"}}, "b": {"Text": {"d"}}, "cert_lines": {"Text": {"d"}}}, False),
+]
+
+
+def tool(name):
+    """A tool as a module."""
+    sys.dont_write_bytecode = True
+    loader = importlib.machinery.SourceFileLoader(name, os.path.join(TOP, "tools", name))
+    made = importlib.util.module_from_spec(importlib.util.spec_from_loader(name, loader))
+    loader.exec_module(made)
+    return made
+
+
+def source_tools():
+    """What tools/arguments and tools/twice say, each with what it should be."""
+    arguments, twice = tool("arguments"), tool("twice")
+    yield "arguments of CODE", list(arguments.functions(CODE)), COUNTS
+    for text, crate, names in IMPORTS:
+        ((model, code, path),) = twice.IMPORT.findall(text)
+        yield "twice of %r" % text, (model or code, twice.names_of(path) | {""}), (crate, names)
+    for name, crates, cited, may in TWICE:
+        yield "twice of %s in %s" % (name, cited), twice.reason_of(name, crates, cited) is not None, may
+    with open(os.path.join(TOP, "docs", "DECISIONS.md"), encoding="utf-8") as it:
+        (line,) = re.findall(r"^- \*\*Contracts of more than twelve clauses\*\*.*", it.read(), re.M)
+    long = {name for _, name, _, clauses in arguments.functions_of(arguments.crates_of_the_program()) if clauses > arguments.MOST_CLAUSES}
+    yield "contracts that DECISIONS lacks", sorted(long - set(re.findall(r"`(\w+)`", line))), []
+
 
 def main():
     failed = 0
@@ -48,7 +113,12 @@ def main():
             if found[:2] != (status, text) or said not in found[2] or "Traceback" in found[2] or (status == 0) != (found[2] == ""):
                 failed += 1
                 print("tools: %s of %r: %r" % (tool, held, found))
-    print("tools: %d passed, %d failed" % (len(ROWS) - failed, failed))
+    rows = list(source_tools())
+    for what, found, wanted in rows:
+        if found != wanted:
+            failed += 1
+            print("tools: %s: %r" % (what, found))
+    print("tools: %d passed, %d failed" % (len(ROWS) + len(rows) - failed, failed))
     return 1 if failed else 0
 
 
