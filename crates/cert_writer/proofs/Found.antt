@@ -19,7 +19,7 @@ use Rattle.certificate_file.specs.Meaning.{part_from}
 use Rattle.certificate_file.specs.declared.places.Header.{Header}
 use Rattle.certificate_file.specs.declared.places.Aim.{Aim}
 use Rattle.certificate_file.specs.declared.places.Aim.TheVariants as aim
-use Rattle.certificate_file.specs.declared.places.Answer.TheVariants as shown
+use Rattle.certificate_file.specs.declared.places.Conclusion.TheVariants as shown
 use Rattle.cert_writer.specs.Promises.{IsHeader, subject, part_of, faulty_in, EndsAs, IsLogOf}
 use Rattle.cert_writer.proofs.Pairs.{part_is_restricted, pair_of_part_accepted}
 use Rattle.cert_writer.proofs.LogLaws.{log_of_accepted}
@@ -28,7 +28,7 @@ use Rattle.quorum_questions.specs.declared.asking.TheConstants.{MOST_UNITS}
 use Rattle.quorum_questions.specs.declared.answers.Size.{Size}
 use Rattle.quorum_questions.specs.declared.answers.Answer.{Answer as Found}
 use Rattle.quorum_questions.specs.declared.answers.Answer.TheVariants.{Yes, No, Spent}
-use Rattle.cert_writer.specs.Finding.{Search, given_of, part, faulty, cert_of, Finds, CanBeWritten}
+use Rattle.cert_writer.specs.Finding.{Request, given_of, part, faulty, cert_of, Finds, CanBeWritten}
 use Rattle.cert_lines.specs.declared.lines.TheConstants.{MAX_LINES}
 
 -- ---- the formula of the part
@@ -66,7 +66,7 @@ of_log f h to log size new is sized run few ends =
       ends = ends;
     }
 
-pub found : (s : Search) (found : Found) → IsSystem s.whole.names s.whole.sets → IsStrictlySortedBy name_cmp s.whole.names → length s.digest ≡ 32 → IsBytes s.digest → IsHeader s.whole s.header → s.budget ≤ MOST_UNITS → Shows (part s).sets (faulty s) s.budget found → Finds s found (cert_of s found)
+pub found : (s : Request) (found : Found) → IsSystem s.whole.names s.whole.sets → IsStrictlySortedBy name_cmp s.whole.names → length s.digest ≡ 32 → IsBytes s.digest → IsHeader s.whole s.header → s.budget ≤ MOST_UNITS → Shows (part s).sets (faulty s) s.budget found → Finds s found (cert_of s found)
 found s (Yes log size) is sorted long bytes head small r =
     let few : length log + 7 ≤ MAX_LINES = omega (arith, r.run.short, r.taken, small) in
     record {

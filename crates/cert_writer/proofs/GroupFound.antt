@@ -28,10 +28,10 @@ use Rattle.group_lists.specs.declared.outcome.GroupOutcome.{GroupOutcome}
 use Rattle.group_lists.specs.declared.outcome.GroupOutcome.TheVariants.{Whole, Spent}
 use Rattle.quorum_questions.specs.declared.asking.TheConstants.{MOST_UNITS}
 use Rattle.certificate_file.specs.declared.given.GivenOrgs.{GivenOrgs}
-use Rattle.certificate_file.specs.declared.places.Answer.TheVariants.{OrgBlocking, PartialOrgBlocking}
+use Rattle.certificate_file.specs.declared.places.Conclusion.TheVariants.{OrgBlocking, PartialOrgBlocking}
 use Rattle.cert_lines.specs.declared.lines.TheConstants.{MAX_LINES}
 use Rattle.cert_writer.specs.Promises.{IsHeader, AreOrgs, groups_in}
-use Rattle.cert_writer.specs.Finding.{Search, given_of, part, faulty}
+use Rattle.cert_writer.specs.Finding.{Request, given_of, part, faulty}
 use Rattle.cert_writer.specs.Grouping.{group_cert_of, GroupsShow, FindsGroups, places_for, CanBeGroupLine, CanBeGroups}
 use Rattle.cert_writer.proofs.ListFound.{same}
 use Rattle.cert_writer.proofs.GroupLaws.{groups_of_accepted}
@@ -47,7 +47,7 @@ group_list f b groups sets journal same list whole =
 
 -- ---- what is found
 
-module _ (s : Search) (is : IsSystem s.whole.names s.whole.sets) (sorted : IsStrictlySortedBy name_cmp s.whole.names) (long : length s.digest ≡ 32) (bytes : IsBytes s.digest) (head : IsHeader s.whole s.header) (small : s.budget ≤ MOST_UNITS) (given : GivenOrgs) (groups : List Group) where
+module _ (s : Request) (is : IsSystem s.whole.names s.whole.sets) (sorted : IsStrictlySortedBy name_cmp s.whole.names) (long : length s.digest ≡ 32) (bytes : IsBytes s.digest) (head : IsHeader s.whole s.header) (small : s.budget ≤ MOST_UNITS) (given : GivenOrgs) (groups : List Group) where
   pub groups_found : (outcome : GroupOutcome) → s.orgs ≡ Some given → AreOrgs s.whole given → groups ≡ groups_in s.whole s.header given.orgs → GroupsShow (part s).sets (faulty s) (tables_of groups) s.budget outcome → FindsGroups s groups outcome (group_cert_of s given groups outcome)
   groups_found (Whole sets journal) orgs are groups_are r =
       let holds = r.holds in

@@ -49,8 +49,8 @@ use Rattle.certificate_file.specs.declared.given.GivenOrgs.{GivenOrgs}
 use Rattle.certificate_file.specs.declared.places.Header.{Header}
 use Rattle.certificate_file.specs.declared.places.Accepted.{Accepted}
 use Rattle.certificate_file.specs.declared.places.Subject.{Subject}
-use Rattle.certificate_file.specs.declared.places.Answer.{Answer}
-use Rattle.certificate_file.specs.declared.places.Answer.TheVariants.{OrgBlocking, PartialOrgBlocking}
+use Rattle.certificate_file.specs.declared.places.Conclusion.{Conclusion}
+use Rattle.certificate_file.specs.declared.places.Conclusion.TheVariants.{OrgBlocking, PartialOrgBlocking}
 use Rattle.certificate_file.specs.declared.places.Place.TheVariants.{AtTitle, AtKind, AtOrgs, AtReach}
 use Rattle.certificate_file.specs.declared.places.State.{State}
 use Rattle.certificate_file.specs.declared.places.State.TheVariants.{Going, Done}
@@ -184,7 +184,7 @@ module _ (f : System) (given : Given) (h : Header) (is : IsSystem f.names f.sets
   abbrev place : ListKind → Database → List Table → ℕ → State
   place kind database sets units = Going (AtReach (subject f h) (AtGroups (group_listing_on kind p (list_checking r.vars database) sets units)))
 
-  abbrev shown_of : ListKind → List JournalLine → Answer
+  abbrev shown_of : ListKind → List JournalLine → Conclusion
   shown_of kind journal = shown_by_groups p.groups r kind journal
 
   takes_body : (kind : ListKind) (l : ℕ) (new : Database) (journal : List JournalLine) → JournalRun r kind r.start journal new → AllByRecursion IsFine journal → ListEndsAs kind journal

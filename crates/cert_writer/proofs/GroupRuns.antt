@@ -33,7 +33,7 @@ use Rattle.reach_kinds.specs.Bodies.{and_then, listed_by, literal_in, asks_steps
 use Rattle.reach_kinds.specs.GroupBodies.{rules_over, group_listing_on, is_old_group_step, with_group_step, after_group_step, group_step_unless, group_step, group_end, group_text}
 use Rattle.certificate_file.specs.declared.given.Given.{Given}
 use Rattle.certificate_file.specs.declared.places.Subject.{Subject}
-use Rattle.certificate_file.specs.declared.places.Answer.TheVariants.{OrgBlocking, PartialOrgBlocking}
+use Rattle.certificate_file.specs.declared.places.Conclusion.TheVariants.{OrgBlocking, PartialOrgBlocking}
 use Rattle.certificate_file.specs.declared.places.Place.TheVariants.{AtReach}
 use Rattle.certificate_file.specs.declared.places.State.TheVariants.{Going, Done}
 use Rattle.reach_kinds.specs.declared.places.GroupPart.{GroupPart}

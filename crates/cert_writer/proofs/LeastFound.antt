@@ -19,11 +19,11 @@ use Rattle.least_quorum.specs.declared.outcome.LeastOutcome.TheVariants as found
 use Rattle.blocking_lists.specs.Lines.{HasLineNumbers, HasFewWords}
 use Rattle.quorum_questions.specs.declared.asking.TheConstants.{MOST_UNITS}
 use Rattle.certificate_file.specs.Acceptance.{checked}
-use Rattle.certificate_file.specs.declared.places.Answer.TheVariants.{Least, PartialLeast}
+use Rattle.certificate_file.specs.declared.places.Conclusion.TheVariants.{Least, PartialLeast}
 use Rattle.cert_lines.specs.declared.lines.TheConstants.{MAX_LINES}
 use Rattle.cert_writer.specs.Texts.{least_text}
-use Rattle.cert_writer.specs.Promises.{IsHeader, greatest_in}
-use Rattle.cert_writer.specs.Finding.{Search, given_of, part, faulty}
+use Rattle.cert_writer.specs.Promises.{IsHeader, greatest_of_part}
+use Rattle.cert_writer.specs.Finding.{Request, given_of, part, faulty}
 use Rattle.cert_writer.specs.Least.{least_cert_of, raised_if_any, LeastShows, FindsLeast, CanBeLeast}
 use Rattle.cert_writer.proofs.ListLaws.{least_of_accepted}
 use Rattle.cert_writer.proofs.ListFound.{HasPlacesFor, lines_can}
@@ -34,13 +34,13 @@ use Rattle.cert_writer.proofs.ListFound.{HasPlacesFor, lines_can}
 few_nodes : (g : ℕ) → counter_vars g ≤ MOST_VARS → g ≤ MOST_VARS
 few_nodes g small = omega arith
 
-module _ (s : Search) (is : IsSystem s.whole.names s.whole.sets) (sorted : IsStrictlySortedBy name_cmp s.whole.names) (long : length s.digest ≡ 32) (bytes : IsBytes s.digest) (head : IsHeader s.whole s.header) (small : s.budget ≤ MOST_UNITS) where
+module _ (s : Request) (is : IsSystem s.whole.names s.whole.sets) (sorted : IsStrictlySortedBy name_cmp s.whole.names) (long : length s.digest ≡ 32) (bytes : IsBytes s.digest) (head : IsHeader s.whole s.header) (small : s.budget ≤ MOST_UNITS) where
   abbrev g : ℕ
   g = size (greatest_of (part s).sets (faulty s))
 
   -- a journal that ends, and what its certificate shows
   whole_accepted : (answer : Option Table) (left : ℕ) (journal : List JournalLine) → LeastHolds (part s).sets (faulty s) s.budget left answer journal → All HasLineNumbers journal → All (HasFewWords (counter_vars g)) journal → counter_vars g ≤ MOST_VARS
-      → checked s.whole (given_of s) (least_text s.whole.names (part s).names s.digest s.header (size (greatest_in s.whole s.header)) kind.Whole journal) ≡ Ok (record { header = s.header; answer = Least (raised_if_any s.whole s.header answer) })
+      → checked s.whole (given_of s) (least_text s.whole.names (part s).names s.digest s.header (size (greatest_of_part s.whole s.header)) kind.Whole journal) ≡ Ok (record { header = s.header; answer = Least (raised_if_any s.whole s.header answer) })
   whole_accepted answer left journal holds numbers words counter =
       let few : length journal + 7 ≤ MAX_LINES = omega (arith, holds.few_steps.short, holds.taken, small, few_nodes g counter) in
       least_of_accepted s.whole (given_of s) s.header is sorted long bytes head (part s) kind.Whole journal refl (record { small = counter; new = holds.journal_is.whole.after; run = holds.journal_is.whole.run; falls = holds.journal_is.falling; numbers = numbers; few_words = words; few = few; ends = holds.journal_is.whole.ends })

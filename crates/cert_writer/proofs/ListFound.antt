@@ -28,14 +28,14 @@ use Rattle.blocking_lists.specs.declared.outcome.ListOutcome.{ListOutcome}
 use Rattle.blocking_lists.specs.declared.outcome.ListOutcome.TheVariants.{Whole, Spent}
 use Rattle.certificate_file.specs.Known.{IsPart}
 use Rattle.certificate_file.specs.Meaning.{part_from}
-use Rattle.certificate_file.specs.Acceptance.{answer_of}
-use Rattle.reach_kinds.specs.Bodies.{whole_of, part_of as part_of_list}
+use Rattle.certificate_file.specs.Acceptance.{conclusion_of}
+use Rattle.reach_kinds.specs.Bodies.{whole_of, partial_of}
 use Rattle.certificate_file.proofs.WholeLaws.{part_is}
 use Rattle.quorum_questions.specs.declared.asking.TheConstants.{MOST_UNITS}
 use Rattle.cert_lines.specs.declared.lines.TheConstants.{MAX_LINES}
 use Rattle.cert_writer.specs.Texts.{raised_table}
 use Rattle.cert_writer.specs.Promises.{IsHeader}
-use Rattle.cert_writer.specs.Finding.{Search, given_of, part, faulty}
+use Rattle.cert_writer.specs.Finding.{Request, given_of, part, faulty}
 use Rattle.cert_writer.specs.Listing.{list_cert_of, ListShows, FindsList, CanBeLine, CanBeListed}
 use Rattle.cert_writer.proofs.ListLaws.{lists_ordered, list_of_accepted}
 use Rattle.cert_writer.proofs.Pairs.{part_is_restricted}
@@ -62,7 +62,7 @@ raised_list sought f b nodes sets journal same count list whole =
 
 -- ---- what is found
 
-module _ (s : Search) (is : IsSystem s.whole.names s.whole.sets) (sorted : IsStrictlySortedBy name_cmp s.whole.names) (long : length s.digest ≡ 32) (bytes : IsBytes s.digest) (head : IsHeader s.whole s.header) (small : s.budget ≤ MOST_UNITS) (sought : Listed) where
+module _ (s : Request) (is : IsSystem s.whole.names s.whole.sets) (sorted : IsStrictlySortedBy name_cmp s.whole.names) (long : length s.digest ≡ 32) (bytes : IsBytes s.digest) (head : IsHeader s.whole s.header) (small : s.budget ≤ MOST_UNITS) (sought : Listed) where
   abbrev nodes : Table
   nodes = part_from s.whole s.header.from
 
@@ -87,7 +87,7 @@ module _ (s : Search) (is : IsSystem s.whole.names s.whole.sets) (sorted : IsStr
         cert_is = refl;
         accepted =
             list_of_accepted s.whole (given_of s) s.header is sorted long bytes head sought (part s) kind.Whole journal refl (record { lists = r.lists; new = whole.after; run = whole.run; numbers = r.numbers; few_words = r.few_words; few = few; ends = whole.ends })
-            ∙ ap (λ (xs : List Table). Ok (record { header = s.header; answer = answer_of (whole_of sought xs) })) (lists_ordered sought r.lists (map (raised_table nodes) (sets_in sought journal)) ∙ raised_list sought (part s).sets (faulty s) nodes sets.items journal same count holds.list whole);
+            ∙ ap (λ (xs : List Table). Ok (record { header = s.header; answer = conclusion_of (whole_of sought xs) })) (lists_ordered sought r.lists (map (raised_table nodes) (sets_in sought journal)) ∙ raised_list sought (part s).sets (faulty s) nodes sets.items journal same count holds.list whole);
       }
   list_found (Spent journal) r =
       let holds = r.holds.1 in
@@ -97,7 +97,7 @@ module _ (s : Search) (is : IsSystem s.whole.names s.whole.sets) (sorted : IsStr
         cert_is = refl;
         accepted =
             list_of_accepted s.whole (given_of s) s.header is sorted long bytes head sought (part s) kind.Partial journal refl (record { lists = r.lists; new = holds.after; run = one.run; numbers = r.numbers; few_words = r.few_words; few = few; ends = one.opens })
-            ∙ ap (λ (n : ℕ). Ok (record { header = s.header; answer = answer_of (part_of_list sought n) })) holds.taken;
+            ∙ ap (λ (n : ℕ). Ok (record { header = s.header; answer = conclusion_of (partial_of sought n) })) holds.taken;
       }
 
 -- ---- what can be written

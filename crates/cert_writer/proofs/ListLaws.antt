@@ -39,8 +39,8 @@ use Rattle.lrat_text.specs.Left.{spaced}
 use Rattle.lrat_text.specs.Texts.{line_of, IsId}
 use Rattle.blocking_lists.specs.Lines.{HasLineNumbers, HasFewWords}
 use Rattle.blocking_lists.specs.Outcomes.{rules}
-use Rattle.certificate_file.specs.Acceptance.{take_line, checked, answer_of}
-use Rattle.reach_kinds.specs.Bodies.{list_part, rules_of, listing_on, list_checking, counted_listing, body_begins, is_below, with_sought, in_order, whole_of, part_of as part_of_list}
+use Rattle.certificate_file.specs.Acceptance.{take_line, checked, conclusion_of}
+use Rattle.reach_kinds.specs.Bodies.{list_part, rules_of, listing_on, list_checking, counted_listing, body_begins, is_below, with_sought, in_shown_order, whole_of, partial_of}
 use Rattle.reach_kinds.specs.declared.places.ListPart.{ListPart}
 use Rattle.reach_kinds.proofs.Falling.{last_map}
 use Rattle.certificate_file.specs.Meaning.{part_from}
@@ -49,8 +49,8 @@ use Rattle.certificate_file.specs.declared.given.Given.{Given}
 use Rattle.certificate_file.specs.declared.places.Header.{Header}
 use Rattle.certificate_file.specs.declared.places.Accepted.{Accepted}
 use Rattle.certificate_file.specs.declared.places.Subject.{Subject}
-use Rattle.certificate_file.specs.declared.places.Answer.{Answer}
-use Rattle.certificate_file.specs.declared.places.Answer.TheVariants.{Least, PartialLeast}
+use Rattle.certificate_file.specs.declared.places.Conclusion.{Conclusion}
+use Rattle.certificate_file.specs.declared.places.Conclusion.TheVariants.{Least, PartialLeast}
 use Rattle.certificate_file.specs.declared.places.Place.TheVariants.{AtTitle, AtKind, AtReach}
 use Rattle.reach_kinds.specs.declared.places.ReachPlace.TheVariants.{AtCounter, AtList}
 use Rattle.certificate_file.specs.declared.places.State.{State}
@@ -58,7 +58,7 @@ use Rattle.certificate_file.specs.declared.places.State.TheVariants.{Going, Done
 use Rattle.certificate_file.proofs.WholeLaws.{part_is}
 use Rattle.cert_lines.specs.declared.lines.TheConstants.{MAX_LINES}
 use Rattle.cert_writer.specs.Texts.{Text, joined, header_lines, list_kind_of, journal_line, list_text, counter_line, least_text, raised_table}
-use Rattle.cert_writer.specs.Promises.{IsHeader, subject, part_of, faulty_in, raised_sets, ListEndsAs, rules_in, shown_by_list, IsJournalOf, greatest_in, least_rules, shown_by_least, IsLeastJournalOf}
+use Rattle.cert_writer.specs.Promises.{IsHeader, subject, part_of, faulty_in, raised_sets, ListEndsAs, rules_in, shown_by_list, IsJournalOf, greatest_of_part, least_rules, shown_by_least, IsLeastJournalOf}
 use Rattle.cert_writer.proofs.Joined.{Takes, takes-append, IsLine, AreLines, are_lines-append, accepted_text}
 use Rattle.cert_writer.proofs.Words.{IsWord, is_plain, is_word, words_of-worded, plain-worded}
 use Rattle.cert_writer.proofs.Names.{AreNames, are_keys, listable, names-kept}
@@ -124,7 +124,7 @@ both_all P Q (x ∷ xs) p q = ((p.0, q.0), both_all P Q xs p.1 q.1)
 
 -- ---- what is asked of ever smaller quorums
 
-pub lists_ordered : (sought : Listed) → HasLists sought → (xs : List Table) → in_order sought xs ≡ ordered xs
+pub lists_ordered : (sought : Listed) → HasLists sought → (xs : List Table) → in_shown_order sought xs ≡ ordered xs
 lists_ordered listed.Quorum all xs = refl
 lists_ordered listed.Blocking all xs = refl
 lists_ordered listed.Smaller all xs = absurd all
@@ -213,7 +213,7 @@ module _ (f : System) (given : Given) (h : Header) (is : IsSystem f.names f.sets
   first_place kind = Going (AtReach (subject f h) (AtList (listing_on sought kind whole_part (list_checking r.vars r.start) [] 0)))
 
   -- what its certificate shows
-  abbrev shown_of : ListKind → List JournalLine → Answer
+  abbrev shown_of : ListKind → List JournalLine → Conclusion
   shown_of kind journal = shown_by_list sought f h r kind journal
 
   takes_body : (kind : ListKind) (l : ℕ) (new : Database) (journal : List JournalLine) → r.vars ≤ MOST_VARS → JournalRun r kind r.start journal new → AllByRecursion IsFine journal → FallOn sought nodes [] journal → ListEndsAs kind journal
@@ -224,7 +224,7 @@ module _ (f : System) (given : Given) (h : Header) (is : IsSystem f.names f.sets
       let sets = map (spread nodes) (sets_in sought journal) in
       let taken = takes_journal f given s sought Part are part_names (part.places ∙ is.places) same count (omega (arith, small)) l r.start new [] sets 0 (journal_units r journal) journal fine on run falls refl (omega arith) in
       let lines = map (journal_line (kept nodes f.names)) journal in
-      takes-append f given l (l + length lines) (first_place Part) (Going (AtReach s (AtList (listing_on sought Part whole_part (list_checking r.vars new) sets (journal_units r journal))))) (Done (record { header = h; answer = answer_of (part_of_list sought (journal_units r journal)) })) lines (codes "end" ∷ []) refl taken
+      takes-append f given l (l + length lines) (first_place Part) (Going (AtReach s (AtList (listing_on sought Part whole_part (list_checking r.vars new) sets (journal_units r journal))))) (Done (record { header = h; answer = conclusion_of (partial_of sought (journal_units r journal)) })) lines (codes "end" ∷ []) refl taken
       (takes_part_end f given s sought (l + length lines) r.vars new sets (journal_units r journal))
   takes_body Whole l new journal small run fine falls ends =
       let s = subject f h in
@@ -238,13 +238,13 @@ module _ (f : System) (given : Given) (h : Header) (is : IsSystem f.names f.sets
       let taken = takes_journal f given s sought Whole are part_names (part.places ∙ is.places) same count (omega (arith, small)) l r.start split.0 [] sets 0 (journal_units r before) before each.0 on split.1 front_falls refl (omega arith) in
       let lines = map (journal_line (kept nodes f.names)) before in
       let end = takes_refuted f given s are part_names (part.places ∙ is.places) same count sought (omega (arith, small)) (l + length lines) split.0 new sets (journal_units r before) last each.1 ends.ends split.2 in
-      let whole = takes-append f given l (l + length lines) (first_place Whole) (Going (AtReach s (AtList (listing_on sought Whole whole_part (list_checking r.vars split.0) sets (journal_units r before))))) (Done (record { header = h; answer = answer_of (whole_of sought (in_order sought sets)) })) lines (journal_line (kept nodes f.names) last ∷ codes "end" ∷ []) refl taken end in
+      let whole = takes-append f given l (l + length lines) (first_place Whole) (Going (AtReach s (AtList (listing_on sought Whole whole_part (list_checking r.vars split.0) sets (journal_units r before))))) (Done (record { header = h; answer = conclusion_of (whole_of sought (in_shown_order sought sets)) })) lines (journal_line (kept nodes f.names) last ∷ codes "end" ∷ []) refl taken end in
       let texts : lines ++ journal_line (kept nodes f.names) last ∷ codes "end" ∷ [] ≡ map (journal_line (kept nodes f.names)) journal ++ codes "end" ∷ [] =
       sym (split_lines (journal_line (kept nodes f.names)) before last (codes "end" ∷ [])) ∙ ap (λ (ls : List JournalLine). map (journal_line (kept nodes f.names)) ls ++ codes "end" ∷ []) (sym ends.is) in
       let those : sets_in sought before ≡ sets_in sought journal = sym (append-nil (sets_in sought before)) ∙ ap (λ (xs : List Table). sets_in sought before ++ xs) (sym (no_set sought last ends.ends)) ∙ sym (sets_append sought before (last ∷ [])) ∙ ap (sets_in sought) (sym ends.is) in
       let raised : sets ≡ raised_sets f h (sets_in sought journal) = all_raised nodes (sets_in sought before) ∙ ap (λ (xs : List Table). map (raised_table nodes) xs) those in
-      subst (λ (xs : List Table). Takes f given l (first_place Whole) (map (journal_line (kept nodes f.names)) journal ++ codes "end" ∷ []) (Done (record { header = h; answer = answer_of (whole_of sought (in_order sought xs)) }))) raised
-      (subst (λ (ls : List Text). Takes f given l (first_place Whole) ls (Done (record { header = h; answer = answer_of (whole_of sought (in_order sought sets)) }))) texts whole)
+      subst (λ (xs : List Table). Takes f given l (first_place Whole) (map (journal_line (kept nodes f.names)) journal ++ codes "end" ∷ []) (Done (record { header = h; answer = conclusion_of (whole_of sought (in_shown_order sought xs)) }))) raised
+      (subst (λ (ls : List Text). Takes f given l (first_place Whole) ls (Done (record { header = h; answer = conclusion_of (whole_of sought (in_shown_order sought sets)) }))) texts whole)
     where
       fall_front : (sets : List Table) (xs ys : List JournalLine) → FallOn sought nodes sets (xs ++ ys) → FallOn sought nodes sets xs
       fall_front sets [] ys falls = tt
@@ -362,9 +362,9 @@ module _ (f : System) (given : Given) (h : Header) (is : IsSystem f.names f.sets
   last_shown Part journal r is_r = ap (λ (x : Rules). PartialLeast (journal_units x journal)) is_r
 
   pub least_of_accepted : (p : System) (kind : ListKind) (journal : List JournalLine) → p ≡ part_of f h.from → IsLeastJournalOf f h kind journal
-      → checked f given (least_text f.names p.names given.digest h (size (greatest_in f h)) kind journal) ≡ Ok (record { header = h; answer = shown_by_least f h kind journal })
+      → checked f given (least_text f.names p.names given.digest h (size (greatest_of_part f h)) kind journal) ≡ Ok (record { header = h; answer = shown_by_least f h kind journal })
   least_of_accepted p kind journal p_is j =
       let e : part_of f h.from ≡ restricted (part_from f h.from) f = part_is_restricted f h.from is in
-      ap (λ (x : System). checked f given (least_text f.names x.names given.digest h (size (greatest_in f h)) kind journal)) p_is
+      ap (λ (x : System). checked f given (least_text f.names x.names given.digest h (size (greatest_of_part f h)) kind journal)) p_is
       ∙ subst (LeastSo kind journal j.new) (sym e) (least_so kind journal j.new j.falls j.numbers j.few j.ends) j.small j.run j.few_words
-      ∙ ap (λ (a : Answer). Ok (record { header = h; answer = a })) (last_shown kind journal (least_rules f h) refl)
+      ∙ ap (λ (a : Conclusion). Ok (record { header = h; answer = a })) (last_shown kind journal (least_rules f h) refl)

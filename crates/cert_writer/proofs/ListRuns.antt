@@ -37,12 +37,12 @@ use Rattle.cert_lines.specs.Words.{Word, words_of}
 use Rattle.cert_lines.specs.declared.faults.CertError.{CertError}
 use Rattle.cert_lines.specs.declared.faults.CertError.TheVariants.{NotNew}
 use Rattle.certificate_file.specs.Acceptance.{take_line}
-use Rattle.reach_kinds.specs.Bodies.{and_then, listed_by, literal_in, asks_steps, is_old_step, in_order, whole_of, part_of, asks_smaller, is_below, rules_of, with_step, after_list_step, list_step, list_step_unless, list_end, list_text, list_part, listing_on, list_checking, is_covered, put_last, with_sought}
+use Rattle.reach_kinds.specs.Bodies.{and_then, listed_by, literal_in, asks_steps, is_old_step, in_shown_order, whole_of, partial_of, asks_smaller, is_below, rules_of, with_step, after_list_step, list_step, list_step_unless, list_end, list_text, list_part, listing_on, list_checking, is_covered, put_last, with_sought}
 use Rattle.certificate_file.specs.declared.given.Given.{Given}
 use Rattle.certificate_file.specs.declared.places.Subject.{Subject}
 use Rattle.reach_kinds.specs.declared.places.Listing.{Listing}
 use Rattle.certificate_file.specs.declared.places.Place.TheVariants.{AtReach}
-use Rattle.certificate_file.specs.Acceptance.{in_reach, answer_of}
+use Rattle.certificate_file.specs.Acceptance.{in_reach, conclusion_of}
 use Rattle.reach_kinds.specs.declared.places.ReachPlace.TheVariants.{AtList, AtEnd as Ended}
 use Rattle.certificate_file.specs.declared.places.State.TheVariants.{Going, Done}
 use Rattle.cert_writer.specs.Texts.{Text, journal_line}
@@ -195,18 +195,18 @@ pub takes_refuted : (f : System) (given : Given) (s : Subject) (are : AreNames f
     (same : length (list_part f s.nodes s.header.faulty).faulty ≡ length (list_part f s.nodes s.header.faulty).system.sets) (count : length (list_part f s.nodes s.header.faulty).system.sets ≡ size s.nodes) (sought : Listed) (small : (rules_of sought (list_part f s.nodes s.header.faulty)).vars < 2147483648)
     (l : ℕ) (old new : Database) (sets : List Table) (units : ℕ) (last : JournalLine) → HasLineNumbers last × HasFewWords (rules_of sought (list_part f s.nodes s.header.faulty)).vars last → line_progress last ≡ Refuted
     → JournalRun (rules_of sought (list_part f s.nodes s.header.faulty)) Whole old (last ∷ []) new
-    → Takes f given l (Going (AtReach s (AtList (listing_on sought Whole (list_part f s.nodes s.header.faulty) (list_checking (rules_of sought (list_part f s.nodes s.header.faulty)).vars old) sets units)))) (journal_line (kept s.nodes f.names) last ∷ codes "end" ∷ []) (Done (record { header = s.header; answer = answer_of (whole_of sought (in_order sought sets)) }))
+    → Takes f given l (Going (AtReach s (AtList (listing_on sought Whole (list_part f s.nodes s.header.faulty) (list_checking (rules_of sought (list_part f s.nodes s.header.faulty)).vars old) sets units)))) (journal_line (kept s.nodes f.names) last ∷ codes "end" ∷ []) (Done (record { header = s.header; answer = conclusion_of (whole_of sought (in_shown_order sought sets)) }))
 unfolding take_line
 takes_refuted f given s are part places same count sought small l old new sets units (SetLine which id u) fine ends run = absurd cc
 takes_refuted f given s are part places same count sought small l old new sets units (StepLine (Deletion id ids)) fine ends run = absurd cc
 takes_refuted f given s are part places same count sought small l old new sets units (StepLine (Addition id lits hints)) fine ends run = (
-  Going (AtReach s (Ended (whole_of sought (in_order sought sets)))),
+  Going (AtReach s (Ended (whole_of sought (in_shown_order sought sets)))),
   lemma_taken f given s sought Whole are part places same count small l id lits hints old sets units fine refl run.0 run.1
       ∙ ap (λ (p : Progress). Ok (in_reach s (after_list_step (listing_on sought Whole (list_part f s.nodes s.header.faulty) (list_checking (rules_of sought (list_part f s.nodes s.header.faulty)).vars (after_step old (Addition id lits hints))) sets (units + 1)) p))) ends,
-  (Done (record { header = s.header; answer = answer_of (whole_of sought (in_order sought sets)) }), refl, refl),
+  (Done (record { header = s.header; answer = conclusion_of (whole_of sought (in_shown_order sought sets)) }), refl, refl),
 )
 
 -- the last line of a part of a list
-pub takes_part_end : (f : System) (given : Given) (s : Subject) (sought : Listed) (l vars : ℕ) (database : Database) (sets : List Table) (units : ℕ) → Takes f given l (Going (AtReach s (AtList (listing_on sought Part (list_part f s.nodes s.header.faulty) (list_checking vars database) sets units)))) (codes "end" ∷ []) (Done (record { header = s.header; answer = answer_of (part_of sought units) }))
+pub takes_part_end : (f : System) (given : Given) (s : Subject) (sought : Listed) (l vars : ℕ) (database : Database) (sets : List Table) (units : ℕ) → Takes f given l (Going (AtReach s (AtList (listing_on sought Part (list_part f s.nodes s.header.faulty) (list_checking vars database) sets units)))) (codes "end" ∷ []) (Done (record { header = s.header; answer = conclusion_of (partial_of sought units) }))
 unfolding take_line
-takes_part_end f given s sought l vars database sets units = (Done (record { header = s.header; answer = answer_of (part_of sought units) }), refl, refl)
+takes_part_end f given s sought l vars database sets units = (Done (record { header = s.header; answer = conclusion_of (partial_of sought units) }), refl, refl)

@@ -31,7 +31,7 @@ use Rattle.clause_encoder.specs.declared.version.Version.TheVariants.{One, Two}
 use Rattle.certificate_file.specs.declared.given.Given.{Given}
 use Rattle.certificate_file.specs.declared.places.Aim.{Aim}
 use Rattle.certificate_file.specs.declared.places.Aim.TheVariants as aim
-use Rattle.certificate_file.specs.declared.places.Answer.TheVariants.{Refutation, Partial}
+use Rattle.certificate_file.specs.declared.places.Conclusion.TheVariants.{Refutation, Partial}
 use Rattle.certificate_file.specs.declared.places.Header.{Header}
 use Rattle.certificate_file.specs.declared.places.Subject.{Subject}
 use Rattle.certificate_file.specs.declared.places.Place.TheVariants.{AtTitle, AtKind, AtFormula, AtSteps, AtLemmas}

@@ -27,7 +27,7 @@ use Rattle.certificate_file.specs.Meaning.{part_from}
 use Rattle.certificate_file.specs.declared.given.Given.{Given}
 use Rattle.certificate_file.specs.declared.places.Header.{Header}
 use Rattle.certificate_file.specs.declared.places.Subject.{Subject}
-use Rattle.certificate_file.specs.declared.places.Answer.TheVariants.{Pair as pair}
+use Rattle.certificate_file.specs.declared.places.Conclusion.TheVariants.{Pair as pair}
 use Rattle.certificate_file.specs.declared.places.Place.TheVariants.{AtTitle, AtKind, AtFirst, AtSecond, AtEnd}
 use Rattle.certificate_file.specs.declared.places.State.TheVariants.{Going, Done}
 use Rattle.reach_kinds.proofs.Inside.{apart_from_others}

@@ -24,7 +24,7 @@ use Rattle.certificate_file.specs.Acceptance.{take_line, after_progress}
 use Rattle.reach_kinds.specs.Bodies.{is_covered}
 use Rattle.certificate_file.specs.declared.given.Given.{Given}
 use Rattle.certificate_file.specs.declared.places.Header.{Header}
-use Rattle.certificate_file.specs.declared.places.Answer.TheVariants.{Refutation, Partial}
+use Rattle.certificate_file.specs.declared.places.Conclusion.TheVariants.{Refutation, Partial}
 use Rattle.certificate_file.specs.declared.places.Place.TheVariants.{AtSteps, AtLemmas, AtEnd}
 use Rattle.certificate_file.specs.declared.places.State.TheVariants.{Going, Done}
 use Rattle.reach_kinds.proofs.CoverLaws.{covered-to}

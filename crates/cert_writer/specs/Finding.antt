@@ -8,8 +8,8 @@ use Rattle.certificate_file.specs.declared.given.Given.{Given}
 use Rattle.certificate_file.specs.declared.given.GivenOrgs.{GivenOrgs}
 use Rattle.certificate_file.specs.declared.places.Header.{Header}
 use Rattle.certificate_file.specs.declared.places.Aim.TheVariants as aim
-use Rattle.certificate_file.specs.declared.places.Answer.{Answer}
-use Rattle.certificate_file.specs.declared.places.Answer.TheVariants as shown
+use Rattle.certificate_file.specs.declared.places.Conclusion.{Conclusion}
+use Rattle.certificate_file.specs.declared.places.Conclusion.TheVariants as shown
 use Rattle.quorum_questions.specs.Evidence.{Shows}
 use Rattle.quorum_questions.specs.declared.answers.Answer.{Answer as Found}
 use Rattle.quorum_questions.specs.declared.answers.Answer.TheVariants.{Yes, No, Spent}
@@ -17,7 +17,7 @@ use Rattle.cert_writer.specs.Texts.{Text, pair_text, log_text}
 use Rattle.cert_writer.specs.Promises.{part_of, faulty_in, raised_pair}
 
 -- what is asked: whether every two quorums share a node in the part that the header names, once its faulty nodes are deleted, within so many units; the organisations are given where blocking sets of them are sought
-pub record Search : Type 0 where
+pub record Request : Type 0 where
   pub whole : System
   pub digest : List ℕ
   pub header : Header
@@ -25,13 +25,13 @@ pub record Search : Type 0 where
   pub orgs : Option GivenOrgs
 
 -- what its certificate is held against beside the system
-abbrev pub given_of : Search → Given
+abbrev pub given_of : Request → Given
 given_of s = record { digest = s.digest; orgs = s.orgs }
 
-abbrev pub part : Search → System
+abbrev pub part : Request → System
 part s = part_of s.whole s.header.from
 
-abbrev pub faulty : Search → Table
+abbrev pub faulty : Request → Table
 faulty s = faulty_in s.whole s.header
 
 -- the certificate of what is found
@@ -40,17 +40,17 @@ cert_over f digest h (Yes log size) = log_text f.names digest h aim.Refutation s
 cert_over f digest h (No pair) = pair_text f.names (part_of f h.from).names digest h pair
 cert_over f digest h (Spent log size) = log_text f.names digest h aim.Partial size.vars size.clauses log
 
-abbrev pub cert_of : Search → Found → Text
+abbrev pub cert_of : Request → Found → Text
 cert_of s found = cert_over s.whole s.digest s.header found
 
 -- what the check says of it
-abbrev pub accepted_as : Search → Found → Answer
+abbrev pub accepted_as : Request → Found → Conclusion
 accepted_as s (Yes log size) = shown.Refutation
 accepted_as s (No pair) = shown.Pair (raised_pair s.whole s.header pair)
 accepted_as s (Spent log size) = shown.Partial s.budget
 
 -- what a search finds: it shows the answer, and its certificate is accepted with the header that was asked for
-pub record Finds (s : Search) (found : Found) (cert : Text) : Type 0 where
+pub record Finds (s : Request) (found : Found) (cert : Text) : Type 0 where
   pub shows : Shows (part s).sets (faulty s) s.budget found
   pub cert_is : cert ≡ cert_of s found
   pub accepted : checked s.whole (given_of s) cert ≡ Ok (record { header = s.header; answer = accepted_as s found })

@@ -19,11 +19,11 @@ use Rattle.group_lists.specs.declared.outcome.GroupOutcome.TheVariants.{Whole, S
 use Rattle.certificate_file.specs.Acceptance.{checked}
 use Rattle.certificate_file.specs.declared.given.GivenOrgs.{GivenOrgs}
 use Rattle.certificate_file.specs.declared.places.Header.{Header}
-use Rattle.certificate_file.specs.declared.places.Answer.{Answer}
-use Rattle.certificate_file.specs.declared.places.Answer.TheVariants.{OrgBlocking, PartialOrgBlocking}
+use Rattle.certificate_file.specs.declared.places.Conclusion.{Conclusion}
+use Rattle.certificate_file.specs.declared.places.Conclusion.TheVariants.{OrgBlocking, PartialOrgBlocking}
 use Rattle.cert_writer.specs.Texts.{Text, group_text}
 use Rattle.cert_writer.specs.Promises.{part_of, groups_in}
-use Rattle.cert_writer.specs.Finding.{Search, given_of, part, faulty}
+use Rattle.cert_writer.specs.Finding.{Request, given_of, part, faulty}
 
 -- whether the journal of an outcome is a whole one
 abbrev pub kind_of : GroupOutcome → ListKind
@@ -34,11 +34,11 @@ kind_of (Spent journal) = kind.Partial
 abbrev pub group_cert_over : System → List ℕ → Header → List ℕ → List Group → GroupOutcome → Text
 group_cert_over f digest h orgs groups outcome = group_text f.names (part_of f h.from).names digest h (texts_of groups) orgs (kind_of outcome) (group_journal_in outcome)
 
-abbrev pub group_cert_of : Search → GivenOrgs → List Group → GroupOutcome → Text
+abbrev pub group_cert_of : Request → GivenOrgs → List Group → GroupOutcome → Text
 group_cert_of s given groups outcome = group_cert_over s.whole s.digest s.header given.digest groups outcome
 
 -- what the check says of it: the blocking sets of groups in order, or how many units were spent
-abbrev pub group_accepted_as : Search → List Group → GroupOutcome → Answer
+abbrev pub group_accepted_as : Request → List Group → GroupOutcome → Conclusion
 group_accepted_as s groups (Whole sets journal) = OrgBlocking groups sets.items
 group_accepted_as s groups (Spent journal) = PartialOrgBlocking s.budget
 
@@ -50,7 +50,7 @@ pub record GroupsShow (f : Fbas) (b : Table) (groups : List Table) (budget : ℕ
   pub few_words : All (HasFewWords (size (touching groups (greatest_of f b)))) (group_journal_in outcome)
 
 -- what a search finds: it shows the list for the groups of the part, or a part of one, and its certificate is accepted with the header that was asked for
-pub record FindsGroups (s : Search) (groups : List Group) (outcome : GroupOutcome) (cert : Text) : Type 0 where
+pub record FindsGroups (s : Request) (groups : List Group) (outcome : GroupOutcome) (cert : Text) : Type 0 where
   pub given : GivenOrgs
   pub orgs : s.orgs ≡ Some given
   pub groups_are : groups ≡ groups_in s.whole s.header given.orgs

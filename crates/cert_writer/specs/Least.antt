@@ -16,11 +16,11 @@ use Rattle.least_quorum.specs.declared.outcome.LeastOutcome.TheVariants as found
 use Rattle.certificate_file.specs.Acceptance.{checked}
 use Rattle.certificate_file.specs.Meaning.{part_from}
 use Rattle.certificate_file.specs.declared.places.Header.{Header}
-use Rattle.certificate_file.specs.declared.places.Answer.{Answer}
-use Rattle.certificate_file.specs.declared.places.Answer.TheVariants.{Least, PartialLeast}
+use Rattle.certificate_file.specs.declared.places.Conclusion.{Conclusion}
+use Rattle.certificate_file.specs.declared.places.Conclusion.TheVariants.{Least, PartialLeast}
 use Rattle.cert_writer.specs.Texts.{Text, least_text, raised_table}
-use Rattle.cert_writer.specs.Promises.{part_of, greatest_in}
-use Rattle.cert_writer.specs.Finding.{Search, given_of, part, faulty}
+use Rattle.cert_writer.specs.Promises.{part_of, greatest_of_part}
+use Rattle.cert_writer.specs.Finding.{Request, given_of, part, faulty}
 use Rattle.cert_writer.specs.Listing.{CanBeLine}
 
 -- whether the journal of an outcome is a whole one
@@ -31,12 +31,12 @@ kind_of (found.Spent journal) = kind.Partial
 
 -- the certificate of a smallest quorum, or that there is none, or of a part of the search
 abbrev pub least_cert_by : System → List ℕ → Header → ListKind → List JournalLine → Text
-least_cert_by f digest h kind journal = least_text f.names (part_of f h.from).names digest h (size (greatest_in f h)) kind journal
+least_cert_by f digest h kind journal = least_text f.names (part_of f h.from).names digest h (size (greatest_of_part f h)) kind journal
 
 abbrev pub least_cert_over : System → List ℕ → Header → LeastOutcome → Text
 least_cert_over f digest h outcome = least_cert_by f digest h (kind_of outcome) (least_journal_of outcome)
 
-abbrev pub least_cert_of : Search → LeastOutcome → Text
+abbrev pub least_cert_of : Request → LeastOutcome → Text
 least_cert_of s outcome = least_cert_over s.whole s.digest s.header outcome
 
 -- the set by the numbers of the whole system
@@ -44,7 +44,7 @@ abbrev pub raised_if_any : System → Header → Option Table → Option Table
 raised_if_any f h answer = option_map (raised_table (part_from f h.from)) answer
 
 -- what the check says of it: the set, or that there is none, or how many units were spent
-abbrev pub least_accepted_as : Search → LeastOutcome → Answer
+abbrev pub least_accepted_as : Request → LeastOutcome → Conclusion
 least_accepted_as s (found.Least set journal) = Least (raised_if_any s.whole s.header (Some set))
 least_accepted_as s (found.NoQuorum journal) = Least (raised_if_any s.whole s.header None)
 least_accepted_as s (found.Spent journal) = PartialLeast s.budget
@@ -58,7 +58,7 @@ pub record LeastShows (f : Fbas) (b : Table) (budget : ℕ) (outcome : LeastOutc
   pub small : counter_vars (size (greatest_of f b)) ≤ MOST_VARS
 
 -- what a search finds: it shows a smallest quorum, or that there is none, or a part of the search, and its certificate is accepted with the header that was asked for
-pub record FindsLeast (s : Search) (outcome : LeastOutcome) (cert : Text) : Type 0 where
+pub record FindsLeast (s : Request) (outcome : LeastOutcome) (cert : Text) : Type 0 where
   pub shows : LeastShows (part s).sets (faulty s) s.budget outcome
   pub cert_is : cert ≡ least_cert_of s outcome
   pub accepted : checked s.whole (given_of s) cert ≡ Ok (record { header = s.header; answer = least_accepted_as s outcome })

@@ -13,26 +13,26 @@ use Rattle.blocking_lists.specs.Lines.{HasLineNumbers, HasFewWords}
 use Rattle.blocking_lists.specs.Outcomes.{OutcomeHolds, journal_in}
 use Rattle.blocking_lists.specs.declared.outcome.ListOutcome.{ListOutcome}
 use Rattle.blocking_lists.specs.declared.outcome.ListOutcome.TheVariants.{Whole, Spent}
-use Rattle.certificate_file.specs.Acceptance.{checked, answer_of}
-use Rattle.reach_kinds.specs.Bodies.{whole_of, part_of as part_of_list}
+use Rattle.certificate_file.specs.Acceptance.{checked, conclusion_of}
+use Rattle.reach_kinds.specs.Bodies.{whole_of, partial_of}
 use Rattle.certificate_file.specs.declared.places.Header.{Header}
-use Rattle.certificate_file.specs.declared.places.Answer.{Answer}
+use Rattle.certificate_file.specs.declared.places.Conclusion.{Conclusion}
 use Rattle.cert_writer.specs.Texts.{Text, list_text}
 use Rattle.cert_writer.specs.Promises.{part_of, raised_sets}
-use Rattle.cert_writer.specs.Finding.{Search, given_of, part, faulty}
+use Rattle.cert_writer.specs.Finding.{Request, given_of, part, faulty}
 
 -- the certificate of a list, whole or in part
 abbrev pub list_cert_over : Listed → System → List ℕ → Header → ListOutcome → Text
 list_cert_over sought f digest h (Whole sets journal) = list_text f.names (part_of f h.from).names digest h sought kind.Whole journal
 list_cert_over sought f digest h (Spent journal) = list_text f.names (part_of f h.from).names digest h sought kind.Partial journal
 
-abbrev pub list_cert_of : Listed → Search → ListOutcome → Text
+abbrev pub list_cert_of : Listed → Request → ListOutcome → Text
 list_cert_of sought s outcome = list_cert_over sought s.whole s.digest s.header outcome
 
 -- what the check says of it: the sought sets in name order, or how many units were spent
-abbrev pub list_accepted_as : Listed → Search → ListOutcome → Answer
-list_accepted_as sought s (Whole sets journal) = answer_of (whole_of sought (raised_sets s.whole s.header sets.items))
-list_accepted_as sought s (Spent journal) = answer_of (part_of_list sought s.budget)
+abbrev pub list_accepted_as : Listed → Request → ListOutcome → Conclusion
+list_accepted_as sought s (Whole sets journal) = conclusion_of (whole_of sought (raised_sets s.whole s.header sets.items))
+list_accepted_as sought s (Spent journal) = conclusion_of (partial_of sought s.budget)
 
 -- what a search of a system within a budget shows, once b is deleted
 pub record ListShows (sought : Listed) (f : Fbas) (b : Table) (budget : ℕ) (outcome : ListOutcome) : Type 0 where
@@ -43,7 +43,7 @@ pub record ListShows (sought : Listed) (f : Fbas) (b : Table) (budget : ℕ) (ou
   pub few_words : All (HasFewWords (size (greatest_of f b))) (journal_in outcome)
 
 -- what a search finds: it shows the list, or a part of one, and its certificate is accepted with the header that was asked for
-pub record FindsList (sought : Listed) (s : Search) (outcome : ListOutcome) (cert : Text) : Type 0 where
+pub record FindsList (sought : Listed) (s : Request) (outcome : ListOutcome) (cert : Text) : Type 0 where
   pub shows : ListShows sought (part s).sets (faulty s) s.budget outcome
   pub cert_is : cert ≡ list_cert_of sought s outcome
   pub accepted : checked s.whole (given_of s) cert ≡ Ok (record { header = s.header; answer = list_accepted_as sought s outcome })

@@ -29,8 +29,8 @@ use Rattle.node_json.specs.Organisations.{Org, orgs_of}
 use Rattle.node_json.specs.Groups.{Group, groups_of, tables_of}
 use Rattle.group_journal.specs.Groups.{touching}
 use Rattle.group_lists.specs.Search.{group_rules}
-use Rattle.certificate_file.specs.Acceptance.{answer_of}
-use Rattle.reach_kinds.specs.Bodies.{in_order, whole_of, part_of as part_of_list}
+use Rattle.certificate_file.specs.Acceptance.{conclusion_of}
+use Rattle.reach_kinds.specs.Bodies.{in_shown_order, whole_of, partial_of}
 use Rattle.certificate_file.specs.Formulas.{formula_of}
 use Rattle.certificate_file.specs.Meaning.{part_from}
 use Rattle.certificate_file.specs.declared.given.GivenOrgs.{GivenOrgs}
@@ -38,8 +38,8 @@ use Rattle.certificate_file.specs.declared.places.Header.{Header}
 use Rattle.certificate_file.specs.declared.places.Subject.{Subject}
 use Rattle.certificate_file.specs.declared.places.Aim.{Aim}
 use Rattle.certificate_file.specs.declared.places.Aim.TheVariants as aim
-use Rattle.certificate_file.specs.declared.places.Answer.{Answer}
-use Rattle.certificate_file.specs.declared.places.Answer.TheVariants.{Refutation, Partial, Least, PartialLeast, OrgBlocking, PartialOrgBlocking}
+use Rattle.certificate_file.specs.declared.places.Conclusion.{Conclusion}
+use Rattle.certificate_file.specs.declared.places.Conclusion.TheVariants.{Refutation, Partial, Least, PartialLeast, OrgBlocking, PartialOrgBlocking}
 use Rattle.cert_writer.specs.Texts.{raised_table}
 use Rattle.cert_lines.specs.declared.lines.TheConstants.{MAX_LINES}
 use Rattle.clause_encoder.specs.declared.limits.TheConstants.{MOST_VARS}
@@ -79,7 +79,7 @@ EndsAs aim.Refutation log = EndsEmpty log
 EndsAs aim.Partial log = HasNoEmptyLemma log
 
 -- what its certificate shows
-abbrev pub shown_by : Aim → List ProofStep → Answer
+abbrev pub shown_by : Aim → List ProofStep → Conclusion
 shown_by aim.Refutation log = Refutation
 shown_by aim.Partial log = Partial (units log)
 
@@ -112,9 +112,9 @@ abbrev pub rules_in : Listed → System → Header → Rules
 rules_in sought f h = rules sought (part_of f h.from).sets (faulty_in f h)
 
 -- what its certificate shows: the sought sets in the order in which they are shown, or the units of its lines
-abbrev pub shown_by_list : Listed → System → Header → Rules → ListKind → List JournalLine → Answer
-shown_by_list sought f h r kind.Whole journal = answer_of (whole_of sought (in_order sought (raised_sets f h (sets_in sought journal))))
-shown_by_list sought f h r kind.Partial journal = answer_of (part_of_list sought (journal_units r journal))
+abbrev pub shown_by_list : Listed → System → Header → Rules → ListKind → List JournalLine → Conclusion
+shown_by_list sought f h r kind.Whole journal = conclusion_of (whole_of sought (in_shown_order sought (raised_sets f h (sets_in sought journal))))
+shown_by_list sought f h r kind.Partial journal = conclusion_of (partial_of sought (journal_units r journal))
 
 -- a journal of a list of the part, by the variables of the part's greatest quorum
 pub record IsJournalOf (sought : Listed) (f : System) (h : Header) (kind : ListKind) (journal : List JournalLine) : Type 0 where
@@ -127,25 +127,25 @@ pub record IsJournalOf (sought : Listed) (f : System) (h : Header) (kind : ListK
   pub ends : ListEndsAs kind journal
 
 -- the nodes of the greatest quorum of the part, and the rules of a search for a smallest one
-abbrev pub greatest_in : System → Header → Table
-greatest_in f h = greatest_of (part_of f h.from).sets (faulty_in f h)
+abbrev pub greatest_of_part : System → Header → Table
+greatest_of_part f h = greatest_of (part_of f h.from).sets (faulty_in f h)
 
 abbrev pub least_rules : System → Header → Rules
-least_rules f h = least_of (part_of f h.from).sets (members (faulty_in f h)) (greatest_in f h)
+least_rules f h = least_of (part_of f h.from).sets (members (faulty_in f h)) (greatest_of_part f h)
 
 -- what its certificate shows: the quorum that is listed last, if one is, or the units of its lines
-abbrev pub shown_by_least : System → Header → ListKind → List JournalLine → Answer
+abbrev pub shown_by_least : System → Header → ListKind → List JournalLine → Conclusion
 shown_by_least f h kind.Whole journal = Least (option_map (raised_table (part_from f h.from)) (last_listed journal))
 shown_by_least f h kind.Partial journal = PartialLeast (journal_units (least_rules f h) journal)
 
 -- a journal of a search for a smallest quorum of the part, whose counter is not too large
 pub record IsLeastJournalOf (f : System) (h : Header) (kind : ListKind) (journal : List JournalLine) : Type 0 where
-  pub small : counter_vars (size (greatest_in f h)) ≤ MOST_VARS
+  pub small : counter_vars (size (greatest_of_part f h)) ≤ MOST_VARS
   pub new : Database
   pub run : JournalRun (least_rules f h) kind (least_rules f h).start journal new
   pub falls : AreFalling journal
   pub numbers : All HasLineNumbers journal
-  pub few_words : All (HasFewWords (counter_vars (size (greatest_in f h)))) journal
+  pub few_words : All (HasFewWords (counter_vars (size (greatest_of_part f h)))) journal
   pub few : length journal + 7 ≤ MAX_LINES
   pub ends : ListEndsAs kind journal
 
@@ -158,7 +158,7 @@ abbrev pub group_rules_in : System → Header → List Group → Rules
 group_rules_in f h groups = group_rules (part_of f h.from).sets (faulty_in f h) (tables_of groups)
 
 -- what its certificate shows: the sets of groups in order, or the units of its lines
-abbrev pub shown_by_groups : List Group → Rules → ListKind → List JournalLine → Answer
+abbrev pub shown_by_groups : List Group → Rules → ListKind → List JournalLine → Conclusion
 shown_by_groups groups r kind.Whole journal = OrgBlocking groups (ordered (sets_in listed.Blocking journal))
 shown_by_groups groups r kind.Partial journal = PartialOrgBlocking (journal_units r journal)
 
@@ -167,7 +167,7 @@ pub record IsGroupJournalOf (f : System) (h : Header) (groups : List Group) (kin
   pub new : Database
   pub run : JournalRun (group_rules_in f h groups) kind nothing_held journal new
   pub numbers : All HasLineNumbers journal
-  pub few_words : All (HasFewWords (size (touching (tables_of groups) (greatest_in f h)))) journal
+  pub few_words : All (HasFewWords (size (touching (tables_of groups) (greatest_of_part f h)))) journal
   pub few : length journal + 7 ≤ MAX_LINES
   pub ends : ListEndsAs kind journal
 

@@ -9,7 +9,7 @@ ghost use Rattle.quorum_questions.specs.Evidence.{Shows};
 ghost use Rattle.quorum_questions.specs.declared.answers.Answer.{Answer as Found};
 ghost use Rattle.quorum_questions.specs.declared.asking.TheConstants.{MOST_UNITS};
 ghost use Rattle.cert_writer.specs.Promises.{IsHeader, HasPart, PutsCertificate};
-ghost use Rattle.cert_writer.specs.Finding.{Search, part, faulty, cert_over, cert_of, Finds, CanBeWritten};
+ghost use Rattle.cert_writer.specs.Finding.{Request, part, faulty, cert_over, cert_of, Finds, CanBeWritten};
 ghost use Rattle.cert_writer.specs.Writing.{IsFresh};
 
 use crate::certified::Certified;
@@ -58,6 +58,6 @@ pub fn write_found<D: Desk>(
 /// What a search shows can be written, and its certificate is accepted.
 pub fn what_is_shown_is_found()
     ensures written { (f : System) (b : Table) (budget : ℕ) (found : Found) → length f.names ≡ length f.sets → Shows f.sets b budget found → CanBeWritten (length f.names) found }
-    ensures found { (s : Search) (found : Found) → IsSystem s.whole.names s.whole.sets → IsStrictlySortedBy name_cmp s.whole.names → length s.digest ≡ 32 → IsBytes s.digest → IsHeader s.whole s.header → s.budget ≤ MOST_UNITS
+    ensures found { (s : Request) (found : Found) → IsSystem s.whole.names s.whole.sets → IsStrictlySortedBy name_cmp s.whole.names → length s.digest ≡ 32 → IsBytes s.digest → IsHeader s.whole s.header → s.budget ≤ MOST_UNITS
         → Shows (part s).sets (faulty s) s.budget found → Finds s found (cert_of s found) }
 {}

@@ -11,7 +11,7 @@ ghost use Rattle.group_lists.specs.declared.outcome.GroupOutcome.{GroupOutcome};
 ghost use Rattle.quorum_questions.specs.declared.asking.TheConstants.{MOST_UNITS};
 ghost use Rattle.certificate_file.specs.declared.given.GivenOrgs.{GivenOrgs};
 ghost use Rattle.cert_writer.specs.Promises.{IsHeader, groups_in, AreOrgs, HasPart, PutsCertificate};
-ghost use Rattle.cert_writer.specs.Finding.{Search, part, faulty};
+ghost use Rattle.cert_writer.specs.Finding.{Request, part, faulty};
 ghost use Rattle.cert_writer.specs.Grouping.{kind_of, group_cert_over, group_cert_of, GroupsShow, FindsGroups, CanBeGroups};
 ghost use Rattle.cert_writer.specs.Writing.{IsFresh};
 
@@ -76,6 +76,6 @@ pub fn write_groups<D: Desk>(
 /// What a search for all minimal blocking sets of groups shows can be written, and its certificate is accepted.
 pub fn what_is_grouped_is_found()
     ensures written { (f : System) (b : Table) (groups : List Group) (budget : ℕ) (outcome : GroupOutcome) → length f.names ≡ length f.sets → GroupsShow f.sets b (tables_of groups) budget outcome → CanBeGroups (length f.names) (length groups) outcome }
-    ensures found { (s : Search) (given : GivenOrgs) (groups : List Group) (outcome : GroupOutcome) → IsSystem s.whole.names s.whole.sets → IsStrictlySortedBy name_cmp s.whole.names → length s.digest ≡ 32 → IsBytes s.digest → IsHeader s.whole s.header → s.budget ≤ MOST_UNITS
+    ensures found { (s : Request) (given : GivenOrgs) (groups : List Group) (outcome : GroupOutcome) → IsSystem s.whole.names s.whole.sets → IsStrictlySortedBy name_cmp s.whole.names → length s.digest ≡ 32 → IsBytes s.digest → IsHeader s.whole s.header → s.budget ≤ MOST_UNITS
         → s.orgs ≡ Some given → AreOrgs s.whole given → groups ≡ groups_in s.whole s.header given.orgs → GroupsShow (part s).sets (faulty s) (tables_of groups) s.budget outcome → FindsGroups s groups outcome (group_cert_of s given groups outcome) }
 {}

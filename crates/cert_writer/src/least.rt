@@ -10,8 +10,8 @@ ghost use Rattle.clause_encoder.specs.declared.limits.TheConstants.{MOST_VARS};
 ghost use Rattle.least_quorum.specs.Outcomes.{least_journal_of};
 ghost use Rattle.least_quorum.specs.declared.outcome.LeastOutcome.{LeastOutcome};
 ghost use Rattle.quorum_questions.specs.declared.asking.TheConstants.{MOST_UNITS};
-ghost use Rattle.cert_writer.specs.Promises.{IsHeader, greatest_in, HasPart, PutsCertificate};
-ghost use Rattle.cert_writer.specs.Finding.{Search, part, faulty};
+ghost use Rattle.cert_writer.specs.Promises.{IsHeader, greatest_of_part, HasPart, PutsCertificate};
+ghost use Rattle.cert_writer.specs.Finding.{Request, part, faulty};
 ghost use Rattle.cert_writer.specs.Least.{kind_of, least_cert_over, least_cert_of, LeastShows, FindsLeast, CanBeLeast};
 ghost use Rattle.cert_writer.specs.Writing.{IsFresh};
 
@@ -56,7 +56,7 @@ pub fn write_least<D: Desk>(
 ) -> Result<(), WriteFailed>
     requires fresh { IsFresh writer.old }
     requires part { HasPart about.now }
-    requires nodes { nodes ≡ size (greatest_in about.now.whole.now about.now.header.now) }
+    requires nodes { nodes ≡ size (greatest_of_part about.now.whole.now about.now.header.now) }
     requires small { counter_vars nodes ≤ MOST_VARS }
     requires found { CanBeLeast (length about.now.part.now.names) outcome.now }
     ensures { PutsCertificate D.tells
@@ -76,6 +76,6 @@ pub fn write_least<D: Desk>(
 /// What a search for a smallest quorum shows can be written, and its certificate is accepted.
 pub fn what_is_least_is_found()
     ensures written { (f : System) (b : Table) (budget : ℕ) (outcome : LeastOutcome) → length f.names ≡ length f.sets → LeastShows f.sets b budget outcome → CanBeLeast (length f.names) outcome }
-    ensures found { (s : Search) (outcome : LeastOutcome) → IsSystem s.whole.names s.whole.sets → IsStrictlySortedBy name_cmp s.whole.names → length s.digest ≡ 32 → IsBytes s.digest → IsHeader s.whole s.header → s.budget ≤ MOST_UNITS
+    ensures found { (s : Request) (outcome : LeastOutcome) → IsSystem s.whole.names s.whole.sets → IsStrictlySortedBy name_cmp s.whole.names → length s.digest ≡ 32 → IsBytes s.digest → IsHeader s.whole s.header → s.budget ≤ MOST_UNITS
         → LeastShows (part s).sets (faulty s) s.budget outcome → FindsLeast s outcome (least_cert_of s outcome) }
 {}

@@ -9,7 +9,7 @@ ghost use Rattle.list_journal.specs.declared.kinds.Listed.{Listed};
 ghost use Rattle.blocking_lists.specs.declared.outcome.ListOutcome.{ListOutcome};
 ghost use Rattle.quorum_questions.specs.declared.asking.TheConstants.{MOST_UNITS};
 ghost use Rattle.cert_writer.specs.Promises.{IsHeader, HasPart, PutsCertificate};
-ghost use Rattle.cert_writer.specs.Finding.{Search, part, faulty};
+ghost use Rattle.cert_writer.specs.Finding.{Request, part, faulty};
 ghost use Rattle.cert_writer.specs.Listing.{list_cert_over, list_cert_of, ListShows, FindsList, CanBeListed};
 ghost use Rattle.cert_writer.specs.Writing.{IsFresh};
 
@@ -60,6 +60,6 @@ pub fn write_list<D: Desk>(
 /// What a search for all minimal sets of a kind shows can be written, and its certificate is accepted.
 pub fn what_is_listed_is_found()
     ensures written { (sought : Listed) (f : System) (b : Table) (budget : ℕ) (outcome : ListOutcome) → length f.names ≡ length f.sets → ListShows sought f.sets b budget outcome → CanBeListed (length f.names) outcome }
-    ensures found { (sought : Listed) (s : Search) (outcome : ListOutcome) → IsSystem s.whole.names s.whole.sets → IsStrictlySortedBy name_cmp s.whole.names → length s.digest ≡ 32 → IsBytes s.digest → IsHeader s.whole s.header → s.budget ≤ MOST_UNITS
+    ensures found { (sought : Listed) (s : Request) (outcome : ListOutcome) → IsSystem s.whole.names s.whole.sets → IsStrictlySortedBy name_cmp s.whole.names → length s.digest ≡ 32 → IsBytes s.digest → IsHeader s.whole s.header → s.budget ≤ MOST_UNITS
         → ListShows sought (part s).sets (faulty s) s.budget outcome → FindsList sought s outcome (list_cert_of sought s outcome) }
 {}

@@ -9,7 +9,7 @@ ghost use Rattle.fbas_model.specs.Nodes.{members};
 ghost use Rattle.lrat_model.specs.Steps.{Addition, Deletion};
 ghost use Rattle.lrat_text.specs.Lent.{lent_step, lent_hints};
 ghost use Rattle.lrat_text.specs.Texts.{line_of, literal_text, HasNumbers};
-ghost use Rattle.blocking_lists.specs.Lines.{line_of as said_line};
+ghost use Rattle.blocking_lists.specs.Lines.{journal_line_of};
 ghost use Rattle.node_json.specs.Groups.{texts_of};
 ghost use Rattle.cert_writer.specs.Texts.{joined, name_if_any, header_lines, pair_front, kind_of, log_front, list_kind_of, group_kind_of, set_line, journal_line, group_journal_line, list_front, least_front, group_front};
 ghost use Rattle.clause_encoder.specs.NameCounter.{counter_vars};
@@ -359,8 +359,8 @@ impl CertWriter {
 
     /// Writes a line of a journal: a listed set, or a step.
     fn journal_line<D: Desk>(&mut self, desk: &mut D, names: &Names, line: Line<'_, NODE_WORDS>)
-        requires { CanBeLine (length names.now) (said_line line) }
-        ensures { Writes D.tells (journal_line names.now (said_line line.entry) ++ 10 ∷ []) self.old (D.state desk.old) (D.faults desk.old) self.new (D.state desk.new) (D.faults desk.new) }
+        requires { CanBeLine (length names.now) (journal_line_of line) }
+        ensures { Writes D.tells (journal_line names.now (journal_line_of line.entry) ++ 10 ∷ []) self.old (D.state desk.old) (D.faults desk.old) self.new (D.state desk.new) (D.faults desk.new) }
     {
         match line {
             Line::Quorum(id, set) => self.set_line(desk, b'q', id, names, set),
@@ -442,8 +442,8 @@ impl CertWriter {
         groups: &Groups,
         line: Line<'_, GROUP_WORDS>,
     )
-        requires { CanBeGroupLine (length node_names.now) (length groups.now) (said_line line) }
-        ensures { Writes D.tells (group_journal_line node_names.now (texts_of groups.now) (said_line line.entry) ++ 10 ∷ []) self.old (D.state desk.old) (D.faults desk.old) self.new (D.state desk.new) (D.faults desk.new) }
+        requires { CanBeGroupLine (length node_names.now) (length groups.now) (journal_line_of line) }
+        ensures { Writes D.tells (group_journal_line node_names.now (texts_of groups.now) (journal_line_of line.entry) ++ 10 ∷ []) self.old (D.state desk.old) (D.faults desk.old) self.new (D.state desk.new) (D.faults desk.new) }
     {
         match line {
             Line::Quorum(id, set) => self.set_line(desk, b'q', id, node_names, set),

@@ -8,8 +8,8 @@ use Rattle.node_json.specs.Groups.{Group, groups_of}
 use Rattle.certificate_file.specs.declared.given.Given.{Given}
 use Rattle.certificate_file.specs.Acceptance.{checked, take_line}
 use Rattle.certificate_file.specs.declared.places.Accepted.{Accepted}
-use Rattle.certificate_file.specs.declared.places.Answer.{Answer}
-use Rattle.certificate_file.specs.declared.places.Answer.TheVariants.{OrgBlocking, PartialOrgBlocking}
+use Rattle.certificate_file.specs.declared.places.Conclusion.{Conclusion}
+use Rattle.certificate_file.specs.declared.places.Conclusion.TheVariants.{OrgBlocking, PartialOrgBlocking}
 use Rattle.cert_lines.specs.declared.faults.CertError.TheVariants.{BadLine, NoOrgs, OrgsDigest, UnknownNode, NotQuorum, NotBlocking, NotMinimal, NotNew}
 
 two_of_three : Option QuorumSet
@@ -33,7 +33,7 @@ part = codes "fbas-cert 2\nconfig 0000000000000000000000000000000000000000000000
 without_c : List ℕ
 without_c = codes "fbas-cert 2\nconfig 0000000000000000000000000000000000000000000000000000000000000000\nfrom\nfaulty c\nkind org-blocking\norgs 0000000000000000000000000000000000000000000000000000000000000000\n"
 
-abbrev shows : Answer → Accepted
+abbrev shows : Conclusion → Accepted
 shows answer = record { header = record { from = None; faulty = false ∷ false ∷ false ∷ [] }; answer = answer }
 
 abbrev two_groups : List Group

@@ -9,8 +9,8 @@ use Rattle.greatest_quorum.specs.Greatest.{greatest_of}
 use Rattle.certificate_file.specs.declared.given.Given.{Given}
 use Rattle.certificate_file.specs.Acceptance.{checked, take_line}
 use Rattle.certificate_file.specs.declared.places.Accepted.{Accepted}
-use Rattle.certificate_file.specs.declared.places.Answer.{Answer}
-use Rattle.certificate_file.specs.declared.places.Answer.TheVariants.{Blocking, PartialBlocking, Quorums, Least, PartialLeast}
+use Rattle.certificate_file.specs.declared.places.Conclusion.{Conclusion}
+use Rattle.certificate_file.specs.declared.places.Conclusion.TheVariants.{Blocking, PartialBlocking, Quorums, Least, PartialLeast}
 use Rattle.cert_lines.specs.declared.faults.CertError.TheVariants.{BadLine, UnknownNode, NotQuorum, NotBlocking, NotMinimal, NotSmaller, Formula, Step, NotNew, NotRefuted}
 
 two_of_three : Option QuorumSet
@@ -31,7 +31,7 @@ part = codes "fbas-cert 1\nconfig 0000000000000000000000000000000000000000000000
 without_a : List ℕ
 without_a = codes "fbas-cert 1\nconfig 0000000000000000000000000000000000000000000000000000000000000000\nfrom\nfaulty a\nkind blocking\n"
 
-abbrev shows : Answer → Accepted
+abbrev shows : Conclusion → Accepted
 shows answer = record { header = record { from = None; faulty = false ∷ false ∷ false ∷ [] }; answer = answer }
 
 abbrev all_three : List Table

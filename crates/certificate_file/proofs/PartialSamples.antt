@@ -10,7 +10,7 @@ use Rattle.certificate_file.specs.declared.given.Given.{Given}
 use Rattle.certificate_file.specs.Formulas.{formula_of}
 use Rattle.certificate_file.specs.Acceptance.{checked, take_line}
 use Rattle.certificate_file.specs.declared.places.Accepted.{Accepted}
-use Rattle.certificate_file.specs.declared.places.Answer.TheVariants.{Partial}
+use Rattle.certificate_file.specs.declared.places.Conclusion.TheVariants.{Partial}
 use Rattle.cert_lines.specs.declared.faults.CertError.TheVariants.{BadLine, Formula, Step, NotNew, Truncated}
 
 -- both of p and q

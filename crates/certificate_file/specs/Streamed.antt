@@ -13,10 +13,10 @@ use Rattle.list_journal.specs.declared.kinds.ListKind.{ListKind}
 use Rattle.list_journal.specs.declared.kinds.ListKind.TheVariants.{Whole, Partial as Part}
 use Rattle.cert_lines.specs.Limits.{unless}
 use Rattle.reach_kinds.specs.Bodies.{and_then, is_covered}
-use Rattle.certificate_file.specs.declared.places.Answer.TheVariants.{Refutation}
+use Rattle.certificate_file.specs.declared.places.Conclusion.TheVariants.{Refutation}
 use Rattle.reach_kinds.specs.declared.places.ReachPlace.TheVariants.{AtList, AtGroups, AtEnd as Ended}
 use Rattle.reach_kinds.specs.declared.places.Reached.TheVariants as reached
-use Rattle.reach_kinds.specs.Bodies.{in_order, whole_of}
+use Rattle.reach_kinds.specs.Bodies.{in_shown_order, whole_of}
 use Rattle.certificate_file.specs.declared.places.Place.{Place}
 use Rattle.certificate_file.specs.declared.places.Place.TheVariants.{AtSteps, AtLemmas, AtReach, AtEnd}
 use Rattle.certificate_file.specs.declared.places.State.{State}
@@ -96,7 +96,7 @@ place_of (proof.Groups s kind over sets) c n = AtReach s (AtGroups (record { kin
 abbrev pub end_of : Proof → Place
 end_of (proof.Refutation h) = AtEnd (record { header = h; answer = Refutation })
 end_of (proof.Partial h) = AtEnd (record { header = h; answer = Refutation })
-end_of (proof.List s sought kind part sets) = AtReach s (Ended (whole_of sought (in_order sought sets)))
+end_of (proof.List s sought kind part sets) = AtReach s (Ended (whole_of sought (in_shown_order sought sets)))
 end_of (proof.Groups s kind over sets) = AtReach s (Ended (reached.OrgBlocking over.groups (ordered sets)))
 
 -- what is so after a step, by where it led

@@ -13,7 +13,7 @@ ghost use Rattle.certificate_file.specs.Known.{IsKnown, IsKnownState};
 ghost use Rattle.certificate_file.specs.Streamed.{is_part, is_part_kind, place_of, end_of, checking_of, HasSizedSets};
 
 use crate::given::Given;
-use crate::places::{Accepted, Answer, Place, Proof, State};
+use crate::places::{Accepted, Conclusion, Place, Proof, State};
 use crate::streaming::take_read;
 use crate::taking::take_line;
 use cert_lines::{CertError, Lines, line_or_step};
@@ -142,11 +142,11 @@ impl Proof {
         match self {
             Proof::Refutation(header) => Place::AtEnd(Accepted {
                 header,
-                answer: Answer::Refutation,
+                answer: Conclusion::Refutation,
             }),
             Proof::Partial(header) => Place::AtEnd(Accepted {
                 header,
-                answer: Answer::Refutation,
+                answer: Conclusion::Refutation,
             }),
             Proof::List(subject, sought, _, part, sets) => {
                 drop(part);

@@ -27,11 +27,11 @@ use Rattle.certificate_file.specs.Verification.{verified}
 use Rattle.certificate_file.specs.declared.given.GivenOrgs.{GivenOrgs}
 use Rattle.certificate_file.specs.declared.places.Header.{Header}
 use Rattle.certificate_file.specs.declared.places.Accepted.{Accepted}
-use Rattle.certificate_file.specs.declared.places.Answer.{Answer as Shown}
-use Rattle.certificate_file.specs.declared.places.Answer.TheVariants.{Partial, PartialBlocking, PartialQuorums, PartialLeast, PartialOrgBlocking}
+use Rattle.certificate_file.specs.declared.places.Conclusion.{Conclusion}
+use Rattle.certificate_file.specs.declared.places.Conclusion.TheVariants.{Partial, PartialBlocking, PartialQuorums, PartialLeast, PartialOrgBlocking}
 use Rattle.cert_lines.specs.declared.faults.CertError.{CertError}
 use Rattle.cert_lines.specs.declared.faults.CertError.TheVariants.{TooLarge as TooManyVariables}
-use Rattle.report.specs.Lines.{Text, same_path, config_too_long, config_refused, orgs_too_long, orgs_refused, script_too_long, cert_refused, accepted, verified as verified_lines}
+use Rattle.report.specs.Lines.{Text, same_path, config_too_long, config_refused, orgs_too_long, orgs_refused, script_too_long, cert_refused, accepted, verified_lines}
 use Rattle.order_reading.specs.declared.status.Status.TheVariants.{Yes, Unknown, Usage, ConfigRefused, CertRefused, TooLarge, ScriptRefused}
 use Rattle.order_reading.specs.declared.status.Status.{Status}
 use Rattle.order_reading.specs.declared.reply.Reply.{Reply as Answer}
@@ -46,7 +46,7 @@ use Rattle.order_reading.specs.declared.question.Inquiry.{Inquiry}
 use Rattle.order_reading.specs.declared.edits.Edits.{Edits}
 use Rattle.order_reading.specs.Given.{given_by, orgs_among}
 use Rattle.order_reading.specs.Reading.{◌>>=◌}
-use Rattle.order_reading.specs.Questions.{question_of, set_named, part_of, FitsQuestion}
+use Rattle.order_reading.specs.Questions.{question_of, set_named, restricted_to, FitsQuestion}
 use Rattle.order_reading.specs.Searches.{header_named, search_of, trial_of, FitsSearch}
 
 abbrev pub words_of : List (String Global) → List (List ℕ)
@@ -98,7 +98,7 @@ cert_status (TooManyVariables vars) = TooLarge
 cert_status fault = CertRefused
 
 -- how it ends where a certificate is accepted: a partial one leaves the question open
-abbrev pub accepted_status : Shown → Status
+abbrev pub accepted_status : Conclusion → Status
 accepted_status (Partial units) = Unknown
 accepted_status (PartialBlocking units) = Unknown
 accepted_status (PartialQuorums units) = Unknown
@@ -163,7 +163,7 @@ is_told (command.Query q) = false
 is_told (command.Search goal) = false
 
 abbrev pub asked_about : System → Inquiry → Asked
-asked_about f inquiry = asked.Question (part_of f inquiry.closure) inquiry.question
+asked_about f inquiry = asked.Question (restricted_to f inquiry.closure) inquiry.question
 
 -- what an order with this question asks, once the organisations were read
 abbrev pub query_asked : Query → Ordered → System → List ℕ → Option GivenOrgs → Result Asked Early

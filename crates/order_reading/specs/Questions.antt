@@ -62,9 +62,9 @@ closure_named f from = do
   Ok (option_map (λ v. closure_of f.sets v) node)
 
 -- the system restricted to a trust closure, or the whole system
-abbrev pub part_of : System → Option Table → System
-part_of f None = f
-part_of f (Some closure) = restricted closure f
+abbrev pub restricted_to : System → Option Table → System
+restricted_to f None = f
+restricted_to f (Some closure) = restricted closure f
 
 -- the nodes of a set that are in the part, by their numbers there
 abbrev pub cut_to : Option Table → Table → Table
@@ -120,4 +120,4 @@ FitsClosure f (Some closure) = (length closure ≡ length f.sets) × IsClosed f.
 
 -- the question fits the part that it is about
 abbrev pub FitsInquiry : System → Inquiry → Type 0
-FitsInquiry f i = FitsClosure f i.closure × FitsQuestion (length (part_of f i.closure).sets) i.question
+FitsInquiry f i = FitsClosure f i.closure × FitsQuestion (length (restricted_to f i.closure).sets) i.question

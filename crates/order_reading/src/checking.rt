@@ -13,7 +13,7 @@ use crate::early::Early;
 use crate::orgs::orgs_for;
 use crate::reply::Reply;
 use crate::status::Status;
-use certificate_file::{Accepted, Answer, CertError, Given, Header};
+use certificate_file::{Accepted, CertError, Conclusion, Given, Header};
 use cli_words::Order;
 use desk_io::{Desk, Which};
 use digest_text::digest;
@@ -41,22 +41,22 @@ fn cert_status(fault: &CertError) -> Status
 }
 
 // How the program ends where a certificate is accepted.
-fn accepted_status(answer: &Answer) -> Status
+fn accepted_status(answer: &Conclusion) -> Status
     ensures value { result ≡ spec_accepted_status answer.now }
     ensures answer { IsTrue (is_answer result) }
 {
     match answer {
-        Answer::Pair(_)
-        | Answer::Refutation
-        | Answer::Blocking(_)
-        | Answer::Quorums(_)
-        | Answer::Least(_)
-        | Answer::OrgBlocking(..) => Status::Yes,
-        Answer::Partial(_)
-        | Answer::PartialBlocking(_)
-        | Answer::PartialQuorums(_)
-        | Answer::PartialLeast(_)
-        | Answer::PartialOrgBlocking(_) => Status::Unknown,
+        Conclusion::Pair(_)
+        | Conclusion::Refutation
+        | Conclusion::Blocking(_)
+        | Conclusion::Quorums(_)
+        | Conclusion::Least(_)
+        | Conclusion::OrgBlocking(..) => Status::Yes,
+        Conclusion::Partial(_)
+        | Conclusion::PartialBlocking(_)
+        | Conclusion::PartialQuorums(_)
+        | Conclusion::PartialLeast(_)
+        | Conclusion::PartialOrgBlocking(_) => Status::Unknown,
     }
 }
 
@@ -75,7 +75,7 @@ fn verified(alloc: Global, system: &System, header: &Header) -> Result<Reply, Al
     requires { FitsHeader system.now header.now }
     ensures { IfOk result (λ a. a ≡ verified_answer system.now.names header.now (Ok tt)) }
 {
-    let text = report::verified(alloc, system, header)?;
+    let text = report::verified_lines(alloc, system, header)?;
     Ok(Reply::new(Status::Yes, text))
 }
 

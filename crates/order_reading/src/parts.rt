@@ -1,6 +1,6 @@
 //! The part of a system that is asked about: the whole, or the trust closure of a node.
 ghost use Rattle.std.specs.Prelude.{◌≡◌, ◌<◌, IfOk, IfSome, length, option_map, string_bytes};
-ghost use Rattle.order_reading.specs.Questions.{from_named as from_by_option, closure_named, part_of as spec_part_of, cut_to, FitsClosure};
+ghost use Rattle.order_reading.specs.Questions.{from_named as from_by_option, closure_named, restricted_to as spec_restricted_to, cut_to, FitsClosure};
 ghost use Rattle.fbas_model.specs.Restriction.{closure_of};
 ghost use Rattle.order_reading.specs.Reading.{ReadsTo};
 
@@ -55,7 +55,7 @@ pub fn cut_to(system: &System, closure: &Option<NodeSet>, set: NodeSet) -> NodeS
     requires fits { FitsClosure system.now closure.now }
     requires same_n { length set ≡ length system.now.sets }
     ensures cut { result ≡ cut_to closure.now set }
-    ensures places { length result ≡ length (spec_part_of system.now closure.now).sets }
+    ensures places { length result ≡ length (spec_restricted_to system.now closure.now).sets }
 {
     match closure {
         Some(closure) => system.cut(&set, closure),
@@ -64,13 +64,13 @@ pub fn cut_to(system: &System, closure: &Option<NodeSet>, set: NodeSet) -> NodeS
 }
 
 /// The system restricted to a trust closure, or the whole system.
-pub fn part_of(
+pub fn restricted_to(
     alloc: Global,
     system: System,
     closure: &Option<NodeSet>,
 ) -> Result<System, AllocError>
     requires { FitsClosure system closure.now }
-    ensures { IfOk result (λ part. part ≡ spec_part_of system closure.now) }
+    ensures { IfOk result (λ part. part ≡ spec_restricted_to system closure.now) }
 {
     match closure {
         Some(closure) => system.restrict(alloc, closure),

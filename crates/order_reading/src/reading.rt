@@ -19,7 +19,7 @@ use crate::early::Early;
 use crate::edits::{Edits, edits_named};
 use crate::files::read_file;
 use crate::orgs::orgs_for;
-use crate::parts::part_of;
+use crate::parts::restricted_to;
 use crate::question::{Inquiry, Question, question_asked};
 use crate::reply::{Reply, says};
 use crate::searches::{Search, search_asked, trial_search};
@@ -97,7 +97,7 @@ fn asked_about(alloc: Global, system: System, inquiry: Inquiry) -> Result<Asked,
     ensures fits { IfOk result FitsAsked }
 {
     let Inquiry { closure, question } = inquiry;
-    let part = part_of(alloc, system, &closure)?;
+    let part = restricted_to(alloc, system, &closure)?;
     Ok(Asked::Question(part, question))
 }
 

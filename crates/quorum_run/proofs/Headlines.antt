@@ -27,11 +27,11 @@ use Rattle.list_journal.specs.declared.kinds.ListKind.TheVariants.{Whole}
 use Rattle.least_quorum.specs.Outcomes.{LeastHolds}
 use Rattle.least_quorum.specs.declared.outcome.LeastOutcome.{LeastOutcome}
 use Rattle.least_quorum.specs.declared.outcome.LeastOutcome.TheVariants as found_least
-use Rattle.certificate_file.specs.declared.places.Answer.TheVariants as shown
+use Rattle.certificate_file.specs.declared.places.Conclusion.TheVariants as shown
 use Rattle.cli_words.specs.Words.{order_of}
 use Rattle.cli_words.specs.declared.orders.Goal.{Goal}
 use Rattle.cli_words.specs.declared.orders.Goal.TheVariants.{Intersect, Dset, Splits, Blocking, Trial, Quorums, Least, OrgBlocking}
-use Rattle.report.specs.Lines.{Text, available_lines, with_pair, least_lines, counted}
+use Rattle.report.specs.Lines.{Text, available_lines, with_pair, smallest_if_any, counted}
 use Rattle.order_reading.specs.declared.early.Early.{Early}
 use Rattle.order_reading.specs.declared.reading.Asked.{Asked}
 use Rattle.order_reading.specs.declared.reading.Asked.TheVariants as asked
@@ -245,7 +245,7 @@ list_unknown sought kind s old new status (part_of_list journal) cert a is finds
 
 -- a journal that ends, with its answer
 least_printed : (s : Search) (old new : DeskState) (status : Status) (outcome : LeastOutcome) (answer : Option Table) (left : ℕ) (journal : List JournalLine) (cert : Text) (a : Answer) → LeastHolds (part s).sets (deleted s) s.budget left answer journal
-    → cert ≡ least_cert_by s.whole s.digest s.header Whole journal → IsAccepted s cert (shown.Least (raised_if_any s.whole s.header answer)) → a ≡ record { status = Yes; text = least_lines (part s).names answer } → PutsBoth s.path cert a old new status → PrintsLeast s old new
+    → cert ≡ least_cert_by s.whole s.digest s.header Whole journal → IsAccepted s cert (shown.Least (raised_if_any s.whole s.header answer)) → a ≡ record { status = Yes; text = smallest_if_any (part s).names answer } → PutsBoth s.path cert a old new status → PrintsLeast s old new
 least_printed s old new status outcome answer left journal cert a holds is accepted said put = record {
   answer = answer;
   out = text_there s old new status cert a _ put said;

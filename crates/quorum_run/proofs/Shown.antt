@@ -17,7 +17,7 @@ use Rattle.greatest_quorum.specs.Greatest.{greatest_of}
 use Rattle.clause_encoder.specs.NameCounter.{counter_vars}
 use Rattle.clause_encoder.specs.declared.limits.TheConstants.{MOST_VARS}
 use Rattle.certificate_file.specs.declared.places.Header.{Header}
-use Rattle.cert_writer.specs.Finding.{Search, part, faulty, Finds, CanBeWritten, cert_of as cert_of_shared}
+use Rattle.cert_writer.specs.Finding.{Request, part, faulty, Finds, CanBeWritten, cert_of as cert_of_shared}
 use Rattle.cert_writer.specs.Listing.{ListShows, FindsList, CanBeListed, list_cert_of}
 use Rattle.cert_writer.specs.Grouping.{GroupsShow, FindsGroups, CanBeGroups, group_cert_of, group_cert_over}
 use Rattle.cert_writer.specs.Promises.{groups_in, AreOrgs}
@@ -38,15 +38,15 @@ written_by shared listed least grouped f b budget (Listed sought outcome) same s
 written_by shared listed least grouped f b budget (Smallest nodes outcome) same shows = least f b budget outcome same shows.1
 written_by shared listed least grouped f b budget (Grouped digest groups outcome) same shows = grouped f b groups budget outcome same shows
 
-pub found_by : ((s : Search) (answer : Shown) → IsSystem s.whole.names s.whole.sets → IsStrictlySortedBy name_cmp s.whole.names → length s.digest ≡ 32 → IsBytes s.digest → IsHeader s.whole s.header → s.budget ≤ MOST_UNITS
+pub found_by : ((s : Request) (answer : Shown) → IsSystem s.whole.names s.whole.sets → IsStrictlySortedBy name_cmp s.whole.names → length s.digest ≡ 32 → IsBytes s.digest → IsHeader s.whole s.header → s.budget ≤ MOST_UNITS
     → Shows (part s).sets (faulty s) s.budget answer → Finds s answer (cert_of_shared s answer))
-    → ((sought : Kind) (s : Search) (outcome : ListOutcome) → IsSystem s.whole.names s.whole.sets → IsStrictlySortedBy name_cmp s.whole.names → length s.digest ≡ 32 → IsBytes s.digest → IsHeader s.whole s.header → s.budget ≤ MOST_UNITS
+    → ((sought : Kind) (s : Request) (outcome : ListOutcome) → IsSystem s.whole.names s.whole.sets → IsStrictlySortedBy name_cmp s.whole.names → length s.digest ≡ 32 → IsBytes s.digest → IsHeader s.whole s.header → s.budget ≤ MOST_UNITS
     → ListShows sought (part s).sets (faulty s) s.budget outcome → FindsList sought s outcome (list_cert_of sought s outcome))
-    → ((s : Search) (outcome : LeastOutcome) → IsSystem s.whole.names s.whole.sets → IsStrictlySortedBy name_cmp s.whole.names → length s.digest ≡ 32 → IsBytes s.digest → IsHeader s.whole s.header → s.budget ≤ MOST_UNITS
+    → ((s : Request) (outcome : LeastOutcome) → IsSystem s.whole.names s.whole.sets → IsStrictlySortedBy name_cmp s.whole.names → length s.digest ≡ 32 → IsBytes s.digest → IsHeader s.whole s.header → s.budget ≤ MOST_UNITS
     → LeastShows (part s).sets (faulty s) s.budget outcome → FindsLeast s outcome (least_cert_of s outcome))
-    → ((s : Search) (given : GivenOrgs) (groups : List Group) (outcome : GroupOutcome) → IsSystem s.whole.names s.whole.sets → IsStrictlySortedBy name_cmp s.whole.names → length s.digest ≡ 32 → IsBytes s.digest → IsHeader s.whole s.header → s.budget ≤ MOST_UNITS
+    → ((s : Request) (given : GivenOrgs) (groups : List Group) (outcome : GroupOutcome) → IsSystem s.whole.names s.whole.sets → IsStrictlySortedBy name_cmp s.whole.names → length s.digest ≡ 32 → IsBytes s.digest → IsHeader s.whole s.header → s.budget ≤ MOST_UNITS
     → s.orgs ≡ Some given → AreOrgs s.whole given → groups ≡ groups_in s.whole s.header given.orgs → GroupsShow (part s).sets (faulty s) (tables_of groups) s.budget outcome → FindsGroups s groups outcome (group_cert_of s given groups outcome))
-    → (s : Search) (found : Found) → IsSystem s.whole.names s.whole.sets → IsStrictlySortedBy name_cmp s.whole.names → length s.digest ≡ 32 → IsBytes s.digest → IsHeader s.whole s.header → s.budget ≤ MOST_UNITS
+    → (s : Request) (found : Found) → IsSystem s.whole.names s.whole.sets → IsStrictlySortedBy name_cmp s.whole.names → length s.digest ≡ 32 → IsBytes s.digest → IsHeader s.whole s.header → s.budget ≤ MOST_UNITS
     → IfSome s.orgs (AreOrgs s.whole) → HasGroups s.whole.names (part s).names s.orgs found → FoundShows (part s).sets (faulty s) s.budget found → FindsFound s found (cert_of s found)
 found_by shared listed least grouped s (Shared answer) a b c d e g read are shows = shared s answer a b c d e g shows
 found_by shared listed least grouped s (Listed sought outcome) a b c d e g read are shows = listed sought s outcome a b c d e g shows

@@ -7,7 +7,7 @@ use Rattle.certificate_file.specs.declared.places.Header.{Header}
 use Rattle.certificate_file.specs.declared.places.Aim.TheVariants as aim
 use Rattle.quorum_questions.specs.declared.answers.Answer.TheVariants as shared
 use Rattle.blocking_lists.specs.declared.outcome.ListOutcome.TheVariants as outcome
-use Rattle.cert_writer.specs.Promises.{part_of, greatest_in}
+use Rattle.cert_writer.specs.Promises.{part_of, greatest_of_part}
 use Rattle.cert_writer.specs.Least.{kind_of}
 use Rattle.least_quorum.specs.Outcomes.{least_journal_of}
 use Rattle.cert_writer.specs.Grouping.{kind_of as group_kind}
@@ -41,6 +41,6 @@ title_there s (Listed sought (outcome.Whole sets journal)) cert finds =
 title_there s (Listed sought (outcome.Spent journal)) cert finds =
     subst IsOfVersionTwo (sym finds.cert_is) (titled s.whole.names s.digest s.header (list_lines (part_of s.whole s.header.from).names sought kind.Partial journal))
 title_there s (Smallest nodes outcome) cert finds =
-    subst IsOfVersionTwo (sym finds.cert_is) (titled s.whole.names s.digest s.header (least_lines (part_of s.whole s.header.from).names (size (greatest_in s.whole s.header)) (kind_of outcome) (least_journal_of outcome)))
+    subst IsOfVersionTwo (sym finds.cert_is) (titled s.whole.names s.digest s.header (least_lines (part_of s.whole s.header.from).names (size (greatest_of_part s.whole s.header)) (kind_of outcome) (least_journal_of outcome)))
 title_there s (Grouped digest groups outcome) cert finds =
     subst IsOfVersionTwo (sym finds.cert_is) (titled s.whole.names s.digest s.header (group_lines (part_of s.whole s.header.from).names (texts_of groups) finds.given.digest (group_kind outcome) (group_journal_in outcome)))

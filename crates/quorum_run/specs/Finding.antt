@@ -5,16 +5,16 @@ use Rattle.node_json.specs.Groups.{Group, groups_of, tables_of}
 use Rattle.fbas_model.specs.Nodes.{Table, size}
 use Rattle.fbas_model.specs.Fbas.{Fbas}
 use Rattle.fbas_model.specs.Systems.{System}
-use Rattle.certificate_file.specs.declared.places.Answer.{Answer}
+use Rattle.certificate_file.specs.declared.places.Conclusion.{Conclusion}
 use Rattle.certificate_file.specs.declared.places.Header.{Header}
 use Rattle.certificate_file.specs.declared.given.GivenOrgs.{GivenOrgs}
 use Rattle.quorum_questions.specs.Evidence.{Shows}
 use Rattle.cert_writer.specs.Texts.{Text}
-use Rattle.cert_writer.specs.Finding.{Search, Finds, CanBeWritten, cert_over as cert_of_shared, accepted_as as shared_as}
+use Rattle.cert_writer.specs.Finding.{Request, Finds, CanBeWritten, cert_over as cert_of_shared, accepted_as as shared_as}
 use Rattle.greatest_quorum.specs.Greatest.{greatest_of}
 use Rattle.clause_encoder.specs.NameCounter.{counter_vars}
 use Rattle.clause_encoder.specs.declared.limits.TheConstants.{MOST_VARS}
-use Rattle.cert_writer.specs.Promises.{greatest_in}
+use Rattle.cert_writer.specs.Promises.{greatest_of_part}
 use Rattle.cert_writer.specs.Least.{LeastShows, FindsLeast, CanBeLeast, least_cert_over, least_accepted_as}
 use Rattle.cert_writer.specs.Listing.{ListShows, FindsList, CanBeListed, list_cert_over, list_accepted_as}
 use Rattle.cert_writer.specs.Grouping.{GroupsShow, FindsGroups, CanBeGroups, group_cert_over, group_accepted_as}
@@ -35,18 +35,18 @@ cert_over f digest h (Listed sought outcome) = list_cert_over sought f digest h 
 cert_over f digest h (Smallest nodes outcome) = least_cert_over f digest h outcome
 cert_over f digest h (Grouped orgs groups outcome) = group_cert_over f digest h orgs groups outcome
 
-abbrev pub cert_of : Search → Found → Text
+abbrev pub cert_of : Request → Found → Text
 cert_of s found = cert_over s.whole s.digest s.header found
 
 -- what the check says of that
-abbrev pub accepted_as : Search → Found → Answer
+abbrev pub accepted_as : Request → Found → Conclusion
 accepted_as s (Shared answer) = shared_as s answer
 accepted_as s (Listed sought outcome) = list_accepted_as sought s outcome
 accepted_as s (Smallest nodes outcome) = least_accepted_as s outcome
 accepted_as s (Grouped digest groups outcome) = group_accepted_as s groups outcome
 
 -- what was found shows what is so, and its certificate is accepted with the header that was asked for
-abbrev pub FindsFound : Search → Found → Text → Type 0
+abbrev pub FindsFound : Request → Found → Text → Type 0
 FindsFound s (Shared answer) cert = Finds s answer cert
 FindsFound s (Listed sought outcome) cert = FindsList sought s outcome cert
 FindsFound s (Smallest nodes outcome) cert = FindsLeast s outcome cert
@@ -63,7 +63,7 @@ IsWritable n (Grouped digest groups outcome) = CanBeGroups n (length groups) out
 abbrev pub HasGreatest : System → Header → Found → Type 0
 HasGreatest f h (Shared answer) = Unit {0}
 HasGreatest f h (Listed sought outcome) = Unit {0}
-HasGreatest f h (Smallest nodes outcome) = (nodes ≡ size (greatest_in f h)) × (counter_vars nodes ≤ MOST_VARS)
+HasGreatest f h (Smallest nodes outcome) = (nodes ≡ size (greatest_of_part f h)) × (counter_vars nodes ≤ MOST_VARS)
 HasGreatest f h (Grouped digest groups outcome) = Unit {0}
 
 -- these are the groups of the part with the names `kept`, by the organisations that were given, whose file has this digest

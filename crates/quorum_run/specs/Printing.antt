@@ -4,7 +4,7 @@ use Rattle.desk_io.specs.State.{DeskState}
 use Rattle.fbas_model.specs.Systems.{System}
 use Rattle.fbas_model.specs.Nodes.{Table}
 use Rattle.cert_writer.specs.Promises.{part_of, faulty_in}
-use Rattle.cert_writer.specs.Finding.{Search as Request}
+use Rattle.cert_writer.specs.Finding.{Request}
 use Rattle.report.specs.Lines.{Text}
 use Rattle.order_reading.specs.declared.searches.Search.{Search}
 use Rattle.quorum_run.specs.declared.found.Found.{Found}

@@ -22,7 +22,7 @@ use Rattle.blocking_lists.specs.declared.outcome.ListOutcome.TheVariants.{Whole 
 use Rattle.clause_encoder.specs.declared.limits.TheConstants.{MOST_VARS}
 use Rattle.cli_words.specs.declared.orders.Goal.{Goal}
 use Rattle.cli_words.specs.declared.orders.Goal.TheVariants.{Intersect, Dset, Splits, Blocking, Trial, Quorums, Least, OrgBlocking}
-use Rattle.report.specs.Lines.{Text, with_pair, with_sets, least_lines, trial_size, counted, available_lines, too_large}
+use Rattle.report.specs.Lines.{Text, with_pair, with_sets, smallest_if_any, trial_size, counted, available_lines, too_large}
 use Rattle.order_reading.specs.declared.status.Status.{Status}
 use Rattle.order_reading.specs.declared.status.Status.TheVariants.{Yes, No, Unknown, TooLarge}
 use Rattle.order_reading.specs.declared.reply.Reply.{Reply as Answer}
@@ -77,8 +77,8 @@ HasSets n (part journal) = Unit {0}
 
 -- its nodes, or that there is none, or that the budget is spent
 abbrev pub least_answer : List Name → ℕ → LeastOutcome → Answer
-least_answer names budget (found_least.Least set journal) = record { status = Yes; text = least_lines names (Some set) }
-least_answer names budget (found_least.NoQuorum journal) = record { status = Yes; text = least_lines names None }
+least_answer names budget (found_least.Least set journal) = record { status = Yes; text = smallest_if_any names (Some set) }
+least_answer names budget (found_least.NoQuorum journal) = record { status = Yes; text = smallest_if_any names None }
 least_answer names budget (found_least.Spent journal) = record { status = Unknown; text = counted (unknown_word listed.Smaller) budget }
 
 -- it was asked for

@@ -13,8 +13,8 @@ use Rattle.list_journal.specs.declared.kinds.Listed.{Listed as Kind}
 use Rattle.blocking_lists.specs.Outcomes.{WholeHolds, PartHolds}
 use Rattle.blocking_lists.specs.declared.outcome.ListOutcome.TheVariants.{Whole as whole_list, Spent as part_of_list}
 use Rattle.certificate_file.specs.Acceptance.{checked}
-use Rattle.certificate_file.specs.declared.places.Answer.{Answer as Shown}
-use Rattle.certificate_file.specs.declared.places.Answer.TheVariants as shown
+use Rattle.certificate_file.specs.declared.places.Conclusion.{Conclusion}
+use Rattle.certificate_file.specs.declared.places.Conclusion.TheVariants as shown
 use Rattle.cert_writer.specs.Promises.{raised_pair}
 use Rattle.cert_writer.specs.Finding.{cert_of, given_of}
 use Rattle.cert_writer.specs.Listing.{list_cert_of, list_accepted_as}
@@ -27,7 +27,7 @@ use Rattle.quorum_run.specs.Printing.{part, deleted, request}
 use Rattle.quorum_run.specs.Replies.{size_lines, list_word, unknown_word}
 
 -- the certificate says this, for the asked node and the deleted nodes, and is accepted
-abbrev pub IsAccepted : Search → Text → Shown → Type 0
+abbrev pub IsAccepted : Search → Text → Conclusion → Type 0
 IsAccepted s cert answer = checked s.whole (given_of (request s)) cert ≡ Ok (record { header = s.header; answer = answer })
 
 -- the first line is the title of version 2
@@ -39,7 +39,7 @@ pub record WritesAccepted (s : Search) (new : DeskState) : Type 0 where
   pub cert : Text
   pub held : new.files s.path ≡ Some cert
   pub title : IsOfVersionTwo cert
-  pub answer : Shown
+  pub answer : Conclusion
   pub accepted : IsAccepted s cert answer
 
 -- ---- whether two quorums share no node

@@ -7,9 +7,9 @@ use Rattle.list_journal.specs.declared.kinds.ListKind.TheVariants.{Whole, Partia
 use Rattle.list_journal.specs.declared.kinds.Listed.TheVariants as listed
 use Rattle.least_journal.specs.Least.{IsLeastAnswer}
 use Rattle.least_quorum.specs.Outcomes.{LeastHolds, PartLeastHolds}
-use Rattle.certificate_file.specs.declared.places.Answer.TheVariants.{Least, PartialLeast}
+use Rattle.certificate_file.specs.declared.places.Conclusion.TheVariants.{Least, PartialLeast}
 use Rattle.cert_writer.specs.Least.{least_cert_by, raised_if_any}
-use Rattle.report.specs.Lines.{least_lines, counted}
+use Rattle.report.specs.Lines.{smallest_if_any, counted}
 use Rattle.order_reading.specs.declared.searches.Search.{Search}
 use Rattle.quorum_run.specs.Printing.{part, deleted}
 use Rattle.quorum_run.specs.Replies.{unknown_word}
@@ -19,7 +19,7 @@ use Rattle.quorum_run.specs.Showing.{IsAccepted}
 -- printed that there is none, and there is no quorum. The certificate shows it, is accepted, and is within the budget
 pub record PrintsLeast (s : Search) (old new : DeskState) : Type 0 where
   pub answer : Option Table
-  pub out : new.out ≡ old.out ++ least_lines (part s).names answer
+  pub out : new.out ≡ old.out ++ smallest_if_any (part s).names answer
   pub least : IsLeastAnswer (part s).sets (members (deleted s)) answer
   pub journal : List JournalLine
   pub left : ℕ

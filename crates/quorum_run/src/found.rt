@@ -8,7 +8,7 @@ ghost use Rattle.fbas_model.specs.Systems.{System, IsSystem};
 ghost use Rattle.quorum_questions.specs.declared.asking.TheConstants.{MOST_UNITS};
 ghost use Rattle.cert_writer.specs.Promises.{IsHeader, AreOrgs, HasPart, PutsCertificate};
 ghost use Rattle.cert_writer.specs.Writing.{IsFresh};
-ghost use Rattle.cert_writer.specs.Finding.{Search, part, faulty};
+ghost use Rattle.cert_writer.specs.Finding.{Request, part, faulty};
 ghost use Rattle.quorum_run.specs.Finding.{cert_over, cert_of, FoundShows, FindsFound, IsWritable, HasGreatest, HasGroups};
 
 use blocking_lists::ListOutcome;
@@ -64,7 +64,7 @@ pub fn write_certificate<D: Desk>(
 /// What a search shows can be written, and its certificate is accepted.
 pub fn what_is_shown_is_accepted()
     ensures written { (f : System) (b : Table) (budget : ℕ) (found : Found) → length f.names ≡ length f.sets → FoundShows f.sets b budget found → IsWritable (length f.names) found }
-    ensures found { (s : Search) (found : Found) → IsSystem s.whole.names s.whole.sets → IsStrictlySortedBy name_cmp s.whole.names → length s.digest ≡ 32 → IsBytes s.digest → IsHeader s.whole s.header → s.budget ≤ MOST_UNITS
+    ensures found { (s : Request) (found : Found) → IsSystem s.whole.names s.whole.sets → IsStrictlySortedBy name_cmp s.whole.names → length s.digest ≡ 32 → IsBytes s.digest → IsHeader s.whole s.header → s.budget ≤ MOST_UNITS
         → IfSome s.orgs (AreOrgs s.whole) → HasGroups s.whole.names (part s).names s.orgs found → FoundShows (part s).sets (faulty s) s.budget found → FindsFound s found (cert_of s found) }
 {
     what_is_shown_is_found();

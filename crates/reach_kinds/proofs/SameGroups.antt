@@ -24,7 +24,7 @@ use Rattle.cert_lines.specs.Words.{words_of}
 use Rattle.cert_lines.specs.Saying.{counter_in, or_bad_line}
 use Rattle.cert_lines.specs.declared.faults.CertError.{CertError}
 use Rattle.cert_lines.specs.declared.faults.CertError.TheVariants.{BadLine, NotNew, Step, TooLarge, Formula}
-use Rattle.reach_kinds.specs.Bodies.{and_then, nodes_of, within, counted_listing, counter_sized, counter_line, listed_by, Numbered, numbered_in, right_set, new_set, with_listed, list_set, set_line, literal_in, is_old_step, with_step, in_order, whole_of, part_of, after_list_step, list_step_unless, list_step, list_end, list_text, list_line}
+use Rattle.reach_kinds.specs.Bodies.{and_then, nodes_of, within, counted_listing, counter_sized, counter_line, listed_by, Numbered, numbered_in, right_set, new_set, with_listed, list_set, set_line, literal_in, is_old_step, with_step, in_shown_order, whole_of, partial_of, after_list_step, list_step_unless, list_step, list_end, list_text, list_line}
 use Rattle.reach_kinds.specs.GroupBodies.{listed_set, is_old_group_set, with_group_set, list_group_set, group_set_line, is_old_group_step, with_group_step, after_group_step, group_step_unless, group_step, group_end, group_text, group_line}
 use Rattle.reach_kinds.specs.PlaceLines.{reach_line}
 use Rattle.reach_kinds.specs.Known.{IsShownOver, IsPlaceOver, IsStateOver}
@@ -57,14 +57,14 @@ module _ (o : Option (List Group)) where
   whole_none listed.Blocking sets = tt
   whole_none listed.Smaller sets = tt
 
-  part_none : (sought : Listed) (units : ℕ) → IsShownOver o (part_of sought units)
+  part_none : (sought : Listed) (units : ℕ) → IsShownOver o (partial_of sought units)
   part_none listed.Quorum units = tt
   part_none listed.Blocking units = tt
   part_none listed.Smaller units = tt
 
   after_none : (k : Listing) (p : Progress) → IsStateOver o (after_list_step k p)
   after_none k going = tt
-  after_none k Refuted = whole_none k.sought (in_order k.sought k.sets)
+  after_none k Refuted = whole_none k.sought (in_shown_order k.sought k.sets)
 
   step_none : (k : Listing) (l : ℕ) (step : ProofStep) (fault : Option StepFault) (state : ReachState) → list_step_unless l k step fault ≡ Ok state → IsStateOver o state
   step_none k l step (Some fault) state e = absurd cc
@@ -95,7 +95,7 @@ module _ (o : Option (List Group)) where
   end_none : (k : Listing) (l : ℕ) (kind : ListKind) (state : ReachState) → list_end kind k l ≡ Ok state → IsStateOver o state
   end_none k l Whole state e = absurd cc
   end_none k l Part state e =
-      let same : Done (part_of k.sought k.units) ≡ state = cc in
+      let same : Done (partial_of k.sought k.units) ≡ state = cc in
       subst (IsStateOver o) same (part_none k.sought k.units)
 
   list_none : (f : System) (nodes : Table) (k : Listing) (l : ℕ) (text : List ℕ) (state : ReachState) → list_line f nodes k l text ≡ Ok state → IsStateOver o state

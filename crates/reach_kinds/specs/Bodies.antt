@@ -297,10 +297,10 @@ abbrev pub with_step : Listing → ProofStep → Listing
 with_step k step = listing_on k.sought k.kind k.part (holding k.checker (after_step k.checker.database step)) k.sets (counted k.units step)
 
 -- the listed sets in the order in which they are shown: each once and in name order, or as they were listed
-abbrev pub in_order : Listed → List Table → List Table
-in_order listed.Quorum sets = ordered sets
-in_order listed.Blocking sets = ordered sets
-in_order listed.Smaller sets = sets
+abbrev pub in_shown_order : Listed → List Table → List Table
+in_shown_order listed.Quorum sets = ordered sets
+in_shown_order listed.Blocking sets = ordered sets
+in_shown_order listed.Smaller sets = sets
 
 -- what a list of a kind shows, and a part of one: of ever smaller quorums the last one
 abbrev pub whole_of : Listed → List Table → Reached
@@ -308,15 +308,15 @@ whole_of listed.Quorum sets = Quorums sets
 whole_of listed.Blocking sets = Blocking sets
 whole_of listed.Smaller sets = Least (last_of None sets)
 
-abbrev pub part_of : Listed → ℕ → Reached
-part_of listed.Quorum units = PartialQuorums units
-part_of listed.Blocking units = PartialBlocking units
-part_of listed.Smaller units = PartialLeast units
+abbrev pub partial_of : Listed → ℕ → Reached
+partial_of listed.Quorum units = PartialQuorums units
+partial_of listed.Blocking units = PartialBlocking units
+partial_of listed.Smaller units = PartialLeast units
 
 -- the next line after a step: `end` where it was the empty lemma
 abbrev pub after_list_step : Listing → Progress → ReachState
 after_list_step k going = Going (AtList k)
-after_list_step k Refuted = Going (AtEnd (whole_of k.sought (in_order k.sought k.sets)))
+after_list_step k Refuted = Going (AtEnd (whole_of k.sought (in_shown_order k.sought k.sets)))
 
 -- what is so after a step, if it has no fault and is as new as the kind asks
 abbrev pub list_step_unless : ℕ → Listing → ProofStep → Option StepFault → Result ReachState CertError
@@ -328,7 +328,7 @@ list_step k l step = list_step_unless l k step (step_fault_by k.checker.rule k.c
 -- the end of a list: a whole one does not end before the empty lemma
 abbrev pub list_end : ListKind → Listing → ℕ → Result ReachState CertError
 list_end Whole k l = Err (NotRefuted l)
-list_end Part k l = Ok (Done (part_of k.sought k.units))
+list_end Part k l = Ok (Done (partial_of k.sought k.units))
 
 -- a listed set, or else a step
 abbrev pub list_text : System → Table → Listing → ℕ → List ℕ → Option Listed → Result ReachState CertError

@@ -2,7 +2,7 @@
 ghost use Rattle.std.specs.Prelude.{◌≡◌, ◌⊎◌, ◌&&◌, ℕ, length, All, None, IfOk, IfErr, IsErrOf, Ok, Err};
 ghost use Rattle.lrat_model.specs.Steps.{step_of};
 ghost use Rattle.least_journal.specs.Least.{last_of};
-ghost use Rattle.reach_kinds.specs.Bodies.{and_then, literal_in, in_order, whole_of, part_of, after_list_step, list_step, list_end};
+ghost use Rattle.reach_kinds.specs.Bodies.{and_then, literal_in, in_shown_order, whole_of, partial_of, after_list_step, list_step, list_end};
 
 use crate::places::{Listing, ReachPlace, ReachState, Reached};
 use crate::steps::{take_counted_step, with_literal};
@@ -53,7 +53,7 @@ fn last_of(sets: &NodeSets) -> Option<NodeSet>
 /// What a list of a kind shows: its sets put in order, or of ever smaller quorums the last one.
 pub fn whole_of(sought: Listed, sets: NodeSets) -> Reached
     requires { (n : ℕ) × All (λ s. length s ≡ n) sets }
-    ensures { result ≡ whole_of sought (in_order sought sets) }
+    ensures { result ≡ whole_of sought (in_shown_order sought sets) }
 {
     match sought {
         Listed::Quorum => Reached::Quorums(sets.ordered()),
@@ -63,8 +63,8 @@ pub fn whole_of(sought: Listed, sets: NodeSets) -> Reached
 }
 
 /// What a part of a list of a kind shows.
-fn part_of(sought: Listed, units: u64) -> Reached
-    ensures { result ≡ part_of sought units }
+fn partial_of(sought: Listed, units: u64) -> Reached
+    ensures { result ≡ partial_of sought units }
 {
     match sought {
         Listed::Quorum => Reached::PartialQuorums(units),
@@ -107,6 +107,6 @@ pub fn list_end(listing: Listing, line: u64) -> Result<ReachState, CertError>
     drop(listing);
     match kind {
         ListKind::Whole => Err(CertError::NotRefuted(line)),
-        ListKind::Partial => Ok(ReachState::Done(part_of(sought, units))),
+        ListKind::Partial => Ok(ReachState::Done(partial_of(sought, units))),
     }
 }

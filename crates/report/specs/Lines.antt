@@ -23,8 +23,8 @@ use Rattle.cert_lines.specs.declared.faults.CertError.TheVariants.{BadLine, Line
 use Rattle.certificate_file.specs.declared.places.Accepted.{Accepted}
 use Rattle.certificate_file.specs.declared.places.Header.{Header}
 use Rattle.witness_pair.specs.declared.Pair.{Pair}
-use Rattle.certificate_file.specs.declared.places.Answer.{Answer}
-use Rattle.certificate_file.specs.declared.places.Answer.TheVariants.{Pair as pair, Refutation, Partial, Blocking, PartialBlocking, Quorums, PartialQuorums, Least, PartialLeast, OrgBlocking, PartialOrgBlocking}
+use Rattle.certificate_file.specs.declared.places.Conclusion.{Conclusion}
+use Rattle.certificate_file.specs.declared.places.Conclusion.TheVariants.{Pair as pair, Refutation, Partial, Blocking, PartialBlocking, Quorums, PartialQuorums, Least, PartialLeast, OrgBlocking, PartialOrgBlocking}
 
 abbrev pub Text : Type 0
 Text = List ℕ
@@ -171,7 +171,7 @@ cert_refused names fault = line (cert_fault names fault)
 
 -- ---- answers
 
-abbrev pub accepted_kind : Answer → Text
+abbrev pub accepted_kind : Conclusion → Text
 accepted_kind (pair p) = codes "accepted pair\n"
 accepted_kind Refutation = codes "accepted refutation\n"
 accepted_kind (Partial units) = counted (codes "accepted partial") units
@@ -198,12 +198,12 @@ with_sets word names sets = counted word (length sets) ++ set_lines names sets
 abbrev pub smallest : List Name → Table → Text
 smallest names u = counted (codes "least") (size u) ++ line (list (codes "set") names u)
 
-abbrev pub least_lines : List Name → Option Table → Text
-least_lines names None = codes "least none\n"
-least_lines names (Some u) = smallest names u
+abbrev pub smallest_if_any : List Name → Option Table → Text
+smallest_if_any names None = codes "least none\n"
+smallest_if_any names (Some u) = smallest names u
 
 -- a line for each set of an answer, by the names of its nodes, or by the texts of its groups
-abbrev pub answer_lines : List Name → Answer → Text
+abbrev pub answer_lines : List Name → Conclusion → Text
 answer_lines names (pair p) = []
 answer_lines names Refutation = []
 answer_lines names (Partial units) = []
@@ -227,8 +227,8 @@ abbrev pub accepted : List Name → Accepted → Text
 accepted names a = accepted_kind a.answer ++ (line (word_if_any (codes "from") names a.header.from) ++ (line (list (codes "faulty") names a.header.faulty) ++ answer_lines names a.answer))
 
 -- a proof from outside is verified: so is it said, and of which part and without which nodes
-abbrev pub verified : List Name → Header → Text
-verified names h = codes "verified\n" ++ (line (word_if_any (codes "from") names h.from) ++ line (list (codes "faulty") names h.faulty))
+abbrev pub verified_lines : List Name → Header → Text
+verified_lines names h = codes "verified\n" ++ (line (word_if_any (codes "from") names h.from) ++ line (list (codes "faulty") names h.faulty))
 
 -- a line of its own, and the list of a set's names behind a word
 abbrev pub with_list : Text → Text → List Name → Table → Text

@@ -1,10 +1,10 @@
 //! Words, numbers and names, one behind another.
 ghost use Rattle.std.specs.Prelude.{◌≡◌, ◌<◌, ◌++◌, ◌∷◌, [], length, decimal, codes, option_map, All, OnOk, IfOk};
-ghost use Rattle.certificate_file.specs.Meaning.{HasPlaces, AnswerHasPlaces};
-ghost use Rattle.report.specs.Lines.{numbered, worded, list, listed, line, word_if_any, accepted as spec_accepted, accepted_kind, verified as spec_verified, set_lines, answer_lines, with_list as spec_with_list, counts as spec_counts, export_head as spec_export_head, export_comments as spec_export_comments, with_pair as spec_with_pair, with_sets as spec_with_sets, smallest as spec_smallest, trial_size as spec_trial_size, counted as spec_counted, available_lines, edit_lines, name_at as spec_name_at};
+ghost use Rattle.certificate_file.specs.Meaning.{HasPlaces, ConclusionHasPlaces};
+ghost use Rattle.report.specs.Lines.{numbered, worded, list, listed, line, word_if_any, accepted as spec_accepted, accepted_kind, verified_lines as spec_verified_lines, set_lines, answer_lines, with_list as spec_with_list, counts as spec_counts, export_head as spec_export_head, export_comments as spec_export_comments, with_pair as spec_with_pair, with_sets as spec_with_sets, smallest as spec_smallest, trial_size as spec_trial_size, counted as spec_counted, available_lines, edit_lines, name_at as spec_name_at};
 
 use crate::groups::push_group_sets;
-use certificate_file::{Accepted, Answer, Header, Pair};
+use certificate_file::{Accepted, Conclusion, Header, Pair};
 use fbas_core::System;
 use itoa::Buffer;
 use name_set::{Names, NodeSet};
@@ -99,7 +99,7 @@ fn push_word_if_any(
 
 // Adds the line of a smallest quorum that a certificate shows: how many nodes it has, or that there is none.
 fn push_least(text: &mut Vec<u8>, answer: &Option<NodeSet>) -> Result<(), AllocError>
-    ensures { OnOk result (text.new.items ≡ text.old.items ++ accepted_kind (Answer.Least answer.now)) }
+    ensures { OnOk result (text.new.items ≡ text.old.items ++ accepted_kind (Conclusion.Least answer.now)) }
 {
     match answer {
         Some(set) => push_count(text, "accepted least", u64::from(set.count())),
@@ -108,25 +108,29 @@ fn push_least(text: &mut Vec<u8>, answer: &Option<NodeSet>) -> Result<(), AllocE
 }
 
 // Adds the line of what a certificate shows.
-fn push_kind(text: &mut Vec<u8>, answer: &Answer) -> Result<(), AllocError>
+fn push_kind(text: &mut Vec<u8>, answer: &Conclusion) -> Result<(), AllocError>
     ensures { OnOk result (text.new.items ≡ text.old.items ++ accepted_kind answer.now) }
 {
     match answer {
-        Answer::Pair(_) => push_word(text, "accepted pair\n"),
-        Answer::Refutation => push_word(text, "accepted refutation\n"),
-        Answer::Partial(units) => push_count(text, "accepted partial", *units),
-        Answer::Blocking(sets) => {
+        Conclusion::Pair(_) => push_word(text, "accepted pair\n"),
+        Conclusion::Refutation => push_word(text, "accepted refutation\n"),
+        Conclusion::Partial(units) => push_count(text, "accepted partial", *units),
+        Conclusion::Blocking(sets) => {
             push_count(text, "accepted blocking", sets.as_slice().len() as u64)
         }
-        Answer::PartialBlocking(units) => push_count(text, "accepted partial-blocking", *units),
-        Answer::Quorums(sets) => push_count(text, "accepted quorums", sets.as_slice().len() as u64),
-        Answer::PartialQuorums(units) => push_count(text, "accepted partial-quorums", *units),
-        Answer::Least(answer) => push_least(text, answer),
-        Answer::PartialLeast(units) => push_count(text, "accepted partial-least", *units),
-        Answer::OrgBlocking(_, sets) => {
+        Conclusion::PartialBlocking(units) => push_count(text, "accepted partial-blocking", *units),
+        Conclusion::Quorums(sets) => push_count(
+            text,
+            "accepted quorums",
+            sets.as_slice().len() as u64,
+        ),
+        Conclusion::PartialQuorums(units) => push_count(text, "accepted partial-quorums", *units),
+        Conclusion::Least(answer) => push_least(text, answer),
+        Conclusion::PartialLeast(units) => push_count(text, "accepted partial-least", *units),
+        Conclusion::OrgBlocking(_, sets) => {
             push_count(text, "accepted org-blocking", sets.as_slice().len() as u64)
         }
-        Answer::PartialOrgBlocking(units) => {
+        Conclusion::PartialOrgBlocking(units) => {
             push_count(text, "accepted partial-org-blocking", *units)
         }
     }
@@ -144,16 +148,20 @@ pub fn push_sets(text: &mut Vec<u8>, system: &System, sets: &[NodeSet]) -> Resul
 }
 
 // Adds the lines of an answer's sets, where it has some.
-fn push_answer_sets(text: &mut Vec<u8>, system: &System, answer: &Answer) -> Result<(), AllocError>
-    requires { AnswerHasPlaces (length system.now.sets) answer.now }
+fn push_answer_sets(
+    text: &mut Vec<u8>,
+    system: &System,
+    answer: &Conclusion,
+) -> Result<(), AllocError>
+    requires { ConclusionHasPlaces (length system.now.sets) answer.now }
     ensures { OnOk result (text.new.items ≡ text.old.items ++ answer_lines system.now.names answer.now) }
 {
     match answer {
-        Answer::Blocking(sets) | Answer::Quorums(sets) => {
+        Conclusion::Blocking(sets) | Conclusion::Quorums(sets) => {
             push_sets(text, system, sets.as_slice())
         }
-        Answer::Least(Some(set)) => push_list(text, "set", system, set),
-        Answer::OrgBlocking(groups, sets) => push_group_sets(text, groups, sets.as_slice()),
+        Conclusion::Least(Some(set)) => push_list(text, "set", system, set),
+        Conclusion::OrgBlocking(groups, sets) => push_group_sets(text, groups, sets.as_slice()),
         _ => Ok(()),
     }
 }
@@ -172,9 +180,13 @@ pub fn accepted(alloc: Global, system: &System, accepted: &Accepted) -> Result<V
 }
 
 /// The lines of a proof from outside that is verified: that it is, and the lines `from` and `faulty` of what it speaks of.
-pub fn verified(alloc: Global, system: &System, header: &Header) -> Result<Vec<u8>, AllocError>
+pub fn verified_lines(
+    alloc: Global,
+    system: &System,
+    header: &Header,
+) -> Result<Vec<u8>, AllocError>
     requires { length header.now.faulty ≡ length system.now.sets }
-    ensures { IfOk result (λ text. text.items ≡ spec_verified system.now.names header.now) }
+    ensures { IfOk result (λ text. text.items ≡ spec_verified_lines system.now.names header.now) }
 {
     let mut text = Vec::new(alloc);
     push_word(&mut text, "verified\n")?;

@@ -4,7 +4,7 @@ use Rattle.fbas_model.specs.Systems.{System}
 use Rattle.list_journal.specs.Journals.{JournalLine}
 use Rattle.list_journal.specs.declared.kinds.ListKind.{ListKind}
 use Rattle.cert_writer.specs.Texts.{least_text}
-use Rattle.cert_writer.specs.Promises.{part_of, greatest_in}
+use Rattle.cert_writer.specs.Promises.{part_of, greatest_of_part}
 use Rattle.cert_writer.specs.Least.{kind_of}
 use Rattle.cert_writer.proofs.Ends.{puts_same}
 use Rattle.cert_writer.proofs.least.write_least.Goals as goal
@@ -15,7 +15,7 @@ returns g c =
     let digest = c.args.about.now.digest.now in
     let header = c.args.about.now.header.now in
     let part = part_of whole header.from in
-    let nodes : ℕ = size (greatest_in whole header) in
+    let nodes : ℕ = size (greatest_of_part whole header) in
     puts_same _ _ _ _ _ _ _ _
     (ap (λ (p : System). least_text whole.names p.names digest header c.args.nodes c.kind_of.result c.journal_of.result.now) c.requires.part.part
     ∙ ap (λ (n : ℕ). least_text whole.names part.names digest header n c.kind_of.result c.journal_of.result.now) c.requires.nodes

@@ -2,7 +2,7 @@ use Rattle.std.proofs.Common.{◌≡◌, ◌∙◌, [], ◌∷◌, ◌++◌, Lis
 use Rattle.std.proofs.lemmas.List.Elements.{All-contains, Contains-append_right}
 use Rattle.list_journal.specs.Journals.{JournalLine}
 use Rattle.list_journal.proofs.Elements.{first_in}
-use Rattle.blocking_lists.specs.Lines.{line_of}
+use Rattle.blocking_lists.specs.Lines.{journal_line_of}
 use Rattle.cert_writer.specs.Texts.{joined, journal_line}
 use Rattle.cert_writer.specs.Listing.{CanBeLine}
 use Rattle.cert_writer.specs.Writing.{Pending}
@@ -21,14 +21,14 @@ returns-then-self g c =
 
 pub journal_line-requires : goal.journal_line-requires
 journal_line-requires g c =
-    let line : JournalLine = line_of c.in-Some.line in
+    let line : JournalLine = journal_line_of c.in-Some.line in
     let whole : c.each.invariant.done ++ line ∷ c.next_line.new.self ≡ c.args.journal.now = ap (λ (ls : List JournalLine). c.each.invariant.done ++ ls) (sym c.in-Some.ensures.front) ∙ c.each.invariant.whole in
     let there : Contains c.args.journal.now line = subst (λ (ls : List JournalLine). Contains ls line) whole (Contains-append_right c.each.invariant.done (line ∷ c.next_line.new.self) line (first_in line c.next_line.new.self)) in
     All-contains (CanBeLine _) c.args.journal.now line c.requires there
 
 pub each-preserved : goal.each-preserved
 each-preserved g c =
-    let line : JournalLine = line_of c.in-Some.line in
+    let line : JournalLine = journal_line_of c.in-Some.line in
     let done : List JournalLine = c.each.invariant.done in
     record {
       done = done ++ line ∷ [];
