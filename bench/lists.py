@@ -4,9 +4,6 @@
 For blocking sets clasp enumerates the subset-minimal sets, of nodes or of organisations, that meet the quorums which our run has listed; for quorums the
 subset-minimal answer sets of the system as a logic program, and for `least` it minimizes over these. It proves nothing, and gringo's time is not counted. A row has single
 runs: processor time and largest memory of the list with its certificate, and of `check`. Both numbers of sets have to agree.
-
-bench/lists.py alone builds crates/lists_bench (with its proofs, some minutes the first time) and prints the time of `list` alone,
-without reading and certificate.
 """
 import json
 import os
@@ -20,7 +17,6 @@ sys.path[:0] = [os.path.join(TOP, "tests"), os.path.join(TOP, "bench")]
 import runs
 import watchers
 
-CRATE = os.path.join(TOP, "crates", "lists_bench")
 BUDGET = "1000000000"
 LIMIT = 300
 
@@ -196,19 +192,3 @@ def made(program, quick):
         for name in list(systems)[: 1 if quick else None]:
             yield listed(program, word, name, *(systems[name] if word == "org-blocking" else (systems[name],)))
         yield ""
-
-
-def main():
-    with open(os.path.join(CRATE, "stdin")) as given:
-        build = subprocess.run(["rt", "run", "--", BUDGET], cwd=CRATE, stdin=given, capture_output=True)
-    program = os.path.join(CRATE, "out", "lists_bench")
-    if not os.path.exists(program):
-        sys.exit(build.stderr.decode()[-2000:])
-    print("\n".join(runs.head(["network", "`list` alone, s", "MB", "last line"])))
-    for name, nodes in BLOCKING.items():
-        it = runs.run([program, BUDGET], LIMIT, json.dumps(nodes))
-        print(runs.row([name, runs.seconds(it), it.memory, it.text.strip().split("\n")[-1]]), flush=True)
-
-
-if __name__ == "__main__":
-    main()
