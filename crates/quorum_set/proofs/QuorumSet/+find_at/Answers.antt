@@ -1,8 +1,8 @@
 use Rattle.std.proofs.Common.{◌≡◌, ℕ, ◌+◌, ◌<◌, ◌++◌, List, ◌∙◌, ap, refl, length, subst, arith}
 use Rattle.std.proofs.lemmas.Result.{err_from_is_err_and}
-use Rattle.quorum_set.specs.Findings.{found_all, findings_at, HasPlaces, HoldsFirst}
-use Rattle.fbas_model.proofs.Lists.{lighter, item_of_all}
-use Rattle.quorum_set.proofs.Places.{inner_sets-lists, places_inners}
+use Rattle.quorum_set.specs.Findings.{found_all, findings_at, HoldsFirst}
+use Rattle.quorum_set.proofs.Places.{inner_sets-lists}
+use Rattle.quorum_set.proofs.Inner.{inner_at}
 use Rattle.quorum_set.proofs.FindingLaws.{holds_first, holds_lists, holds_lists_part, inner_added, inner_part, pushed, popped}
 use Rattle.quorum_set.proofs.QuorumSet.+find_at.Goals as goal
 
@@ -37,13 +37,8 @@ returns-in_err-push-clause-err t c =
 
 pub find_at-requires : goal.find_at-requires
 find_at-requires t c =
-    let ws = c.self.inside.validators.items in
-    let qs = c.self.inside.inner.items in
-    let in_range : c.loop-at.at < length qs = rw (← c.deref-inner-items.ensures.value) c.loop-at-test.true in
-    let item = rw c.deref-inner-items.ensures.value at c.inner-item.is in
-    let light = lighter ws qs c.loop-at.at c.inner-item.result in_range item in
-    let places = places_inners ws qs (rw (← c.self.view_is) at c.requires).1 in
-    (rw (← c.decreases, ← c.self.view_is) (omega arith), item_of_all HasPlaces qs c.loop-at.at c.inner-item.result in_range item places)
+    let inner = inner_at c.self.inside.threshold c.self.inside.validators.items c.self.inside.inner.items c.args.self.now c.self.view_is c.deref-inner-items.result.now c.loop-at.at c.inner-item.result c.deref-inner-items.ensures.value c.loop-at-test.true c.inner-item.is in
+    (rw (← c.decreases) (omega (arith, inner.lighter)), inner.places c.requires)
 
 pub returns-in_err-find_at-clause-err : goal.returns-in_err-find_at-clause-err
 returns-in_err-find_at-clause-err t c =
