@@ -10,12 +10,15 @@ use Rattle.lrat_model.specs.Propagation.{propagate}
 use Rattle.lrat_model.specs.Steps.{Addition, Deletion, Database, step_fault, after_step, literal_fault, outcome_fault}
 use Rattle.lrat_model.specs.declared.step.StepFault.TheVariants.{IdOrder}
 use Rattle.lrat_model.proofs.Runs.{clause_at-without}
-use Rattle.list_journal.specs.Journals.{JournalLine, SetLine, StepLine, Rules, after_line, JournalRun}
+use Rattle.list_journal.specs.Journals.{JournalLine, SetLine, StepLine, Rules, nothing_held, after_line, JournalRun}
 use Rattle.list_journal.specs.declared.kinds.ListKind.{ListKind}
 
 -- no clause is held under an id above the last
 abbrev pub AreBelow : Database → Type 0
 AreBelow d = (k : ℕ) → d.last < k → clause_at d.held k ≡ None
+
+pub nothing_below : AreBelow nothing_held
+nothing_below k h = refl
 
 differ : (id k : ℕ) → id < k → (id == k) ≡ false
 differ id k h = false_from_ne_true (id == k) (λ e. absurd (let same = eqb-true id k e in omega arith))

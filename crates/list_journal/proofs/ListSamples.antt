@@ -21,16 +21,16 @@ nobody = false ∷ false ∷ false ∷ []
 abbrev a : Table
 a = true ∷ false ∷ false ∷ []
 
-abbrev ab : Table
+abbrev pub ab : Table
 ab = true ∷ true ∷ false ∷ []
 
-abbrev ac : Table
+abbrev pub ac : Table
 ac = true ∷ false ∷ true ∷ []
 
-abbrev bc : Table
+abbrev pub bc : Table
 bc = false ∷ true ∷ true ∷ []
 
-abbrev abc : Table
+abbrev pub abc : Table
 abc = true ∷ true ∷ true ∷ []
 
 clause_of_quorum : clause_for Blocking abc Quorum ac ≡ Plus 1 ∷ Plus 3 ∷ []
