@@ -1,16 +1,16 @@
 -- Who mentions whom, gathered node by node.
-use Rattle.std.proofs.Common.{◌≡◌, ℕ, ◌+◌, ◌<◌, ◌&&◌, ◌||◌, ◌==◌, nat_lt, Bool, true, false, List, [], ◌∷◌, ◌++◌, length, zero, suc, refl, sym, ◌∙◌, ap, arith, inl, inr, Some, None, slice_index_or}
+use Rattle.std.proofs.Common.{◌≡◌, ℕ, ◌+◌, ◌<◌, ◌&&◌, ◌||◌, ◌==◌, nat_lt, Bool, true, false, List, [], ◌∷◌, ◌++◌, length, zero, suc, append_assoc, refl, sym, ◌∙◌, ap, subst, arith, inl, inr, Some, None, slice_index_or}
 use Rattle.std.specs.Prelude.{All, Result, Ok, Err, OnErr, set, not, cond}
-use Rattle.std.proofs.Math.Bool.{or-false, and-true, and-false}
+use Rattle.std.proofs.Math.Bool.{or-false, or_assoc, and-true, and-false}
 use Rattle.std.proofs.lemmas.Bool.{cases_Bool, false_from_ne_true, cases_lt, lt-ltb, ltb-true, eqb-true, eq-eqb, and_parts, or_right}
-use Rattle.std.proofs.lemmas.List.{get_or_past, get_or-set_same, get_or-set_other, length-set}
+use Rattle.std.proofs.lemmas.List.{append-nil, get_or_past, get_or-set_same, get_or-set_other, length-set}
 use mathlib.Core.Path.{fun_ext}
 use Rattle.fbas_model.specs.Nodes.{Nodes, Table, members, ∅, ◌∪◌, listed_from}
 use Rattle.fbas_model.specs.Trees.{QuorumSet}
 use Rattle.fbas_model.specs.QuorumSets.{mentioned}
 use Rattle.fbas_model.specs.Fbas.{Fbas}
 use Rattle.fbas_model.specs.Lists.{among}
-use Rattle.fbas_model.proofs.Listed.{among_more, iterated_all}
+use Rattle.fbas_model.proofs.Listed.{among_more, iterated_all, iterated_below}
 use Rattle.fbas_core.specs.Mentioning.{AreMentioning, IsAdded, IsForgotten, IsExchanged, list_at, mentioning, stands_in, without}
 
 -- the numbers below i + 1 in a set are those below i, and i
@@ -81,18 +81,34 @@ mentioning_below f lists v m k d low =
     let w = slice_index_or (list_at lists v) k d in
     ltb-true w (length f) (and_parts (nat_lt w (length f)) (mentioning f v w) (sym (m.same v w) ∙ here_among (list_at lists v) k d low)).0
 
+-- ---- a walk over the members of a set, each of which changes the list at its place
+
+module _ (places : Table) (walked rest : List ℕ) (walk : walked ++ rest ≡ listed_from 0 places) where
+  pub walk_on : (next : List ℕ) (v : ℕ) → rest ≡ v ∷ next → walked ++ v ∷ next ≡ listed_from 0 places
+  walk_on next v step = ap (λ (vs : List ℕ). walked ++ vs) (sym step) ∙ walk
+
+  pub walk_below : (next : List ℕ) (v : ℕ) → rest ≡ v ∷ next → v < length places
+  walk_below next v step = iterated_below places walked next v (walk_on next v step)
+
+  pub walk_over : rest ≡ [] → walked ≡ listed_from 0 places
+  walk_over none = sym (append-nil walked) ∙ (ap (λ (vs : List ℕ). walked ++ vs) (sym none) ∙ walk)
+
+  -- what held of the places before holds with one more
+  pub walk_more : (P : Nodes → List (List ℕ) → Type 0) (next : List ℕ) (v : ℕ) (lists made new : List (List ℕ)) → rest ≡ v ∷ next → length places ≡ length lists → new ≡ made → (v < length lists → P (among (walked ++ v ∷ [])) made)
+      → ((walked ++ v ∷ []) ++ next ≡ listed_from 0 places) × P (among (walked ++ v ∷ [])) new
+  walk_more P next v lists made new step many is more = (
+    append_assoc walked (v ∷ []) next ∙ walk_on next v step,
+    subst (P (among (walked ++ v ∷ []))) (sym is) (more (let low = walk_below next v step in omega arith)),
+  )
+
 -- ---- one node is added to several lists
 
 pub added_first : (w : ℕ) (lists : List (List ℕ)) → IsAdded w (among []) lists lists
 added_first w lists = record { many = refl; same = λ v x. sym (or-false (among (list_at lists v) x)) }
 
 mixed : (a b e c : Bool) → ((a || (b && c)) || (e && c)) ≡ (a || ((b || e) && c))
-mixed true b e c = refl
-mixed false true true true = refl
-mixed false true true false = refl
-mixed false true false true = refl
-mixed false true false false = refl
-mixed false false e c = refl
+mixed a b e true = rw (and-true b, and-true e, and-true (b || e)) (or_assoc a b e)
+mixed a b e false = rw (and-false b, and-false e, and-false (b || e)) (or-false (a || false))
 
 -- the list at one place gains the node
 module _ (lists : List (List ℕ)) (v w : ℕ) (low : v < length lists) where
@@ -154,16 +170,14 @@ among_without w (y ∷ ws) x = elim (cases_Bool (y == w)) [
       | inr there ↦ rw there refl
     ]
 
+neither : (a b e : Bool) → ((a && not b) && not e) ≡ (a && not (b || e))
+neither false b e = refl
+neither true true e = refl
+neither true false e = refl
+
 shrunk : (a b c e : Bool) → ((a && not (b && c)) && not (e && c)) ≡ (a && not ((b || e) && c))
-shrunk false b c e = refl
-shrunk true true true true = refl
-shrunk true true true false = refl
-shrunk true true false true = refl
-shrunk true true false false = refl
-shrunk true false true true = refl
-shrunk true false true false = refl
-shrunk true false false true = refl
-shrunk true false false false = refl
+shrunk a b true e = rw (and-true b, and-true e, and-true (b || e)) (neither a b e)
+shrunk a b false e = rw (and-false b, and-false e, and-false (b || e)) (and-true (a && true))
 
 pub forgot_first : (w : ℕ) (lists : List (List ℕ)) → IsForgotten w (among []) lists lists
 forgot_first w lists = record { many = refl; same = λ v x. sym (and-true (among (list_at lists v) x)) }
