@@ -1,8 +1,8 @@
 -- The greatest quorum after the change of one node's quorum set.
-use Rattle.std.proofs.Common.{◌≡◌, ℕ, false, not, sym, ap, ◌∙◌, subst, inl, inr, ⊎_elim}
+use Rattle.std.proofs.Common.{◌≡◌, ℕ, false, not, length, sym, ap, ◌∙◌, subst, inl, inr, ⊎_elim}
 use Rattle.std.specs.Prelude.{nat_lt, ◌==◌}
 use Rattle.std.proofs.lemmas.Bool.{eqb-true, eq-eqb, and_parts, and_from, not_from_false, cases_Bool, both_ways, false≢true, or_left, or_right, or_cases}
-use Rattle.fbas_model.specs.Nodes.{Nodes, only, ◌∈◌, ◌⊆◌, ◌∪◌, ◌∖◌, ∅}
+use Rattle.fbas_model.specs.Nodes.{Nodes, Table, members, only, ◌∈◌, ◌⊆◌, ◌∪◌, ◌∖◌, ∅}
 use Rattle.fbas_model.specs.Fbas.{Fbas, HasSliceWithin, Quorum, IsGreatestQuorum, all_nodes}
 use Rattle.fbas_model.proofs.Unions.{slice_wider}
 use Rattle.greatest_quorum.specs.Changes.{IsChangedAt}
@@ -86,6 +86,30 @@ within_all f b w q x h = (and_parts (all_nodes f x) (not (b x)) (q.left x h)).0
 
 pub only_one_in : (w : Nodes) (v x : ℕ) → v ∈ w → x ∈ only v → x ∈ w
 only_one_in w v x here same = subst (λ (y : ℕ). y ∈ w) (sym (eqb-true x v same)) here
+
+-- ---- the nodes that are not faulty, made step by step
+
+pub all_left : (f : Fbas) (b : Nodes) (none copied filled left : Table) → length none ≡ length f → copied ≡ none → members filled ≡ (λ w. nat_lt w (length copied)) → members left ≡ (members filled ∖ b) → members left ≡ (all_nodes f ∖ b)
+all_left f b none copied filled left size same all rest =
+    rest ∙ ap (λ (t : Nodes). t ∖ b) (all ∙ ap {B = Nodes} (λ (n : ℕ) v. nat_lt v n) (ap (λ (t : Table). length t) same ∙ size))
+
+-- the set of v alone, all nodes that are not faulty, and those of them that are outside g
+pub record Widened (f : Fbas) (v : ℕ) (b g : Nodes) (one wider waiting : Table) : Type 0 where
+  pub all : members wider ≡ (all_nodes f ∖ b)
+  pub one_is : members one ≡ only v
+  pub rest : members waiting ≡ (members wider ∖ g)
+  pub within : v ∈ members wider → members one ⊆ members wider
+
+pub widened : (f : Fbas) (v : ℕ) (b g : Nodes) (none first one copied filled wider second waiting : Table) → length none ≡ length f → members none ≡ ∅ → first ≡ none → members one ≡ (members first ∪ only v)
+    → copied ≡ none → members filled ≡ (λ w. nat_lt w (length copied)) → members wider ≡ (members filled ∖ b) → second ≡ wider → members waiting ≡ (members second ∖ g) → Widened f v b g one wider waiting
+widened f v b g none first one copied filled wider second waiting size empty first_is put copied_is all left second_is minus =
+    let alone : members one ≡ only v = put ∙ ap (λ (t : Nodes). t ∪ only v) (ap members first_is ∙ empty) in
+    record {
+      all = all_left f b none copied filled wider size copied_is all left;
+      one_is = alone;
+      rest = minus ∙ ap (λ (t : Table). members t ∖ g) second_is;
+      within = λ here x at. only_one_in (members wider) v x here (subst (λ (t : Nodes). x ∈ t) alone at);
+    }
 
 -- ---- which nodes are looked at
 

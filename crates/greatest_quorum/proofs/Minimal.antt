@@ -40,6 +40,13 @@ back_within s v here x at = elim (or_cases (s x && not (x == v)) (x == v) at) [
 pub still_blocks : (f : Fbas) (b s t : Nodes) (v : ℕ) → t ≡ (s ∖ only v) → MeetsQuorums f b s → MeetsQuorums f b (t ∪ only v)
 still_blocks f b s t v e h = subst (λ (u : Nodes). MeetsQuorums f b (u ∪ only v)) (sym e) (meets_wider f b s ((s ∖ only v) ∪ only v) (put_back s v) h)
 
+-- where v is no member, the members up to it come before it
+earlier : (now : Table) (v k : ℕ) → members now v ≡ false → k < v + 1 → k ∈ members now → k < v
+earlier now v k out low at = elim (cases_lt k v) [
+  | inl h ↦ h
+  | inr h ↦ let same : k ≡ v = omega arith in absurd (both_ways (members now v) out (subst (λ (y : ℕ). y ∈ members now) same at))
+]
+
 -- the set blocks still, and does not without any one of its nodes below v
 pub record Thinned (f : Fbas) (b : Nodes) (start now : Table) (scratch after : Table) (v : ℕ) : Type 0 where
   pub same_n : length now ≡ length start
@@ -52,21 +59,18 @@ pub thinned_first : (f : Fbas) (b : Nodes) (start scratch : Table) → Blocks f 
 thinned_first f b start scratch h = record { same_n = refl; same_scratch = refl; within = λ x at. at; meets = h.meets; needed = λ k low. absurd (omega arith) }
 
 -- v is not in the set
-pub thinned_pass : (f : Fbas) (b : Nodes) (start now scratch after : Table) (v : ℕ) → Thinned f b start now scratch after v → members now v ≡ false → Thinned f b start now scratch after (v + 1)
-thinned_pass f b start now scratch after v t out = record {
+pub thinned_pass : {f : Fbas} {b : Nodes} {start now scratch after : Table} {v : ℕ} → Thinned f b start now scratch after v → members now v ≡ false → Thinned f b start now scratch after (v + 1)
+thinned_pass {f} {b} {start} {now} {scratch} {after} {v} t out = record {
   same_n = t.same_n;
   same_scratch = t.same_scratch;
   within = t.within;
   meets = t.meets;
-  needed = λ k low at. elim (cases_lt k v) [
-    | inl h ↦ t.needed k h at
-    | inr h ↦ let same : k ≡ v = omega arith in absurd (both_ways (members now v) out (subst (λ (y : ℕ). y ∈ members now) same at))
-  ];
+  needed = λ k low at. t.needed k (earlier now v k out low at) at;
 }
 
 -- the set blocks without v
-pub thinned_take : (f : Fbas) (b : Nodes) (start now next scratch after more : Table) (v : ℕ) → Thinned f b start now scratch after v → length next ≡ length now → members next ≡ (members now ∖ only v) → length more ≡ length after → MeetsQuorums f b (members next) → Thinned f b start next scratch more (v + 1)
-thinned_take f b start now next scratch after more v t e m n meets =
+pub thinned_take : {f : Fbas} {b : Nodes} {start now scratch after : Table} {v : ℕ} (next more : Table) → Thinned f b start now scratch after v → length next ≡ length now → members next ≡ (members now ∖ only v) → length more ≡ length after → MeetsQuorums f b (members next) → Thinned f b start next scratch more (v + 1)
+thinned_take {f} {b} {start} {now} {scratch} {after} {v} next more t e m n meets =
     let sub : members next ⊆ members now = λ x at. minus_within (members now) v x (subst (λ (s : Nodes). x ∈ s) m at) in
     record {
       same_n = e ∙ t.same_n;
@@ -80,8 +84,8 @@ thinned_take f b start now next scratch after more v t e m n meets =
     }
 
 -- it does not, and v is put back
-pub thinned_keep : (f : Fbas) (b : Nodes) (start now taken next scratch after more : Table) (v : ℕ) → Thinned f b start now scratch after v → v ∈ members now → length taken ≡ length now → members taken ≡ (members now ∖ only v) → length more ≡ length after → (MeetsQuorums f b (members taken) → ⊥) → length next ≡ length taken → members next ≡ (members taken ∪ only v) → Thinned f b start next scratch more (v + 1)
-thinned_keep f b start now taken next scratch after more v t here e m n fails d p =
+pub thinned_keep : {f : Fbas} {b : Nodes} {start now scratch after : Table} {v : ℕ} (taken next more : Table) → Thinned f b start now scratch after v → v ∈ members now → length taken ≡ length now → members taken ≡ (members now ∖ only v) → length more ≡ length after → (MeetsQuorums f b (members taken) → ⊥) → length next ≡ length taken → members next ≡ (members taken ∪ only v) → Thinned f b start next scratch more (v + 1)
+thinned_keep {f} {b} {start} {now} {scratch} {after} {v} taken next more t here e m n fails d p =
     let whole : members next ≡ ((members now ∖ only v) ∪ only v) = p ∙ ap (λ (s : Nodes). s ∪ only v) m in
     let sub : members next ⊆ members now = λ x at. back_within (members now) v here x (subst (λ (s : Nodes). x ∈ s) whole at) in
     let sup : members now ⊆ members next = λ x at. subst (λ (s : Nodes). x ∈ s) (sym whole) (put_back (members now) v x at) in
@@ -136,10 +140,7 @@ reduced_pass f b start now scratch after needed v r out = record {
   same_needed = r.same_needed;
   within = r.within;
   quorum = r.quorum;
-  needs = λ k low at. elim (cases_lt k v) [
-    | inl h ↦ r.needs k h at
-    | inr h ↦ let same : k ≡ v = omega arith in absurd (both_ways (members now v) out (subst (λ (y : ℕ). y ∈ members now) same at))
-  ];
+  needs = λ k low at. r.needs k (earlier now v k out low at) at;
   known = λ k at. let h = r.known k at in (omega (arith, h.0), h.1);
 }
 

@@ -11,21 +11,12 @@ blocks_without-requires-clause-with_v c =
 
 pub loop-v-preserved : goal.loop-v-preserved
 loop-v-preserved c =
-    let f = c.args.system.now.sets in
-    let b = members c.args.faulty.now in
-    let start = c.args.s.now in
-    let now = c.loop-v.s in
-    let scratch = c.args.scratch.now in
-    let after = c.loop-v.scratch in
-    let v = c.loop-v.v in
-    let thinned = c.loop-v.invariant in
     elim c.if-has.branch [
       | then-has+then-not-blocks_without w ↦
-          rw (w.s-is, w.scratch-is) (thinned_keep f b start now w.take.new.self w.put.new.self scratch after w.blocks_without.new.scratch v thinned (sym c.has.ensures ∙ w.if-has.true) w.take.ensures.size w.take.ensures.taken w.blocks_without.ensures.same_n (λ h. both_ways w.blocks_without.result w.if-not-blocks_without.true (w.blocks_without.ensures.blocks.1 h)) w.put.ensures.size w.put.ensures.added)
+          rw (w.s-is, w.scratch-is) (thinned_keep w.take.new.self w.put.new.self w.blocks_without.new.scratch c.loop-v.invariant (sym c.has.ensures ∙ w.if-has.true) w.take.ensures.size w.take.ensures.taken w.blocks_without.ensures.same_n (λ h. both_ways w.blocks_without.result w.if-not-blocks_without.true (w.blocks_without.ensures.blocks.1 h)) w.put.ensures.size w.put.ensures.added)
       | then-has+else-not-blocks_without w ↦
-          rw (w.s-is, w.scratch-is) (thinned_take f b start now w.take.new.self scratch after w.blocks_without.new.scratch v thinned w.take.ensures.size w.take.ensures.taken w.blocks_without.ensures.same_n (w.blocks_without.ensures.blocks.0 w.if-not-blocks_without.false))
-      | else-has w ↦
-          rw (w.s-is, w.scratch-is) (thinned_pass f b start now scratch after v thinned (sym c.has.ensures ∙ w.if-has.false))
+          rw (w.s-is, w.scratch-is) (thinned_take w.take.new.self w.blocks_without.new.scratch c.loop-v.invariant w.take.ensures.size w.take.ensures.taken w.blocks_without.ensures.same_n (w.blocks_without.ensures.blocks.0 w.if-not-blocks_without.false))
+      | else-has w ↦ rw (w.s-is, w.scratch-is) (thinned_pass c.loop-v.invariant (sym c.has.ensures ∙ w.if-has.false))
     ]
 
 pub returns-clause-minimal : goal.returns-clause-minimal
