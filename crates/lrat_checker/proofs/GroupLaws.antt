@@ -1,5 +1,5 @@
 -- The groups of hints, one hint after another.
-use Rattle.std.proofs.Common.{◌≡◌, ℕ, suc, ◌+◌, ◌-◌, ◌<◌, true, false, List, [], ◌∷◌, ◌++◌, refl, sym, ap, ◌∙◌, arith, cond, Option, Some, None, ℤ, pos, negsuc, length, get_or, take, drop, append_assoc}
+use Rattle.std.proofs.Common.{◌≡◌, ℕ, suc, ◌+◌, ◌-◌, ◌<◌, Bool, true, false, List, [], ◌∷◌, ◌++◌, refl, sym, ap, ◌∙◌, arith, cond, Option, Some, None, ℤ, pos, negsuc, length, get_or, take, drop, append_assoc}
 use Rattle.std.specs.Prelude.{is_some}
 use Rattle.std.specs.Option.{option_or}
 use Rattle.std.proofs.lemmas.List.{drop_more, take_more, append-nil, take_all, length-drop}
@@ -39,6 +39,10 @@ first-cons (negsuc n) rest = refl
 
 pub first-at : (hints : List ℤ) (i : ℕ) → i < length hints → first_hints (drop i hints) ≡ before_group (group_id (get_or hints i (pos 0))) (get_or hints i (pos 0)) (drop (i + 1) hints)
 first-at hints i within = ap first_hints (drop_more hints i (pos 0) within) ∙ first-cons (get_or hints i (pos 0)) (drop (i + 1) hints)
+
+-- whether the hint at a place names a group, as its group was asked for
+pub is_named : (hints : List ℤ) (i : ℕ) (group : Option ℕ) (there value : Bool) → group ≡ group_id (get_or hints i (pos 0)) → there ≡ is_some group → there ≡ value → is_some (group_id (get_or hints i (pos 0))) ≡ value
+is_named hints i group there value is some says = sym (some ∙ ap is_some is) ∙ says
 
 -- ---- the hints before the groups
 

@@ -9,3 +9,4 @@ pub mod AddingLaws
 pub mod CourseLaws
 pub mod SignatureLaws
 pub mod SubsetLaws
+pub mod ReadyLaws

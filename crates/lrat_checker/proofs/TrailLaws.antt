@@ -1,9 +1,11 @@
 -- Trails, whose literals have places.
 use Rattle.std.proofs.Common.{◌≡◌, ◌≢◌, ℕ, ◌<◌, true, List, length, get_or, take, sym, ap, ◌∙◌, arith}
-use Rattle.std.proofs.lemmas.List.{length-take-le, get_or-take}
+use Rattle.std.proofs.lemmas.List.{length-take-le, get_or-take, take-append-le, take_all}
 use Rattle.std.specs.Prelude.{slice_index}
 use Rattle.lrat_model.specs.Literal.{Literal, variable_of, has}
+use Rattle.partial_assignment.specs.Assigned.{Assigned}
 use Rattle.partial_assignment.specs.Values.{ArePlaces}
+use Rattle.lrat_checker.specs.Extends.{Extends}
 use Rattle.lrat_checker.proofs.SubsetLaws.{has-place}
 
 -- no two literals of a trail have one variable
@@ -15,3 +17,11 @@ apart_by_places trail places placed place d m within there one =
     let first : slice_index places (variable_of m) ≡ at.0 = ap (λ (l : Literal). slice_index places (variable_of l)) (sym is) ∙ placed at.0 m (omega (arith, low, within)) in
     let second : slice_index places (variable_of m) ≡ place = ap (slice_index places) one ∙ placed place d within in
     absurd (omega (arith, first, second, low))
+
+-- an assignment whose trail grew, and was cut to as many literals as it had
+module _ (old grown : Assigned) (grows : Extends old.trues grown.trues) where
+  pub restored : (new : Assigned) (count : ℕ) → count ≡ length old.trues → new.trues ≡ take count grown.trues → new.vars ≡ old.vars → new ≡ old
+  restored new count is trues vars =
+      let same : new.trues ≡ old.trues =
+      trues ∙ ap (λ (ls : List Literal). take count ls) grows.1 ∙ take-append-le count old.trues grows.0 (omega (arith, is)) ∙ take_all count old.trues (omega (arith, is)) in
+      ap (λ (ls : List Literal). record { vars = new.vars; trues = ls }) same ∙ ap (λ n. record { vars = n; trues = old.trues }) vars

@@ -169,13 +169,15 @@ impl Checker {
         if id <= last {
             return Err(StepFault::IdOrder(last, id));
         }
-        if let Some(fault) = lemma_fault(
+        let found = lemma_fault(
             &self.clauses,
             &mut self.assignment,
             self.rule,
             lits,
             hints,
-        ) {
+        );
+        self.assignment.clear();
+        if let Some(fault) = found {
             return Err(fault);
         }
         if self.give(id, lits).is_err() {

@@ -138,7 +138,8 @@ pub fn assume_negations(assignment: &mut Assignment, lits: &[Lit]) -> Option<Ste
 }
 
 /// The first fault of a lemma's literals, and then of its hints. Leaves literals true.
-fn first_fault(
+/// O(its literals, and those of the clauses that the hints name), and O(log n) for each hint.
+pub fn lemma_fault(
     clauses: &CountedStore,
     assignment: &mut Assignment,
     rule: Rule,
@@ -157,23 +158,4 @@ fn first_fault(
         Rule::Rup => fault_of(propagate(clauses.store(), assignment, 1, hints)),
         Rule::Rat => rat_fault(clauses, assignment, lits, hints),
     }
-}
-
-/// The first fault of a lemma's literals, and then of its hints.
-/// O(its literals, and those of the clauses that the hints name), and O(log n) for each hint.
-pub fn lemma_fault(
-    clauses: &CountedStore,
-    assignment: &mut Assignment,
-    rule: Rule,
-    lits: &[Lit],
-    hints: &[i64],
-) -> Option<StepFault>
-    requires trues { assignment.old.trues ≡ [] }
-    requires range { AreInRange assignment.old.vars clauses.now.held }
-    ensures fault { result ≡ option_or (literal_fault assignment.old.vars [] lits.now) (hints_fault rule clauses.now.held lits.now hints.now) }
-    ensures unchanged { assignment.new ≡ assignment.old }
-{
-    let fault = first_fault(clauses, assignment, rule, lits, hints);
-    assignment.clear();
-    fault
 }

@@ -22,6 +22,8 @@ use rat_candidates::{CountedStore, group_id};
 fn first_count(hints: &[i64]) -> usize
     ensures first { take result hints.now ≡ first_hints hints.now }
     ensures bound { result ≤ length hints.now }
+    ensures there { result < length hints.now → first_place (groups_of 1 hints.now) ≡ Some (result + 1) }
+    ensures none { length hints.now ≤ result → first_place (groups_of 1 hints.now) ≡ None }
 {
     for (i, hint) in hints.iter().enumerate() {
         if group_id(*hint).is_some() {
@@ -35,12 +37,12 @@ fn first_count(hints: &[i64]) -> usize
 fn first_place(hints: &[i64]) -> Option<u64>
     ensures { result ≡ first_place (groups_of 1 hints.now) }
 {
-    for (i, hint) in hints.iter().enumerate() {
-        if group_id(*hint).is_some() {
-            return Some(i as u64 + 1);
-        }
+    let count = first_count(hints);
+    if count < hints.len() {
+        Some(count as u64 + 1)
+    } else {
+        None
     }
-    None
 }
 
 /// Makes the literals of a clause false, one literal left out, up to the first that is true already. Whether there
@@ -118,27 +120,7 @@ fn group_fault(
     }
 }
 
-/// Why a group is not done, if it is not. What is true stays as it was.
-fn take_group(
-    store: &Store,
-    assignment: &mut Assignment,
-    pivot: Lit,
-    place: u64,
-    id: u64,
-    hints: &[i64],
-) -> Option<StepFault>
-    requires range { AreInRange assignment.old.vars store.now.held }
-    requires small { place + 1 + length hints.now < 2 ^ 64 }
-    ensures fault { (trues : List Literal) → Alike trues assignment.old.trues → result ≡ outcome_fault (take_group store.now.held trues pivot (record { place = place; id = id; hints = first_hints hints.now })) }
-    ensures unchanged { assignment.new ≡ assignment.old }
-{
-    let count = assignment.trail().len();
-    let fault = group_fault(store, assignment, pivot, place, id, hints);
-    undo_to(assignment, count);
-    fault
-}
-
-/// The first fault of the groups of these hints.
+/// The first fault of the groups of these hints. What is true stays as it was.
 fn groups_fault(
     store: &Store,
     assignment: &mut Assignment,
@@ -152,7 +134,9 @@ fn groups_fault(
     for (i, hint) in hints.iter().enumerate() {
         if let Some(id) = group_id(*hint) {
             let rest = &hints[i + 1..];
-            let fault = take_group(store, assignment, pivot, i as u64 + 1, id, rest);
+            let count = assignment.trail().len();
+            let fault = group_fault(store, assignment, pivot, i as u64 + 1, id, rest);
+            undo_to(assignment, count);
             if fault.is_some() {
                 return fault;
             }

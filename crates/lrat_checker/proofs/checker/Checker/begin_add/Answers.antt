@@ -1,4 +1,4 @@
-use Rattle.std.proofs.Common.{◌≡◌, ◌<◌, List, [], refl, sym, ap, ◌∙◌, subst, arith, Option, None}
+use Rattle.std.proofs.Common.{◌≡◌, ◌<◌, List, [], refl, sym, ap, ◌∙◌, subst, arith, None}
 use Rattle.lrat_model.specs.Literal.{Literal}
 use Rattle.lrat_model.specs.Steps.{Database, literal_fault}
 use Rattle.lrat_model.specs.Rules.{addition_fault_by}
@@ -7,10 +7,9 @@ use Rattle.lrat_model.specs.Ranges.{IsInRange, AreInRange}
 use Rattle.std.proofs.Common.{ℕ}
 use Rattle.lrat_checker.specs.Checking.{Stepping}
 use Rattle.lrat_checker.proofs.FaultLaws.{range-literal_fault, literal_fault-not_memory, where_ok}
-use Rattle.std.specs.Prelude.{IfNone, IfSome}
-use Rattle.lrat_checker.specs.declared.opened.Opened.{Opened}
-use Rattle.lrat_checker.specs.Courses.{Suits, HasGroupRoom}
-use Rattle.lrat_checker.proofs.AddingLaws.{begun_fault, not_opened}
+use Rattle.lrat_checker.specs.Courses.{HasGroupRoom}
+use Rattle.lrat_checker.proofs.AddingLaws.{begun_fault}
+use Rattle.lrat_checker.proofs.ReadyLaws.{idle_ready, shown_idle}
 use Rattle.lrat_checker.proofs.checker.Checker.begin_add.Goals as goal
 
 pub invariant_of-self-2 : goal.invariant_of-self-2
@@ -58,29 +57,7 @@ returns-clause-opened c =
     )
 
 pub invariant_of-self : goal.invariant_of-self
-invariant_of-self c =
-    let inside = c.self.inside in
-    let none : inside.opened ≡ None = not_opened inside.lits.items inside.assignment.trues inside.groups.hints inside.opened (ap (λ (s : Stepping). s.open_addition) c.self.view_is ∙ c.requires) in
-    record {
-      nothing_true = subst (λ (o : Option Opened). IfNone o (c.clear.new.self.trues ≡ [])) (sym none) c.clear.ensures.trues;
-      above = c.self.invariant.above;
-      literals = subst (λ (o : Option Opened). IfSome o (λ _. IsInRange c.clear.new.self.vars inside.lits.items)) (sym none) tt;
-      suits = subst (λ (o : Option Opened). IfSome o (λ k. Suits inside.rule c.clear.new.self.trues inside.groups.hints k.course)) (sym none) tt;
-      room = c.self.invariant.room;
-      in_range = subst (λ (n : ℕ). AreInRange n inside.clauses.held) (sym (c.clear.ensures.vars ∙ c.assume_negations.ensures.vars)) c.self.invariant.in_range;
-      found = c.self.invariant.found;
-    }
+invariant_of-self c = idle_ready _ (shown_idle c.self.inside _ c.self.view_is c.requires) c.clear.ensures.trues (subst (λ n. AreInRange n c.self.inside.clauses.held) (sym (c.clear.ensures.vars ∙ c.assume_negations.ensures.vars)) c.self.invariant.in_range) c.self.invariant.found
 
 pub invariant_of-self-then-is_err : goal.invariant_of-self-then-is_err
-invariant_of-self-then-is_err c =
-    let inside = c.self.inside in
-    let none : inside.opened ≡ None = not_opened inside.lits.items inside.assignment.trues inside.groups.hints inside.opened (ap (λ (s : Stepping). s.open_addition) c.self.view_is ∙ c.requires) in
-    record {
-      nothing_true = subst (λ (o : Option Opened). IfNone o (c.clear-then-is_err.new.self.trues ≡ [])) (sym none) c.clear-then-is_err.ensures.trues;
-      above = c.self.invariant.above;
-      literals = subst (λ (o : Option Opened). IfSome o (λ _. IsInRange c.clear-then-is_err.new.self.vars c.make_room.new.copy.items)) (sym none) tt;
-      suits = subst (λ (o : Option Opened). IfSome o (λ k. Suits inside.rule c.clear-then-is_err.new.self.trues c.make_room.new.groups.hints k.course)) (sym none) tt;
-      room = subst (λ (o : Option Opened). IfSome o (λ _. HasGroupRoom inside.rule inside.clauses.held c.make_room.new.copy.items c.make_room.new.groups)) (sym none) tt;
-      in_range = subst (λ (n : ℕ). AreInRange n inside.clauses.held) (sym (c.clear-then-is_err.ensures.vars ∙ c.assume_negations.ensures.vars)) c.self.invariant.in_range;
-      found = c.self.invariant.found;
-    }
+invariant_of-self-then-is_err c = idle_ready _ (shown_idle c.self.inside _ c.self.view_is c.requires) c.clear-then-is_err.ensures.trues (subst (λ n. AreInRange n c.self.inside.clauses.held) (sym (c.clear-then-is_err.ensures.vars ∙ c.assume_negations.ensures.vars)) c.self.invariant.in_range) c.self.invariant.found

@@ -1,14 +1,11 @@
-use Rattle.std.proofs.Common.{◌≡◌, ◌<◌, sym, ap, ◌∙◌, subst, Option, None}
-use Rattle.lrat_checker.specs.Checking.{Stepping}
-use Rattle.lrat_checker.specs.declared.opened.Opened.{Opened}
-use Rattle.lrat_checker.proofs.AddingLaws.{not_opened}
+use Rattle.std.proofs.Common.{sym, subst}
 use Rattle.std.specs.Prelude.{IfSome}
 use Rattle.lrat_model.specs.Clauses.{Held}
 use Rattle.lrat_model.specs.Steps.{Database}
 use Rattle.lrat_model.specs.Ranges.{AreInRange}
-use Rattle.lrat_checker.specs.Courses.{HasGroupRoom}
 use Rattle.lrat_checker.specs.Subsets.{AreFound}
 use Rattle.lrat_checker.proofs.RangeLaws.{range-without}
+use Rattle.lrat_checker.proofs.ReadyLaws.{idle_ready, idle_trues, shown_idle}
 use Rattle.lrat_checker.proofs.SubsetLaws.{found_without}
 use Rattle.lrat_checker.proofs.checker.Checker.delete.Goals as goal
 
@@ -21,14 +18,6 @@ forget-requires c =
 pub invariant_of-self : goal.invariant_of-self
 invariant_of-self c =
     let inside = c.self.inside in
-    let vars = inside.assignment.vars in
-    let none : inside.opened ≡ None = not_opened inside.lits.items inside.assignment.trues inside.groups.hints inside.opened (ap (λ (s : Stepping). s.open_addition) c.self.view_is ∙ c.requires) in
-    record {
-      nothing_true = c.self.invariant.nothing_true;
-      above = subst (λ (o : Option Opened). IfSome o (λ k. c.remove_all.new.self.last < k.id)) (sym none) tt;
-      literals = c.self.invariant.literals;
-      suits = c.self.invariant.suits;
-      room = subst (λ (o : Option Opened). IfSome o (λ _. HasGroupRoom inside.rule c.remove_all.new.self.held inside.lits.items inside.groups)) (sym none) tt;
-      in_range = subst (λ (h : Held). AreInRange vars h) (sym c.in-Ok.ensures.held) (range-without vars inside.clauses.held c.args.ids.now c.self.invariant.in_range);
-      found = subst (λ (d : Database). IfSome c.forget.new.index (AreFound d.held)) c.store.ensures c.forget.ensures;
-    }
+    idle_ready _ (shown_idle inside _ c.self.view_is c.requires) (idle_trues inside _ c.self.view_is c.requires c.self.invariant)
+    (subst (λ (h : Held). AreInRange inside.assignment.vars h) (sym c.in-Ok.ensures.held) (range-without inside.assignment.vars inside.clauses.held c.args.ids.now c.self.invariant.in_range))
+    (subst (λ (d : Database). IfSome c.forget.new.index (AreFound d.held)) c.store.ensures c.forget.ensures)

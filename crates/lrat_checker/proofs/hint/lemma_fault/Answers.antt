@@ -5,7 +5,7 @@ use Rattle.lrat_model.specs.Propagation.{propagate}
 use Rattle.lrat_model.specs.Steps.{Database, literal_fault, outcome_fault}
 use Rattle.lrat_model.specs.Rules.{hints_fault}
 use Rattle.lrat_checker.specs.Hints.{Took}
-use Rattle.lrat_checker.proofs.hint.first_fault.Goals as goal
+use Rattle.lrat_checker.proofs.hint.lemma_fault.Goals as goal
 
 pub returns-in-Rup-clause-fault : goal.returns-in-Rup-clause-fault
 returns-in-Rup-clause-fault c =
