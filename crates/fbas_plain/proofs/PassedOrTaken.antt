@@ -1,9 +1,9 @@
 -- A pick from some entries passes over the first of them, or takes it.
-use Rattle.std.proofs.Common.{◌≡◌, ℕ, zero, suc, ◌+◌, ◌-◌, ◌<◌, ◌≤◌, ◌⊎◌, ◌↔◌, Bool, true, false, ◌==◌, IsTrue, List, [], ◌∷◌, inl, inr, refl, sym, subst, ap, arith, length}
+use Rattle.std.proofs.Common.{◌≡◌, ℕ, zero, suc, ◌-◌, ◌<◌, ◌≤◌, ◌⊎◌, ◌↔◌, Bool, true, false, ◌==◌, IsTrue, List, [], ◌∷◌, inl, inr, refl, sym, subst, arith, length}
 use Rattle.std.proofs.lemmas.Bool.{eqb-true, eq-eqb, or_left, or_right, false≢true, both_ways}
 use Rattle.fbas_model.specs.Nodes.{Nodes, ◌∈◌, ◌⊆◌, ∅, only, ◌∪◌}
 use Rattle.fbas_model.specs.Trees.{QuorumSet, quorum_set, Entries, none, node, inner}
-use Rattle.fbas_model.specs.QuorumSets.{count, Pick, done, pass_node, take_node, pass_inner, take_inner, Choice, choice, HasChoiceWithin, IsBelow, AreBelow, all_entries, all_entries_of}
+use Rattle.fbas_model.specs.QuorumSets.{count, Pick, done, pass_node, take_node, pass_inner, take_inner, Choice, choice, HasChoiceWithin}
 use Rattle.fbas_model.proofs.Counting.{only_within, both_within}
 use Rattle.fbas_model.specs.Lists.{inner_entries, entries_of}
 use Rattle.fbas_plain.specs.Plain.{HasPickWithin}

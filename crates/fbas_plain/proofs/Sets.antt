@@ -9,16 +9,16 @@ use Rattle.fbas_model.specs.Nodes.{Nodes, Table, members, ◌∈◌, ∅, only, 
 use Rattle.fbas_model.specs.Fbas.{Fbas, all_nodes, Quorum, Available}
 use Rattle.fbas_plain.specs.Plain.{AgreeBelow}
 
-pub agree_less : (v : ℕ) (s t : Nodes) → AgreeBelow (v + 1) s t → AgreeBelow v s t
+agree_less : (v : ℕ) (s t : Nodes) → AgreeBelow (v + 1) s t → AgreeBelow v s t
 agree_less v s t a w h = a w (omega arith)
 
-pub agree_through : (v : ℕ) (s t u : Nodes) → AgreeBelow v s t → AgreeBelow v t u → AgreeBelow v s u
+agree_through : (v : ℕ) (s t u : Nodes) → AgreeBelow v s t → AgreeBelow v t u → AgreeBelow v s u
 agree_through v s t u a b w h = a w h ∙ b w h
 
 apart : (v w : ℕ) → w < v → (w == v) ≡ false
 apart v w h = false_from_ne_true (w == v) (λ e. let same = eqb-true w v e in absurd (omega arith))
 
-pub agree_without : (v : ℕ) (s t : Nodes) → t ≡ (s ∖ only v) → AgreeBelow v s t
+agree_without : (v : ℕ) (s t : Nodes) → t ≡ (s ∖ only v) → AgreeBelow v s t
 agree_without v s t e w h = sym (ap (λ (t : Nodes). t w) e ∙ (ap (λ b. s w && not b) (apart v w h) ∙ and-true (s w)))
 
 pub agree_with : (v : ℕ) (s t : Nodes) → t ≡ (s ∪ only v) → AgreeBelow v s t
@@ -37,10 +37,15 @@ both_tried P v s a b p q off on without with u agree = elim (cases_Bool (u v)) [
   | inr e ↦ without u (below_more (λ w. a w ≡ u w) v (λ w h. sym (p w h) ∙ agree w h) (off ∙ sym e))
 ]
 
+-- what the sets from u without v leave agrees with u
+pub kept_without : (v : ℕ) (start without left : Table) → members without ≡ (members start ∖ only v) → AgreeBelow (v + 1) (members without) (members left) → AgreeBelow v (members start) (members left)
+kept_without v start without left taken kept =
+    agree_through v (members start) (members without) (members left) (agree_without v (members start) (members without) taken) (agree_less v (members without) (members left) kept)
+
 -- u without v, what the sets from it leave, that with v, and what those leave
 module _ (P : Nodes → Type 0) (v : ℕ) (start without left with after : Table) (taken : members without ≡ (members start ∖ only v)) (kept : AgreeBelow (v + 1) (members without) (members left)) (put : members with ≡ (members left ∪ only v)) where
   to_left : AgreeBelow v (members start) (members left)
-  to_left = agree_through v (members start) (members without) (members left) (agree_without v (members start) (members without) taken) (agree_less v (members without) (members left) kept)
+  to_left = kept_without v start without left taken kept
 
   to_with : AgreeBelow v (members start) (members with)
   to_with = agree_through v (members start) (members left) (members with) to_left (agree_with v (members left) (members with) put)
@@ -78,8 +83,14 @@ all_chosen P f b c v t e n says = (
 )
 
 -- what is left of all nodes
-pub rest_is : (f : Fbas) (b : Nodes) (n : ℕ) (all rest : Nodes) → n ≡ length f → all ≡ (λ v. nat_lt v n) → rest ≡ (all ∖ b) → rest ≡ (all_nodes f ∖ b)
+rest_is : (f : Fbas) (b : Nodes) (n : ℕ) (all rest : Nodes) → n ≡ length f → all ≡ (λ v. nat_lt v n) → rest ≡ (all ∖ b) → rest ≡ (all_nodes f ∖ b)
 rest_is f b n all rest e a m = m ∙ ap (λ (t : Nodes). t ∖ b) (a ∙ ap {B = Nodes} (λ n v. nat_lt v n) e)
+
+-- the same where the set of all nodes is an empty one that was filled
+pub left_is : (f : Fbas) (b none cleared copied filled left : Table) → none ≡ b → length cleared ≡ length none → copied ≡ cleared → length b ≡ length f → members filled ≡ (λ v. nat_lt v (length copied)) → members left ≡ (members filled ∖ members b)
+    → members left ≡ (all_nodes f ∖ members b)
+left_is f b none cleared copied filled left n c p same all rest =
+    rest_is f (members b) (length copied) (members filled) (members left) (ap (λ (t : Table). length t) p ∙ c ∙ ap (λ (t : Table). length t) n ∙ same) all rest
 
 pub available_none : (f : Fbas) (b rest : Nodes) → rest ≡ (all_nodes f ∖ b) → rest ≡ ∅ → Available f b
 available_none f b rest e none = inl (λ v at. elim (cases_Bool (b v)) [

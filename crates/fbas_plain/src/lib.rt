@@ -97,7 +97,10 @@ pub fn is_quorum(sets: &[Option<QuorumSet>], u: &NodeSet, faulty: &NodeSet) -> b
     requires same_faulty { length faulty.now ≡ length sets.now }
     ensures { IsTrue result ↔ Quorum sets.now (members faulty.now) (members u.now) }
 {
-    if u.is_empty() || u.meets(faulty) {
+    if u.is_empty() {
+        return false;
+    }
+    if u.meets(faulty) {
         return false;
     }
     for v in 0..sets.len() as u32 {

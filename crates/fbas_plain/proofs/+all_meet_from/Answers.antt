@@ -1,6 +1,6 @@
 use Rattle.fbas_model.specs.Nodes.{Nodes, members}
 use Rattle.fbas_model.specs.Fbas.{Quorum, MeetsQuorums}
-use Rattle.fbas_plain.proofs.Sets.{all_chosen, failed_without, agree_through, agree_without, agree_less, kept_through, tried_both}
+use Rattle.fbas_plain.proofs.Sets.{all_chosen, failed_without, kept_without, kept_through, tried_both}
 use Rattle.fbas_plain.proofs.+all_meet_from.Goals as goal
 
 pub returns-then-v-sets-clause-meet : goal.returns-then-v-sets-clause-meet
@@ -8,11 +8,7 @@ returns-then-v-sets-clause-meet t c =
     all_chosen (λ (w : Nodes). MeetsQuorums c.args.sets.now (members c.args.faulty.now) w) c.args.sets.now (members c.args.faulty.now) c.args.first.now c.args.v c.meets_all_if_quorum.result c.requires.same_n c.if-v-sets.true c.meets_all_if_quorum.ensures.meets
 
 pub returns-then-not-all_meet_from-clause-kept : goal.returns-then-not-all_meet_from-clause-kept
-returns-then-not-all_meet_from-clause-kept t c =
-    let start = members c.args.first.now in
-    let without = members c.take.new.self in
-    let left = members c.all_meet_from.new.first in
-    agree_through c.args.v start without left (agree_without c.args.v start without c.take.ensures.taken) (agree_less c.args.v without left c.all_meet_from.ensures.kept)
+returns-then-not-all_meet_from-clause-kept t c = kept_without c.args.v c.args.first.now c.take.new.self c.all_meet_from.new.first c.take.ensures.taken c.all_meet_from.ensures.kept
 
 pub returns-then-not-all_meet_from-clause-meet : goal.returns-then-not-all_meet_from-clause-meet
 returns-then-not-all_meet_from-clause-meet t c =

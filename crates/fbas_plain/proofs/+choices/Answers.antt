@@ -9,9 +9,7 @@ use Rattle.fbas_plain.proofs.+choices.Goals.{picks-then-k-gt0, picks-else-k-gt0,
 
 pub picks-returns-then-picks : goal.picks-returns-then-picks
 picks-returns-then-picks t c =
-    let u = members c.args.u.now ∪ members c.args.faulty.now in
-    let split = splits_node u c.args.nodes.now c.in-Some.rest.now c.in-Some.node.now c.args.inner.now c.args.k c.in-Some.ensures.cases.0 in
-    when_passed split c.picks.result c.picks.ensures c.if-picks.true
+    when_passed (splits_node (members c.args.u.now ∪ members c.args.faulty.now) c.args.nodes.now c.in-Some.rest.now c.in-Some.node.now c.args.inner.now c.args.k c.in-Some.ensures.cases.0) c.picks.result c.picks.ensures c.if-picks.true
 
 pub picks-returns-then-in_either : goal.picks-returns-then-in_either
 picks-returns-then-in_either t c =
@@ -25,9 +23,7 @@ picks-returns-then-in_either t c =
 
 pub picks_inner-returns-then-picks_inner : goal.picks_inner-returns-then-picks_inner
 picks_inner-returns-then-picks_inner t c =
-    let u = members c.args.u.now ∪ members c.args.faulty.now in
-    let split = splits_inner u c.args.inner.now c.in-Some.rest.now c.in-Some.first.now c.args.k c.in-Some.ensures.cases.0 in
-    when_passed split c.picks_inner.result c.picks_inner.ensures c.if-picks_inner.true
+    when_passed (splits_inner (members c.args.u.now ∪ members c.args.faulty.now) c.args.inner.now c.in-Some.rest.now c.in-Some.first.now c.args.k c.in-Some.ensures.cases.0) c.picks_inner.result c.picks_inner.ensures c.if-picks_inner.true
 
 pub picks_inner-returns-then-has_choice_within_either : goal.picks_inner-returns-then-has_choice_within_either
 picks_inner-returns-then-has_choice_within_either t c =

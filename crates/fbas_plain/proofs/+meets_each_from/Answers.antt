@@ -1,6 +1,6 @@
 use Rattle.fbas_model.specs.Nodes.{Nodes, members, Meets}
 use Rattle.fbas_model.specs.Fbas.{Quorum}
-use Rattle.fbas_plain.proofs.Sets.{all_chosen, failed_without, agree_through, agree_without, agree_less, kept_through, tried_both}
+use Rattle.fbas_plain.proofs.Sets.{all_chosen, failed_without, kept_without, kept_through, tried_both}
 use Rattle.fbas_plain.proofs.+meets_each_from.Goals as goal
 
 pub returns-then-v-sets-clause-meets : goal.returns-then-v-sets-clause-meets
@@ -8,11 +8,7 @@ returns-then-v-sets-clause-meets t c =
     all_chosen (λ (w : Nodes). Meets (members c.args.s.now) w) c.args.sets.now (members c.args.faulty.now) c.args.u.now c.args.v c.meets_if_quorum.result c.requires.same_n c.if-v-sets.true c.meets_if_quorum.ensures
 
 pub returns-then-not-meets_each_from-clause-kept : goal.returns-then-not-meets_each_from-clause-kept
-returns-then-not-meets_each_from-clause-kept t c =
-    let start = members c.args.u.now in
-    let without = members c.take.new.self in
-    let left = members c.meets_each_from.new.u in
-    agree_through c.args.v start without left (agree_without c.args.v start without c.take.ensures.taken) (agree_less c.args.v without left c.meets_each_from.ensures.kept)
+returns-then-not-meets_each_from-clause-kept t c = kept_without c.args.v c.args.u.now c.take.new.self c.meets_each_from.new.u c.take.ensures.taken c.meets_each_from.ensures.kept
 
 pub returns-then-not-meets_each_from-clause-meets : goal.returns-then-not-meets_each_from-clause-meets
 returns-then-not-meets_each_from-clause-meets t c =
