@@ -130,10 +130,17 @@ pub named_made : (names kept n k : List Name) (orgs : List Organisation) (ids : 
 named_made names kept n k orgs ids view is n_is k_is ids_are =
     is ∙ ap₂ (λ (a b : List Name). map (org_group a b orgs) ids) n_is k_is ∙ ap (map (org_group names kept orgs)) ids_are
 
-pub all_made : (kept k : List Name) (groups : List spec.Group) (len : ℕ) (nodes : Table) (named borrowed list whole : List Group) → groups_view named ≡ groups
+all_made : (kept k : List Name) (groups : List spec.Group) (len : ℕ) (nodes : Table) (named borrowed list whole : List Group) → groups_view named ≡ groups
     → nodes ≡ loose len (groups_view borrowed) → borrowed ≡ named → len ≡ length kept → groups_view list ≡ map (node_group k) (listed_from 0 nodes) → k ≡ kept → whole ≡ list ++ named
     → groups_view whole ≡ with_loose kept groups
 all_made kept k groups len nodes named borrowed list whole named_is nodes_are same len_is list_is k_is whole_is =
     let left : nodes ≡ loose (length kept) groups = nodes_are ∙ ap₂ (λ (n : ℕ) (gs : List spec.Group). loose n gs) len_is (ap groups_view same ∙ named_is) in
     ap groups_view whole_is ∙ map-append group_view list named
     ∙ ap₂ (λ (xs ys : List spec.Group). xs ++ ys) (list_is ∙ ap₂ (λ (ns : List Name) (t : Table). map (node_group ns) (listed_from 0 t)) k_is left) named_is
+
+-- the groups that are made of the organisations and then of the loose nodes
+pub all_groups : (wn kn n k loose_k : List Name) (orgs : List Organisation) (ids : List Name) (len : ℕ) (nodes : Table) (named borrowed list whole : List Group) → groups_view named ≡ map (org_group n k orgs) ids → n ≡ wn → k ≡ kn → ids ≡ in_order (ids_of orgs)
+    → nodes ≡ loose len (groups_view borrowed) → borrowed ≡ named → len ≡ length kn → groups_view list ≡ map (node_group loose_k) (listed_from 0 nodes) → loose_k ≡ kn → whole ≡ list ++ named
+    → groups_view whole ≡ with_loose kn (org_groups wn kn orgs)
+all_groups wn kn n k loose_k orgs ids len nodes named borrowed list whole named_is n_is k_is ids_are nodes_are same len_is list_is loose_is whole_is =
+    all_made kn loose_k (org_groups wn kn orgs) len nodes named borrowed list whole (named_made wn kn n k orgs ids (groups_view named) named_is n_is k_is ids_are) nodes_are same len_is list_is loose_is whole_is

@@ -103,12 +103,13 @@ few_entries nodes names sets system same_names same_sets s few =
     rw (← s, small) (λ i. Ok (record { names = sym same_names i; sets = sym same_sets i }))
 
 -- the names that are made of those found
-pub owned_in_order : (nodes : List NamedNode) (found names : List Name) → found ≡ in_order (all_names nodes) → AreNamesOf found names → names ≡ in_order (all_names nodes)
-owned_in_order nodes found names f are = names_in_order found names are ∙ ap in_order f ∙ in_order-in_order (all_names nodes)
-
-pub few_names : (nodes : List NamedNode) (found : List (Bor (List ℕ))) (names : List Name) (n : ℕ) → n ≡ length found → names_view found ≡ in_order (all_names nodes) → names ≡ in_order (all_names nodes) → n ≤ MOST_NODES
-    → length names ≤ MOST_NODES
-few_names nodes found names n e f o few = let same : length names ≡ length found = ap length (o ∙ sym f) ∙ length-map found (λ name. name.now) in omega arith
+-- the names that were gathered, as they are owned: in order, and few if there were few
+pub owned_names : (nodes : List NamedNode) (found : List (Bor (List ℕ))) (names : List Name) (n : ℕ) → names_view found ≡ in_order (all_names nodes) → AreNamesOf (names_view found) names → n ≡ length found → n ≤ MOST_NODES
+    → (names ≡ in_order (all_names nodes)) × (length names ≤ MOST_NODES)
+owned_names nodes found names n f are e few =
+    let ordered : names ≡ in_order (all_names nodes) = names_in_order (names_view found) names are ∙ ap in_order f ∙ in_order-in_order (all_names nodes) in
+    let same : length names ≡ length found = ap length (ordered ∙ sym f) ∙ length-map found (λ name. name.now) in
+    (ordered, omega arith)
 
 -- ---- the bytes
 

@@ -1,5 +1,5 @@
 -- The loop over the nodes, step by step, and what comes before it.
-use Rattle.std.proofs.Common.{◌≡◌, ℕ, ◌+◌, ◌<◌, List, [], ◌∷◌, ◌++◌, length, drop, get_or, map, Option, Some, None, Result, Ok, Err, true, false, not, refl, sym, ap, ◌∙◌, append_assoc, codes}
+use Rattle.std.proofs.Common.{◌≡◌, ℕ, ◌+◌, ◌<◌, List, [], ◌∷◌, ◌++◌, length, drop, get_or, map, Option, Some, None, ok_or, Result, Ok, Err, true, false, not, refl, sym, ap, ◌∙◌, append_assoc, codes}
 use Rattle.std.proofs.lemmas.Bool.{false_from_ne_true}
 use Rattle.std.proofs.lemmas.List.{at_drop_more, map-append}
 use Rattle.std.proofs.lemmas.List.Sums.{fold-append}
@@ -39,13 +39,9 @@ pub nodes_of-tree : (bytes : List ℕ) (d : Data) → tree_of bytes ≡ Some d �
 unfolding nodes_of
 nodes_of-tree bytes d e = rw e refl
 
-pub nodes_in-no_array : (d : Data) → as_array d ≡ None → nodes_in d ≡ Err NotNodes
+pub nodes_in-top : (d : Data) (top : Option Items) → as_array d ≡ top → nodes_in d ≡ and_then (nodes_from 0 []) (ok_or top NotNodes)
 unfolding nodes_in
-nodes_in-no_array d a = rw a refl
-
-pub nodes_in-array : (d : Data) (ds : Items) → as_array d ≡ Some ds → nodes_in d ≡ nodes_from 0 [] ds
-unfolding nodes_in
-nodes_in-array d ds a = rw a refl
+nodes_in-top d top a = rw a refl
 
 -- ---- the quorum set of a node
 

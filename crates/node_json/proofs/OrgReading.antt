@@ -1,5 +1,5 @@
 -- The loop over the organisations, step by step, and what comes before it.
-use Rattle.std.proofs.Common.{◌≡◌, ℕ, ◌+◌, ◌<◌, ◌≤◌, nat_lt, All, arith, List, [], ◌∷◌, ◌++◌, length, drop, get_or, map, Some, None, Result, Ok, Err, Bool, true, false, not, refl, sym, ap, ◌∙◌, append_assoc}
+use Rattle.std.proofs.Common.{◌≡◌, ℕ, ◌+◌, ◌<◌, ◌≤◌, nat_lt, All, arith, List, [], ◌∷◌, ◌++◌, length, drop, get_or, map, Option, Some, None, ok_or, Result, Ok, Err, Bool, true, false, not, refl, sym, ap, ◌∙◌, append_assoc}
 use Rattle.std.proofs.lemmas.Bool.{lt-ltb, le-ltb, not-true}
 use Rattle.std.proofs.lemmas.List.{at_drop_more, map-append}
 use Rattle.std.proofs.lemmas.List.Elements.{All-map}
@@ -27,13 +27,9 @@ use Rattle.node_json.specs.declared.named_orgs.NamedOrg.{NamedOrg}
 
 -- ---- the tree
 
-pub orgs_in-no_array : (d : Data) → as_array d ≡ None → orgs_in d ≡ Err NotOrgs
+pub orgs_in-top : (d : Data) (top : Option Items) → as_array d ≡ top → orgs_in d ≡ and_then (orgs_from 0 []) (ok_or top NotOrgs)
 unfolding orgs_in
-orgs_in-no_array d a = rw a refl
-
-pub orgs_in-array : (d : Data) (ds : Items) → as_array d ≡ Some ds → orgs_in d ≡ orgs_from 0 [] ds
-unfolding orgs_in
-orgs_in-array d ds a = rw a refl
+orgs_in-top d top a = rw a refl
 
 -- ---- the whole file
 

@@ -5,12 +5,11 @@ use Rattle.std.proofs.lemmas.List.{length-map}
 use Rattle.fbas_model.specs.Names.{name_cmp}
 use Rattle.fbas_model.proofs.Tables.{length-table_from}
 use Rattle.node_json.specs.Groups as spec
-use Rattle.node_json.specs.Groups.{org_groups, with_loose, loose, grouped, groups_of, texts_of, CoverNodes}
+use Rattle.node_json.specs.Groups.{org_groups, grouped, groups_of, texts_of, CoverNodes}
 use Rattle.node_json.specs.GroupsView.{group_view, groups_view}
 use Rattle.node_json.specs.NamesInOrder.{in_order}
 use Rattle.node_json.specs.Organisations.{ids_of}
-use Rattle.node_json.specs.declared.groups.Group.{Group}
-use Rattle.node_json.proofs.GroupLoops.{sized_back, named_made, all_made}
+use Rattle.node_json.proofs.GroupLoops.{sized_back, named_made, all_groups}
 use Rattle.node_json.proofs.GroupTexts.{texts_rise}
 use Rattle.node_json.proofs.GroupNodes.{nodes_covered, org_sized, groups_sized, few_groups}
 use Rattle.node_json.proofs.groups.groups_of.Goals as goal
@@ -30,62 +29,25 @@ node_groups-requires-clause-same_n c =
 
 pub invariant_of-result : goal.invariant_of-result
 invariant_of-result c =
-    let wn = c.args.whole.now.names in
-    let kn = c.args.kept.now.names in
-    let orgs = c.args.orgs.now in
-    let named = named_made wn kn c.names.result.now c.names-2.result.now orgs c.in_ok-ids.ids (groups_view c.in_ok-named.named.items) c.in_ok-named.ensures c.names.ensures.names c.names-2.ensures.names c.in_ok-ids.ensures.ids in
-    let is : groups_view c.append.new.self.items ≡ with_loose kn (org_groups wn kn orgs) =
-    all_made kn c.names-3.result.now (org_groups wn kn orgs) c.len.result c.loose-nodes.result c.in_ok-named.named.items c.deref.result.now c.in_ok-list.list.items c.append.new.self.items named
-    c.loose-nodes.ensures c.deref.ensures.value c.len.ensures.names c.in_ok-list.ensures c.names-3.ensures.names c.in_ok-append.ensures.items
-    in
-    let counted : length (groups_view c.append.new.self.items) ≤ length kn + length orgs = subst (λ (gs : List spec.Group). length gs ≤ length kn + length orgs) (sym is) (few_groups wn kn orgs) in
+    let is = all_groups c.args.whole.now.names c.args.kept.now.names c.names.result.now c.names-2.result.now c.names-3.result.now c.args.orgs.now c.in_ok-ids.ids c.len.result c.loose-nodes.result c.in_ok-named.named.items c.deref.result.now c.in_ok-list.list.items c.append.new.self.items c.in_ok-named.ensures c.names.ensures.names c.names-2.ensures.names c.in_ok-ids.ensures.ids c.loose-nodes.ensures c.deref.ensures.value c.len.ensures.names c.in_ok-list.ensures c.names-3.ensures.names c.in_ok-append.ensures.items in
+    let counted : length (groups_view c.append.new.self.items) ≤ length c.args.kept.now.names + length c.args.orgs.now = subst (λ (gs : List spec.Group). length gs ≤ length c.args.kept.now.names + length c.args.orgs.now) (sym is) (few_groups c.args.whole.now.names c.args.kept.now.names c.args.orgs.now) in
     omega (arith, counted, length-map c.append.new.self.items group_view, c.len.ensures.few, c.len.ensures.names, c.in_ok-ids.ensures.few)
 
 pub returns-clause-groups : goal.returns-clause-groups
 unfolding groups_of
-returns-clause-groups c =
-    let wn = c.args.whole.now.names in
-    let kn = c.args.kept.now.names in
-    let orgs = c.args.orgs.now in
-    let named = named_made wn kn c.names.result.now c.names-2.result.now orgs c.in_ok-ids.ids (groups_view c.in_ok-named.named.items) c.in_ok-named.ensures c.names.ensures.names c.names-2.ensures.names c.in_ok-ids.ensures.ids in
-    let is : groups_view c.append.new.self.items ≡ with_loose kn (org_groups wn kn orgs) =
-    all_made kn c.names-3.result.now (org_groups wn kn orgs) c.len.result c.loose-nodes.result c.in_ok-named.named.items c.deref.result.now c.in_ok-list.list.items c.append.new.self.items named
-    c.loose-nodes.ensures c.deref.ensures.value c.len.ensures.names c.in_ok-list.ensures c.names-3.ensures.names c.in_ok-append.ensures.items
-    in
-    is
+returns-clause-groups c = all_groups c.args.whole.now.names c.args.kept.now.names c.names.result.now c.names-2.result.now c.names-3.result.now c.args.orgs.now c.in_ok-ids.ids c.len.result c.loose-nodes.result c.in_ok-named.named.items c.deref.result.now c.in_ok-list.list.items c.append.new.self.items c.in_ok-named.ensures c.names.ensures.names c.names-2.ensures.names c.in_ok-ids.ensures.ids c.loose-nodes.ensures c.deref.ensures.value c.len.ensures.names c.in_ok-list.ensures c.names-3.ensures.names c.in_ok-append.ensures.items
 
 pub returns-clause-rising : goal.returns-clause-rising
 returns-clause-rising c =
-    let wn = c.args.whole.now.names in
-    let kn = c.args.kept.now.names in
-    let orgs = c.args.orgs.now in
-    let named = named_made wn kn c.names.result.now c.names-2.result.now orgs c.in_ok-ids.ids (groups_view c.in_ok-named.named.items) c.in_ok-named.ensures c.names.ensures.names c.names-2.ensures.names c.in_ok-ids.ensures.ids in
-    let is : groups_view c.append.new.self.items ≡ with_loose kn (org_groups wn kn orgs) =
-    all_made kn c.names-3.result.now (org_groups wn kn orgs) c.len.result c.loose-nodes.result c.in_ok-named.named.items c.deref.result.now c.in_ok-list.list.items c.append.new.self.items named
-    c.loose-nodes.ensures c.deref.ensures.value c.len.ensures.names c.in_ok-list.ensures c.names-3.ensures.names c.in_ok-append.ensures.items
-    in
-    subst (λ (gs : List spec.Group). IsStrictlySortedBy name_cmp (texts_of gs)) (sym is) (texts_rise wn kn orgs c.len.ensures.sorted)
+    let is = all_groups c.args.whole.now.names c.args.kept.now.names c.names.result.now c.names-2.result.now c.names-3.result.now c.args.orgs.now c.in_ok-ids.ids c.len.result c.loose-nodes.result c.in_ok-named.named.items c.deref.result.now c.in_ok-list.list.items c.append.new.self.items c.in_ok-named.ensures c.names.ensures.names c.names-2.ensures.names c.in_ok-ids.ensures.ids c.loose-nodes.ensures c.deref.ensures.value c.len.ensures.names c.in_ok-list.ensures c.names-3.ensures.names c.in_ok-append.ensures.items in
+    subst (λ (gs : List spec.Group). IsStrictlySortedBy name_cmp (texts_of gs)) (sym is) (texts_rise c.args.whole.now.names c.args.kept.now.names c.args.orgs.now c.len.ensures.sorted)
 
 pub returns-clause-cover : goal.returns-clause-cover
 returns-clause-cover c =
-    let wn = c.args.whole.now.names in
-    let kn = c.args.kept.now.names in
-    let orgs = c.args.orgs.now in
-    let named = named_made wn kn c.names.result.now c.names-2.result.now orgs c.in_ok-ids.ids (groups_view c.in_ok-named.named.items) c.in_ok-named.ensures c.names.ensures.names c.names-2.ensures.names c.in_ok-ids.ensures.ids in
-    let is : groups_view c.append.new.self.items ≡ with_loose kn (org_groups wn kn orgs) =
-    all_made kn c.names-3.result.now (org_groups wn kn orgs) c.len.result c.loose-nodes.result c.in_ok-named.named.items c.deref.result.now c.in_ok-list.list.items c.append.new.self.items named
-    c.loose-nodes.ensures c.deref.ensures.value c.len.ensures.names c.in_ok-list.ensures c.names-3.ensures.names c.in_ok-append.ensures.items
-    in
-    subst (λ (gs : List spec.Group). CoverNodes (length kn) gs) (sym is) (nodes_covered kn (org_groups wn kn orgs))
+    let is = all_groups c.args.whole.now.names c.args.kept.now.names c.names.result.now c.names-2.result.now c.names-3.result.now c.args.orgs.now c.in_ok-ids.ids c.len.result c.loose-nodes.result c.in_ok-named.named.items c.deref.result.now c.in_ok-list.list.items c.append.new.self.items c.in_ok-named.ensures c.names.ensures.names c.names-2.ensures.names c.in_ok-ids.ensures.ids c.loose-nodes.ensures c.deref.ensures.value c.len.ensures.names c.in_ok-list.ensures c.names-3.ensures.names c.in_ok-append.ensures.items in
+    subst (λ (gs : List spec.Group). CoverNodes (length c.args.kept.now.names) gs) (sym is) (nodes_covered c.args.kept.now.names (org_groups c.args.whole.now.names c.args.kept.now.names c.args.orgs.now))
 
 pub returns-clause-sized : goal.returns-clause-sized
 returns-clause-sized c =
-    let wn = c.args.whole.now.names in
-    let kn = c.args.kept.now.names in
-    let orgs = c.args.orgs.now in
-    let named = named_made wn kn c.names.result.now c.names-2.result.now orgs c.in_ok-ids.ids (groups_view c.in_ok-named.named.items) c.in_ok-named.ensures c.names.ensures.names c.names-2.ensures.names c.in_ok-ids.ensures.ids in
-    let is : groups_view c.append.new.self.items ≡ with_loose kn (org_groups wn kn orgs) =
-    all_made kn c.names-3.result.now (org_groups wn kn orgs) c.len.result c.loose-nodes.result c.in_ok-named.named.items c.deref.result.now c.in_ok-list.list.items c.append.new.self.items named
-    c.loose-nodes.ensures c.deref.ensures.value c.len.ensures.names c.in_ok-list.ensures c.names-3.ensures.names c.in_ok-append.ensures.items
-    in
-    subst (λ (gs : List spec.Group). All (λ (g : spec.Group). length g.members ≡ length kn) gs) (sym is) (groups_sized wn kn orgs)
+    let is = all_groups c.args.whole.now.names c.args.kept.now.names c.names.result.now c.names-2.result.now c.names-3.result.now c.args.orgs.now c.in_ok-ids.ids c.len.result c.loose-nodes.result c.in_ok-named.named.items c.deref.result.now c.in_ok-list.list.items c.append.new.self.items c.in_ok-named.ensures c.names.ensures.names c.names-2.ensures.names c.in_ok-ids.ensures.ids c.loose-nodes.ensures c.deref.ensures.value c.len.ensures.names c.in_ok-list.ensures c.names-3.ensures.names c.in_ok-append.ensures.items in
+    subst (λ (gs : List spec.Group). All (λ (g : spec.Group). length g.members ≡ length c.args.kept.now.names) gs) (sym is) (groups_sized c.args.whole.now.names c.args.kept.now.names c.args.orgs.now)

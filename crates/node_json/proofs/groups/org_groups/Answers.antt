@@ -1,4 +1,4 @@
-use Rattle.std.proofs.Common.{◌≡◌, ◌<◌, length, map, take, sym, ap, ◌∙◌, arith}
+use Rattle.std.proofs.Common.{◌<◌, length, map, take, sym, ap, ◌∙◌, arith}
 use Rattle.node_json.specs.Groups.{org_group}
 use Rattle.node_json.proofs.GroupLoops.{made_more, names_more}
 use Rattle.node_json.proofs.groups.org_groups.Goals as goal

@@ -1,17 +1,17 @@
-use Rattle.std.proofs.Common.{inr, rules}
+use Rattle.std.proofs.Common.{None, Some, inr, rules}
 use Rattle.node_json.specs.Tree.{view, items_view}
-use Rattle.node_json.proofs.OrgReading.{orgs_in-no_array, orgs_in-array}
+use Rattle.node_json.proofs.OrgReading.{orgs_in-top}
 use Rattle.node_json.proofs.named_orgs.read_named_orgs.Goals as goal
 
 pub returns-in_default-clause-err : goal.returns-in_default-clause-err
-returns-in_default-clause-err c = inr (orgs_in-no_array _ (search rules))
+returns-in_default-clause-err c = inr (orgs_in-top _ None (search rules))
 
 pub returns-clause-ok : goal.returns-clause-ok
 returns-clause-ok c =
-    let top = orgs_in-array (view c.args.tree.now) (items_view c.in-Some.items.now.items) (search rules) in
+    let top = orgs_in-top (view c.args.tree.now) (Some (items_view c.in-Some.items.now.items)) (search rules) in
     rw (top, ← c.deref.ensures.value) c.read_items.ensures.ok
 
 pub returns-clause-err : goal.returns-clause-err
 returns-clause-err c =
-    let top = orgs_in-array (view c.args.tree.now) (items_view c.in-Some.items.now.items) (search rules) in
+    let top = orgs_in-top (view c.args.tree.now) (Some (items_view c.in-Some.items.now.items)) (search rules) in
     rw (top, ← c.deref.ensures.value) c.read_items.ensures.err
