@@ -1,29 +1,22 @@
-use Rattle.std.proofs.Common.{length, ◌≡◌, ◌<◌, map, sym, ap, subst, List, arith, ◌∙◌, take_all, rules}
+use Rattle.std.proofs.Common.{length, ◌≡◌, map, sym, ap, subst, List, ◌∙◌, take_all, rules, arith}
 use Rattle.std.specs.Prelude.{All}
 use Rattle.serde_json.specs.Data.{array}
 use Rattle.serde_json.specs.View.{view, items_of, items_view}
 use Rattle.serde_json.specs.declared.value.Value.{the_lemmas}
 use Rattle.serde_json.specs.declared.value.Value.TheVariants.{Array}
 use Rattle.fbas_model.specs.Trees.{QuorumSet}
-use Rattle.fbas_model.specs.QuorumSets.{IsBelow}
-use Rattle.fbas_model.proofs.Lists.{below_nodes, below_inners, item_of_all, lighter}
+use Rattle.quorum_set.proofs.Inner.{own_below, inner_at}
 use Rattle.config_text.specs.Written.{name_of, strings, set_with, IsListed}
 use Rattle.config_text.proofs.Trees.{tree_of_set, tree-lists, listed-lists, sets_more, listed_more}
 use Rattle.config_text.proofs.tree.+set_tree.Goals as goal
 
 pub names_tree-requires-clause-below : goal.names_tree-requires-clause-below
-names_tree-requires-clause-below t c =
-    rw c.deref.ensures.value (below_nodes (length c.args.names.now) c.set.inside.validators.items c.set.inside.inner.items (rw (← c.set.view_is) at c.requires.below))
+names_tree-requires-clause-below t c = own_below c.set.inside.threshold c.set.inside.validators.items c.set.inside.inner.items c.args.set.now c.set.view_is (length c.args.names.now) _ c.deref.ensures.value c.requires.below
 
 pub set_tree-requires : goal.set_tree-requires
 set_tree-requires t c =
-    let ws = c.set.inside.validators.items in
-    let qs = c.set.inside.inner.items in
-    let in_range : c.loop-one.one-index < length qs = rw (← c.deref-one-items.ensures.value) c.loop-one-test.true in
-    let item = rw c.deref-one-items.ensures.value at c.one-item.is in
-    let below = below_inners (length c.args.names.now) ws qs (rw (← c.set.view_is) at c.requires.below) in
-    let light = lighter ws qs c.loop-one.one-index c.one-item.result in_range item in
-    (rw (← c.decreases, ← c.set.view_is) (omega arith), (item_of_all (IsBelow (length c.args.names.now)) qs c.loop-one.one-index c.one-item.result in_range item below, c.requires.keys))
+    let inner = inner_at c.set.inside.threshold c.set.inside.validators.items c.set.inside.inner.items c.args.set.now c.set.view_is c.deref-one-items.result.now c.loop-one.one-index c.one-item.result c.deref-one-items.ensures.value c.loop-one-test.true c.one-item.is in
+    (rw (← c.decreases) (omega (arith, inner.lighter)), (inner.below (length c.args.names.now) c.requires.below, c.requires.keys))
 
 pub loop-one-preserved : goal.loop-one-preserved
 loop-one-preserved t c =
