@@ -75,23 +75,20 @@ file_place Certificate = codes "CERT"
 file_place Proof = codes "LRAT"
 file_place Script = codes "SCRIPT"
 
+abbrev pub flag_words : Flag → Text × Text
+flag_words From = (codes "from", codes "NAME")
+flag_words Faulty = (codes "faulty", codes "NAMES")
+flag_words Orgs = (codes "orgs", codes "ORGS")
+flag_words FaultyOrgs = (codes "faulty-orgs", codes "IDS")
+flag_words Node = (codes "node", codes "NAME")
+flag_words Set = (codes "set", codes "NAMES")
+flag_words Budget = (codes "budget", codes "UNITS")
+
 abbrev pub flag_id : Flag → Text
-flag_id From = codes "from"
-flag_id Faulty = codes "faulty"
-flag_id Orgs = codes "orgs"
-flag_id FaultyOrgs = codes "faulty-orgs"
-flag_id Node = codes "node"
-flag_id Set = codes "set"
-flag_id Budget = codes "budget"
+flag_id flag = (flag_words flag).0
 
 abbrev pub flag_place : Flag → Text
-flag_place From = codes "NAME"
-flag_place Faulty = codes "NAMES"
-flag_place Orgs = codes "ORGS"
-flag_place FaultyOrgs = codes "IDS"
-flag_place Node = codes "NAME"
-flag_place Set = codes "NAMES"
-flag_place Budget = codes "UNITS"
+flag_place flag = (flag_words flag).1
 
 -- the options that `COMMON` stands for
 abbrev pub common : List Flag

@@ -1,6 +1,6 @@
 //! The table of the commands: a row for each, from which all that depends on the command follows.
 ghost use Rattle.std.specs.Prelude.{◌≡◌};
-ghost use Rattle.cli_words.specs.Table.{commands, file_id, file_place, flag_id, flag_place, has_budget as spec_has_budget, has_certificate as spec_has_certificate, row_of as spec_row_of, row_view, target_id, target_place};
+ghost use Rattle.cli_words.specs.Table.{commands, file_id, file_place, flag_id, flag_place, flag_words, has_budget as spec_has_budget, has_certificate as spec_has_certificate, row_of as spec_row_of, row_view, target_id, target_place};
 
 use crate::orders::{Command, Goal, Query};
 use crate::table::Flag::{Budget, Faulty, FaultyOrgs, From, Node, Orgs, Set};
@@ -107,32 +107,34 @@ impl SecondFile {
 }
 
 impl Flag {
+    // Its id, and what stands for its value.
+    fn words<'a>(self) -> (&'a str, &'a str)
+        ensures id { result.0.now ≡ (flag_words self).0 }
+        ensures place { result.1.now ≡ (flag_words self).1 }
+    {
+        match self {
+            Flag::From => ("from", "NAME"),
+            Flag::Faulty => ("faulty", "NAMES"),
+            Flag::Orgs => ("orgs", "ORGS"),
+            Flag::FaultyOrgs => ("faulty-orgs", "IDS"),
+            Flag::Node => ("node", "NAME"),
+            Flag::Set => ("set", "NAMES"),
+            Flag::Budget => ("budget", "UNITS"),
+        }
+    }
+
     /// Its word after the two dashes, by which clap knows it.
     pub fn id<'a>(self) -> &'a str
         ensures { result.now ≡ flag_id self }
     {
-        match self {
-            Flag::From => "from",
-            Flag::Faulty => "faulty",
-            Flag::Orgs => "orgs",
-            Flag::FaultyOrgs => "faulty-orgs",
-            Flag::Node => "node",
-            Flag::Set => "set",
-            Flag::Budget => "budget",
-        }
+        self.words().0
     }
 
     /// What stands for its value in the usage text.
     pub fn place<'a>(self) -> &'a str
         ensures { result.now ≡ flag_place self }
     {
-        match self {
-            Flag::From | Flag::Node => "NAME",
-            Flag::Faulty | Flag::Set => "NAMES",
-            Flag::Orgs => "ORGS",
-            Flag::FaultyOrgs => "IDS",
-            Flag::Budget => "UNITS",
-        }
+        self.words().1
     }
 }
 
