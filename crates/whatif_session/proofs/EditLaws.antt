@@ -190,3 +190,8 @@ module _ (s : System) (node : Name) (path : List ℕ) (name : Name) (v w : ℕ) 
     within = rw changed (within_changed (length s.names) path (change.Add w) d (let same = is.limits.places in omega (arith, low, same)) is.within);
     few = omega (arith, counted, few);
   }
+
+-- the fault of a step is that of the edit
+pub fault_by : {A B : Type 0} (e : EditFault) (x : Result A EditFault) (y : Result B EditFault) → (x ≡ Err e → y ≡ Err e) → (e ≡ Memory) ⊎ (x ≡ Err e) → (e ≡ Memory) ⊎ (y ≡ Err e)
+fault_by e x y by (inl memory) = inl memory
+fault_by e x y by (inr fault) = inr (by fault)

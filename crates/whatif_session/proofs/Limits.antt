@@ -1,6 +1,7 @@
 -- Changes keep the limits of systems.
-use Rattle.std.proofs.Common.{◌≡◌, ℕ, zero, suc, ◌+◌, ◌≤◌, ◌<◌, ◌==◌, max, true, false, cond, List, [], ◌∷◌, length, refl, ap, arith, Option, Some, None, slice_index_or}
-use Rattle.std.specs.Prelude.{set}
+use Rattle.std.proofs.Common.{◌≡◌, ℕ, zero, suc, ◌+◌, ◌≤◌, ◌<◌, ◌==◌, max, true, false, cond, List, [], ◌∷◌, length, refl, ap, arith, Option, Some, None, slice_index_or, sym, ◌∙◌}
+use Rattle.std.specs.Prelude.{set, slice_get}
+use Rattle.std.proofs.lemmas.Option.{get_or_from_slice_get}
 use Rattle.fbas_model.specs.Trees.{QuorumSet, quorum_set, Entries, none, node, inner}
 use Rattle.fbas_model.specs.QuorumSets.{IsBelow, AreBelow, all_entries, all_entries_of, depth, depth_of}
 use Rattle.fbas_model.specs.Fbas.{Fbas}
@@ -136,3 +137,9 @@ no_more sets v o low fewer = omega (arith, entries_set sets v o low, fewer)
 -- no quorum set has more entries than there are
 pub no_more_than_all : (sets : Fbas) (v : ℕ) → v < length sets → entries_if_any (slice_index_or sets v None) ≤ entries_in sets
 no_more_than_all sets v low = omega (arith, entries_set sets v None low)
+
+-- what stands in a place, counted
+pub own_entries : (sets : Fbas) (v : ℕ) (own : Option QuorumSet) (counted : ℕ) → v < length sets → slice_get sets v ≡ Some own → counted ≡ entries_if_any own → (counted ≡ entries_if_any (slice_index_or sets v None)) × (counted ≤ entries_in sets)
+own_entries sets v own counted low at is =
+    let e : counted ≡ entries_if_any (slice_index_or sets v None) = is ∙ ap entries_if_any (sym (get_or_from_slice_get sets v own None at)) in
+    (e, omega (arith, e, no_more_than_all sets v low))

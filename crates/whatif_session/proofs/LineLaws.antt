@@ -145,35 +145,34 @@ key_some word name h = by_test (is_key word) refl h
     by_test true e h = let same : word ≡ name = cc in subst (λ (n : Name). is_key n ≡ true) same e
     by_test false e h = absurd cc
 
+none_read : {e : Edit} → ◌≡◌ {A = Option Edit} None (Some e) → HasKeys e
+none_read h = absurd cc
+
+-- only lists of three words have such edits, and each of those names keys alone
+three_words : (read : List Name → Option Edit) → read [] ≡ None → ((a : Name) → read (a ∷ []) ≡ None) → ((a b : Name) → read (a ∷ b ∷ []) ≡ None) → ((a b c d : Name) (more : List Name) → read (a ∷ b ∷ c ∷ d ∷ more) ≡ None)
+    → ((a b c : Name) (e : Edit) → read (a ∷ b ∷ c ∷ []) ≡ Some e → HasKeys e) → (words : List Name) (e : Edit) → read words ≡ Some e → HasKeys e
+three_words read empty one two four three [] e h = none_read (sym empty ∙ h)
+three_words read empty one two four three (a ∷ []) e h = none_read (sym (one a) ∙ h)
+three_words read empty one two four three (a ∷ b ∷ []) e h = none_read (sym (two a b) ∙ h)
+three_words read empty one two four three (a ∷ b ∷ c ∷ []) e h = three a b c e h
+three_words read empty one two four three (a ∷ b ∷ c ∷ d ∷ more) e h = none_read (sym (four a b c d more) ∙ h)
+
 threshold_keys : (words : List Name) (e : Edit) → threshold_edit words ≡ Some e → HasKeys e
-threshold_keys [] e h = absurd cc
-threshold_keys (a ∷ []) e h = absurd cc
-threshold_keys (a ∷ b ∷ []) e h = absurd cc
-threshold_keys (node ∷ path ∷ number ∷ []) e h =
+threshold_keys = three_words threshold_edit refl (λ a. refl) (λ a b. refl) (λ a b c d more. refl) (λ node path number e h.
     let target = chained _ (target_in node path) e h in
     let made = mapped (Threshold target.0.0 target.0.1) (threshold_in number) e target.2 in
-    subst HasKeys made.2 tt
-threshold_keys (a ∷ b ∷ c ∷ d ∷ more) e h = absurd cc
+    subst HasKeys made.2 tt)
 
 add_keys : (words : List Name) (e : Edit) → add_edit words ≡ Some e → HasKeys e
-add_keys [] e h = absurd cc
-add_keys (a ∷ []) e h = absurd cc
-add_keys (a ∷ b ∷ []) e h = absurd cc
-add_keys (node ∷ path ∷ name ∷ []) e h =
+add_keys = three_words add_edit refl (λ a. refl) (λ a b. refl) (λ a b c d more. refl) (λ node path name e h.
     let target = chained _ (target_in node path) e h in
     let made = mapped (Add target.0.0 target.0.1) (key_in name) e target.2 in
-    subst HasKeys made.2 (key_some name made.0 made.1)
-add_keys (a ∷ b ∷ c ∷ d ∷ more) e h = absurd cc
+    subst HasKeys made.2 (key_some name made.0 made.1))
 
 drop_keys : (words : List Name) (e : Edit) → drop_edit words ≡ Some e → HasKeys e
-drop_keys [] e h = absurd cc
-drop_keys (a ∷ []) e h = absurd cc
-drop_keys (a ∷ b ∷ []) e h = absurd cc
-drop_keys (node ∷ path ∷ name ∷ []) e h =
+drop_keys = three_words drop_edit refl (λ a. refl) (λ a b. refl) (λ a b c d more. refl) (λ node path name e h.
     let target = chained _ (target_in node path) e h in
-    let made = mapped (Drop target.0.0 target.0.1) (key_in name) e target.2 in
-    subst HasKeys made.2 tt
-drop_keys (a ∷ b ∷ c ∷ d ∷ more) e h = absurd cc
+    subst HasKeys (mapped (Drop target.0.0 target.0.1) (key_in name) e target.2).2 tt)
 
 declare_keys : (words : List Name) (e : Edit) → declare_edit words ≡ Some e → HasKeys e
 declare_keys [] e h = absurd cc

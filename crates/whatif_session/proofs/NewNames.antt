@@ -205,6 +205,14 @@ pub node_many : (s : System) (name : Name) (n : ℕ) → (Contains s.names name 
 node_many s name n missing counted many =
     rw (place-missing s.names name missing, lt-ltb MOST_NODES (length s.names + 1) (subst (λ (m : ℕ). MOST_NODES < m) counted many)) (ap (λ (m : ℕ). Err (TooManyNodes m)) (sym counted))
 
+-- the lists of a system with one more name, as they are made one after another
+pub lists_with : (s : System) (name : Name) (names more : List Name) (place : ℕ) (sets : Fbas) → names ≡ s.names → more ≡ insert names (place_for name names) name → place ≡ place_for name names → sets ≡ insert (map (option_map (moved_up place)) s.sets) place None
+    → (more ≡ insert s.names (place_for name s.names) name) × (sets ≡ insert (map (option_map (moved_up (place_for name s.names))) s.sets) (place_for name s.names) None)
+lists_with s name names more place sets n m p made = (
+  m ∙ ap (λ (ns : List Name). insert ns (place_for name ns) name) n,
+  made ∙ ap (λ (at : ℕ). insert (map (option_map (moved_up at)) s.sets) at None) (p ∙ ap (place_for name) n),
+)
+
 abbrev ok_system : List Name → Fbas → Result System EditFault
 ok_system names sets = Ok (record { names = names; sets = sets })
 

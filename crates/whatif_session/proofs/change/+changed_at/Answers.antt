@@ -1,21 +1,15 @@
-use Rattle.std.proofs.Common.{rules, length, ◌≡◌, ◌<◌, ◌==◌, ◌∷◌, cond, Bool, true, false, sym, ap, ap₂, arith, ◌∙◌, take_all}
+use Rattle.std.proofs.Common.{rules, ◌≡◌, ◌==◌, ◌∷◌, cond, Bool, true, false, sym, ap, ap₂, ◌∙◌, take_all, arith}
 use Rattle.std.proofs.lemmas.Bool.{eq-eqb, false_from_ne_true, eqb-true}
 use Rattle.fbas_model.specs.Trees.{quorum_set}
 use Rattle.fbas_model.specs.Lists.{entries_of}
-use Rattle.fbas_model.proofs.Lists.{lighter}
+use Rattle.quorum_set.proofs.Inner.{inner_at}
 use Rattle.whatif_session.specs.Changes.{changed_item, changed_at}
 use Rattle.whatif_session.proofs.ChangeLists.{item_step, inner-lists}
 use Rattle.whatif_session.proofs.change.+changed_at.Goals as goal
 use Rattle.whatif_session.proofs.change.+changed_at.Goals.{then-at-place+in_ok-changed_at, else-at-place+in_ok-copied}
 
 pub changed_at-requires : goal.changed_at-requires
-changed_at-requires t c =
-    let ws = c.set.inside.validators.items in
-    let qs = c.set.inside.inner.items in
-    let in_range : c.loop-at.at < length qs = rw (← c.deref-one-items.ensures.value) c.loop-at-test.true in
-    let item = rw c.deref-one-items.ensures.value at c.one-item.is in
-    let light = lighter ws qs c.loop-at.at c.one-item.result in_range item in
-    rw (← c.decreases, ← c.set.view_is) (omega arith)
+changed_at-requires t c = rw (← c.decreases) (omega (arith, (inner_at c.set.inside.threshold c.set.inside.validators.items c.set.inside.inner.items c.args.set.now c.set.view_is c.deref-one-items.result.now c.loop-at.at c.one-item.result c.deref-one-items.ensures.value c.loop-at-test.true c.one-item.is).lighter))
 
 pub loop-at-preserved : goal.loop-at-preserved
 loop-at-preserved t c =

@@ -1,17 +1,11 @@
-use Rattle.std.proofs.Common.{length, ◌≡◌, ◌<◌, ap, ap₂, arith, ◌∙◌, take_all}
+use Rattle.std.proofs.Common.{◌≡◌, ap, ap₂, ◌∙◌, take_all, arith}
 use Rattle.fbas_model.specs.Trees.{quorum_set}
 use Rattle.fbas_model.specs.Lists.{entries_of}
-use Rattle.fbas_model.proofs.Lists.{lighter}
+use Rattle.quorum_set.proofs.Inner.{inner_at}
 use Rattle.whatif_session.proofs.change.+copied.Goals as goal
 
 pub copied-requires : goal.copied-requires
-copied-requires t c =
-    let ws = c.set.inside.validators.items in
-    let qs = c.set.inside.inner.items in
-    let in_range : c.loop-one.one-index < length qs = rw (← c.deref-one-items.ensures.value) c.loop-one-test.true in
-    let item = rw c.deref-one-items.ensures.value at c.one-item.is in
-    let light = lighter ws qs c.loop-one.one-index c.one-item.result in_range item in
-    rw (← c.decreases, ← c.set.view_is) (omega arith)
+copied-requires t c = rw (← c.decreases) (omega (arith, (inner_at c.set.inside.threshold c.set.inside.validators.items c.set.inside.inner.items c.args.set.now c.set.view_is c.deref-one-items.result.now c.loop-one.one-index c.one-item.result c.deref-one-items.ensures.value c.loop-one-test.true c.one-item.is).lighter))
 
 pub returns : goal.returns
 returns t c =

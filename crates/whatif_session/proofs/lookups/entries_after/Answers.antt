@@ -1,9 +1,8 @@
-use Rattle.std.proofs.Common.{rules, ◌≡◌, ◌+◌, ◌-◌, ap, sym, ◌∙◌, arith, None, slice_index_or, slice_set}
+use Rattle.std.proofs.Common.{rules, ◌≡◌, ◌+◌, ap, ◌∙◌, arith, None, slice_index_or, slice_set}
 use Rattle.std.specs.Option.{option_copied}
-use Rattle.std.proofs.lemmas.Option.{get_or_from_slice_get}
 use Rattle.fbas_model.specs.Systems.{entries_in}
 use Rattle.whatif_session.specs.Changes.{entries_if_any}
-use Rattle.whatif_session.proofs.Limits.{entries_set, no_more_than_all}
+use Rattle.whatif_session.proofs.Limits.{entries_set, no_more_than_all, own_entries}
 use Rattle.whatif_session.proofs.lookups.entries_after.Goals as goal
 
 pub entries_if_any-after-requires : goal.entries_if_any-after-requires
@@ -16,30 +15,17 @@ entries_if_any-after-requires c =
 
 pub overflow_sub-result : goal.overflow_sub-result
 overflow_sub-result c =
-    let sets = c.args.system.now.sets in
-    let v = c.args.v in
-    let own = get_or_from_slice_get sets v (option_copied c.quorum_set.result) None c.quorum_set.ensures.set in
-    let before : c.entries_if_any-before.result ≡ entries_if_any (slice_index_or sets v None) = c.entries_if_any-before.ensures ∙ ap entries_if_any (sym own) in
-    omega (arith, before, no_more_than_all sets v c.requires.node, c.requires.entries)
+    let own = own_entries c.args.system.now.sets c.args.v (option_copied c.quorum_set.result) c.entries_if_any-before.result c.requires.node c.quorum_set.ensures.set c.entries_if_any-before.ensures in
+    omega (arith, own.1, c.requires.entries)
 
 pub overflow_add-result : goal.overflow_add-result
 overflow_add-result c =
-    let sets = c.args.system.now.sets in
-    let v = c.args.v in
-    let own = get_or_from_slice_get sets v (option_copied c.quorum_set.result) None c.quorum_set.ensures.set in
-    let before : c.entries_if_any-before.result ≡ entries_if_any (slice_index_or sets v None) = c.entries_if_any-before.ensures ∙ ap entries_if_any (sym own) in
-    let is : option_copied c.as_ref.result ≡ c.args.set.now = search rules in
-    let after : c.entries_if_any-after.result ≡ entries_if_any c.args.set.now = c.entries_if_any-after.ensures ∙ ap entries_if_any is in
-    let sum : entries_in (slice_set sets v c.args.set.now) + entries_if_any (slice_index_or sets v None) ≡ entries_in sets + entries_if_any c.args.set.now = entries_set sets v c.args.set.now c.requires.node in
-    omega (arith, before, after, sum, no_more_than_all sets v c.requires.node, c.requires.entries, c.requires.few)
+    let own = own_entries c.args.system.now.sets c.args.v (option_copied c.quorum_set.result) c.entries_if_any-before.result c.requires.node c.quorum_set.ensures.set c.entries_if_any-before.ensures in
+    let after : c.entries_if_any-after.result ≡ entries_if_any c.args.set.now = c.entries_if_any-after.ensures ∙ ap entries_if_any (search rules) in
+    omega (arith, own.0, own.1, after, entries_set c.args.system.now.sets c.args.v c.args.set.now c.requires.node, c.requires.entries, c.requires.few)
 
 pub returns : goal.returns
 returns c =
-    let sets = c.args.system.now.sets in
-    let v = c.args.v in
-    let own = get_or_from_slice_get sets v (option_copied c.quorum_set.result) None c.quorum_set.ensures.set in
-    let before : c.entries_if_any-before.result ≡ entries_if_any (slice_index_or sets v None) = c.entries_if_any-before.ensures ∙ ap entries_if_any (sym own) in
-    let is : option_copied c.as_ref.result ≡ c.args.set.now = search rules in
-    let after : c.entries_if_any-after.result ≡ entries_if_any c.args.set.now = c.entries_if_any-after.ensures ∙ ap entries_if_any is in
-    let sum : entries_in (slice_set sets v c.args.set.now) + entries_if_any (slice_index_or sets v None) ≡ entries_in sets + entries_if_any c.args.set.now = entries_set sets v c.args.set.now c.requires.node in
-    omega (arith, before, after, sum, no_more_than_all sets v c.requires.node, c.requires.entries)
+    let own = own_entries c.args.system.now.sets c.args.v (option_copied c.quorum_set.result) c.entries_if_any-before.result c.requires.node c.quorum_set.ensures.set c.entries_if_any-before.ensures in
+    let after : c.entries_if_any-after.result ≡ entries_if_any c.args.set.now = c.entries_if_any-after.ensures ∙ ap entries_if_any (search rules) in
+    omega (arith, own.0, own.1, after, entries_set c.args.system.now.sets c.args.v c.args.set.now c.requires.node, c.requires.entries)

@@ -1,26 +1,19 @@
-use Rattle.std.proofs.Common.{length, ◌≡◌, ◌<◌, map, sym, ap, ap₂, arith, ◌∙◌, take_all}
+use Rattle.std.proofs.Common.{◌≡◌, map, sym, ap, ap₂, ◌∙◌, take_all, arith}
 use Rattle.fbas_model.specs.declared.TheConstants.{MOST_NODES}
 use Rattle.fbas_model.specs.Trees.{quorum_set}
-use Rattle.fbas_model.specs.QuorumSets.{IsBelow}
 use Rattle.fbas_model.specs.Lists.{entries_of}
-use Rattle.fbas_model.proofs.Lists.{below_nodes, below_inners, item_of_all, lighter}
+use Rattle.quorum_set.proofs.Inner.{own_below, inner_at}
 use Rattle.whatif_session.specs.Names.{number_after, moved_up}
 use Rattle.whatif_session.proofs.NewNames.{moved-lists}
 use Rattle.whatif_session.proofs.naming.+moved_set.Goals as goal
 
 pub moved_nodes-requires : goal.moved_nodes-requires
-moved_nodes-requires t c =
-    rw c.deref.ensures.value (below_nodes MOST_NODES c.set.inside.validators.items c.set.inside.inner.items (rw (← c.set.view_is) at c.requires))
+moved_nodes-requires t c = own_below c.set.inside.threshold c.set.inside.validators.items c.set.inside.inner.items c.args.set.now c.set.view_is MOST_NODES _ c.deref.ensures.value c.requires
 
 pub moved_set-requires : goal.moved_set-requires
 moved_set-requires t c =
-    let ws = c.set.inside.validators.items in
-    let qs = c.set.inside.inner.items in
-    let in_range : c.loop-one.one-index < length qs = rw (← c.deref-one-items.ensures.value) c.loop-one-test.true in
-    let item = rw c.deref-one-items.ensures.value at c.one-item.is in
-    let below = below_inners MOST_NODES ws qs (rw (← c.set.view_is) at c.requires) in
-    let light = lighter ws qs c.loop-one.one-index c.one-item.result in_range item in
-    (rw (← c.decreases, ← c.set.view_is) (omega arith), item_of_all (IsBelow MOST_NODES) qs c.loop-one.one-index c.one-item.result in_range item below)
+    let inner = inner_at c.set.inside.threshold c.set.inside.validators.items c.set.inside.inner.items c.args.set.now c.set.view_is c.deref-one-items.result.now c.loop-one.one-index c.one-item.result c.deref-one-items.ensures.value c.loop-one-test.true c.one-item.is in
+    (rw (← c.decreases) (omega (arith, inner.lighter)), inner.below MOST_NODES c.requires)
 
 pub returns : goal.returns
 returns t c =
