@@ -12,15 +12,17 @@ use Rattle.lrat_model.specs.declared.step.Progress.TheVariants.{Going}
 use Rattle.lrat_model.proofs.Runs.{clause_at-without, clause_at-filter}
 use Rattle.lrat_text.specs.Texts.{IsId, HasNumbers}
 use Rattle.cdcl_core.specs.declared.search.Search.{Search}
+use Rattle.cdcl_core.specs.Going.{IsFurther, IsNearer}
 use Rattle.cdcl_core.specs.Log.{HasNoEmptyLemma, IsBoundedLog, IsEarned, least_live, most_live, live_in, count_from}
 use Rattle.cdcl_core.specs.declared.memory.TheConstants.{FEWEST_DELETED}
 use Rattle.cdcl_core.specs.Remembering.{HasDeletion, IsChosen, IsRemembering}
 use Rattle.cdcl_core.specs.Search.{Searched}
-use Rattle.cdcl_core.specs.Searching.{IsHolding, IsLogging, database_in}
+use Rattle.cdcl_core.specs.Searching.{IsHolding, IsLogging, IsSearching, database_in}
 use Rattle.cdcl_core.specs.Trail.{InRange}
 use Rattle.cdcl_core.proofs.Lives.{bounded_push, live_from-append, count_from-append, kept_filter, named_in}
 use Rattle.cdcl_core.proofs.Parts.{Rises, rise_head, rise_tail, none_below}
 use Rattle.cdcl_core.proofs.Runs.{id_found}
+use Rattle.cdcl_core.proofs.Standing.{none_watched}
 
 -- ids that rise and are held are deleted without a fault
 deletion_none : (held : Held) (before ids : List ℕ) → Rises ids → All (λ k. All (λ j. j < k) before) ids → All (λ k. (clause : List Literal) × (clause_at held k ≡ Some clause)) ids → deletion_fault held before ids ≡ None
@@ -127,3 +129,22 @@ module _ (s n : Search) (needed gone : List ℕ) (made : HasDeletion s n gone) (
             (subst (λ k. Searched s.vars (database_in s) (record { held = without s.clauses gone; last = k }) s.log n.log 0 (Deletion s.last gone ∷ [])) (sym made.last)
             (subst (λ (ls : List ProofStep). Searched s.vars (database_in s) (record { held = without s.clauses gone; last = s.last }) s.log ls 0 (Deletion s.last gone ∷ [])) (sym made.log) there)),
       )
+
+  pub deletion_further : s.last < 2 ^ 63 → HasNoEmptyLemma s.log → (Closes s.clauses → ⊥) → (k : ℕ) → IsFurther s n k k
+  deletion_further small open_before unclosed k = record {
+    spent = record {
+      vars = made.vars;
+      left = omega arith;
+      logging = deletion_logging small;
+      searched = subst (λ j. (steps : List ProofStep) × Searched s.vars (database_in s) (database_in n) s.log n.log j steps) (omega arith) (deletion_searched unclosed);
+    };
+    room = ap (λ j. j + k) made.last;
+    still_open = deletion_open open_before;
+  }
+
+  pub deletion_nearer : length n.pairs.items ≡ 0 → IsSearching [] n → (k : ℕ) → IsNearer s n k k
+  deletion_nearer unwatched now k = record {
+    remembering = deletion_remembering;
+    searching = none_watched n (length n.pairs.items) unwatched now;
+    smaller = omega (arith, deletion_fewer);
+  }

@@ -1,7 +1,8 @@
 -- A search that goes on by one lemma.
-use Rattle.std.proofs.Common.{◌≡◌, ℕ, Some, append-nil, ◌+◌, ◌-◌, ◌<◌, ◌≤◌, ◌^◌, [], ◌∷◌, ◌++◌, true, false, List, ℤ, ◌⊎◌, ⊎_elim, inl, inr, sym, ap, ◌∙◌, subst, arith, refl, length, length-append, get_or}
-use Rattle.std.specs.Prelude.{◌==◌, All, AllPairs, slice_index}
-use Rattle.std.proofs.lemmas.Bool.{eq-eqb, eqb-true, or_cases}
+use Rattle.std.proofs.Common.{◌≡◌, ℕ, Result, Ok, Err, Some, append-nil, ◌+◌, ◌-◌, ◌<◌, ◌≤◌, ◌^◌, [], ◌∷◌, ◌++◌, true, false, List, ℤ, ◌⊎◌, ⊎_elim, inl, inr, sym, ap, ◌∙◌, subst, arith, refl, length, length-append, get_or}
+use Rattle.std.specs.Global.{Vec}
+use Rattle.std.specs.Prelude.{◌==◌, All, AllPairs, OnOk, slice_index}
+use Rattle.std.proofs.lemmas.Bool.{eq-eqb, eqb-true, or_cases, true≢false}
 use Rattle.std.proofs.lemmas.List.Folds.{list_any_at}
 use Rattle.std.proofs.lemmas.List.Quantifiers.{all_pairs_push}
 use Rattle.lrat_model.specs.Literal.{Literal}
@@ -9,9 +10,12 @@ use Rattle.lrat_model.specs.Clauses.{Held, clause_at, has_id, with_clause, IsUns
 use Rattle.lrat_model.specs.Steps.{ProofStep, Addition}
 use Rattle.lrat_model.proofs.Runs.{clause_at-more}
 use Rattle.lrat_text.specs.Texts.{HasNumbers}
+use Rattle.std.specs.declared.alloc.AllocError.{AllocError}
+use Rattle.cdcl_core.specs.declared.run.Verdict.{Verdict}
 use Rattle.cdcl_core.specs.declared.search.Search.{Search}
 use Rattle.cdcl_core.specs.Guides.{IsGuide}
 use Rattle.cdcl_core.specs.Log.{EndsEmpty, HasNoEmptyLemma, IsBoundedLog, count_from, live_after, live_in, most_live}
+use Rattle.cdcl_core.specs.Going.{HasRefuted, HasSpent, IsEnded, IsFurther, IsNearer, IsUnrefuted}
 use Rattle.cdcl_core.specs.Remembering.{IsRemembering}
 use Rattle.cdcl_core.specs.Search.{IsLearntClause, IsState, Searched}
 use Rattle.cdcl_core.specs.Searching.{HasLemma, HasLogged, HasSame, IsHolding, IsLogging, IsNoted, IsSearching, IsUndecided, database_in}
@@ -19,10 +23,13 @@ use Rattle.cdcl_core.specs.Trail.{InRange}
 use Rattle.cdcl_core.proofs.Lemmas.{clause_at-last}
 use Rattle.cdcl_core.proofs.Lives.{bounded_push, count_from-append, live_from-append}
 use Rattle.cdcl_core.proofs.Logs.{follows_nothing, unsatisfiable_more}
+use Rattle.cdcl_core.proofs.Moves.{searching_guided}
 use Rattle.cdcl_core.proofs.Parts.{has_id-push}
 use Rattle.cdcl_core.proofs.Pushes.{in_range_after, negates_in_range, no_empty-push, refuted_where_empty}
-use Rattle.cdcl_core.proofs.Runs.{below_next, id_found, ids_push, numbers_push, rise_push}
+use Rattle.cdcl_core.proofs.Runs.{below_next, id_found, ids_push, not_empty, numbers_push, rise_push}
+use Rattle.cdcl_core.proofs.Same.{logged_same, logging_logged, open_logged, remembering_same, same_more}
 use Rattle.cdcl_core.proofs.Searches.{searched_append, searched_more}
+use Rattle.cdcl_core.proofs.Standing.{all_watched}
 
 -- only the guide is another
 pub same_guide : (s a : Search) → a ≡ record s { guide = a.guide } → HasSame s a
@@ -38,16 +45,7 @@ same_guide s a rest = record {
 pub searching_guide : (s a : Search) → a ≡ record s { guide = a.guide } → IsGuide a.vars a.guide → IsSearching s.clauses s → IsSearching a.clauses a
 searching_guide s a rest guide was =
     let own : IsGuide s.vars a.guide = subst (λ n. IsGuide n a.guide) (ap (λ (x : Search). x.vars) rest) guide in
-    let made : IsSearching s.clauses (record s { guide = a.guide }) = record {
-      vars = was.vars;
-      guide = own;
-      state = was.state;
-      lists = was.lists;
-      watched = was.watched;
-      queued = was.queued;
-      gated = record { counting = was.gated.counting; vars = was.gated.vars; covered = was.gated.covered };
-    } in
-    subst (λ (x : Search). IsSearching x.clauses x) (sym rest) made
+    subst (λ (x : Search). IsSearching x.clauses x) (sym rest) (searching_guided s.clauses s a.guide own was)
 
 -- where a lemma has a decision to go back to, something is decided
 pub searching_decided : (s a : Search) → a ≡ record s { guide = a.guide } → IsGuide a.vars a.guide → IsSearching s.clauses s ⊎ IsUndecided s → (jump : ℕ) → jump < length a.assignment.trues → slice_index a.reasons.items jump ≡ 0 → IsSearching a.clauses a
@@ -91,6 +89,76 @@ searched_on start l n taken more all vars sum first second =
     subst (λ k. (steps : List ProofStep) × Searched start.vars (database_in start) (database_in n) start.log n.log k steps) (sym sum)
     (searched_append start.vars (database_in start) (database_in l) (database_in n) start.log l.log n.log taken more first
     (subst (λ k. (steps : List ProofStep) × Searched k (database_in l) (database_in n) l.log n.log more steps) vars second))
+
+-- one after the other
+pub spent_on : (a b n : Search) (x y z : ℕ) → HasSpent a b x y → HasSpent b n y z → HasSpent a n x z
+spent_on a b n x y z first second = record {
+  vars = second.vars ∙ first.vars;
+  left = omega (arith, first.left, second.left);
+  logging = second.logging;
+  searched = searched_on a b n (x - y) (y - z) (x - z) first.vars (omega (arith, first.left, second.left)) first.searched second.searched;
+}
+
+pub further_on : (a b n : Search) (x y z : ℕ) → IsFurther a b x y → IsFurther b n y z → IsFurther a n x z
+further_on a b n x y z first second = record {
+  spent = spent_on a b n x y z first.spent second.spent;
+  room = second.room ∙ first.room;
+  still_open = second.still_open;
+}
+
+-- no step further
+pub spent_nothing : (a b : Search) (left : ℕ) → HasLogged a b → IsLogging a → HasSpent a b left left
+spent_nothing a b left same logging = record {
+  vars = same.vars;
+  left = omega arith;
+  logging = logging_logged a b same logging;
+  searched = searched_nothing a b (left - left) (omega arith) same;
+}
+
+pub no_further : (a b : Search) (left : ℕ) → HasLogged a b → IsLogging a → HasNoEmptyLemma a.log → IsFurther a b left left
+no_further a b left same logging still_open = record {
+  spent = spent_nothing a b left same logging;
+  room = ap (λ k. k + left) same.last;
+  still_open = open_logged a b same still_open;
+}
+
+-- where a run comes to from the start of a turn, whose search is where the ones before it came to
+module _ (start t l : Search) (first left : ℕ) (took : HasSame start t) (was : IsUnrefuted start) (gone : IsFurther t l first left) where
+  to_turn : IsFurther start l first left
+  to_turn = further_on start t l first first left (no_further start t first (logged_same start t took) was.logging was.still_open) gone
+
+  pub run_to : (n : Search) → HasLogged l n → IsFurther start n first left
+  run_to n same = further_on start l n first left left to_turn (no_further l n left same gone.spent.logging gone.still_open)
+
+  pub run_on : (n m : Search) (after : ℕ) → HasLogged l n → IsFurther n m left after → IsFurther start m first after
+  run_on n m after same next = further_on start n m first left after (run_to n same) next
+
+  pub run_out : (n m : Search) → HasLogged l n → HasSpent n m left left → HasSpent start m first left
+  run_out n m same next = spent_on start n m first left left (run_to n same).spent next
+
+pub ended : {r : Result Verdict AllocError} → (a b : Search) (x y : ℕ) → IsFurther a b x y → IsEnded r a b x y
+ended a b x y further = record { spent = further.spent; further = λ _. further }
+
+-- an analysis changes the guide alone
+pub same_analysed : (l s a : Search) → HasSame l s → a ≡ record s { guide = a.guide } → HasSame l a
+same_analysed l s a same rest = same_more l s a same (same_guide s a rest)
+
+-- what is unrefuted stays so
+pub unrefuted_same : (a b : Search) → HasSame a b → IsUnrefuted a → IsUnrefuted b
+unrefuted_same a b same was = record {
+  logging = logging_logged a b (logged_same a b same) was.logging;
+  still_open = open_logged a b (logged_same a b same) was.still_open;
+  remembering = remembering_same a b same was.remembering;
+}
+
+-- a lemma that is recorded, with its literals and hints as they were read
+pub recorded : (a n : Search) (ls lits : List Literal) (hs hints : List ℤ) → n.vars ≡ a.vars → n.last ≡ a.last + 1 → n.clauses ≡ with_clause a.clauses (a.last + 1) ls → n.log ≡ a.log ++ Addition (a.last + 1) ls hs ∷ [] → ls ≡ lits → hs ≡ hints → HasLemma a n lits hints
+recorded a n ls lits hs hints vars last clauses log lits_are hints_are = record {
+  vars = vars;
+  last = last;
+  clauses = clauses ∙ ap (λ (xs : List Literal). with_clause a.clauses (a.last + 1) xs) lits_are;
+  log = log ∙ ap (λ (xs : List Literal). a.log ++ Addition (a.last + 1) xs hs ∷ []) lits_are ∙ ap (λ (zs : List ℤ). a.log ++ Addition (a.last + 1) lits zs ∷ []) hints_are;
+}
 
 -- one lemma more is live
 live_lemma : (live : List ℕ) (id : ℕ) (lits : List Literal) (hints : List ℤ) → 0 < length lits → live_after live (Addition id lits hints) ≡ live ++ id ∷ []
@@ -168,3 +236,58 @@ module _ (s n : Search) (lits : List Literal) (hints : List ℤ) (made : HasLemm
       held = λ k among. subst (λ (h : Held). (clause : List Literal) × (clause_at h k ≡ Some clause) × (0 < length clause)) (sym made.clauses) (among_more k (subst (λ (ls : List ℕ). has_id ls k ≡ true) noted.ids among) some);
       room = omega (arith, bound some, ap (λ (ls : List ℕ). length ls) noted.ids, length-append s.memory.ids.items ((s.last + 1) ∷ []), made.vars, noted.deletions);
     }
+
+    -- what the empty lemma comes to
+    pub refuted_spent : (length lits == 0) ≡ true → s.last + 1 < 2 ^ 63 → (left : ℕ) → HasSpent s n left left
+    refuted_spent none small left = record {
+      vars = made.vars;
+      left = omega arith;
+      logging = logging_more small;
+      searched = searched_lemma left left (λ _. refl) (λ some. absurd (true≢false (sym none ∙ some)));
+    }
+
+    -- what a lemma with a literal comes to, which takes a unit
+    pub lemma_further : (length lits == 0) ≡ false → s.last + 1 < 2 ^ 63 → HasNoEmptyLemma s.log → (before : ℕ) → 0 < before → IsFurther s n before (before - 1)
+    lemma_further some small still before enough = record {
+      spent = record {
+        vars = made.vars;
+        left = omega arith;
+        logging = logging_more small;
+        searched = searched_lemma before (before - 1) (λ none. absurd (true≢false (sym none ∙ some))) (λ _. omega (arith, enough));
+      };
+      room = omega (arith, made.last, enough);
+      still_open = open_more some still;
+    }
+
+  pub refuted_both : (length lits == 0) ≡ true → HasNoEmptyLemma s.log → HasRefuted s n
+  refuted_both none still = record {
+    ends = ends_empty none still;
+    before = refutes none;
+    after = refutes_more none;
+  }
+
+-- a lemma is learnt, between a choice that found none to forget and a restart
+module _ (a m l r : Search) (lits : List Literal) (hints : List ℤ) (to_m : HasSame a m) (made : HasLemma m l lits hints) (to_r : HasSame l r) (was : IsUnrefuted a) (state : IsState m.vars m.clauses m.assignment.trues m.reasons.items) (jump : ℕ)
+    (learnt : IsLearntClause m.clauses m.assignment.trues m.reasons.items lits hints jump) (some : 0 < length lits) (small : m.last + 1 < 2 ^ 63) (bound : length m.memory.ids.items < most_live m.vars m.memory.deletions) (before : ℕ) (enough : 0 < before) where
+  now : IsUnrefuted m
+  now = unrefuted_same a m to_m was
+
+  pub learnt_further : IsFurther a r before (before - 1)
+  learnt_further =
+      let next = lemma_further m l lits hints made now.logging.holding m.assignment.trues m.reasons.items state jump learnt now.logging now.remembering (λ _. bound) (not_empty lits some) small now.still_open before enough in
+      further_on a m r before before (before - 1) (no_further a m before (logged_same a m to_m) was.logging was.still_open)
+      (further_on m l r before (before - 1) (before - 1) next (no_further l r (before - 1) (logged_same l r to_r) next.spent.logging next.still_open))
+
+  pub learnt_nearer : IsNoted m l → IsSearching r.clauses r → IsNearer a r before (before - 1)
+  learnt_nearer noted searching =
+      let ids : length r.memory.ids.items ≡ length m.memory.ids.items + 1 = ap (λ (v : Vec ℕ). length v.items) to_r.lemmas ∙ ap (λ (ls : List ℕ). length ls) noted.ids ∙ length-append m.memory.ids.items ((m.last + 1) ∷ []) in
+      record {
+        remembering = remembering_same l r to_r (remembering_more m l lits hints made now.logging.holding m.assignment.trues m.reasons.items state jump learnt now.logging now.remembering (λ _. bound) noted some);
+        searching = all_watched r searching;
+        smaller = omega (arith, ids, ap (λ (v : Vec ℕ). length v.items) to_m.lemmas, enough);
+      }
+
+-- lemmas are forgotten, after a choice of them
+pub nearer_after : {T E : Type 0} (r : Result T E) (a m n : Search) (before after : ℕ) → HasSame a m → OnOk r (IsNearer m n before after) → OnOk r (IsNearer a n before after)
+nearer_after (Ok x) a m n before after same h = record { remembering = h.remembering; searching = h.searching; smaller = omega (arith, h.smaller, ap (λ (v : Vec ℕ). length v.items) same.lemmas) }
+nearer_after (Err e) a m n before after same h = tt

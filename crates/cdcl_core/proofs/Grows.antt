@@ -85,12 +85,14 @@ module _ (held : Held) (pairs : List Pair) (id : ℕ) (lits : List Literal) (pai
   pair_new p is = ap (λ k. pair_at more_pairs k) (is ∙ sym long) ∙ get_or-append_seam pairs pair [] (record { first = Plus 0; second = Plus 0; is_counted = false })
 
   -- what holds of the old ones and of the new one holds of all
-  each_more : (P : List Literal → Pair → Type 0) → ((p : ℕ) → p < length held → P (lits_at held p) (pair_at pairs p)) → P lits pair → (p : ℕ) → p < length more_held → P (lits_at more_held p) (pair_at more_pairs p)
+  each_more : (P : ℕ → List Literal → Pair → Type 0) → ((p : ℕ) → p < length held → P p (lits_at held p) (pair_at pairs p)) → P (length held) lits pair → (p : ℕ) → p < length more_held → P p (lits_at more_held p) (pair_at more_pairs p)
   each_more P old own p within =
       let all : p < length held + 1 = omega (arith, within, length-append held ((id, lits) ∷ [])) in
       ⊎_elim
-      (λ less. subst (λ ls. P ls (pair_at more_pairs p)) (sym (lits_old p less)) (subst (λ (x : Pair). P (lits_at held p) x) (sym (pair_old p less)) (old p less)))
-      (λ more. let is : p ≡ length held = omega (arith, all, more) in subst (λ ls. P ls (pair_at more_pairs p)) (sym (lits_new p is)) (subst (λ (x : Pair). P lits x) (sym (pair_new p is)) own))
+      (λ less. subst (λ ls. P p ls (pair_at more_pairs p)) (sym (lits_old p less)) (subst (λ (x : Pair). P p (lits_at held p) x) (sym (pair_old p less)) (old p less)))
+      (λ more.
+      let is : p ≡ length held = omega (arith, all, more) in
+      subst (λ ls. P p ls (pair_at more_pairs p)) (sym (lits_new p is)) (subst (λ (x : Pair). P p lits x) (sym (pair_new p is)) (subst (λ k. P k lits pair) (sym is) own)))
       (cases_lt p (length held))
 
   sound_more : (k : Literal) (w : Watch) → IsSound held k w → IsSound more_held k w
@@ -101,7 +103,7 @@ module _ (held : Held) (pairs : List Pair) (id : ℕ) (lits : List Literal) (pai
   )
 
   pub kept_with : (visited trues : List Literal) → AreKept held pairs visited trues → IsKept visited trues lits pair → AreKept more_held more_pairs visited trues
-  kept_with visited trues all own = each_more (λ ls x. IsKept visited trues ls x) all own
+  kept_with visited trues all own = each_more (λ _ ls x. IsKept visited trues ls x) all own
 
   pub queued_with : (trues : List Literal) (reasons : List ℕ) (head : ℕ) → IsQueued held pairs trues reasons head → IsKept (take head trues) trues lits pair → ((q : ℕ) → q < length trues → slice_index reasons q ≡ 0 → IsKept (take q trues) (take q trues) lits pair) → IsQueued more_held more_pairs trues reasons head
   queued_with trues reasons head s own at = record {
@@ -114,15 +116,8 @@ module _ (held : Held) (pairs : List Pair) (id : ℕ) (lits : List Literal) (pai
   pub watched_without : (lists : List (List Watch)) → same pair.first pair.second ≡ true → has lits pair.first ≡ true → has lits pair.second ≡ true → ((l : Literal) → IsWatched held pairs lists l []) → (l : Literal) → IsWatched more_held more_pairs lists l []
   watched_without lists alike has_first has_second w l = record {
     long = omega (arith, long, length-append held ((id, lits) ∷ []), length-append pairs (pair ∷ []));
-    inside = each_more (λ ls x. (has ls x.first ≡ true) × (has ls x.second ≡ true)) (w l).inside (has_first, has_second);
-    listed = λ p within differ.
-        let all : p < length held + 1 = omega (arith, within, length-append held ((id, lits) ∷ [])) in
-        ⊎_elim
-        (λ less.
-        let both = (w l).listed p less (subst (λ (x : Pair). same x.first x.second ≡ false) (pair_old p less) differ) in
-        subst (λ (x : Pair). IsListed lists l [] p x.first × IsListed lists l [] p x.second) (sym (pair_old p less)) both)
-        (λ more. absurd (true≢false (sym alike ∙ subst (λ (x : Pair). same x.first x.second ≡ false) (pair_new p (omega (arith, all, more))) differ)))
-        (cases_lt p (length held));
+    inside = each_more (λ _ ls x. (has ls x.first ≡ true) × (has ls x.second ≡ true)) (w l).inside (has_first, has_second);
+    listed = each_more (λ p _ x. same x.first x.second ≡ false → IsListed lists l [] p x.first × IsListed lists l [] p x.second) (λ p less. (w l).listed p less) (λ differ. absurd (true≢false (sym alike ∙ differ)));
     sound = λ k. All-weaker (IsSound held k) (IsSound more_held k) (sound_more k) (list_at lists k) ((w l).sound k);
     sound_spare = All-nil (IsSound more_held l);
   }
@@ -146,6 +141,9 @@ module _ (held : Held) (pairs : List Pair) (id : ℕ) (lits : List Literal) (pai
     mentions-more : (k : Literal) (p : ℕ) → mentions (list_at lists k) p ≡ true → mentions (list_at twice k) p ≡ true
     mentions-more k p h = pushed-more once pair.second two in_twice k p (pushed-more lists pair.first one inside_first k p h)
 
+    listed-more : (l : Literal) (p : ℕ) (k : Literal) → IsListed lists l [] p k → IsListed twice l [] p k
+    listed-more l p k at = ⊎_elim (λ h. inl (mentions-more k p h)) (λ none. absurd (false≢true none.1)) at
+
     own_sound : (k b t : Literal) → has lits b ≡ true → (same t k ≡ false → IsShort lits k b t) → IsSound more_held k (record { place = length held; blocker = b; third = t })
     own_sound k b t h short = (
       omega (arith, length-append held ((id, lits) ∷ [])),
@@ -156,20 +154,10 @@ module _ (held : Held) (pairs : List Pair) (id : ℕ) (lits : List Literal) (pai
     pub watched_with : ((l : Literal) → IsWatched held pairs lists l []) → (l : Literal) → IsWatched more_held more_pairs twice l []
     watched_with w l = record {
       long = omega (arith, long, length-append held ((id, lits) ∷ []), length-append pairs (pair ∷ []));
-      inside = each_more (λ ls x. (has ls x.first ≡ true) × (has ls x.second ≡ true)) (w l).inside (has_first, has_second);
-      listed = λ p within differ.
-          let all : p < length held + 1 = omega (arith, within, length-append held ((id, lits) ∷ [])) in
-          ⊎_elim
-          (λ less.
-          let both = (w l).listed p less (subst (λ (x : Pair). same x.first x.second ≡ false) (pair_old p less) differ) in
-          let up : (k : Literal) → IsListed lists l [] p k → IsListed twice l [] p k = λ k at. ⊎_elim (λ h. inl (mentions-more k p h)) (λ none. absurd (false≢true none.1)) at in
-          subst (λ (x : Pair). IsListed twice l [] p x.first × IsListed twice l [] p x.second) (sym (pair_old p less)) (up (pair_at pairs p).first both.0, up (pair_at pairs p).second both.1))
-          (λ more.
-          let is : p ≡ length held = omega (arith, all, more) in
-          subst (λ k. IsListed twice l [] k (pair_at more_pairs k).first × IsListed twice l [] k (pair_at more_pairs k).second) (sym is)
-          (subst (λ (x : Pair). IsListed twice l [] (length held) x.first × IsListed twice l [] (length held) x.second) (sym (pair_new (length held) refl))
-          (inl (pushed-more once pair.second two in_twice pair.first (length held) (pushed-new lists pair.first one inside_first)), inl (pushed-new once pair.second two in_twice))))
-          (cases_lt p (length held));
+      inside = each_more (λ _ ls x. (has ls x.first ≡ true) × (has ls x.second ≡ true)) (w l).inside (has_first, has_second);
+      listed = each_more (λ p _ x. same x.first x.second ≡ false → IsListed twice l [] p x.first × IsListed twice l [] p x.second)
+          (λ p less differ. let both = (w l).listed p less differ in (listed-more l p (pair_at pairs p).first both.0, listed-more l p (pair_at pairs p).second both.1))
+          (λ _. (inl (pushed-more once pair.second two in_twice pair.first (length held) (pushed-new lists pair.first one inside_first)), inl (pushed-new once pair.second two in_twice)));
       sound = pushed-all once pair.second two in_twice (IsSound more_held) (own_sound pair.second pair.first third_two has_first short_two)
           (pushed-all lists pair.first one inside_first (IsSound more_held) (own_sound pair.first pair.second third_one has_second short_one)
           (λ k. All-weaker (IsSound held k) (IsSound more_held k) (sound_more k) (list_at lists k) ((w l).sound k)));

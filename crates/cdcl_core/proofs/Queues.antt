@@ -2,7 +2,7 @@
 use Rattle.std.proofs.Common.{◌≡◌, ◌≢◌, ℕ, suc, ◌+◌, ◌*◌, ◌<◌, ◌≤◌, true, false, not, cond, List, [], ◌∷◌, ⊎_elim, inl, inr, refl, sym, ap, ◌∙◌, subst, arith, length, get_or, set, get_or-set_same, get_or-set_other, Some}
 use Rattle.std.specs.Prelude.{◌⊎◌, ◌==◌, All}
 use Rattle.std.specs.List.{list_all}
-use Rattle.std.proofs.lemmas.List.{take_all}
+use Rattle.std.proofs.lemmas.List.{take_all, length-set}
 use Rattle.cdcl_core.proofs.Walks.{has-at}
 use Rattle.cdcl_core.specs.Search.{IsState}
 use Rattle.std.proofs.lemmas.List.Elements.{All-nil}
@@ -15,7 +15,7 @@ use Rattle.lrat_model.proofs.Literals.{has-cons, same-true, same-itself, has-fil
 use Rattle.cdcl_core.specs.Fixpoint.{IsQuiet, IsFixpoint}
 use Rattle.cdcl_core.specs.declared.watches.Watch.{Watch}
 use Rattle.cdcl_core.specs.declared.watches.Pair.{Pair}
-use Rattle.cdcl_core.specs.Watches.{index_of, list_at, lits_at, pair_at, mentions, IsTrueIn, IsOpenPair, IsCounted, IsKept, AreKept, IsSound, IsListed, IsWatched, IsQueued, IsVisiting}
+use Rattle.cdcl_core.specs.Watches.{index_of, list_at, lits_at, pair_at, mentions, IsTrueIn, IsOpenPair, IsCounted, IsKept, AreKept, IsSound, IsListed, IsPropagating, IsWatched, IsQueued, IsVisiting}
 use Rattle.cdcl_core.proofs.Visits.{kept_next, index-apart, same_or_not, same_at, index_within}
 
 module _ (held : Held) (pairs : List Pair) (lists : List (List Watch)) (trues : List Literal) (reasons : List ℕ) (head : ℕ) (l : Literal) (inside_l : index_of l < length lists) where
@@ -144,3 +144,36 @@ visiting_false held pairs lists trues reasons head l done coming v =
 pub index_of_false : (n : ℕ) (held : Held) (trues : List Literal) (reasons : List ℕ) (room head : ℕ) (t l : Literal) → IsState n held trues reasons → head < length trues → t ≡ get_or trues head t → l ≡ negated t → room ≡ 2 * (n + 1) → index_of l < room
 index_of_false n held trues reasons room head t l s within is l_is long =
     index_within l n room (subst (λ k. k ≤ n) (sym (ap variable_of l_is ∙ variable_of-negated t)) (s.range t (has-at trues head t within is)).1) long
+
+-- ---- a turn of propagation, at the head of the queue
+
+-- the literal at the head, whose negation has a list
+pub record IsAtHead (trues : List Literal) (lists : List (List Watch)) (head : ℕ) (t l : Literal) : Type 0 where
+  pub within : head < length trues
+  pub first : t ≡ get_or trues head t
+  pub false_now : l ≡ negated t
+  pub inside : index_of l < length lists
+
+pub at_head : (n : ℕ) (held : Held) (lists : List (List Watch)) (trues tested read : List Literal) (reasons : List ℕ) (head : ℕ) (t l : Literal) → IsPropagating n held lists trues reasons
+    → head < length tested → tested ≡ trues → t ≡ get_or read head t → read ≡ trues → l ≡ negated t → IsAtHead trues lists head t l
+at_head n held lists trues tested read reasons head t l p less tested_is first read_is l_is =
+    let within : head < length trues = omega (arith, less, ap (λ (ls : List Literal). length ls) tested_is) in
+    let first_now : t ≡ get_or trues head t = first ∙ ap (λ (ls : List Literal). get_or ls head t) read_is in
+    record {
+      within = within;
+      first = first_now;
+      false_now = l_is;
+      inside = index_of_false n held trues reasons (length lists) head t l p.state within first_now l_is p.long;
+    }
+
+pub inside_still : (x n m : ℕ) (lists new : List (List Watch)) → x < length lists → length lists ≡ 2 * (n + 1) → m ≡ n → length new ≡ 2 * (m + 1) → x < length new
+inside_still x n m lists new inside long same new_long = omega (arith, inside, long, same, new_long)
+
+-- one list is another
+pub propagating_set : (n : ℕ) (held : Held) (lists new : List (List Watch)) (trues : List Literal) (reasons : List ℕ) (i : ℕ) (list : List Watch) → new ≡ set lists i list → IsPropagating n held lists trues reasons → IsPropagating n held new trues reasons
+propagating_set n held lists new trues reasons i list is p = record {
+  range = p.range;
+  ids = p.ids;
+  state = p.state;
+  long = ap (λ (xs : List (List Watch)). length xs) is ∙ length-set lists i list ∙ p.long;
+}

@@ -30,14 +30,6 @@ logged_same a b same = record {
   log = same.log;
 }
 
-pub logged_more : (a b c : Search) → HasLogged a b → HasLogged b c → HasLogged a c
-logged_more a b c first second = record {
-  vars = second.vars ∙ first.vars;
-  last = second.last ∙ first.last;
-  clauses = second.clauses ∙ first.clauses;
-  log = second.log ∙ first.log;
-}
-
 pub holding_logged : (a b : Search) → HasLogged a b → IsHolding a → IsHolding b
 holding_logged a b same h = record {
   few = subst (λ n. n < 2 ^ 31) (sym same.vars) h.few;

@@ -13,7 +13,7 @@ use Rattle.lrat_model.proofs.Literals.{has-cons, has-push, negated-negated, same
 use Rattle.cdcl_core.proofs.Tops.{take_within}
 use Rattle.cdcl_core.specs.declared.watches.Watch.{Watch}
 use Rattle.cdcl_core.specs.declared.watches.Pair.{Pair}
-use Rattle.cdcl_core.specs.Watches.{index_of, list_at, lits_at, pair_at, mentions, IsKept, AreKept, IsShort, IsSound, IsListed, IsQueued, IsVisiting}
+use Rattle.cdcl_core.specs.Watches.{index_of, list_at, lits_at, pair_at, mentions, IsKept, AreKept, IsShort, IsSound, IsListed, IsQueued, IsVisiting, IsWatched}
 
 -- a clause that is kept stays so where more is true
 pub kept_more : (visited trues more clause : List Literal) (pair : Pair) → IsKept visited trues clause pair → IsKept visited (trues ++ more) clause pair
@@ -117,6 +117,10 @@ module _ (held : Held) (pairs : List Pair) (lists : List (List Watch)) (trues : 
   }
 
   module _ (watch : Watch) (v : IsVisiting held pairs lists trues reasons head l done (watch ∷ coming)) where
+    -- what is watched once other watches of l are left
+    left_with : (left : List Watch) → ((p : ℕ) → p < length held → same (pair_at pairs p).first (pair_at pairs p).second ≡ false → IsListed lists l left p (pair_at pairs p).first × IsListed lists l left p (pair_at pairs p).second) → All (IsSound held l) left → IsWatched held pairs lists l left
+    left_with left listed spare = record { long = v.watched.long; inside = v.watched.inside; listed = listed; sound = v.watched.sound; sound_spare = spare }
+
     -- a watch whose clause is true stays, with a true literal as its blocker
     pub visiting_true : (b t : Literal) → has (lits_at held watch.place) b ≡ true → has trues b ≡ true → (same t l ≡ false → IsShort (lits_at held watch.place) l b t) → IsVisiting held pairs lists trues reasons head l (done ++ record { place = watch.place; blocker = b; third = t } ∷ []) coming
     visiting_true b t here is short =
@@ -128,17 +132,13 @@ module _ (held : Held) (pairs : List Pair) (lists : List (List Watch)) (trues : 
         record {
           within = v.within;
           at_head = v.at_head;
-          watched = record {
-            long = v.watched.long;
-            inside = v.watched.inside;
-            listed = λ p w differ.
-                let both = v.watched.listed p w differ in (
-                  listed_more lists l (done ++ watch ∷ coming) ((done ++ now ∷ []) ++ coming) p (pair_at pairs p).first (alike p) both.0,
-                  listed_more lists l (done ++ watch ∷ coming) ((done ++ now ∷ []) ++ coming) p (pair_at pairs p).second (alike p) both.1,
-                );
-            sound = v.watched.sound;
-            sound_spare = subst (λ ws. All (IsSound held l) ws) (sym split) (All-other (IsSound held l) done coming watch now (place_in, here, short) v.watched.sound_spare);
-          };
+          watched = left_with ((done ++ now ∷ []) ++ coming)
+              (λ p w differ.
+              let both = v.watched.listed p w differ in (
+                listed_more lists l (done ++ watch ∷ coming) ((done ++ now ∷ []) ++ coming) p (pair_at pairs p).first (alike p) both.0,
+                listed_more lists l (done ++ watch ∷ coming) ((done ++ now ∷ []) ++ coming) p (pair_at pairs p).second (alike p) both.1,
+              ))
+              (subst (λ ws. All (IsSound held l) ws) (sym split) (All-other (IsSound held l) done coming watch now (place_in, here, short) v.watched.sound_spare));
           taken_out = v.taken_out;
           queued = v.queued;
           visited = λ p w. ⊎_elim
@@ -154,19 +154,15 @@ module _ (held : Held) (pairs : List Pair) (lists : List (List Watch)) (trues : 
     visiting_stale others = record {
       within = v.within;
       at_head = v.at_head;
-      watched = record {
-        long = v.watched.long;
-        inside = v.watched.inside;
-        listed = λ p w differ.
-            let both = v.watched.listed p w differ in
-            let keep : (k : Literal) → (watch.place ≡ p → k ≢ l) → IsListed lists l (done ++ watch ∷ coming) p k → IsListed lists l (done ++ coming) p k =
-            λ k not_l at. ⊎_elim (λ h. inl h) (λ h. inr (h.0, ⊎_elim (λ own. absurd (not_l (eqb-true watch.place p own) h.0)) (λ rest. rest) (or_cases (watch.place == p) (mentions (done ++ coming) p) (sym (mentions-middle done coming watch p) ∙ h.1)))) at in
-            let own : watch.place ≡ p → ((pair_at pairs p).first ≢ l) × ((pair_at pairs p).second ≢ l) =
-            λ e. subst (λ k. same (pair_at pairs k).first (pair_at pairs k).second ≡ false → ((pair_at pairs k).first ≢ l) × ((pair_at pairs k).second ≢ l)) e others differ in
-            (keep (pair_at pairs p).first (λ e. (own e).0) both.0, keep (pair_at pairs p).second (λ e. (own e).1) both.1);
-        sound = v.watched.sound;
-        sound_spare = All-without (IsSound held l) done coming watch v.watched.sound_spare;
-      };
+      watched = left_with (done ++ coming)
+          (λ p w differ.
+          let both = v.watched.listed p w differ in
+          let keep : (k : Literal) → (watch.place ≡ p → k ≢ l) → IsListed lists l (done ++ watch ∷ coming) p k → IsListed lists l (done ++ coming) p k =
+          λ k not_l at. ⊎_elim (λ h. inl h) (λ h. inr (h.0, ⊎_elim (λ own. absurd (not_l (eqb-true watch.place p own) h.0)) (λ rest. rest) (or_cases (watch.place == p) (mentions (done ++ coming) p) (sym (mentions-middle done coming watch p) ∙ h.1)))) at in
+          let own : watch.place ≡ p → ((pair_at pairs p).first ≢ l) × ((pair_at pairs p).second ≢ l) =
+          λ e. subst (λ k. same (pair_at pairs k).first (pair_at pairs k).second ≡ false → ((pair_at pairs k).first ≢ l) × ((pair_at pairs k).second ≢ l)) e others differ in
+          (keep (pair_at pairs p).first (λ e. (own e).0) both.0, keep (pair_at pairs p).second (λ e. (own e).1) both.1))
+          (All-without (IsSound held l) done coming watch v.watched.sound_spare);
       taken_out = v.taken_out;
       queued = v.queued;
       visited = λ p w. ⊎_elim

@@ -1,17 +1,17 @@
 //! What a conflict comes to: a lemma that is learnt, others that are forgotten, or the empty lemma.
-ghost use Rattle.std.specs.Prelude.{◌≡◌, ◌⊎◌, ℕ, ◌^◌, ◌<◌, ◌≤◌, ◌+◌, ◌-◌, ◌*◌, ◌++◌, ◌∷◌, [], not, false, List, filter, All, OnErr, OnOk, length, slice_index, take};
+ghost use Rattle.std.specs.Prelude.{◌≡◌, ℕ, ◌^◌, ◌<◌, ◌≤◌, ◌+◌, ◌*◌, ◌++◌, ◌∷◌, [], not, false, filter, All, OnErr, OnOk, length};
 ghost use Rattle.std.specs.List.Sorted.{IsNonDecreasingBy};
-ghost use Rattle.lrat_model.specs.Steps.{Deletion, ProofStep};
-ghost use Rattle.lrat_model.specs.Clauses.{has_id, without, IsUnsatisfiable};
+ghost use Rattle.lrat_model.specs.Steps.{Deletion};
+ghost use Rattle.lrat_model.specs.Clauses.{has_id, without};
 ghost use Rattle.lrat_model.specs.Propagation.{Closes};
 ghost use Rattle.gate_counts.specs.Counts.{IsCounting};
+ghost use Rattle.cdcl_core.specs.Going.{HasSpent, IsBackjump, IsFurther, IsNearer, HasRefuted, IsUnrefuted};
 ghost use Rattle.cdcl_core.specs.Guides.{IsGuide};
 ghost use Rattle.cdcl_core.specs.declared.memory.TheConstants.{FEWEST_DELETED};
-ghost use Rattle.cdcl_core.specs.Log.{EndsEmpty, HasNoEmptyLemma, least_live, most_live};
-ghost use Rattle.cdcl_core.specs.Remembering.{HasDeletion, IsChosen, IsRemembering};
-ghost use Rattle.cdcl_core.specs.Search.{IsLearntClause, IsState, Searched};
-ghost use Rattle.cdcl_core.specs.Searching.{HasLogged, IsLogging, IsSearching, database_in};
-ghost use Rattle.cdcl_core.specs.Watches.{IsAsserting};
+ghost use Rattle.cdcl_core.specs.Log.{least_live};
+ghost use Rattle.cdcl_core.specs.Remembering.{HasDeletion, IsChosen};
+ghost use Rattle.cdcl_core.specs.Search.{IsLearntClause, IsState};
+ghost use Rattle.cdcl_core.specs.Searching.{HasLogged, IsSearching};
 
 use crate::analysis::LearntClause;
 use crate::clauses::Clauses;
@@ -25,19 +25,14 @@ use std::alloc::{AllocError, Global};
 /// Holds and logs the empty lemma.
 pub fn refute(search: &mut Search, lemma: &LearntClause) -> Result<(), AllocError>
     requires room { search.old.last + 1 < 2 ^ 63 }
-    requires logging { IsLogging search.old }
-    requires open { HasNoEmptyLemma search.old.log }
-    requires remembering { IsRemembering search.old }
+    requires unrefuted { IsUnrefuted search.old }
     requires state { IsState search.old.vars search.old.clauses search.old.assignment.trues search.old.reasons.items }
     requires learnt { IsLearntClause search.old.clauses search.old.assignment.trues search.old.reasons.items lemma.now.lits.items lemma.now.hints.items lemma.now.jump }
     requires empty { lemma.now.lits.items ≡ [] }
-    ensures vars { search.new.vars ≡ search.old.vars }
     ensures last { search.new.last ≤ search.old.last + 1 }
-    ensures logging { IsLogging search.new }
-    ensures goes_on { (steps : List ProofStep) × Searched search.old.vars (database_in search.old) (database_in search.new) search.old.log search.new.log 0 steps }
+    ensures spent { (left : ℕ) → HasSpent search.old search.new left left }
     ensures unchanged { OnErr result (HasLogged search.old search.new) }
-    ensures ends { OnOk result (EndsEmpty search.new.log) }
-    ensures refuted { OnOk result (IsUnsatisfiable search.old.clauses × IsUnsatisfiable search.new.clauses) }
+    ensures refuted { OnOk result (HasRefuted search.old search.new) }
 {
     record(
         &mut search.clauses,
@@ -59,87 +54,35 @@ pub fn go_on(
 ) -> Result<(), AllocError>
     requires room { search.old.last + left.old < 2 ^ 63 }
     requires some { 0 < left.old }
-    requires logging { IsLogging search.old }
-    requires open { HasNoEmptyLemma search.old.log }
-    requires remembering { IsRemembering search.old }
+    requires unrefuted { IsUnrefuted search.old }
     requires searching { IsSearching search.old.clauses search.old }
-    requires learnt { IsLearntClause search.old.clauses search.old.assignment.trues search.old.reasons.items lemma.now.lits.items lemma.now.hints.items lemma.now.jump }
-    requires asserting { IsAsserting search.old.assignment.trues search.old.reasons.items lemma.now.jump lemma.now.lits.items pair }
-    requires within { lemma.now.jump < length search.old.assignment.trues }
-    requires decision { slice_index search.old.reasons.items lemma.now.jump ≡ 0 }
-    ensures vars { search.new.vars ≡ search.old.vars }
-    ensures left { left.new ≤ left.old }
-    ensures room { search.new.last + left.new ≡ search.old.last + left.old }
-    ensures logging { IsLogging search.new }
-    ensures open { HasNoEmptyLemma search.new.log }
-    ensures goes_on { (steps : List ProofStep) × Searched search.old.vars (database_in search.old) (database_in search.new) search.old.log search.new.log (left.old - left.new) steps }
-    ensures remembering { OnOk result (IsRemembering search.new) }
-    ensures searching { OnOk result (IsSearching (take (length search.new.pairs.items) search.new.clauses) search.new) }
-    ensures smaller { OnOk result (2 * left.new + length search.new.memory.ids.items < 2 * left.old + length search.old.memory.ids.items) }
+    requires backjump { IsBackjump search.old lemma.now.lits.items lemma.now.hints.items lemma.now.jump pair }
+    ensures further { IsFurther search.old search.new left.old left.new }
+    ensures nearer { OnOk result (IsNearer search.old search.new left.old left.new) }
 {
     let alloc = *search.reasons.allocator();
     match search.memory.choose(alloc, search.vars, &search.reasons)? {
         Some(gone) => forget(search, &gone),
-        None => learn(search, left, lemma, pair),
+        None => {
+            search.learn(&lemma.lits, &lemma.hints, pair, lemma.jump)?;
+            *left -= 1;
+            search.restart();
+            Ok(())
+        }
     }
-}
-
-/// Learns the lemma.
-fn learn(
-    search: &mut Search,
-    left: &mut u64,
-    lemma: &LearntClause,
-    pair: Pair,
-) -> Result<(), AllocError>
-    requires room { search.old.last + left.old < 2 ^ 63 }
-    requires some { 0 < left.old }
-    requires logging { IsLogging search.old }
-    requires open { HasNoEmptyLemma search.old.log }
-    requires remembering { IsRemembering search.old }
-    requires bound { length search.old.memory.ids.items < most_live search.old.vars search.old.memory.deletions }
-    requires searching { IsSearching search.old.clauses search.old }
-    requires learnt { IsLearntClause search.old.clauses search.old.assignment.trues search.old.reasons.items lemma.now.lits.items lemma.now.hints.items lemma.now.jump }
-    requires asserting { IsAsserting search.old.assignment.trues search.old.reasons.items lemma.now.jump lemma.now.lits.items pair }
-    requires within { lemma.now.jump < length search.old.assignment.trues }
-    requires decision { slice_index search.old.reasons.items lemma.now.jump ≡ 0 }
-    ensures vars { search.new.vars ≡ search.old.vars }
-    ensures left { left.new ≤ left.old }
-    ensures room { search.new.last + left.new ≡ search.old.last + left.old }
-    ensures logging { IsLogging search.new }
-    ensures open { HasNoEmptyLemma search.new.log }
-    ensures goes_on { (steps : List ProofStep) × Searched search.old.vars (database_in search.old) (database_in search.new) search.old.log search.new.log (left.old - left.new) steps }
-    ensures remembering { OnOk result (IsRemembering search.new) }
-    ensures searching { OnOk result (IsSearching (take (length search.new.pairs.items) search.new.clauses) search.new) }
-    ensures smaller { OnOk result (2 * left.new + length search.new.memory.ids.items < 2 * left.old + length search.old.memory.ids.items) }
-{
-    search.learn(&lemma.lits, &lemma.hints, pair, lemma.jump)?;
-    *left -= 1;
-    search.restart();
-    Ok(())
 }
 
 /// Deletes these lemmas. Where memory runs out nothing is deleted.
 fn forget(search: &mut Search, gone: &[u64]) -> Result<(), AllocError>
     requires room { search.old.last < 2 ^ 63 }
-    requires logging { IsLogging search.old }
-    requires open { HasNoEmptyLemma search.old.log }
-    requires remembering { IsRemembering search.old }
+    requires unrefuted { IsUnrefuted search.old }
     requires unclosed { Closes search.old.clauses → ⊥ }
     requires chosen { IsChosen search.old.memory.ids.items search.old.reasons.items gone.now }
     requires fewest { FEWEST_DELETED ≤ length gone.now }
     requires earned { least_live search.old.memory.deletions ≤ length search.old.memory.ids.items }
-    requires counting { IsCounting search.old.gates search.old.assignment.trues }
-    requires gate_vars { search.old.gates.vars ≡ search.old.vars }
-    requires vars { search.old.assignment.vars ≡ search.old.vars }
-    requires guide { IsGuide search.old.vars search.old.guide }
-    ensures vars { search.new.vars ≡ search.old.vars }
-    ensures last { search.new.last ≡ search.old.last }
-    ensures logging { IsLogging search.new }
-    ensures open { HasNoEmptyLemma search.new.log }
-    ensures goes_on { (steps : List ProofStep) × Searched search.old.vars (database_in search.old) (database_in search.new) search.old.log search.new.log 0 steps }
-    ensures remembering { OnOk result (IsRemembering search.new) }
-    ensures searching { OnOk result (IsSearching (take (length search.new.pairs.items) search.new.clauses) search.new) }
-    ensures fewer { OnOk result (length search.new.memory.ids.items < length search.old.memory.ids.items) }
+    requires searching { IsSearching search.old.clauses search.old }
+    ensures further { (left : ℕ) → IsFurther search.old search.new left left }
+    ensures nearer { (left : ℕ) → OnOk result (IsNearer search.old search.new left left) }
 {
     delete(search, gone)?;
     Ok(())
@@ -193,28 +136,9 @@ fn take_away(
     ensures unchanged { OnErr result ((held.new ≡ held.old) × (log.new ≡ log.old)) }
 {
     let clauses = held.all_but(alloc, gone)?;
-    log_deletion(alloc, log, memory, last, gone)?;
-    *held = clauses;
-    Ok(())
-}
-
-/// Logs the deletion of these lemmas, and no longer remembers them. Where memory runs out nothing is done.
-fn log_deletion(
-    alloc: Global,
-    log: &mut Log,
-    memory: &mut Memory,
-    last: u64,
-    gone: &[u64],
-) -> Result<(), AllocError>
-    requires sorted { IsNonDecreasingBy (λ k. k) gone.now }
-    requires earned { least_live memory.old.deletions ≤ length memory.old.ids.items }
-    ensures log { OnOk result (log.new ≡ log.old ++ Deletion last gone.now ∷ []) }
-    ensures ids { OnOk result (memory.new.ids.items ≡ filter (λ k. not (has_id gone.now k)) memory.old.ids.items) }
-    ensures deletions { OnOk result (memory.new.deletions ≡ memory.old.deletions + 1) }
-    ensures unchanged { OnErr result (log.new ≡ log.old) }
-{
     let others = memory.all_but(alloc, gone)?;
     log.push_deletion(last, gone)?;
     *memory = others;
+    *held = clauses;
     Ok(())
 }

@@ -1,5 +1,4 @@
-//! What a search holds more: a jump back on the trail, a clause that begins to be watched, a lemma that is
-//! held and logged.
+//! What a search holds more: a clause that begins to be watched, a lemma that is held and logged.
 ghost use Rattle.std.specs.Prelude.{◌≡◌, ◌≢◌, ◌⊎◌, ℕ, ◌<◌, ◌≤◌, ◌^◌, ◌+◌, ◌*◌, ◌++◌, if◌then◌else◌, [], ◌∷◌, true, false, List, Ok, None, All, OnOk, OnErr, length, take, slice_index};
 ghost use Rattle.lrat_model.specs.Literal.{Literal, has, negated, same, variable_of};
 ghost use Rattle.lrat_model.specs.Clauses.{Held, with_clause};
@@ -20,35 +19,6 @@ use lrat_model::Lit;
 use lrat_text::Log;
 use partial_assignment::Assignment;
 use std::alloc::AllocError;
-
-/// Goes back to where a decision stands: it and all above it are taken away.
-pub fn back(
-    gates: &mut Gates,
-    guide: &mut Guide,
-    assignment: &mut Assignment,
-    reasons: &mut Vec<u64>,
-    head: &mut usize,
-    jump: usize,
-)
-    requires counting { IsCounting gates.old assignment.old.trues }
-    requires trail { (held : Held) × IsTrail held assignment.old.trues reasons.old.items }
-    requires within { jump < length assignment.old.trues }
-    requires decision { slice_index reasons.old.items jump ≡ 0 }
-    ensures vars { assignment.new.vars ≡ assignment.old.vars }
-    ensures trues { assignment.new.trues ≡ take jump assignment.old.trues }
-    ensures reasons { reasons.new.items ≡ take jump reasons.old.items }
-    ensures head { head.new ≡ jump }
-    ensures counting { IsCounting gates.new assignment.new.trues }
-    ensures gates { (gates.new.gates ≡ gates.old.gates) × (gates.new.vars ≡ gates.old.vars) }
-    ensures guide { (vars : ℕ) → IsGuide vars guide.old → IsGuide vars guide.new }
-    ensures queued { (held : Held) (pairs : List Pair) → IsQueued held pairs assignment.old.trues reasons.old.items head.old → IsQueued held pairs assignment.new.trues reasons.new.items head.new }
-{
-    gates.back_to(assignment.trail(), jump);
-    guide.leave(&assignment.trail()[jump..], jump);
-    assignment.back_to(jump);
-    reasons.truncate(jump);
-    *head = jump;
-}
 
 /// Lets the clause at a place, the next that has none, watch two of its literals, one where it has no two
 /// that differ, and none where it is counted. O(its literals). A place takes 32 bits, since propagation waits for the load of watches: more clauses than

@@ -1,47 +1,33 @@
-use Rattle.std.proofs.Common.{◌≡◌, ◌≤◌, ◌∙◌, [], ◌∷◌, true, false, List, inl, inr, refl, sym, ap, subst, arith}
+use Rattle.std.proofs.Common.{◌≡◌, ◌≤◌, ◌∙◌, ◌++◌, [], ◌∷◌, true, false, List, inl, inr, refl, sym, ap, subst, arith}
 use Rattle.lrat_model.specs.Literal.{Literal, has, variable_of}
 use Rattle.lrat_model.specs.Clauses.{clause_at}
 use Rattle.lrat_model.specs.Propagation.{status}
 use Rattle.lrat_model.specs.declared.step.ClauseStatus.TheVariants.{Forces}
-use Rattle.gate_counts.proofs.Countings.{counting_more}
 use Rattle.cdcl_core.specs.Fixpoint.{IsQuiet}
 use Rattle.cdcl_core.specs.Watches.{id_at, lits_at}
 use Rattle.cdcl_core.proofs.Counted.{open_quiet}
 use Rattle.cdcl_core.proofs.Forced.{forces_only, falsified_all}
+use Rattle.cdcl_core.proofs.Moves.{clause_variable, searching_pushed}
 use Rattle.cdcl_core.proofs.OpenCounts.{open_count-append}
 use Rattle.cdcl_core.proofs.Runs.{each_id}
 use Rattle.cdcl_core.proofs.States.{state_push}
 use Rattle.cdcl_core.proofs.Trails.{open_count-push}
-use Rattle.cdcl_core.proofs.Visits.{queued_more}
 use Rattle.cdcl_core.proofs.search.Search.take_at.Goals as goal
 
 pub two_free-requires : goal.two_free-requires
-two_free-requires c = λ m h.
-    let s = c.args.self.now in
-    let p = c.args.place in
-    let all = c.requires.holding in
-    let at = (each_id s.clauses s.last all.rise all.ids c.requires.room p c.requires.place).2 in
-    subst (λ k. variable_of m ≤ k) (sym c.requires.searching.vars) (all.range (id_at s.clauses p) (lits_at s.clauses p) at m (subst (λ (ls : List Literal). has ls m ≡ true) c.lits.ensures h)).1
+two_free-requires c = λ m h. subst (λ k. variable_of m ≤ k) (sym c.requires.searching.vars) (clause_variable c.args.self.now c.requires.holding c.requires.room c.args.place c.requires.place m (subst (λ (ls : List Literal). has ls m ≡ true) c.lits.ensures h)).1
 
 pub is_true-requires : goal.is_true-requires
 is_true-requires c =
     let s = c.args.self.now in
-    let p = c.args.place in
-    let all = c.requires.holding in
     let l = c.in-One.l in
-    let at = (each_id s.clauses s.last all.rise all.ids c.requires.room p c.requires.place).2 in
-    let one = c.in-One.ensures.one l refl in
-    subst (λ k. variable_of l ≤ k) (sym c.requires.searching.vars) (all.range (id_at s.clauses p) (lits_at s.clauses p) at l (subst (λ (ls : List Literal). has ls l ≡ true) c.lits.ensures one.0)).1
+    subst (λ k. variable_of l ≤ k) (sym c.requires.searching.vars) (clause_variable s c.requires.holding c.requires.room c.args.place c.requires.place l (subst (λ (ls : List Literal). has ls l ≡ true) c.lits.ensures (c.in-One.ensures.one l refl).0)).1
 
 pub make_true-requires-clause-range : goal.make_true-requires-clause-range
 make_true-requires-clause-range c =
     let s = c.args.self.now in
-    let p = c.args.place in
-    let all = c.requires.holding in
     let l = c.in-One.l in
-    let at = (each_id s.clauses s.last all.rise all.ids c.requires.room p c.requires.place).2 in
-    let one = c.in-One.ensures.one l refl in
-    subst (λ k. variable_of l ≤ k) (sym c.requires.searching.vars) (all.range (id_at s.clauses p) (lits_at s.clauses p) at l (subst (λ (ls : List Literal). has ls l ≡ true) c.lits.ensures one.0)).1
+    subst (λ k. variable_of l ≤ k) (sym c.requires.searching.vars) (clause_variable s c.requires.holding c.requires.room c.args.place c.requires.place l (subst (λ (ls : List Literal). has ls l ≡ true) c.lits.ensures (c.in-One.ensures.one l refl).0)).1
 
 pub returns-then-is_true-clause-nothing : goal.returns-then-is_true-clause-nothing
 returns-then-is_true-clause-nothing c = λ _.
@@ -74,30 +60,15 @@ returns-in_ok-push-in-One-clause-searching c =
     let left : has trues l ≡ false = sym c.is_true.ensures ∙ c.if-is_true.false in
     let says : status trues lits ≡ Forces l = subst (λ (ls : List Literal). status trues ls ≡ Forces l) c.lits.ensures (forces_only trues c.lits.result.now l one.0 one.1 one.2) in
     let range = all.range (id_at s.clauses p) lits id.2 l (subst (λ (ls : List Literal). has ls l ≡ true) c.lits.ensures one.0) in
-    record {
-      vars = c.make_true.ensures.vars ∙ was.vars;
-      guide = was.guide;
-      state = rw (c.make_true.ensures.trues, c.in_ok-push-in-One.ensures.items, c.id-id.ensures) (state_push s.vars s.clauses trues reasons was.state (id_at s.clauses p) lits l id.2 says left range id.0 id.1);
-      lists = was.lists;
-      watched = was.watched;
-      queued = rw (c.make_true.ensures.trues, c.in_ok-push-in-One.ensures.items, c.id-id.ensures) (queued_more s.clauses s.pairs.items trues reasons s.head was.queued was.state.trail.long l (id_at s.clauses p) (λ none. absurd (omega (arith, id.0, none))));
-      gated = record {
-        counting = rw c.make_true.ensures.trues (counting_more s.gates trues (l ∷ []) was.gated.counting);
-        vars = was.gated.vars;
-        covered = was.gated.covered;
-      };
-    }
+    let state = state_push s.vars s.clauses trues reasons was.state (id_at s.clauses p) lits l id.2 says left range id.0 id.1 in
+    searching_pushed s.clauses s s.guide c.make_true.new.self _ l (id_at s.clauses p) was was.guide c.make_true.ensures.vars c.make_true.ensures.trues (c.in_ok-push-in-One.ensures.items ∙ ap (λ k. reasons ++ k ∷ []) c.id-id.ensures) state (λ none. absurd (omega (arith, id.0, none)))
 
 pub returns-in_ok-push-in-One-clause-forced : goal.returns-in_ok-push-in-One-clause-forced
 returns-in_ok-push-in-One-clause-forced c = λ _.
     let s = c.args.self.now in
-    let p = c.args.place in
-    let all = c.requires.holding in
-    let l = c.in-One.l in
-    let id = each_id s.clauses s.last all.rise all.ids c.requires.room p c.requires.place in
-    let one = c.in-One.ensures.one l refl in
-    let range = all.range (id_at s.clauses p) (lits_at s.clauses p) id.2 l (subst (λ (ls : List Literal). has ls l ≡ true) c.lits.ensures one.0) in
-    rw c.make_true.ensures.trues (open_count-push s.assignment.trues l s.vars range (sym c.is_true.ensures ∙ c.if-is_true.false) one.1)
+    let one = c.in-One.ensures.one c.in-One.l refl in
+    let range = clause_variable s c.requires.holding c.requires.room c.args.place c.requires.place c.in-One.l (subst (λ (ls : List Literal). has ls c.in-One.l ≡ true) c.lits.ensures one.0) in
+    rw c.make_true.ensures.trues (open_count-push s.assignment.trues c.in-One.l s.vars range (sym c.is_true.ensures ∙ c.if-is_true.false) one.1)
 
 pub returns-in_ok-push-in-One-clause-fewer : goal.returns-in_ok-push-in-One-clause-fewer
 returns-in_ok-push-in-One-clause-fewer c = rw c.make_true.ensures.trues (open_count-append c.args.self.now.assignment.trues (c.in-One.l ∷ []) c.args.self.now.vars)

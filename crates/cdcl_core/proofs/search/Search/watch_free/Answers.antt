@@ -7,41 +7,28 @@ use Rattle.cdcl_core.specs.Watches.{index_of, IsQueued, IsWatched, id_at, lits_a
 use Rattle.cdcl_core.proofs.FreePairs.{free_queued, free_state, pair_for_either, pair_for_counted, pair_for_second}
 use Rattle.cdcl_core.proofs.GatedLaws.{AreCovered, covered_with}
 use Rattle.cdcl_core.proofs.Fronts.{take_next}
-use Rattle.cdcl_core.proofs.Runs.{each_id}
+use Rattle.cdcl_core.proofs.Moves.{clause_variable}
 use Rattle.cdcl_core.proofs.Visits.{index_within}
 use Rattle.cdcl_core.proofs.search.Search.watch_free.Goals as goal
 
 pub two_free-requires : goal.two_free-requires
-two_free-requires c = λ m h.
-    let s = c.args.self.now in
-    let p = c.args.place in
-    let all = c.requires.holding in
-    let at = (each_id s.clauses s.last all.rise all.ids (omega (arith, c.requires.room)) p c.requires.place).2 in
-    subst (λ k. variable_of m ≤ k) (sym c.requires.searching.vars) (all.range (id_at s.clauses p) (lits_at s.clauses p) at m (subst (λ (ls : List Literal). has ls m ≡ true) c.lits-lits.ensures h)).1
+two_free-requires c = λ m h. subst (λ k. variable_of m ≤ k) (sym c.requires.searching.vars) (clause_variable c.args.self.now c.requires.holding (omega (arith, c.requires.room)) c.args.place c.requires.place m (subst (λ (ls : List Literal). has ls m ≡ true) c.lits-lits.ensures h)).1
 
 pub attach-requires-clause-inside_first : goal.attach-requires-clause-inside_first
 attach-requires-clause-inside_first c =
     let s = c.args.self.now in
-    let p = c.args.place in
-    let all = c.requires.holding in
-    let at = (each_id s.clauses s.last all.rise all.ids (omega (arith, c.requires.room)) p c.requires.place).2 in
-    let range = λ (m : Literal) (h : has (lits_at s.clauses p) m ≡ true). (all.range (id_at s.clauses p) (lits_at s.clauses p) at m h).1 in
     let some = c.in-Two.ensures.two c.in-Two.first c.in-Two.second refl in
     subst (λ k. index_of k < length s.lists) (sym c.pair_for-pair.ensures.first)
-    (index_within c.in-Two.first s.vars (length s.lists) (range c.in-Two.first (subst (λ (ls : List Literal). has ls c.in-Two.first ≡ true) c.lits-lits.ensures some.0)) c.requires.searching.lists)
+    (index_within c.in-Two.first s.vars (length s.lists) (clause_variable s c.requires.holding (omega (arith, c.requires.room)) c.args.place c.requires.place c.in-Two.first (subst (λ (ls : List Literal). has ls c.in-Two.first ≡ true) c.lits-lits.ensures some.0)).1 c.requires.searching.lists)
 
 pub attach-requires-clause-inside_second : goal.attach-requires-clause-inside_second
 attach-requires-clause-inside_second c =
     let s = c.args.self.now in
-    let p = c.args.place in
-    let all = c.requires.holding in
-    let at = (each_id s.clauses s.last all.rise all.ids (omega (arith, c.requires.room)) p c.requires.place).2 in
-    let range = λ (m : Literal) (h : has (lits_at s.clauses p) m ≡ true). (all.range (id_at s.clauses p) (lits_at s.clauses p) at m h).1 in
     let some = c.in-Two.ensures.two c.in-Two.first c.in-Two.second refl in
     let says = c.pair_for-pair.ensures in
     pair_for_second c.in-Two.first c.in-Two.second c.pair_for-pair.result says.first says.second says.counted (λ k. index_of k < length s.lists)
-    (index_within c.in-Two.first s.vars (length s.lists) (range c.in-Two.first (subst (λ (ls : List Literal). has ls c.in-Two.first ≡ true) c.lits-lits.ensures some.0)) c.requires.searching.lists)
-    (index_within c.in-Two.second s.vars (length s.lists) (range c.in-Two.second (subst (λ (ls : List Literal). has ls c.in-Two.second ≡ true) c.lits-lits.ensures some.1)) c.requires.searching.lists)
+    (index_within c.in-Two.first s.vars (length s.lists) (clause_variable s c.requires.holding (omega (arith, c.requires.room)) c.args.place c.requires.place c.in-Two.first (subst (λ (ls : List Literal). has ls c.in-Two.first ≡ true) c.lits-lits.ensures some.0)).1 c.requires.searching.lists)
+    (index_within c.in-Two.second s.vars (length s.lists) (clause_variable s c.requires.holding (omega (arith, c.requires.room)) c.args.place c.requires.place c.in-Two.second (subst (λ (ls : List Literal). has ls c.in-Two.second ≡ true) c.lits-lits.ensures some.1)).1 c.requires.searching.lists)
 
 pub returns-in_ok-attach-in-Two-clause-watched : goal.returns-in_ok-attach-in-Two-clause-watched
 returns-in_ok-attach-in-Two-clause-watched c = λ _.
