@@ -1,3 +1,4 @@
+pub mod Walks
 pub mod Touched
 pub mod Whole
 pub mod Thinning

@@ -1,10 +1,12 @@
 -- The members of a group, one after another.
 use Rattle.std.proofs.Common.{◌≡◌, ℕ, zero, suc, ◌+◌, ◌-◌, ◌<◌, ◌≤◌, ◌==◌, ◌&&◌, ◌||◌, Bool, true, false, not, cond, List, [], ◌∷◌, ◌++◌, length, slice_index_or, set, refl, sym, ap, ap₂, ◌∙◌, subst, arith, inl, inr}
+use Rattle.std.proofs.Math.Bool.{or-true, or-false}
 use Rattle.std.proofs.lemmas.Bool.{cases_Bool, both_ways, false_from_ne_true, eqb-true, eq-eqb, false≢true}
 use Rattle.std.proofs.lemmas.List.{get_or-set_same, get_or-set_other}
 use Rattle.fbas_model.specs.Nodes.{Nodes, Table, members, listed_from, only, ◌∖◌}
 use Rattle.fbas_model.specs.Lists.{among}
-use Rattle.fbas_model.proofs.Listed.{among_more, iterated_all}
+use Rattle.fbas_model.proofs.Listed.{among_more, iterated_all, iterated_below}
+use Rattle.group_journal.proofs.Walks.{passed}
 
 -- no member stands twice in the list of the members
 listed_new : (s : ℕ) (t : Table) (before rest : List ℕ) (v : ℕ) → before ++ v ∷ rest ≡ listed_from s t → (s ≤ v) × (among before v ≡ false)
@@ -22,6 +24,12 @@ listed_new s (false ∷ t) before rest v e = let r = listed_new (s + 1) t before
 pub iterated_new : (t : Table) (before rest : List ℕ) (v : ℕ) → before ++ v ∷ rest ≡ listed_from 0 t → among before v ≡ false
 iterated_new t before rest v e = (listed_new 0 t before rest v e).1
 
+-- where a walk of the members stands: its node has a place, and was not passed
+pub at_member : (t : Table) (before left rest : List ℕ) (v : ℕ) → left ≡ v ∷ rest → before ++ left ≡ listed_from 0 t → (before ++ v ∷ rest ≡ listed_from 0 t) × (v < length t) × (among before v ≡ false)
+at_member t before left rest v steps whole =
+    let here : before ++ v ∷ rest ≡ listed_from 0 t = ap (λ (vs : List ℕ). before ++ vs) (sym steps) ∙ whole in
+    (here, iterated_below t before rest v here, iterated_new t before rest v here)
+
 -- ---- counts
 
 -- the counts are one more for each of these nodes
@@ -35,25 +43,24 @@ more_first counts v = omega arith
 abbrev pub IsWritten : List ℕ → List ℕ → ℕ → ℕ → Type 0
 IsWritten counts next v n = (slice_index_or next v 0 ≡ n) × ((w : ℕ) → (w == v) ≡ false → slice_index_or next w 0 ≡ slice_index_or counts w 0)
 
+-- whether a node is among some and one more
+among_this : (ws : List ℕ) (v w : ℕ) → (w == v) ≡ true → among (ws ++ v ∷ []) w ≡ true
+among_this ws v w e = among_more ws v w ∙ ap (λ (b : Bool). among ws w || b) e ∙ or-true (among ws w)
+
+among_other : (ws : List ℕ) (v w : ℕ) → (w == v) ≡ false → among (ws ++ v ∷ []) w ≡ among ws w
+among_other ws v w e = among_more ws v w ∙ ap (λ (b : Bool). among ws w || b) e ∙ or-false (among ws w)
+
 pub more_next : (ws start now next : List ℕ) (v : ℕ) → among ws v ≡ false → AreMore ws start now → IsWritten now next v (slice_index_or now v 0 + 1) → AreMore (ws ++ v ∷ []) start next
 more_next ws start now next v new before written w = elim (cases_Bool (w == v)) [
   | inl e ↦
       let same : v ≡ w = sym (eqb-true w v e) in
-      let is : among (ws ++ v ∷ []) w ≡ true = among_more ws v w ∙ ap (λ (b : Bool). among ws w || b) e ∙ yes (among ws w) in
+      let is = among_this ws v w e in
       let at : slice_index_or next w 0 ≡ slice_index_or now w 0 + 1 = subst (λ (x : ℕ). slice_index_or next x 0 ≡ slice_index_or now x 0 + 1) same written.0 in
       let was : slice_index_or now w 0 ≡ slice_index_or start w 0 + 0 = before w ∙ ap (λ (b : Bool). slice_index_or start w 0 + cond b 1 0) (subst (λ (x : ℕ). among ws x ≡ false) same new) in
       let goal : slice_index_or next w 0 ≡ slice_index_or start w 0 + 1 = omega (arith, at, was) in
       goal ∙ sym (ap (λ (b : Bool). slice_index_or start w 0 + cond b 1 0) is)
-  | inr e ↦ written.1 w e ∙ before w ∙ sym (ap (λ (b : Bool). slice_index_or start w 0 + cond b 1 0) (among_more ws v w ∙ ap (λ (b : Bool). among ws w || b) e ∙ or_no (among ws w)))
+  | inr e ↦ written.1 w e ∙ before w ∙ sym (ap (λ (b : Bool). slice_index_or start w 0 + cond b 1 0) (among_other ws v w e))
 ]
-  where
-    yes : (b : Bool) → (b || true) ≡ true
-    yes true = refl
-    yes false = refl
-
-    or_no : (b : Bool) → (b || false) ≡ b
-    or_no true = refl
-    or_no false = refl
 
 pub more_all : (t : Table) (ws start now : List ℕ) → ws ≡ listed_from 0 t → AreMore ws start now → (v : ℕ) → slice_index_or now v 0 ≡ slice_index_or start v 0 + cond (members t v) 1 0
 more_all t ws start now whole all v = all v ∙ ap (λ (b : Bool). slice_index_or start v 0 + cond b 1 0) (iterated_all t ws whole v)
@@ -63,23 +70,15 @@ pub less_next : (ws start now next : List ℕ) (v : ℕ) → among ws v ≡ fals
 less_next ws start now next v new some before written w = elim (cases_Bool (w == v)) [
   | inl e ↦
       let same : v ≡ w = sym (eqb-true w v e) in
-      let is : among (ws ++ v ∷ []) w ≡ true = among_more ws v w ∙ ap (λ (b : Bool). among ws w || b) e ∙ yes (among ws w) in
+      let is = among_this ws v w e in
       let at : slice_index_or next w 0 ≡ slice_index_or now w 0 - 1 = subst (λ (x : ℕ). slice_index_or next x 0 ≡ slice_index_or now x 0 - 1) same written.0 in
       let positive : 0 < slice_index_or now w 0 = subst (λ (x : ℕ). 0 < slice_index_or now x 0) same some in
       let was : slice_index_or start w 0 ≡ slice_index_or now w 0 + 0 = before w ∙ ap (λ (b : Bool). slice_index_or now w 0 + cond b 1 0) (subst (λ (x : ℕ). among ws x ≡ false) same new) in
       let goal : slice_index_or start w 0 ≡ slice_index_or next w 0 + 1 = omega (arith, at, was, positive) in
       goal ∙ sym (ap (λ (b : Bool). slice_index_or next w 0 + cond b 1 0) is)
   | inr e ↦
-      before w ∙ ap₂ (λ (n : ℕ) (b : Bool). n + cond b 1 0) (sym (written.1 w e)) (sym (among_more ws v w ∙ ap (λ (b : Bool). among ws w || b) e ∙ or_no (among ws w)))
+      before w ∙ ap₂ (λ (n : ℕ) (b : Bool). n + cond b 1 0) (sym (written.1 w e)) (sym (among_other ws v w e))
 ]
-  where
-    yes : (b : Bool) → (b || true) ≡ true
-    yes true = refl
-    yes false = refl
-
-    or_no : (b : Bool) → (b || false) ≡ b
-    or_no true = refl
-    or_no false = refl
 
 -- ---- nodes that no group has any more
 
@@ -97,11 +96,6 @@ module _ (gone : ℕ → Bool) (ws : List ℕ) (start now : Nodes) (v : ℕ) (be
   pub left_pass : gone v ≡ false → AreLeft gone (ws ++ v ∷ []) start now
   left_pass out w = before w ∙ ap (λ (b : Bool). start w && not b) (same w ∙ ap (λ (b : Bool). b && gone w) (sym (among_more ws v w)))
     where
-      passed : (x e k : Bool) → (e ≡ true → k ≡ false) → (x && k) ≡ ((x || e) && k)
-      passed true e k h = refl
-      passed false true k h = sym (h refl)
-      passed false false k h = refl
-
       same : (w : ℕ) → (among ws w && gone w) ≡ ((among ws w || (w == v)) && gone w)
       same w = passed (among ws w) (w == v) (gone w) (λ e. ap gone (eqb-true w v e) ∙ out)
 

@@ -1,6 +1,7 @@
 -- Which groups have a member among some nodes, and the members of marked groups.
 use Rattle.std.proofs.Common.{◌≡◌, ℕ, zero, suc, ◌+◌, ◌<◌, ◌≤◌, ◌==◌, ◌&&◌, ◌||◌, Bool, true, false, nat_lt, List, [], ◌∷◌, length, map, slice_index_or, refl, sym, ap, ap₂, ◌∙◌, arith, inl, inr}
 use Rattle.std.specs.Prelude.{All}
+use Rattle.std.proofs.Math.Bool.{or-true, and-false}
 use Rattle.std.proofs.lemmas.Bool.{cases_Bool, cases_lt, or_cases, or_left, or_right, both_ways, eqb-true, eq-eqb, lt-ltb, ltb-true, false≢true, false_from_ne_true}
 use Rattle.std.proofs.lemmas.List.{length-map, get_or-map}
 use Rattle.std.proofs.lemmas.List.Elements.{All-head, All-tail}
@@ -12,6 +13,7 @@ use Rattle.list_journal.proofs.TestLaws.{meeting_to, meeting_from}
 use Rattle.node_json.specs.Groups as spec
 use Rattle.node_json.specs.Groups.{tables_of}
 use Rattle.group_journal.specs.Groups.{joined, touching}
+use Rattle.group_journal.proofs.Walks.{passed, added}
 
 pub length-touching : (groups : List Table) (q : Table) → length (touching groups q) ≡ length groups
 length-touching groups q = length-map groups (λ (group : Table). is_meeting group q)
@@ -70,7 +72,7 @@ module _ (groups : List Table) (nodes touched : Table) (at : ℕ) (low : at < le
   -- a number is below the next place if it is below this one or is this one
   below_next : (i : ℕ) → nat_lt i (at + 1) ≡ (nat_lt i at || (i == at))
   below_next i = elim (cases_Bool (i == at)) [
-    | inl e ↦ let same = eqb-true i at e in lt-ltb i (at + 1) (omega (arith, same)) ∙ sym (ap (λ (b : Bool). nat_lt i at || b) e ∙ always (nat_lt i at))
+    | inl e ↦ let same = eqb-true i at e in lt-ltb i (at + 1) (omega (arith, same)) ∙ sym (ap (λ (b : Bool). nat_lt i at || b) e ∙ or-true (nat_lt i at))
     | inr e ↦ elim (cases_lt i at) [
       | inl less ↦ lt-ltb i (at + 1) (omega (arith, less)) ∙ sym (ap (λ (b : Bool). b || (i == at)) (lt-ltb i at less))
       | inr more ↦
@@ -79,10 +81,6 @@ module _ (groups : List Table) (nodes touched : Table) (at : ℕ) (low : at < le
           past ∙ sym (ap₂ (λ (x y : Bool). x || y) none e)
     ]
   ]
-    where
-      always : (b : Bool) → (b || true) ≡ true
-      always true = refl
-      always false = refl
 
   here : (i : ℕ) → (i == at) ≡ true → members (touching groups nodes) i ≡ is_meeting (slice_index_or groups at []) nodes
   here i e = ap (members (touching groups nodes)) (eqb-true i at e) ∙ touching_at groups nodes at low
@@ -95,38 +93,20 @@ module _ (groups : List Table) (nodes touched : Table) (at : ℕ) (low : at < le
         ∙ added (nat_lt i at) (i == at) (members (touching groups nodes) i) (λ e. here i e ∙ meets)
         ∙ ap (λ (b : Bool). b && members (touching groups nodes) i) (sym (below_next i)),
   )
-    where
-      added : (x e k : Bool) → (e ≡ true → k ≡ true) → ((x && k) || e) ≡ ((x || e) && k)
-      added true true true h = refl
-      added true true false h = absurd (false≢true (h refl))
-      added true false true h = refl
-      added true false false h = refl
-      added false true true h = refl
-      added false true false h = absurd (false≢true (h refl))
-      added false false k h = refl
 
   pub found_no : is_meeting (slice_index_or groups at []) nodes ≡ false → AreFound groups nodes touched (at + 1)
   found_no apart = (
     before.0,
     λ i. before.1 i ∙ passed (nat_lt i at) (i == at) (members (touching groups nodes) i) (λ e. here i e ∙ apart) ∙ ap (λ (b : Bool). b && members (touching groups nodes) i) (sym (below_next i)),
   )
-    where
-      passed : (x e k : Bool) → (e ≡ true → k ≡ false) → (x && k) ≡ ((x || e) && k)
-      passed true e k h = refl
-      passed false true k h = sym (h refl)
-      passed false false k h = refl
 
 pub found_whole : (groups : List Table) (nodes touched : Table) (at : ℕ) → length groups ≤ at → AreFound groups nodes touched at → touched ≡ touching groups nodes
 found_whole groups nodes touched at past all = table_ext touched (touching groups nodes) (all.0 ∙ sym (length-touching groups nodes)) (λ i. all.1 i ∙ elim (cases_Bool (members (touching groups nodes) i)) [
   | inl there ↦
       let low : i < at = (let l = member_lt (touching groups nodes) i there in omega (arith, l, length-touching groups nodes, past)) in
       ap (λ (b : Bool). b && members (touching groups nodes) i) (lt-ltb i at low)
-  | inr out ↦ ap (λ (b : Bool). nat_lt i at && b) out ∙ no (nat_lt i at) ∙ sym out
+  | inr out ↦ ap (λ (b : Bool). nat_lt i at && b) out ∙ and-false (nat_lt i at) ∙ sym out
 ])
-  where
-    no : (b : Bool) → (b && false) ≡ false
-    no true = refl
-    no false = refl
 
 -- two sets meet if the test says so, and else not
 pub meeting_yes : (s t : Table) (r : Bool) → r ≡ true → (r ≡ true → Meets (members s) (members t)) → is_meeting s t ≡ true

@@ -2,39 +2,37 @@ use Rattle.std.proofs.Common.{◌≡◌, ℕ, Bool, cond, ◌+◌, ◌-◌, ◌=
 use Rattle.std.proofs.lemmas.Bool.{eq-eqb}
 use Rattle.std.proofs.lemmas.List.{append-nil, length-set, get_or_default}
 use Rattle.fbas_model.specs.Nodes.{members, listed_from}
-use Rattle.fbas_model.proofs.Listed.{iterated_below, iterated_member}
-use Rattle.group_journal.proofs.MemberLoops.{IsWritten, iterated_new, more_next, more_all, less_next, left_take, left_all, written}
+use Rattle.fbas_model.proofs.Listed.{iterated_member}
+use Rattle.group_journal.proofs.MemberLoops.{IsWritten, at_member, less_next, more_all, written}
 use Rattle.group_journal.proofs.counting.uncount_members.Goals as goal
 
 pub index_mut-requires : goal.index_mut-requires
 index_mut-requires c =
-    let whole = ap (λ (vs : List ℕ). c.loop-v.yielded ++ vs) (sym c.in-Some.ensures.steps) ∙ c.loop-v.invariant.whole in
-    let low : c.in-Some.v < length c.loop-v.counts.items = omega (arith, iterated_below c.args.group.now c.loop-v.yielded c.next.new.self c.in-Some.v whole, c.requires.same_n, c.loop-v.invariant.same_n) in
+    let here = at_member c.args.group.now c.loop-v.yielded c.loop-v.v-iterator c.next.new.self c.in-Some.v c.in-Some.ensures.steps c.loop-v.invariant.whole in
+    let low : c.in-Some.v < length c.loop-v.counts.items = omega (arith, here.1, c.requires.same_n, c.loop-v.invariant.same_n) in
     omega (arith, low, c.loop-v.counts.ok.0)
 
 pub overflow_sub-index_mut : goal.overflow_sub-index_mut
 overflow_sub-index_mut c =
-    let whole = ap (λ (vs : List ℕ). c.loop-v.yielded ++ vs) (sym c.in-Some.ensures.steps) ∙ c.loop-v.invariant.whole in
-    let low : c.in-Some.v < length c.loop-v.counts.items = omega (arith, iterated_below c.args.group.now c.loop-v.yielded c.next.new.self c.in-Some.v whole, c.requires.same_n, c.loop-v.invariant.same_n) in
+    let here = at_member c.args.group.now c.loop-v.yielded c.loop-v.v-iterator c.next.new.self c.in-Some.v c.in-Some.ensures.steps c.loop-v.invariant.whole in
+    let low : c.in-Some.v < length c.loop-v.counts.items = omega (arith, here.1, c.requires.same_n, c.loop-v.invariant.same_n) in
     let is : c.index_mut.result.now ≡ slice_index_or c.loop-v.counts.items c.in-Some.v 0 = c.index_mut.ensures.value ∙ get_or_default c.loop-v.counts.items c.in-Some.v c.index_mut.result.now 0 low in
-    let new = iterated_new c.args.group.now c.loop-v.yielded c.next.new.self c.in-Some.v whole in
-    let was : slice_index_or c.args.counts.now.items c.in-Some.v 0 ≡ slice_index_or c.loop-v.counts.items c.in-Some.v 0 + 0 = c.loop-v.invariant.less c.in-Some.v ∙ ap (λ (b : Bool). slice_index_or c.loop-v.counts.items c.in-Some.v 0 + cond b 1 0) new in
-    omega (arith, is, was, c.requires.some c.in-Some.v (iterated_member c.args.group.now c.loop-v.yielded c.next.new.self c.in-Some.v whole))
+    let was : slice_index_or c.args.counts.now.items c.in-Some.v 0 ≡ slice_index_or c.loop-v.counts.items c.in-Some.v 0 + 0 = c.loop-v.invariant.less c.in-Some.v ∙ ap (λ (b : Bool). slice_index_or c.loop-v.counts.items c.in-Some.v 0 + cond b 1 0) here.2 in
+    omega (arith, is, was, c.requires.some c.in-Some.v (iterated_member c.args.group.now c.loop-v.yielded c.next.new.self c.in-Some.v here.0))
 
 pub loop-v-preserved : goal.loop-v-preserved
 loop-v-preserved c =
-    let whole = ap (λ (vs : List ℕ). c.loop-v.yielded ++ vs) (sym c.in-Some.ensures.steps) ∙ c.loop-v.invariant.whole in
-    let low : c.in-Some.v < length c.loop-v.counts.items = omega (arith, iterated_below c.args.group.now c.loop-v.yielded c.next.new.self c.in-Some.v whole, c.requires.same_n, c.loop-v.invariant.same_n) in
+    let here = at_member c.args.group.now c.loop-v.yielded c.loop-v.v-iterator c.next.new.self c.in-Some.v c.in-Some.ensures.steps c.loop-v.invariant.whole in
+    let low : c.in-Some.v < length c.loop-v.counts.items = omega (arith, here.1, c.requires.same_n, c.loop-v.invariant.same_n) in
     let is : c.index_mut.result.now ≡ slice_index_or c.loop-v.counts.items c.in-Some.v 0 = c.index_mut.ensures.value ∙ get_or_default c.loop-v.counts.items c.in-Some.v c.index_mut.result.now 0 low in
-    let new = iterated_new c.args.group.now c.loop-v.yielded c.next.new.self c.in-Some.v whole in
     let items = c.loop-v.counts.items in
     let v = c.in-Some.v in
-    let was : slice_index_or c.args.counts.now.items v 0 ≡ slice_index_or items v 0 + 0 = c.loop-v.invariant.less v ∙ ap (λ (b : Bool). slice_index_or items v 0 + cond b 1 0) new in
-    let some : 0 < slice_index_or items v 0 = omega (arith, was, c.requires.some v (iterated_member c.args.group.now c.loop-v.yielded c.next.new.self v whole)) in
+    let was : slice_index_or c.args.counts.now.items v 0 ≡ slice_index_or items v 0 + 0 = c.loop-v.invariant.less v ∙ ap (λ (b : Bool). slice_index_or items v 0 + cond b 1 0) here.2 in
+    let some : 0 < slice_index_or items v 0 = omega (arith, was, c.requires.some v (iterated_member c.args.group.now c.loop-v.yielded c.next.new.self v here.0)) in
     let next = slice_set items v (c.index_mut.result.now - 1) in record {
-      whole = append_assoc c.loop-v.yielded (v ∷ []) c.next.new.self ∙ whole;
+      whole = append_assoc c.loop-v.yielded (v ∷ []) c.next.new.self ∙ here.0;
       same_n = length-set items v (c.index_mut.result.now - 1) ∙ c.loop-v.invariant.same_n;
-      less = less_next c.loop-v.yielded c.args.counts.now.items items next v new some c.loop-v.invariant.less
+      less = less_next c.loop-v.yielded c.args.counts.now.items items next v here.2 some c.loop-v.invariant.less
           (subst (λ (n : ℕ). IsWritten items next v n) (ap (λ (n : ℕ). n - 1) is) (written items v (c.index_mut.result.now - 1) low));
     }
 
