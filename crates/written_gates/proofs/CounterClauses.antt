@@ -1,6 +1,6 @@
 -- Which clauses are those of counters.
 use Rattle.std.proofs.Common.{◌≡◌, ℕ, true, nat_lt, nat_eq, ◌<◌, List, length, get_or, map, Some, inl, inr, refl, sym, subst, ◌∙◌, ap}
-use Rattle.std.specs.Prelude.{slice_get}
+use Rattle.std.specs.Prelude.{◌⊎◌, slice_get}
 use Rattle.std.proofs.lemmas.Option.{slice_get_read}
 use Rattle.std.proofs.lemmas.List.{get_or-map}
 use Rattle.std.proofs.lemmas.List.{length-map}
@@ -27,6 +27,10 @@ module _ (counters : List Counter) (g : ℕ) (c : Counter) (within : true ≡ na
 
   pub of_second : IsSecond (gate_of c) clause → IsOfCounter (gates_of counters) clause
   of_second second = (g, inr (inl (subst (λ (gate : Gate). IsSecond gate clause) here second)))
+
+  pub of_step : IsFirst (gate_of c) clause ⊎ IsSecond (gate_of c) clause → IsOfCounter (gates_of counters) clause
+  of_step (inl first) = of_first first
+  of_step (inr second) = of_second second
 
   pub of_head : IsHead (gate_of c) clause → IsOfCounter (gates_of counters) clause
   of_head head = (g, inr (inr (subst (λ (gate : Gate). IsHead gate clause) here head)))

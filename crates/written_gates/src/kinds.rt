@@ -79,10 +79,7 @@ fn is_from_place(counters: &[Counter], place: Cell, clause: &[Lit]) -> bool
     };
     let row = place.row as usize;
     let column = place.column as usize;
-    if is_first(counter, row, column, clause) {
-        return true;
-    }
-    is_second(counter, row, column, clause)
+    is_step(counter, row, column, clause)
 }
 
 /// Whether the clause leads to this place from a head of its gate or from the row below.
@@ -97,13 +94,20 @@ fn is_to_place(counters: &[Counter], place: Cell, clause: &[Lit]) -> bool
     if is_head(counter, clause) {
         return true;
     }
-    if is_first(counter, below, column, clause) {
-        return true;
-    }
-    if is_second(counter, below, column, clause) {
+    if is_step(counter, below, column, clause) {
         return true;
     }
     is_second(counter, below, column + 1, clause)
+}
+
+/// Whether the clause is one of the two that lead from this cell to the row above.
+fn is_step(counter: &Counter, row: usize, column: usize, clause: &[Lit]) -> bool
+    ensures { result ≡ true → IsFirst (gate_of counter.now) clause.now ⊎ IsSecond (gate_of counter.now) clause.now }
+{
+    if is_first(counter, row, column, clause) {
+        return true;
+    }
+    is_second(counter, row, column, clause)
 }
 
 /// Whether the clause says: where j of the inputs up to this one are true, this one is, or j of those before it.

@@ -1,12 +1,7 @@
-use Rattle.written_gates.proofs.CounterClauses.{of_first, of_second}
+use Rattle.written_gates.proofs.CounterClauses.{of_step}
 use Rattle.written_gates.proofs.kinds.is_from_place.Goals as goal
-
-pub returns-then-is_first : goal.returns-then-is_first
-returns-then-is_first c = λ _.
-    let found = c.in-Some.ensures.lookup in
-    of_first c.args.counters.now c.args.place.gate c.in-Some.counter.now found.0 found.1 c.args.clause.now (c.is_first.ensures c.if-is_first.true)
 
 pub returns : goal.returns
 returns c = λ is.
     let found = c.in-Some.ensures.lookup in
-    of_second c.args.counters.now c.args.place.gate c.in-Some.counter.now found.0 found.1 c.args.clause.now (c.is_second.ensures is)
+    of_step c.args.counters.now c.args.place.gate c.in-Some.counter.now found.0 found.1 c.args.clause.now (c.is_step.ensures is)
