@@ -31,6 +31,14 @@ struct Counts {
 }
 
 impl Counts {
+    fn none() -> Counts {
+        Counts {
+            additions: 0,
+            deletions: 0,
+            covered: 0,
+        }
+    }
+
     fn count(&mut self, step: &Step) {
         match step {
             Step::Add { .. } => self.additions = self.additions.saturating_add(1),
@@ -72,11 +80,7 @@ fn next_step<R: BufRead>(alloc: Global, input: &mut R, line: &mut Vec<u8>) -> Re
 
 /// Reads all lines.
 fn read_all<R: BufRead>(alloc: Global, input: &mut R) -> Result<Counts> {
-    let mut counts = Counts {
-        additions: 0,
-        deletions: 0,
-        covered: 0,
-    };
+    let mut counts = Counts::none();
     let mut line = Vec::new(alloc);
     for _ in 0..u64::MAX {
         let Some(step) = next_step(alloc, input, &mut line)? else {
@@ -118,11 +122,7 @@ fn take_all<R: BufRead>(
 ) -> Result<Counts>
     requires { checker.old.vars ≡ vars }
 {
-    let mut counts = Counts {
-        additions: 0,
-        deletions: 0,
-        covered: 0,
-    };
+    let mut counts = Counts::none();
     let mut line = Vec::new(alloc);
     for number in 0..u64::MAX {
         let Some(step) = next_step(alloc, input, &mut line)? else {
