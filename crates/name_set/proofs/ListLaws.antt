@@ -28,6 +28,10 @@ pub marked_more : (names : List Name) (old new : Table) (items : List Name) (i v
 marked_more names old new items i v item h e at only_there size added was =
     marks-found names old new (take i items) item v at only_there size added was ∙ ap (marks names) (sym (take-item items i item h e))
 
+-- the item at hand stands at the place that is counted
+pub item_here : (items : List Name) (i n : ℕ) (item : Name) → i ≡ n → (n < length items) × (item ≡ slice_index_or items n item) → (i < length items) × (item ≡ slice_index_or items i item)
+item_here items i n item counted turn = rw counted turn
+
 -- ---- the first fault
 
 module _ (names items : List Name) (r : Result Table NameFault) (i : ℕ) (item : Name) (h : i < length items) (e : item ≡ slice_index_or items i item) where

@@ -1,5 +1,5 @@
 -- What sorting a list of names and taking out the repeated ones leaves.
-use Rattle.std.proofs.Common.{◌≡◌, ℕ, zero, suc, ◌+◌, ◌<◌, Bool, List, [], ◌∷◌, length, map, refl, sym, ◌∙◌, ap, subst, arith, eqb, Contains, Less, Equal, Greater, Some, slice_get, ◌⊎◌, inl, inr, slice_index_or, ◌≤◌}
+use Rattle.std.proofs.Common.{◌≡◌, ℕ, zero, suc, ◌+◌, ◌-◌, ◌/◌, ◌<◌, Bool, List, [], ◌∷◌, length, map, refl, sym, ◌∙◌, ap, subst, arith, eqb, Contains, Less, Equal, Greater, Some, slice_get, ◌⊎◌, inl, inr, slice_index_or, ◌≤◌}
 use Rattle.std.specs.Prelude.{IsPermutation, IsSorted}
 use Rattle.std.specs.List.{dedup, AllByRecursion}
 use Rattle.std.specs.List.Sorted.{IsStrictlySortedBy}
@@ -13,7 +13,7 @@ use Rattle.std.proofs.lemmas.List.Sorted.{Contains-permutation}
 use Rattle.std.proofs.lemmas.Cmp.{tied_itself}
 use Rattle.std.proofs.lemmas.Bool.{cases_lt}
 use Rattle.std.proofs.lemmas.Option.{slice_get-get_or}
-use Rattle.std.proofs.lemmas.List.{get_or_default, get_or-map}
+use Rattle.std.proofs.lemmas.List.{get_or_default, get_or-map, length-map}
 use Rattle.std.proofs.lemmas.Map.Keys.{Less-from_sorted}
 use Rattle.std.specs.FinMap.{slice_cmp-IsAntisymmetric, nat_cmp-IsAntisymmetric}
 use Rattle.std.specs.Ordering.{ordering_reverse}
@@ -68,7 +68,7 @@ pub record Between (names : List (List ℕ)) (name : List ℕ) (low high : ℕ) 
   pub above : (k : ℕ) → high ≤ k → k < length names → name_cmp (slice_index_or names k []) name ≡ Greater
 
 module _ (names : List (List ℕ)) (sorted : IsStrictlySortedBy name_cmp names) (name : List ℕ) (low high m : ℕ) (all : Between names name low high) (at_low : low ≤ m) (at_high : m < high) where
-  pub raised : name_cmp (slice_index_or names m []) name ≡ Less → Between names name (m + 1) high
+  raised : name_cmp (slice_index_or names m []) name ≡ Less → Between names name (m + 1) high
   raised less = record {
     fits = all.fits;
     below = below_more (λ (k : ℕ). name_cmp (slice_index_or names k []) name ≡ Less) m (λ k h. nat_list_cmp_total.trans (slice_index_or names k []) (slice_index_or names m []) name (Less-from_sorted name_cmp names k m [] sorted h (let f = all.fits in omega arith)) less) less;
@@ -81,14 +81,14 @@ module _ (names : List (List ℕ)) (sorted : IsStrictlySortedBy name_cmp names) 
       nat_list_cmp_total.antisymm (slice_index_or names k []) name ∙ ap ordering_reverse (nat_list_cmp_total.trans name (slice_index_or names m []) (slice_index_or names k []) back (Less-from_sorted name_cmp names m k [] sorted later h))
   after greater k h (inr same) g = let e : m ≡ k = omega arith in subst (λ (k : ℕ). name_cmp (slice_index_or names k []) name ≡ Greater) e greater
 
-  pub lowered : name_cmp (slice_index_or names m []) name ≡ Greater → Between names name low m
+  lowered : name_cmp (slice_index_or names m []) name ≡ Greater → Between names name low m
   lowered greater = record {
     fits = let f = all.fits in omega arith;
     below = all.below;
     above = λ k g h. after greater k h (cases_lt m k) g;
   }
 
-  pub found : name_cmp (slice_index_or names m []) name ≡ Equal → slice_get names m ≡ Some name
+  found : name_cmp (slice_index_or names m []) name ≡ Equal → slice_get names m ≡ Some name
   found equal = slice_get-get_or names m [] (let f = all.fits in omega arith) ∙ ap Some (slice_cmp-IsAntisymmetric nat_cmp-IsAntisymmetric (slice_index_or names m []) name equal)
 
 pub nowhere : (names : List (List ℕ)) (name : List ℕ) (low high : ℕ) → Between names name low high → high ≤ low → Contains names name → ⊥
@@ -101,5 +101,25 @@ nowhere names name low high all h (k, within, at) =
     ]
 
 -- what the comparison at a place says of the name there
-pub probed : {X : Type 0} (text : X → List ℕ) (xs : List X) (m : ℕ) (x : X) (bytes name : List ℕ) (r : Ordering) → m < length xs → x ≡ slice_index_or xs m x → bytes ≡ text x → r ≡ name_cmp bytes name → name_cmp (slice_index_or (map text xs) m []) name ≡ r
+probed : {X : Type 0} (text : X → List ℕ) (xs : List X) (m : ℕ) (x : X) (bytes name : List ℕ) (r : Ordering) → m < length xs → x ≡ slice_index_or xs m x → bytes ≡ text x → r ≡ name_cmp bytes name → name_cmp (slice_index_or (map text xs) m []) name ≡ r
 probed text xs m x bytes name r h e b c = ap (λ (n : List ℕ). name_cmp n name) (get_or-map text xs m x [] h ∙ (ap text (sym e) ∙ sym b)) ∙ sym c
+
+-- the search looks at the middle of what is left
+module _ {X : Type 0} (text : X → List ℕ) (xs : List X) (sorted : IsStrictlySortedBy name_cmp (map text xs)) (name : List ℕ) (low high : ℕ) (all : Between (map text xs) name low high) (some : low < high) (x : X) (bytes : List ℕ) (r : Ordering) (e : x ≡ slice_index_or xs (low + (high - low) / 2) x) (b : bytes ≡ text x) (c : r ≡ name_cmp bytes name) where
+  abbrev middle : ℕ
+  middle = low + (high - low) / 2
+
+  pub within_middle : middle < length (map text xs)
+  within_middle = let f = all.fits in omega arith
+
+  says : name_cmp (slice_index_or (map text xs) middle []) name ≡ r
+  says = probed text xs middle x bytes name r (omega (arith, length-map xs text, within_middle)) e b c
+
+  pub raised_middle : r ≡ Less → Between (map text xs) name (middle + 1) high
+  raised_middle is = raised (map text xs) sorted name low high middle all (omega arith) (omega arith) (says ∙ is)
+
+  pub lowered_middle : r ≡ Greater → Between (map text xs) name low middle
+  lowered_middle is = lowered (map text xs) sorted name low high middle all (omega arith) (omega arith) (says ∙ is)
+
+  pub found_middle : r ≡ Equal → slice_get (map text xs) middle ≡ Some name
+  found_middle is = found (map text xs) sorted name low high middle all (omega arith) (omega arith) (says ∙ is)

@@ -13,23 +13,21 @@ use Rattle.name_set.specs.Words.{bit, set_of, table_of, AreWordsOf}
 
 -- ---- one bit
 
+-- an operation on two digits, known at each pair of them
+digits : (f : ℕ → ℕ → ℕ) (g : Bool → Bool → Bool) → (f 0 0 == 1) ≡ g false false → (f 0 1 == 1) ≡ g false true → (f 1 0 == 1) ≡ g true false → (f 1 1 == 1) ≡ g true true → (x y : ℕ) → x < 2 → y < 2 → (f x y == 1) ≡ g (x == 1) (y == 1)
+digits f g a b c d zero zero p q = a
+digits f g a b c d zero (suc zero) p q = b
+digits f g a b c d (suc zero) zero p q = c
+digits f g a b c d (suc zero) (suc zero) p q = d
+digits f g a b c d (suc (suc x)) y p q = absurd (omega arith)
+digits f g a b c d zero (suc (suc y)) p q = absurd (omega arith)
+digits f g a b c d (suc zero) (suc (suc y)) p q = absurd (omega arith)
+
 digit_and : (x y : ℕ) → x < 2 → y < 2 → (min x y == 1) ≡ ((x == 1) && (y == 1))
-digit_and zero zero p q = refl
-digit_and zero (suc zero) p q = refl
-digit_and (suc zero) zero p q = refl
-digit_and (suc zero) (suc zero) p q = refl
-digit_and (suc (suc x)) y p q = absurd (omega arith)
-digit_and zero (suc (suc y)) p q = absurd (omega arith)
-digit_and (suc zero) (suc (suc y)) p q = absurd (omega arith)
+digit_and = digits (λ x y. min x y) (λ a b. a && b) refl refl refl refl
 
 digit_or : (x y : ℕ) → x < 2 → y < 2 → (max x y == 1) ≡ ((x == 1) || (y == 1))
-digit_or zero zero p q = refl
-digit_or zero (suc zero) p q = refl
-digit_or (suc zero) zero p q = refl
-digit_or (suc zero) (suc zero) p q = refl
-digit_or (suc (suc x)) y p q = absurd (omega arith)
-digit_or zero (suc (suc y)) p q = absurd (omega arith)
-digit_or (suc zero) (suc (suc y)) p q = absurd (omega arith)
+digit_or = digits (λ x y. max x y) (λ a b. a || b) refl refl refl refl
 
 digit_not : (x : ℕ) → x < 2 → (1 - x == 1) ≡ not (x == 1)
 digit_not zero p = refl
