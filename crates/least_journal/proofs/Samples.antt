@@ -1,23 +1,11 @@
 -- The worked journal of three nodes that each need two of the three.
-use Rattle.std.proofs.Common.{◌≡◌, true, false, [], ◌∷◌, refl, Some, pos}
-use Rattle.fbas_model.specs.Nodes.{Table}
+use Rattle.std.proofs.Common.{◌≡◌, [], ◌∷◌, refl, Some, pos}
 use Rattle.lrat_model.specs.Literal.{Minus}
 use Rattle.lrat_model.specs.Steps.{Addition}
 use Rattle.list_journal.specs.Journals.{SetLine, StepLine}
 use Rattle.list_journal.specs.declared.kinds.Listed.TheVariants.{Smaller, Blocking}
+use Rattle.list_journal.proofs.ListSamples.{ab, ac, bc, abc}
 use Rattle.least_journal.specs.Least.{clause_in, answer_of}
-
-abbrev abc : Table
-abc = true ∷ true ∷ true ∷ []
-
-abbrev ab : Table
-ab = true ∷ true ∷ false ∷ []
-
-abbrev ac : Table
-ac = true ∷ false ∷ true ∷ []
-
-abbrev bc : Table
-bc = false ∷ true ∷ true ∷ []
 
 -- fewer than two
 quorum_of_two : clause_in abc Smaller ab ≡ Minus 8 ∷ []
