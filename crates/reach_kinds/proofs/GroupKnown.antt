@@ -44,7 +44,8 @@ use Rattle.cert_lines.specs.declared.faults.CertError.TheVariants.{BadLine, Unkn
 use Rattle.reach_kinds.specs.Bodies.{and_then, all_among, nodes_of, others, within, listed_by, Numbered, numbered_in, put_last, with_sought, literal_in}
 use Rattle.reach_kinds.specs.GroupBodies.{rules_over, no_group_listing, quorum_in, block_in, groups_by_text, listed_set, is_old_group_set, with_group_set, list_group_set, group_set_line, is_old_group_step, with_group_step, after_group_step, group_step_unless, group_step, group_end, group_text, group_line}
 use Rattle.reach_kinds.specs.Known.{IsPartNodes, IsGroupedPart, IsListOver, IsReachState}
-use Rattle.reach_kinds.specs.declared.places.Reached.TheVariants.{PartialOrgBlocking}
+use Rattle.reach_kinds.specs.declared.kinds.ReachKind.TheVariants.{Groups}
+use Rattle.reach_kinds.specs.declared.places.Reached.TheVariants.{Partial}
 use Rattle.reach_kinds.specs.declared.places.ListPart.{ListPart}
 use Rattle.reach_kinds.specs.declared.places.GroupPart.{GroupPart}
 use Rattle.reach_kinds.specs.declared.places.GroupListing.{GroupListing}
@@ -227,7 +228,7 @@ step_over f nodes gone k l step None state is at e =
 end_over : (f : System) (nodes gone : Table) (k : GroupListing) (l : ℕ) (kind : ListKind) (state : ReachState) → group_end kind k l ≡ Ok state → IsReachState f nodes gone state
 end_over f nodes gone k l Whole state e = absurd cc
 end_over f nodes gone k l Part state e =
-    let same : Done (PartialOrgBlocking k.units) ≡ state = cc in
+    let same : Done (Partial Groups k.units) ≡ state = cc in
     subst (IsReachState f nodes gone) same (tt, tt)
 
 text_over : (f : System) (nodes gone : Table) (k : GroupListing) (l : ℕ) (text : List ℕ) (o : Option Listed) (state : ReachState) → IsListOver f nodes gone k → group_text f nodes k l text o ≡ Ok state → IsReachState f nodes gone state

@@ -44,9 +44,11 @@ use Rattle.cert_lines.specs.declared.faults.CertError.TheVariants.{BadLine, Unkn
 use Rattle.clause_encoder.specs.NameCounter.{counter_vars, counter_of}
 use Rattle.clause_encoder.specs.declared.limits.TheConstants.{MOST_VARS}
 use Rattle.least_journal.specs.Least.{FallFrom, last_of}
-use Rattle.reach_kinds.specs.Bodies.{and_then, all_among, nodes_of, others, within, adds_covered, is_covered, rules_of, list_part, list_checking, listing_on, counted_listing, counter_sized, counter_line, body_begins, asks_inside, is_listed_for, asks_minimal, asks_smaller, is_below, not_of, asks_steps, partial_of, listed_by, Numbered, numbered_in, right_set, is_old, new_set, put_last, with_sought, with_listed, list_set, set_line, literal_in, is_old_step, with_step, after_list_step, list_step_unless, list_step, list_end, list_text, list_line}
+use Rattle.reach_kinds.specs.Bodies.{and_then, all_among, nodes_of, others, within, adds_covered, is_covered, rules_of, list_part, list_checking, listing_on, counted_listing, counter_sized, counter_line, body_begins, asks_inside, is_listed_for, asks_minimal, asks_smaller, is_below, not_of, asks_steps, listed_by, Numbered, numbered_in, right_set, is_old, new_set, put_last, with_sought, with_listed, list_set, set_line, literal_in, is_old_step, with_step, after_list_step, list_step_unless, list_step, list_end, list_text, list_line}
 use Rattle.reach_kinds.specs.Shown.{IsReached}
+use Rattle.reach_kinds.specs.declared.kinds.ReachKind.TheVariants.{Nodes}
 use Rattle.reach_kinds.specs.declared.places.Reached.{Reached}
+use Rattle.reach_kinds.specs.declared.places.Reached.TheVariants.{Partial}
 use Rattle.reach_kinds.specs.Known.{IsPartNodes, IsPartSet, FallsIf, IsSmallIf, IsList, IsReachPlace, IsReachState}
 use Rattle.reach_kinds.specs.declared.places.Listing.{Listing}
 use Rattle.reach_kinds.specs.declared.places.ListPart.{ListPart}
@@ -54,7 +56,7 @@ use Rattle.reach_kinds.specs.declared.places.ReachPlace.TheVariants.{AtCounter, 
 use Rattle.reach_kinds.specs.declared.places.ReachState.{ReachState}
 use Rattle.reach_kinds.specs.declared.places.ReachState.TheVariants.{Going, Done}
 use Rattle.reach_kinds.proofs.CoverLaws.{covered-from}
-use Rattle.reach_kinds.proofs.ListShown.{part_faulty_size, cut_size, part_greatest, list_shown, part_shown}
+use Rattle.reach_kinds.proofs.ListShown.{part_faulty_size, cut_size, part_greatest, list_shown}
 use Rattle.reach_kinds.proofs.Falling.{falls_more, below_in_part}
 use Rattle.reach_kinds.proofs.Inside.{inside}
 use Rattle.reach_kinds.proofs.Results.{got, passed, within_part}
@@ -344,8 +346,8 @@ step_in_list f nodes gone k l step None state is at e =
 end_known : (f : System) (nodes gone : Table) (k : Listing) (l : ℕ) (kind : ListKind) (state : ReachState) → IsPartNodes f nodes gone → list_end kind k l ≡ Ok state → IsReachState f nodes gone state
 end_known f nodes gone k l Whole state is e = absurd cc
 end_known f nodes gone k l Part state is e =
-    let same : Done (partial_of k.sought k.units) ≡ state = cc in
-    subst (IsReachState f nodes gone) same (part_shown k.sought f nodes gone k.units)
+    let same : Done (Partial (Nodes k.sought) k.units) ≡ state = cc in
+    subst (IsReachState f nodes gone) same (tt, tt)
 
 text_known : (f : System) (nodes gone : Table) (k : Listing) (l : ℕ) (text : List ℕ) (o : Option Listed) (state : ReachState) → IsList f nodes gone k → list_text f nodes k l text o ≡ Ok state → IsReachState f nodes gone state
 text_known f nodes gone k l text (Some which) state is e =

@@ -24,11 +24,12 @@ use Rattle.cert_lines.specs.Words.{words_of}
 use Rattle.cert_lines.specs.Saying.{counter_in, or_bad_line}
 use Rattle.cert_lines.specs.declared.faults.CertError.{CertError}
 use Rattle.cert_lines.specs.declared.faults.CertError.TheVariants.{BadLine, NotNew, Step, TooLarge, Formula}
-use Rattle.reach_kinds.specs.Bodies.{and_then, nodes_of, within, counted_listing, counter_sized, counter_line, listed_by, Numbered, numbered_in, right_set, new_set, with_listed, list_set, set_line, literal_in, is_old_step, with_step, in_shown_order, whole_of, partial_of, after_list_step, list_step_unless, list_step, list_end, list_text, list_line}
+use Rattle.reach_kinds.specs.Bodies.{and_then, nodes_of, within, counted_listing, counter_sized, counter_line, listed_by, Numbered, numbered_in, right_set, new_set, with_listed, list_set, set_line, literal_in, is_old_step, with_step, in_shown_order, whole_of, after_list_step, list_step_unless, list_step, list_end, list_text, list_line}
 use Rattle.reach_kinds.specs.GroupBodies.{listed_set, is_old_group_set, with_group_set, list_group_set, group_set_line, is_old_group_step, with_group_step, after_group_step, group_step_unless, group_step, group_end, group_text, group_line}
 use Rattle.reach_kinds.specs.PlaceLines.{reach_line}
 use Rattle.reach_kinds.specs.Known.{IsShownOver, IsPlaceOver, IsStateOver}
-use Rattle.reach_kinds.specs.declared.places.Reached.TheVariants.{PartialOrgBlocking}
+use Rattle.reach_kinds.specs.declared.kinds.ReachKind.TheVariants.{Nodes, Groups}
+use Rattle.reach_kinds.specs.declared.places.Reached.TheVariants.{Partial}
 use Rattle.reach_kinds.specs.declared.places.ListPart.{ListPart}
 use Rattle.reach_kinds.specs.declared.places.Listing.{Listing}
 use Rattle.reach_kinds.specs.declared.places.GroupListing.{GroupListing}
@@ -56,11 +57,6 @@ module _ (o : Option (List Group)) where
   whole_none listed.Quorum sets = tt
   whole_none listed.Blocking sets = tt
   whole_none listed.Smaller sets = tt
-
-  part_none : (sought : Listed) (units : ℕ) → IsShownOver o (partial_of sought units)
-  part_none listed.Quorum units = tt
-  part_none listed.Blocking units = tt
-  part_none listed.Smaller units = tt
 
   after_none : (k : Listing) (p : Progress) → IsStateOver o (after_list_step k p)
   after_none k going = tt
@@ -95,8 +91,8 @@ module _ (o : Option (List Group)) where
   end_none : (k : Listing) (l : ℕ) (kind : ListKind) (state : ReachState) → list_end kind k l ≡ Ok state → IsStateOver o state
   end_none k l Whole state e = absurd cc
   end_none k l Part state e =
-      let same : Done (partial_of k.sought k.units) ≡ state = cc in
-      subst (IsStateOver o) same (part_none k.sought k.units)
+      let same : Done (Partial (Nodes k.sought) k.units) ≡ state = cc in
+      subst (IsStateOver o) same tt
 
   list_none : (f : System) (nodes : Table) (k : Listing) (l : ℕ) (text : List ℕ) (state : ReachState) → list_line f nodes k l text ≡ Ok state → IsStateOver o state
   list_none f nodes k l text state e = elim (cases_Bool (bytes_eq text (codes "end"))) [
@@ -138,7 +134,7 @@ module _ (o : Option (List Group)) where
 
   end_same : (k : GroupListing) (l : ℕ) (kind : ListKind) (state : ReachState) → group_end kind k l ≡ Ok state → IsStateOver o state
   end_same k l Whole state e = absurd cc
-  end_same k l Part state e = let same : Done (PartialOrgBlocking k.units) ≡ state = cc in subst (IsStateOver o) same tt
+  end_same k l Part state e = let same : Done (Partial Groups k.units) ≡ state = cc in subst (IsStateOver o) same tt
 
   group_same : (f : System) (nodes : Table) (k : GroupListing) (l : ℕ) (text : List ℕ) (state : ReachState) → o ≡ Some k.over.groups → group_line f nodes k l text ≡ Ok state → IsStateOver o state
   group_same f nodes k l text state is e = elim (cases_Bool (bytes_eq text (codes "end"))) [

@@ -41,7 +41,8 @@ use Rattle.cert_lines.specs.declared.faults.CertError.{CertError}
 use Rattle.cert_lines.specs.declared.faults.CertError.TheVariants.{BadLine, UnknownNode, NotQuorum, NotBlocking, NotMinimal, NotSmaller, TooLarge, Formula, Step, NotNew, NotRefuted}
 use Rattle.witness_pair.specs.Making.{shared, least}
 use Rattle.reach_kinds.specs.declared.places.Reached.{Reached}
-use Rattle.reach_kinds.specs.declared.places.Reached.TheVariants.{Blocking, PartialBlocking, Quorums, PartialQuorums, Least, PartialLeast}
+use Rattle.reach_kinds.specs.declared.places.Reached.TheVariants.{Minimal, Least, Partial}
+use Rattle.reach_kinds.specs.declared.kinds.ReachKind.TheVariants.{Nodes}
 use Rattle.reach_kinds.specs.declared.places.ListPart.{ListPart}
 use Rattle.reach_kinds.specs.declared.places.Listing.{Listing}
 use Rattle.reach_kinds.specs.declared.places.ReachPlace.{ReachPlace}
@@ -302,16 +303,11 @@ in_shown_order listed.Quorum sets = ordered sets
 in_shown_order listed.Blocking sets = ordered sets
 in_shown_order listed.Smaller sets = sets
 
--- what a list of a kind shows, and a part of one: of ever smaller quorums the last one
+-- what a list of a kind shows: of ever smaller quorums the last one
 abbrev pub whole_of : Listed → List Table → Reached
-whole_of listed.Quorum sets = Quorums sets
-whole_of listed.Blocking sets = Blocking sets
+whole_of listed.Quorum sets = Minimal listed.Quorum sets
+whole_of listed.Blocking sets = Minimal listed.Blocking sets
 whole_of listed.Smaller sets = Least (last_of None sets)
-
-abbrev pub partial_of : Listed → ℕ → Reached
-partial_of listed.Quorum units = PartialQuorums units
-partial_of listed.Blocking units = PartialBlocking units
-partial_of listed.Smaller units = PartialLeast units
 
 -- the next line after a step: `end` where it was the empty lemma
 abbrev pub after_list_step : Listing → Progress → ReachState
@@ -328,7 +324,7 @@ list_step k l step = list_step_unless l k step (step_fault_by k.checker.rule k.c
 -- the end of a list: a whole one does not end before the empty lemma
 abbrev pub list_end : ListKind → Listing → ℕ → Result ReachState CertError
 list_end Whole k l = Err (NotRefuted l)
-list_end Part k l = Ok (Done (partial_of k.sought k.units))
+list_end Part k l = Ok (Done (Partial (Nodes k.sought) k.units))
 
 -- a listed set, or else a step
 abbrev pub list_text : System → Table → Listing → ℕ → List ℕ → Option Listed → Result ReachState CertError

@@ -32,7 +32,8 @@ use Rattle.cert_lines.specs.Saying.{or_bad_line}
 use Rattle.cert_lines.specs.declared.faults.CertError.{CertError}
 use Rattle.cert_lines.specs.declared.faults.CertError.TheVariants.{BadLine, NotQuorum, NotBlocking, NotMinimal, Step, NotNew, NotRefuted}
 use Rattle.reach_kinds.specs.Bodies.{and_then, nodes_of, within, holding, is_covered, adds_covered, counted, list_part, list_checking, listed_by, Numbered, numbered_in, with_sought, literal_in, asks_steps, unless_refused}
-use Rattle.reach_kinds.specs.declared.places.Reached.TheVariants.{OrgBlocking, PartialOrgBlocking}
+use Rattle.reach_kinds.specs.declared.places.Reached.TheVariants.{OrgBlocking, Partial}
+use Rattle.reach_kinds.specs.declared.kinds.ReachKind.TheVariants.{Groups}
 use Rattle.reach_kinds.specs.declared.places.ListPart.{ListPart}
 use Rattle.reach_kinds.specs.declared.places.GroupPart.{GroupPart}
 use Rattle.reach_kinds.specs.declared.places.GroupListing.{GroupListing}
@@ -134,7 +135,7 @@ group_step k l step = group_step_unless l k step (step_fault_by k.checker.rule k
 -- the end of a list: a whole one does not end before the empty lemma
 abbrev pub group_end : ListKind → GroupListing → ℕ → Result ReachState CertError
 group_end Whole k l = Err (NotRefuted l)
-group_end Part k l = Ok (Done (PartialOrgBlocking k.units))
+group_end Part k l = Ok (Done (Partial Groups k.units))
 
 -- a listed set, or else a step
 abbrev pub group_text : System → Table → GroupListing → ℕ → List ℕ → Option Listed → Result ReachState CertError

@@ -6,6 +6,7 @@ ghost use Rattle.reach_kinds.specs.Bodies.{and_then, literal_in};
 ghost use Rattle.reach_kinds.specs.GroupBodies.{after_group_step, group_step, group_end};
 ghost use Rattle.reach_kinds.specs.declared.places.Reached.TheVariants.{OrgBlocking};
 
+use crate::kinds::ReachKind;
 use crate::list_steps::literal_in;
 use crate::places::{GroupListing, GroupPart, GroupSets, ReachPlace, ReachState, Reached};
 use crate::steps::take_counted_step;
@@ -76,6 +77,6 @@ pub fn group_end(listing: GroupListing, line: u64) -> Result<ReachState, CertErr
     drop(listing);
     match kind {
         ListKind::Whole => Err(CertError::NotRefuted(line)),
-        ListKind::Partial => Ok(ReachState::Done(Reached::PartialOrgBlocking(units))),
+        ListKind::Partial => Ok(ReachState::Done(Reached::Partial(ReachKind::Groups, units))),
     }
 }

@@ -2,8 +2,9 @@
 ghost use Rattle.std.specs.Prelude.{◌≡◌, ◌⊎◌, ◌&&◌, ℕ, length, All, None, IfOk, IfErr, IsErrOf, Ok, Err};
 ghost use Rattle.lrat_model.specs.Steps.{step_of};
 ghost use Rattle.least_journal.specs.Least.{last_of};
-ghost use Rattle.reach_kinds.specs.Bodies.{and_then, literal_in, in_shown_order, whole_of, partial_of, after_list_step, list_step, list_end};
+ghost use Rattle.reach_kinds.specs.Bodies.{and_then, literal_in, in_shown_order, whole_of, after_list_step, list_step, list_end};
 
+use crate::kinds::ReachKind;
 use crate::places::{Listing, ReachPlace, ReachState, Reached};
 use crate::steps::{take_counted_step, with_literal};
 use cert_lines::CertError;
@@ -12,7 +13,7 @@ use lrat_model::{Progress, Step};
 use name_set::NodeSet;
 
 /// The step, which is not the empty lemma in a part of a list.
-pub(crate) fn literal_in(kind: ListKind, line: u64, step: Step) -> Result<Step, CertError>
+pub fn literal_in(kind: ListKind, line: u64, step: Step) -> Result<Step, CertError>
     ensures unread { IsErrOf result CertError.Read → ⊥ }
     ensures ok { IfOk result (λ s. literal_in kind line (step_of step) ≡ Ok (step_of s)) }
     ensures err { IfErr result (λ e. literal_in kind line (step_of step) ≡ Err e) }
@@ -56,20 +57,8 @@ pub fn whole_of(sought: Listed, sets: NodeSets) -> Reached
     ensures { result ≡ whole_of sought (in_shown_order sought sets) }
 {
     match sought {
-        Listed::Quorum => Reached::Quorums(sets.ordered()),
-        Listed::Blocking => Reached::Blocking(sets.ordered()),
+        Listed::Quorum | Listed::Blocking => Reached::Minimal(sought, sets.ordered()),
         Listed::Smaller => Reached::Least(last_of(&sets)),
-    }
-}
-
-/// What a part of a list of a kind shows.
-fn partial_of(sought: Listed, units: u64) -> Reached
-    ensures { result ≡ partial_of sought units }
-{
-    match sought {
-        Listed::Quorum => Reached::PartialQuorums(units),
-        Listed::Blocking => Reached::PartialBlocking(units),
-        Listed::Smaller => Reached::PartialLeast(units),
     }
 }
 
@@ -107,6 +96,9 @@ pub fn list_end(listing: Listing, line: u64) -> Result<ReachState, CertError>
     drop(listing);
     match kind {
         ListKind::Whole => Err(CertError::NotRefuted(line)),
-        ListKind::Partial => Ok(ReachState::Done(partial_of(sought, units))),
+        ListKind::Partial => Ok(ReachState::Done(Reached::Partial(
+            ReachKind::Nodes(sought),
+            units,
+        ))),
     }
 }

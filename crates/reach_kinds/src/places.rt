@@ -1,4 +1,5 @@
 //! The places of the lines of a body, and what it comes to.
+use crate::kinds::ReachKind;
 use fbas_core::System;
 use list_journal::{ListKind, Listed, NodeSets, SetList};
 use lrat_checker::IdleChecker;
@@ -58,23 +59,16 @@ pub struct GroupListing {
 /// What a body shows.
 #[derive(Drop)]
 pub enum Reached {
-    /// All minimal blocking sets, each once, in name order. Their nodes have their numbers in the whole system.
-    Blocking(NodeSets),
-    /// Nothing but work done: so many quorums, minimal blocking sets and lemmas with a literal, each with a clause that was new.
-    PartialBlocking(u64),
-    /// All minimal quorums, each once, in name order.
-    Quorums(NodeSets),
-    /// Nothing but work done, where minimal quorums are sought.
-    PartialQuorums(u64),
+    /// All minimal sets of a kind, each once, in name order. Their nodes have their numbers in the whole system.
+    Minimal(Listed, NodeSets),
     /// A smallest quorum, whose nodes have their numbers in the whole system, or none where there is no quorum.
     Least(Option<NodeSet>),
-    /// Nothing but work done, where a smallest quorum is sought.
-    PartialLeast(u64),
     /// The groups of the part, and all their minimal blocking sets, each once, in the order of the groups' numbers. A set has the
     /// numbers of its groups among these.
     OrgBlocking(Groups, GroupSets),
-    /// Nothing but work done, where minimal blocking sets of groups are listed.
-    PartialOrgBlocking(u64),
+    /// Nothing but work done towards what a whole body of the kind shows: so many listed sets and lemmas with a literal, each with a
+    /// clause that was new.
+    Partial(ReachKind, u64),
 }
 
 /// Which line is awaited, with what the lines before it said.
