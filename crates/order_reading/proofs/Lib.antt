@@ -1,5 +1,6 @@
 mod LimitSamples
 pub mod Unions
 pub mod Cuts
-pub mod Told
+pub mod Readings
+pub mod Meanings
 pub mod Trials

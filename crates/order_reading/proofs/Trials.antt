@@ -1,4 +1,4 @@
--- What a trial asks, and that nothing is told of it early.
+-- What a trial asks, and that it checks no file.
 use Rattle.std.proofs.Common.{◌≡◌, IsTrue, ◌∙◌, ℕ, List, Result, Ok, false, sym, ap}
 use Rattle.fbas_model.specs.Systems.{System}
 use Rattle.node_json.specs.Configuration.{system_of}
@@ -12,16 +12,16 @@ use Rattle.order_reading.specs.declared.reading.Asked.{Asked}
 use Rattle.order_reading.specs.declared.reading.Asked.TheVariants as asked
 use Rattle.order_reading.specs.declared.searches.Search.{Search as Sought}
 use Rattle.order_reading.specs.Searches.{trial_of}
-use Rattle.order_reading.specs.Answers.{is_told, trial_asked}
+use Rattle.order_reading.specs.Answers.{is_check, trial_asked}
 
--- what is told early is told of a configuration
-pub told_of_configuration : (k : Command) → IsTrue (is_told k) → has_configuration k ≡ false → ⊥
+-- a file is checked over a configuration
+pub checked_over_configuration : (k : Command) → IsTrue (is_check k) → has_configuration k ≡ false → ⊥
 unfolding row_of
-told_of_configuration Check told e = cc
-told_of_configuration CheckLrat told e = cc
-told_of_configuration (Query q) told e = cc
-told_of_configuration (Search goal) told e = cc
-told_of_configuration Whatif told e = cc
+checked_over_configuration Check is e = cc
+checked_over_configuration CheckLrat is e = cc
+checked_over_configuration (Query q) is e = cc
+checked_over_configuration (Search goal) is e = cc
+checked_over_configuration Whatif is e = cc
 
 -- what a trial asks, where its text was read back
 pub trial_read : (o : Ordered) (f : System) (text : List ℕ) (s : Sought) → system_of (trial_text o.trial) ≡ Ok f → text ≡ trial_text o.trial → s ≡ trial_of f text o → trial_asked o ≡ Ok (asked.Search s)

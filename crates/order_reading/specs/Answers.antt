@@ -1,5 +1,5 @@
 -- What the program asks or answers, by its words and the files that they name.
-use Rattle.std.specs.Prelude.{ℕ, nat_le, Bool, true, false, List, [], length, Option, Some, None, Result, Ok, Err, if◌then◌else◌, map, string_bytes, String, codes, unwrap_or}
+use Rattle.std.specs.Prelude.{ℕ, nat_le, IsTrue, Bool, true, false, List, [], length, Option, Some, None, Result, Ok, Err, if◌then◌else◌, map, string_bytes, String, unwrap_or}
 use Rattle.std.specs.declared.alloc.Global.{Global}
 use Rattle.sha2.specs.Sha256.{sha256}
 use Rattle.desk_io.specs.State.{Files}
@@ -12,7 +12,6 @@ use Rattle.cli_words.specs.Words.{order_of}
 use Rattle.cli_words.specs.declared.orders.Command.{Command}
 use Rattle.cli_words.specs.declared.orders.Command.TheVariants as command
 use Rattle.cli_words.specs.declared.orders.Query.{Query}
-use Rattle.cli_words.specs.declared.orders.Goal.{Goal}
 use Rattle.cli_words.specs.declared.orders.OrderFault.{OrderFault}
 use Rattle.cli_words.specs.declared.orders.OrderFault.TheVariants as fault
 use Rattle.node_json.specs.Configuration.{system_of}
@@ -36,18 +35,21 @@ use Rattle.order_reading.specs.declared.status.Status.TheVariants.{Yes, Unknown,
 use Rattle.order_reading.specs.declared.status.Status.{Status}
 use Rattle.order_reading.specs.declared.reply.Reply.{Reply as Answer}
 use Rattle.order_reading.specs.declared.early.Early.{Early}
-use Rattle.order_reading.specs.declared.early.Early.TheVariants.{Told, Read, Memory}
+use Rattle.order_reading.specs.declared.early.Early.TheVariants.{Refused, Read, Memory}
 use Rattle.order_reading.specs.declared.files.TheConstants.{MAX_FILE, MAX_SCRIPT}
 use Rattle.order_reading.specs.declared.checking.Claim.{Claim}
 use Rattle.order_reading.specs.declared.checking.Claim.TheVariants as claim
 use Rattle.order_reading.specs.declared.reading.Asked.{Asked}
 use Rattle.order_reading.specs.declared.reading.Asked.TheVariants as asked
-use Rattle.order_reading.specs.declared.question.Inquiry.{Inquiry}
+use Rattle.order_reading.specs.declared.names.NamedNodes.{NamedNodes}
+use Rattle.order_reading.specs.declared.operands.Operands.{Operands}
 use Rattle.order_reading.specs.declared.edits.Edits.{Edits}
 use Rattle.order_reading.specs.Given.{given_by, orgs_among}
 use Rattle.order_reading.specs.Reading.{◌>>=◌}
-use Rattle.order_reading.specs.Questions.{question_of, set_named, restricted_to, FitsQuestion}
-use Rattle.order_reading.specs.Searches.{header_named, search_of, trial_of, FitsSearch}
+use Rattle.order_reading.specs.Status.{is_answer}
+use Rattle.order_reading.specs.Names.{names_of}
+use Rattle.order_reading.specs.Questions.{part_named, question_of, FitsQuestion}
+use Rattle.order_reading.specs.Searches.{header_of, search_of, trial_of, FitsSearch}
 
 abbrev pub words_of : List (String Global) → List (List ℕ)
 words_of words = map string_bytes words
@@ -55,7 +57,7 @@ words_of words = map string_bytes words
 -- the bytes of a file, which is refused with this answer where they are more than so many
 abbrev pub file_within : ℕ → Answer → Option (List ℕ) → Result (List ℕ) Early
 file_within most refusal None = Err Read
-file_within most refusal (Some bytes) = if nat_le (length bytes) most then Ok bytes else Err (Told refusal)
+file_within most refusal (Some bytes) = if nat_le (length bytes) most then Ok bytes else Err (Refused refusal)
 
 -- the bytes of a configuration, or of organisations, which is refused with this text where they are too many
 abbrev pub file_in : Text → Option (List ℕ) → Result (List ℕ) Early
@@ -67,7 +69,7 @@ script_in file = file_within MAX_SCRIPT (record { status = ScriptRefused; text =
 
 abbrev pub or_config_refused : Result System ConfigFault → Result System Early
 or_config_refused (Ok f) = Ok f
-or_config_refused (Err fault) = Err (Told (record { status = ConfigRefused; text = config_refused fault }))
+or_config_refused (Err fault) = Err (Refused (record { status = ConfigRefused; text = config_refused fault }))
 
 -- the system of a configuration
 abbrev pub system_in : List ℕ → Result System Early
@@ -75,7 +77,7 @@ system_in config = or_config_refused (system_of config)
 
 abbrev pub or_orgs_refused : Result (List Org) OrgFault → Result (List Org) Early
 or_orgs_refused (Ok orgs) = Ok orgs
-or_orgs_refused (Err fault) = Err (Told (record { status = ConfigRefused; text = orgs_refused fault }))
+or_orgs_refused (Err fault) = Err (Refused (record { status = ConfigRefused; text = orgs_refused fault }))
 
 -- the organisations of a file's bytes, with their digest
 abbrev pub orgs_with_digest : List Name → List ℕ → Result (Option GivenOrgs) Early
@@ -89,6 +91,20 @@ orgs_given names files None = Ok None
 orgs_given names files (Some path) = do
   bytes ← file_in orgs_too_long (files path)
   orgs_with_digest names bytes
+
+-- ---- what an order names in a system
+
+-- the nodes are read once the organisations were
+abbrev pub operands_among : Ordered → System → Option GivenOrgs → Result Operands Early
+operands_among o f orgs = do
+  named ← names_of f (orgs_among orgs) o
+  Ok (record { system = f; orgs = orgs; named = named })
+
+-- the organisations and the nodes that an order names in the system of its configuration
+abbrev pub operands_of : Ordered → System → Files → Result Operands Early
+operands_of o f files = do
+  orgs ← orgs_given f.names files o.orgs
+  operands_among o f orgs
 
 -- ---- a certificate
 
@@ -139,79 +155,52 @@ abbrev pub claim_in : System → Claim → Option (List ℕ) → Result Answer E
 claim_in f c None = Err Read
 claim_in f c (Some bytes) = Ok (claim_answer f c bytes)
 
--- what `check` says over a configuration that was read: the organisations are read before the certificate, if a file of them is named
-abbrev pub check_asked : Ordered → System → List ℕ → Files → Result Answer Early
-check_asked o f config files = do
-  orgs ← orgs_given f.names files o.orgs
-  claim_in f (claim.Cert (given_by config orgs)) (files o.cert)
-
--- what `check-lrat` says over a configuration that was read
-abbrev pub verify_asked : Ordered → System → Files → Result Answer Early
-verify_asked o f files = do
-  given ← orgs_given f.names files o.orgs
-  header ← header_named f (orgs_among given) o
-  claim_in f (claim.Proof header) (files o.cert)
+-- what the file of a check is held to be: a certificate of the configuration, or a proof for the part and the faulty nodes that the options name
+abbrev pub claim_by : Command → List ℕ → System → Option GivenOrgs → NamedNodes → Claim
+claim_by command.CheckLrat config f orgs named = claim.Proof (header_of f named)
+claim_by k config f orgs named = claim.Cert (given_by config orgs)
 
 -- ---- what is asked
 
--- the commands that are answered before anything is asked
-abbrev pub is_told : Command → Bool
-is_told command.Check = true
-is_told command.CheckLrat = true
-is_told command.Whatif = false
-is_told (command.Query q) = false
-is_told (command.Search goal) = false
+-- the commands that check a file: what is said of it comes with what is asked
+abbrev pub is_check : Command → Bool
+is_check command.Check = true
+is_check command.CheckLrat = true
+is_check command.Whatif = false
+is_check (command.Query q) = false
+is_check (command.Search goal) = false
 
-abbrev pub asked_about : System → Inquiry → Asked
-asked_about f inquiry = asked.Question (restricted_to f inquiry.closure) inquiry.question
+-- what an order with this question asks of the part that its options name
+abbrev pub query_asked : Query → Ordered → List ℕ → Operands → Result Asked Early
+query_asked q o config s = do
+  question ← question_of q o config (part_named s).node (part_named s).faulty (part_named s).set
+  Ok (asked.Question (part_named s).system question)
 
--- what an order with this question asks, once the organisations were read
-abbrev pub query_asked : Query → Ordered → System → List ℕ → Option GivenOrgs → Result Asked Early
-query_asked q o f config given = do
-  inquiry ← question_of q f config (orgs_among given) o
-  Ok (asked_about f inquiry)
-
--- what an order with this goal asks, once the organisations were read
-abbrev pub goal_asked : Goal → Ordered → System → List ℕ → Option GivenOrgs → Result Asked Early
-goal_asked goal o f config given = do
-  search ← search_of goal f config given o
-  Ok (asked.Search search)
-
--- the script that an order names: the names of its set are read before
-abbrev pub script_named : Ordered → List Name → Files → Result (List ℕ) Early
-script_named o names files = do
-  set ← set_named names (codes "--set") o.set
-  script_in (files o.script)
-
--- the edits that an order names, over a configuration that was read
-abbrev pub edits_asked : Ordered → System → Files → Result Edits Early
-edits_asked o f files = do
-  script ← script_named o f.names files
+-- the edits that an order names
+abbrev pub edits_of : Ordered → System → Files → Result Edits Early
+edits_of o f files = do
+  script ← script_in (files o.script)
   Ok (record { system = f; script = script; set = unwrap_or o.set [] })
 
--- what a command asks over a configuration that was read, or its early answer
-abbrev pub command_asked : Command → Ordered → System → List ℕ → Files → Result Asked Early
-command_asked command.Check o f config files = do
-  answer ← check_asked o f config files
-  Err (Told answer)
-command_asked command.CheckLrat o f config files = do
-  answer ← verify_asked o f files
-  Err (Told answer)
-command_asked command.Whatif o f config files = do
-  edits ← edits_asked o f files
+-- what a command asks, by what its order names; a check with what it says
+abbrev pub command_asked : Command → Ordered → List ℕ → Operands → Files → Result Asked Early
+command_asked (command.Query q) o config s files = query_asked q o config s
+command_asked (command.Search goal) o config s files = do
+  search ← search_of goal o config s
+  Ok (asked.Search search)
+command_asked command.Whatif o config s files = do
+  edits ← edits_of o s.system files
   Ok (asked.Edits edits)
-command_asked (command.Query q) o f config files = do
-  given ← orgs_given f.names files o.orgs
-  query_asked q o f config given
-command_asked (command.Search goal) o f config files = do
-  given ← orgs_given f.names files o.orgs
-  goal_asked goal o f config given
+command_asked k o config s files = do
+  answer ← claim_in s.system (claim_by k config s.system s.orgs s.named) (files o.cert)
+  Ok (asked.Checked answer)
 
--- what an order asks over the bytes of its configuration, or its early answer
+-- what an order asks over the bytes of its configuration
 abbrev pub config_asked : Ordered → Files → List ℕ → Result Asked Early
 config_asked o files config = do
   f ← system_in config
-  command_asked o.command o f config files
+  s ← operands_of o f files
+  command_asked o.command o config s files
 
 -- what an order asks over the file of its configuration
 abbrev pub file_asked : Ordered → Files → Result Asked Early
@@ -225,29 +214,29 @@ trial_asked o = do
   f ← system_in (trial_text o.trial)
   Ok (asked.Search (trial_of f (trial_text o.trial) o))
 
--- what an order asks, or its early answer
+-- what an order asks
 abbrev pub order_asked : Ordered → Files → Result Asked Early
 order_asked o files = if has_configuration o.command then file_asked o files else trial_asked o
 
--- the early end where the words are no order
+-- why nothing is asked where the words are no order
 abbrev pub refused_words : OrderFault → Early
-refused_words fault.Words = Told (record { status = Usage; text = usage })
-refused_words fault.SamePath = Told (record { status = Usage; text = same_path })
+refused_words fault.Words = Refused (record { status = Usage; text = usage })
+refused_words fault.SamePath = Refused (record { status = Usage; text = same_path })
 refused_words fault.Memory = Memory
 
 abbrev pub or_words_refused : Result Ordered OrderFault → Result Ordered Early
 or_words_refused (Ok o) = Ok o
 or_words_refused (Err fault) = Err (refused_words fault)
 
--- what the words ask, which begin with the program's name, over the files: a question about a system, an early answer, or a
--- missing file
+-- what the words ask, which begin with the program's name, over the files; or a refusal, or a missing file
 abbrev pub asked_of : List (List ℕ) → Files → Result Asked Early
 asked_of words files = do
   o ← or_words_refused (order_of words)
   order_asked o files
 
--- what is asked fits the system
+-- what is asked fits the system, and what is said of a file is an answer
 abbrev pub FitsAsked : Asked → Type 0
 FitsAsked (asked.Question f question) = FitsQuestion (length f.sets) question
 FitsAsked (asked.Search s) = FitsSearch s
 FitsAsked (asked.Edits e) = Unit {0}
+FitsAsked (asked.Checked answer) = IsTrue (is_answer answer.status)

@@ -6,6 +6,8 @@ use Rattle.node_json.specs.Organisations.{Org}
 use Rattle.cert_writer.specs.Promises.{AreOrgs}
 use Rattle.certificate_file.specs.declared.given.Given.{Given}
 use Rattle.certificate_file.specs.declared.given.GivenOrgs.{GivenOrgs}
+use Rattle.order_reading.specs.declared.operands.Operands.{Operands}
+use Rattle.order_reading.specs.Names.{FitsNamed}
 use Rattle.cli_words.specs.declared.orders.Goal.{Goal}
 use Rattle.cli_words.specs.declared.orders.Goal.TheVariants.{OrgBlocking}
 
@@ -25,6 +27,12 @@ AreOver f given = IfSome given (λ g. All (λ org. length org.members ≡ length
 -- they are those that a file says over the system
 abbrev pub AreRead : System → Option GivenOrgs → Type 0
 AreRead f given = IfSome given (λ g. AreOrgs f g)
+
+-- what an order names is of the system
+pub record FitsOperands (s : Operands) : Type 0 where
+  pub over : AreOver s.system s.orgs
+  pub read : AreRead s.system s.orgs
+  pub named : FitsNamed (length s.system.sets) s.named
 
 -- the organisations of a search with this goal: they were read over the system, and blocking sets of organisations alone have some
 pub record FitsOrgs (goal : Goal) (f : System) (orgs : Option GivenOrgs) : Type 0 where

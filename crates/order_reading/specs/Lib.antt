@@ -1,7 +1,8 @@
 pub mod Status
 pub mod Reading
-pub mod Questions
+pub mod Names
 pub mod Given
+pub mod Questions
 pub mod Searches
 pub mod Answers
 pub mod Meaning

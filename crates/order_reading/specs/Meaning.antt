@@ -19,10 +19,14 @@ use Rattle.order_reading.specs.declared.checking.Claim.{Claim}
 use Rattle.order_reading.specs.declared.checking.Claim.TheVariants.{Cert, Proof}
 use Rattle.order_reading.specs.declared.status.Status.TheVariants.{Yes, Usage}
 use Rattle.order_reading.specs.declared.early.Early.{Early}
-use Rattle.order_reading.specs.Answers.{orgs_given, is_told}
+use Rattle.order_reading.specs.declared.reading.Asked.{Asked}
+use Rattle.order_reading.specs.declared.reading.Asked.TheVariants as asked
+use Rattle.order_reading.specs.Answers.{orgs_given, is_check}
 use Rattle.order_reading.specs.Given.{given_by, orgs_among}
-use Rattle.order_reading.specs.Searches.{header_named}
-use Rattle.order_reading.specs.Reading.{TellsStatus}
+use Rattle.order_reading.specs.declared.names.NamedNodes.{NamedNodes}
+use Rattle.order_reading.specs.Names.{names_of}
+use Rattle.order_reading.specs.Searches.{header_of}
+use Rattle.order_reading.specs.Reading.{RefusesBy}
 
 -- the certificate is accepted for a system and what is given beside it, and its answer holds for the part that it speaks of,
 -- the whole system or the trust closure of a node, once the nodes of its header are deleted: the two sets of a pair are quorums
@@ -67,11 +71,11 @@ ShowsClaim system (Proof header) = Verifies system header
 pub record HasVerified (order : Ordered) (system : System) (files : Files) : Type 0 where
   pub orgs : Option GivenOrgs
   pub given : orgs_given system.names files order.orgs ≡ Ok orgs
-  pub header : Header
-  pub named : header_named system (orgs_among orgs) order ≡ Ok header
-  pub proof : HasProof system header files order.cert
+  pub nodes : NamedNodes
+  pub named : names_of system (orgs_among orgs) order ≡ Ok nodes
+  pub proof : HasProof system (header_of system nodes) files order.cert
 
--- what a yes means that is told before anything is asked: the certificate is accepted, or the proof is verified
+-- what a yes means that is said of a file that was checked: the certificate is accepted, or the proof is verified
 abbrev pub MeansYes : Command → Ordered → System → List ℕ → Files → Type 0
 MeansYes Check order system config files = HasAccepted order system config files
 MeansYes CheckLrat order system config files = HasVerified order system files
@@ -99,6 +103,16 @@ pub record OfWords (Means : Ordered → System → List ℕ → Type 0) (files :
   pub taken : order_of words ≡ Ok order
   pub means : OfFile (Means order) files order.config
 
+-- what a check's yes means of an order, by the bytes of its configuration, by that file, and by the words
+abbrev pub ConfigMeans : Ordered → Files → List ℕ → Type 0
+ConfigMeans o files config = OfConfig (λ system. MeansYes o.command o system config files) config
+
+abbrev pub FileMeans : Ordered → Files → Type 0
+FileMeans o files = OfFile (λ system config. MeansYes o.command o system config files) files o.config
+
+abbrev pub WordsMean : List (List ℕ) → Files → Type 0
+WordsMean words files = OfWords (λ order system config. MeansYes order.command order system config files) files words
+
 -- the words are an order that names a configuration and a certificate that is accepted for it
 abbrev pub NamesAccepted : List (List ℕ) → Files → Type 0
 NamesAccepted words files = OfWords (λ order system config. HasAccepted order system config files) files words
@@ -107,9 +121,12 @@ NamesAccepted words files = OfWords (λ order system config. HasAccepted order s
 abbrev pub NamesVerified : List (List ℕ) → Files → Type 0
 NamesVerified words files = OfWords (λ order system config. HasVerified order system files) files words
 
--- a yes that is told early is one of which this is so
-abbrev pub YesMeans : Type 0 → Early → Type 0
-YesMeans meaning e = TellsStatus (λ status. status ≡ Yes → meaning) e
+-- what is asked is a check, and if it says yes this is so
+abbrev pub YesMeans : Type 0 → Asked → Type 0
+YesMeans meaning (asked.Checked answer) = answer.status ≡ Yes → meaning
+YesMeans meaning (asked.Question f question) = ⊥
+YesMeans meaning (asked.Search s) = ⊥
+YesMeans meaning (asked.Edits e) = ⊥
 
 -- the words are an order to check a certificate
 abbrev pub IsCheck : Result Ordered OrderFault → Type 0
@@ -121,11 +138,11 @@ abbrev pub IsCheckLrat : Result Ordered OrderFault → Type 0
 IsCheckLrat (Ok order) = order.command ≡ CheckLrat
 IsCheckLrat (Err fault) = ⊥
 
--- the words are an order that is answered before anything is asked
-abbrev pub IsTold : Result Ordered OrderFault → Type 0
-IsTold (Ok order) = IsTrue (is_told order.command)
-IsTold (Err fault) = ⊥
+-- the words are an order to check a file
+abbrev pub ChecksFile : Result Ordered OrderFault → Type 0
+ChecksFile (Ok order) = IsTrue (is_check order.command)
+ChecksFile (Err fault) = ⊥
 
--- the words are refused, if an answer is told
+-- the words are refused, if there is a refusal
 abbrev pub IsUsage : Early → Type 0
-IsUsage e = TellsStatus (λ status. status ≡ Usage) e
+IsUsage e = RefusesBy (λ status. status ≡ Usage) e

@@ -1,12 +1,11 @@
--- Reading that may end early: with an answer, by a file that is not there, or for want of memory.
+-- Reading that may end early: with a refusal, by a file that is not there, or for want of memory.
 use Rattle.std.specs.Prelude.{◌≡◌, Bool, true, false, IsTrue, Result, Ok, Err, IfOk, IfErr}
 use Rattle.desk_io.specs.State.{DeskState, OnlyReads}
 use Rattle.desk_io.specs.Faults.{Faults, ReadFails}
 use Rattle.order_reading.specs.declared.early.Early.{Early}
-use Rattle.order_reading.specs.declared.early.Early.TheVariants.{Told, Read, Memory}
+use Rattle.order_reading.specs.declared.early.Early.TheVariants.{Refused, Read, Memory}
 use Rattle.order_reading.specs.declared.status.Status.{Status}
 use Rattle.order_reading.specs.declared.status.Status.TheVariants.{Usage, ConfigRefused, ScriptRefused}
-use Rattle.order_reading.specs.Status.{is_answer}
 
 infixl 10 ◌>>=◌
 abbrev pub ◌>>=◌ : {A B : Type 0} → Result A Early → (A → Result B Early) → Result B Early
@@ -17,7 +16,7 @@ abbrev pub ◌>>=◌ : {A B : Type 0} → Result A Early → (A → Result B Ear
 
 -- it reads no file
 abbrev pub Fails : {A : Type 0} → Early → Result A Early → Type 0
-Fails (Told a) defined = defined ≡ Err (Told a)
+Fails (Refused a) defined = defined ≡ Err (Refused a)
 Fails Read defined = ⊥
 Fails Memory defined = Unit {0}
 
@@ -27,7 +26,7 @@ Gives (Err e) defined = Fails e defined
 
 -- it reads files: on a plain desk a read fault is that of a missing one
 abbrev pub FailsReading : {A : Type 0} → Bool → Early → Result A Early → Type 0
-FailsReading plain (Told a) defined = defined ≡ Err (Told a)
+FailsReading plain (Refused a) defined = defined ≡ Err (Refused a)
 FailsReading plain Read defined = IsTrue plain → defined ≡ Err Read
 FailsReading plain Memory defined = Unit {0}
 
@@ -35,12 +34,12 @@ abbrev pub GivesReading : {A : Type 0} → Bool → Result A Early → Result A 
 GivesReading plain (Ok a) defined = defined ≡ Ok a
 GivesReading plain (Err e) defined = FailsReading plain e defined
 
--- ---- the status of what is told
+-- ---- the status of a refusal
 
-abbrev pub TellsStatus : (Status → Type 0) → Early → Type 0
-TellsStatus P (Told a) = P a.status
-TellsStatus P Read = Unit {0}
-TellsStatus P Memory = Unit {0}
+abbrev pub RefusesBy : (Status → Type 0) → Early → Type 0
+RefusesBy P (Refused a) = P a.status
+RefusesBy P Read = Unit {0}
+RefusesBy P Memory = Unit {0}
 
 -- the words, the names or a file are refused
 abbrev pub is_refusal : Status → Bool
@@ -49,13 +48,9 @@ is_refusal ConfigRefused = true
 is_refusal ScriptRefused = true
 is_refusal status = false
 
--- a refusal, if an answer is told
+-- the status is one of a refusal
 abbrev pub IsRefusal : Early → Type 0
-IsRefusal e = TellsStatus (λ status. IsTrue (is_refusal status)) e
-
--- an answer to the words and the files, if one is told
-abbrev pub IsAnswer : Early → Type 0
-IsAnswer e = TellsStatus (λ status. IsTrue (is_answer status)) e
+IsRefusal e = RefusesBy (λ status. IsTrue (is_refusal status)) e
 
 -- ---- what calls that read promise
 

@@ -4,17 +4,21 @@ ghost use Rattle.desk_io.specs.State.{left_of};
 ghost use Rattle.cli_words.specs.Order.{order_view};
 ghost use Rattle.certificate_file.specs.Known.{FitsHeader};
 ghost use Rattle.certificate_file.specs.Meaning.{HasPlaces};
-ghost use Rattle.order_reading.specs.Answers.{check_asked, claim_answer, claim_in, checked_answer, refused_answer, verified_answer, FitsClaim, cert_status as spec_cert_status, accepted_status as spec_accepted_status};
-ghost use Rattle.order_reading.specs.Meaning.{HasAccepted, HasFile, ShowsClaim};
-ghost use Rattle.order_reading.specs.Reading.{GivesReading, IsRefusal, ReadsDesk};
+ghost use Rattle.order_reading.specs.Answers.{claim_answer, claim_by as spec_claim_by, claim_in, checked_answer, refused_answer, verified_answer, FitsClaim, cert_status as spec_cert_status, accepted_status as spec_accepted_status};
+ghost use Rattle.order_reading.specs.Given.{AreOver, FitsOperands};
+ghost use Rattle.order_reading.specs.Meaning.{HasFile, ShowsClaim};
+ghost use Rattle.order_reading.specs.Names.{FitsNamed};
+ghost use Rattle.order_reading.specs.Reading.{GivesReading, ReadsDesk};
 ghost use Rattle.order_reading.specs.Status.{is_answer};
 
 use crate::early::Early;
-use crate::orgs::orgs_for;
+use crate::names::NamedNodes;
+use crate::operands::Operands;
 use crate::reply::Reply;
+use crate::searches::header_of;
 use crate::status::Status;
-use certificate_file::{Accepted, CertError, Conclusion, Given, Header};
-use cli_words::Order;
+use certificate_file::{Accepted, CertError, Conclusion, Given, GivenOrgs, Header};
+use cli_words::{Command, Order};
 use desk_io::{Desk, Which};
 use digest_text::digest;
 use fbas_core::System;
@@ -130,8 +134,8 @@ fn check_begun<D: Desk>(
     }
 }
 
-/// What is said of a file as a certificate, or as a proof.
-pub fn check_file<D: Desk>(
+// What is said of a file as a certificate, or as a proof.
+fn check_file<D: Desk>(
     alloc: Global,
     system: &System,
     claim: &Claim,
@@ -152,29 +156,53 @@ pub fn check_file<D: Desk>(
     check_begun(alloc, system, claim, desk)
 }
 
-/// What `check` says over a configuration that was read. The organisations are read before the certificate, if a file of them is
-/// named.
-pub fn check_by<D: Desk>(
-    alloc: Global,
-    order: &Order,
+// What the file of a check is held to be, by what its order names in the system.
+fn claim_by(
+    command: Command,
     system: &System,
     config: &[u8],
+    orgs: Option<GivenOrgs>,
+    named: NamedNodes,
+) -> Claim
+    requires over { AreOver system.now orgs }
+    requires named { FitsNamed (length system.now.sets) named }
+    ensures value { result ≡ spec_claim_by command config.now system.now orgs named }
+    ensures fits { FitsClaim system.now result }
+{
+    match command {
+        Command::CheckLrat => Claim::Proof(header_of(system, named)),
+        _ => Claim::Cert(Given {
+            digest: digest(config),
+            orgs,
+        }),
+    }
+}
+
+/// What is said of the file of a check.
+pub fn check<D: Desk>(
+    alloc: Global,
+    order: &Order,
+    config: &[u8],
+    operands: Operands,
     desk: &mut D,
 ) -> Result<Reply, Early>
+    requires { FitsOperands operands }
     ensures gives { IsTrue D.tells → GivesReading (D.state desk.old).plain result
-        (check_asked (order_view order.now) system.now config.now (D.state desk.old).files) }
+        (claim_in operands.system (spec_claim_by order.now.command config.now operands.system operands.orgs operands.named) ((D.state desk.old).files (order_view order.now).cert)) }
     ensures answers { IfOk result (λ a. IsTrue (is_answer a.status)) }
-    ensures refused { IfErr result IsRefusal }
     ensures shows { IfOk result (λ a. IsTrue D.tells → a.status ≡ Status.Yes →
-        HasAccepted (order_view order.now) system.now config.now (D.state desk.old).files) }
+        HasFile (ShowsClaim operands.system (spec_claim_by order.now.command config.now operands.system operands.orgs operands.named)) (D.state desk.old).files (order_view order.now).cert) }
+    ensures failing { IfErr result (λ e. (e ≡ Early.Read) ⊎ (e ≡ Early.Memory)) }
     ensures desk { ReadsDesk D.tells D.state D.faults desk.old desk.new (IsErrOf result Early.Read) }
 {
-    let orgs = orgs_for(alloc, system, desk, &order.orgs)?;
-    let claim = Claim::Cert(Given {
-        digest: digest(config),
+    let Operands {
+        system,
         orgs,
-    });
-    let reply = check_file(alloc, system, &claim, desk, &order.cert);
+        named,
+    } = operands;
+    let claim = claim_by(order.command, &system, config, orgs, named);
+    let reply = check_file(alloc, &system, &claim, desk, &order.cert);
+    drop(system);
     drop(claim);
     reply
 }

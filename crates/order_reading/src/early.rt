@@ -1,14 +1,14 @@
-//! What ends the program before anything is asked.
+//! Why nothing is asked.
 ghost use Rattle.std.specs.Prelude.{◌≡◌};
 
 use crate::reply::Reply;
 use std::alloc::AllocError;
 
-/// An answer that comes before anything is asked, or a failing.
+/// A refusal, or a failing: nothing is asked.
 #[derive(Drop)]
 pub enum Early {
-    /// This is told: a refusal, or what the check of a certificate says.
-    Told(Reply),
+    /// The words, the names in them or a file are refused, which is told.
+    Refused(Reply),
     /// A file could not be read.
     Read,
     /// Memory is wanting.

@@ -1,12 +1,12 @@
 //! The edits that are tried.
 ghost use Rattle.std.specs.Prelude.{◌≡◌, [], IsTrue, IfOk, IfErr, IsErrOf, option_map, string_bytes, unwrap_or};
 ghost use Rattle.cli_words.specs.Order.{order_view};
-ghost use Rattle.order_reading.specs.Answers.{script_named as script_by_options, edits_asked};
+ghost use Rattle.order_reading.specs.Answers.{edits_of as spec_edits_of};
 ghost use Rattle.order_reading.specs.Reading.{GivesReading, IsRefusal, ReadsDesk};
 
 use crate::early::Early;
 use crate::files::read_script;
-use crate::names::set_named;
+use crate::operands::Operands;
 use crate::reply::Text;
 use crate::word::{Word, word_or_empty};
 use cli_words::Order;
@@ -24,24 +24,8 @@ pub struct Edits {
     pub set: Word,
 }
 
-// The script that an order names. The names of its set are read before.
-fn script_named<D: Desk>(
-    alloc: Global,
-    order: &Order,
-    system: &System,
-    desk: &mut D,
-) -> Result<Text, Early>
-    ensures gives { IsTrue D.tells → GivesReading (D.state desk.old).plain result
-        (script_by_options (order_view order.now) system.now.names (D.state desk.old).files) }
-    ensures refused { IfErr result IsRefusal }
-    ensures desk { ReadsDesk D.tells D.state D.faults desk.old desk.new (IsErrOf result Early.Read) }
-{
-    set_named(alloc, system, "--set", &order.set)?;
-    read_script(alloc, desk, &order.script)
-}
-
 // The edits of a script, and their set.
-fn edits_of(
+fn edits_with(
     alloc: Global,
     system: System,
     script: Text,
@@ -57,20 +41,25 @@ fn edits_of(
     })
 }
 
-/// The edits that an order names, over a configuration that was read.
-pub fn edits_named<D: Desk>(
+/// The edits that an order names. The names of the set are read already, and change with the edits: the list is kept.
+pub fn edits_of<D: Desk>(
     alloc: Global,
     order: &Order,
-    system: System,
+    operands: Operands,
     desk: &mut D,
 ) -> Result<Edits, Early>
     ensures gives { IsTrue D.tells → GivesReading (D.state desk.old).plain result
-        (edits_asked (order_view order.now) system (D.state desk.old).files) }
+        (spec_edits_of (order_view order.now) operands.system (D.state desk.old).files) }
     ensures refused { IfErr result IsRefusal }
     ensures desk { ReadsDesk D.tells D.state D.faults desk.old desk.new (IsErrOf result Early.Read) }
 {
-    match script_named(alloc, order, &system, desk) {
-        Ok(script) => Ok(edits_of(alloc, system, script, &order.set)?),
+    let Operands {
+        system,
+        orgs: _,
+        named: _,
+    } = operands;
+    match read_script(alloc, desk, &order.script) {
+        Ok(script) => Ok(edits_with(alloc, system, script, &order.set)?),
         Err(early) => {
             drop(system);
             Err(early)

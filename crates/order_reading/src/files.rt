@@ -43,7 +43,7 @@ fn read_within<D: Desk>(
     };
     match read_all(alloc, desk, which, limit.most) {
         Ok(bytes) => Ok(bytes),
-        Err(ReadError::Longer) => Err(Early::Told(says(alloc, limit.status, limit.too_long)?)),
+        Err(ReadError::Longer) => Err(Early::Refused(says(alloc, limit.status, limit.too_long)?)),
         Err(ReadError::Failed) => Err(Early::Read),
         Err(ReadError::Memory) => Err(Early::Memory),
     }

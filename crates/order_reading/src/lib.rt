@@ -1,4 +1,4 @@
-//! An order's words, files and names, read to what is asked, or to an early answer.
+//! Reads the files that a command line names, to what is asked or to a refusal.
 #![tactic(auto)]
 
 mod checking;
@@ -6,6 +6,7 @@ mod early;
 mod edits;
 mod files;
 mod names;
+mod operands;
 mod orgs;
 mod parts;
 mod question;
@@ -13,7 +14,6 @@ mod reading;
 mod reply;
 mod searches;
 mod status;
-mod verifying;
 mod word;
 
 pub use early::Early;

@@ -2,7 +2,7 @@
 ghost use Rattle.std.specs.Prelude.{◌≡◌, ◌≤◌, ◌<◌, All, Ok, Err, IfOk, IfErr, IfSome, length, option_map, string_bytes};
 ghost use Rattle.cli_words.specs.Order.{order_view};
 ghost use Rattle.fbas_model.specs.declared.TheConstants.{MOST_NODES};
-ghost use Rattle.order_reading.specs.Questions.{or_refused, set_named as set_by_option, node_named as node_by_option, orgs_named as orgs_by_option, faulty_named as faulty_by_options};
+ghost use Rattle.order_reading.specs.Names.{or_refused, set_named as set_by_option, node_named as node_by_option, orgs_named as orgs_by_option, faulty_named as faulty_by_options, names_of, FitsNamed};
 ghost use Rattle.node_json.specs.Organisations.{ids_read};
 ghost use Rattle.order_reading.specs.Given.{AreOver, orgs_among};
 ghost use Rattle.order_reading.specs.Reading.{ReadsTo};
@@ -18,7 +18,20 @@ use name_set::{NameFault, NodeSet, read_name, read_names};
 use node_json::{Orgs, read_ids};
 use std::alloc::Global;
 
-// What names behind an option were read to, or their refusal.
+/// The nodes that the options of an order name: an option that was not given, or that its command lacks, names none.
+#[derive(Drop)]
+pub struct NamedNodes {
+    /// That of `--node`.
+    pub node: Option<u32>,
+    /// That of `--from`, whose trust closure is the part that is meant.
+    pub from: Option<u32>,
+    /// Those of `--faulty`, and the members of the organisations of `--faulty-orgs`.
+    pub faulty: NodeSet,
+    /// Those of `--set`.
+    pub set: NodeSet,
+}
+
+// What names after an option were read to, or their refusal.
 fn or_refused<A: Drop>(alloc: Global, option: &str, read: Result<A, NameFault>) -> Result<A, Early>
     ensures { ReadsTo result (or_refused option.now read) (λ a. read ≡ Ok a) }
 {
@@ -26,13 +39,13 @@ fn or_refused<A: Drop>(alloc: Global, option: &str, read: Result<A, NameFault>) 
         Ok(found) => Ok(found),
         Err(fault) => {
             let text = report::names_refused(alloc, option, fault)?;
-            Err(Early::Told(Reply::new(Status::Usage, text)))
+            Err(Early::Refused(Reply::new(Status::Usage, text)))
         }
     }
 }
 
-/// The set that an option's list names, empty where the option is not given.
-pub fn set_named(
+// The set that an option's list names, empty if the option is not given.
+fn set_named(
     alloc: Global,
     system: &System,
     option: &str,
@@ -46,18 +59,22 @@ pub fn set_named(
     or_refused(alloc, option, read)
 }
 
-/// The node that an option names.
-pub fn node_named(
+// The node that an option names, if it is given.
+fn node_named(
     alloc: Global,
     system: &System,
     option: &str,
     name: &Option<String>,
-) -> Result<u32, Early>
+) -> Result<Option<u32>, Early>
     ensures { ReadsTo result (node_by_option system.now.names option.now (option_map string_bytes name.now))
-        (λ v. v < length system.now.sets) }
+        (λ node. IfSome node (λ v. v < length system.now.sets)) }
 {
-    let read = read_name(word_or_empty(name).as_bytes(), system.names());
-    or_refused(alloc, option, read)
+    let Some(name) = name else {
+        return Ok(None);
+    };
+    let read = read_name(name.as_bytes(), system.names());
+    let node = or_refused(alloc, option, read)?;
+    Ok(Some(node))
 }
 
 // The nodes that a list of ids stands for: no id is known where no organisations are given.
@@ -82,7 +99,7 @@ fn members_listed(
     nodes
 }
 
-// The set that an option's list of organisations stands for, empty where the option is not given.
+// The set that an option's list of organisations stands for, empty if the option is not given.
 fn orgs_named(
     alloc: Global,
     given: &Option<GivenOrgs>,
@@ -99,8 +116,8 @@ fn orgs_named(
     or_refused(alloc, option, read)
 }
 
-/// The faulty nodes: those that `--faulty` names, and the members of the organisations that `--faulty-orgs` names.
-pub fn faulty_named(
+// The faulty nodes: those that `--faulty` names, and the members of the organisations that `--faulty-orgs` names.
+fn faulty_named(
     alloc: Global,
     system: &System,
     given: &Option<GivenOrgs>,
@@ -115,4 +132,26 @@ pub fn faulty_named(
     let members = orgs_named(alloc, given, n, "--faulty-orgs", &order.faulty_orgs)?;
     named.join(&members);
     Ok(named)
+}
+
+/// The nodes that the options name, read in the order `--node`, `--from`, `--faulty`, `--faulty-orgs`, `--set`.
+pub fn names_of(
+    alloc: Global,
+    order: &Order,
+    system: &System,
+    given: &Option<GivenOrgs>,
+) -> Result<NamedNodes, Early>
+    requires { AreOver system.now given.now }
+    ensures { ReadsTo result (names_of system.now (orgs_among given.now) (order_view order.now)) (FitsNamed (length system.now.sets)) }
+{
+    let node = node_named(alloc, system, "--node", &order.node)?;
+    let from = node_named(alloc, system, "--from", &order.from)?;
+    let faulty = faulty_named(alloc, system, given, order)?;
+    let set = set_named(alloc, system, "--set", &order.set)?;
+    Ok(NamedNodes {
+        node,
+        from,
+        faulty,
+        set,
+    })
 }

@@ -34,7 +34,7 @@ fn orgs_read(alloc: Global, system: &System, bytes: &[u8]) -> Result<Orgs, Early
     match read_orgs(alloc, bytes, system) {
         Ok(orgs) => Ok(orgs),
         Err(OrgFault::Memory) => Err(Early::Memory),
-        Err(fault) => Err(Early::Told(refuse_orgs(alloc, fault)?)),
+        Err(fault) => Err(Early::Refused(refuse_orgs(alloc, fault)?)),
     }
 }
 

@@ -1,35 +1,30 @@
 //! The part of a system that is asked about: the whole, or the trust closure of a node.
-ghost use Rattle.std.specs.Prelude.{◌≡◌, ◌<◌, IfOk, IfSome, length, option_map, string_bytes};
-ghost use Rattle.order_reading.specs.Questions.{from_named as from_by_option, closure_named, restricted_to as spec_restricted_to, cut_to, FitsClosure};
-ghost use Rattle.fbas_model.specs.Restriction.{closure_of};
-ghost use Rattle.order_reading.specs.Reading.{ReadsTo};
+ghost use Rattle.std.specs.Prelude.{◌≡◌, ◌<◌, IfOk, IfSome, length};
+ghost use Rattle.order_reading.specs.Given.{FitsOperands};
+ghost use Rattle.order_reading.specs.Questions.{closure_from as spec_closure_from, restricted_to as spec_restricted_to, cut_to, node_of_whole as spec_node_of_whole, part_named as spec_part_named, FitsClosure, FitsPart};
 
-use crate::early::Early;
-use crate::names::node_named;
+use crate::names::NamedNodes;
+use crate::operands::Operands;
 use fbas_core::System;
 use name_set::NodeSet;
 use std::alloc::{AllocError, Global};
 
-/// The node that `--from` names, if the option is given.
-pub fn from_named(
-    alloc: Global,
-    system: &System,
-    from: &Option<String>,
-) -> Result<Option<u32>, Early>
-    ensures { ReadsTo result (from_by_option system.now (option_map string_bytes from.now))
-        (λ node. IfSome node (λ v. v < length system.now.sets)) }
-{
-    if from.is_none() {
-        return Ok(None);
-    }
-    let node = node_named(alloc, system, "--from", from)?;
-    Ok(Some(node))
+/// A part of a system, and the nodes that the options name, by their numbers in it.
+#[derive(Drop)]
+pub struct NodesInPart {
+    pub system: System,
+    /// That of `--node`.
+    pub node: Option<u32>,
+    /// The faulty ones.
+    pub faulty: NodeSet,
+    /// Those of `--set`.
+    pub set: NodeSet,
 }
 
 // The trust closure of a node, or none where there is no node.
 fn closure_from(system: &System, node: Option<u32>) -> Option<NodeSet>
     requires { IfSome node (λ v. v < length system.now.sets) }
-    ensures closure { result ≡ option_map (λ v. closure_of system.now.sets v) node }
+    ensures closure { result ≡ spec_closure_from system.now node }
     ensures fits { FitsClosure system.now result }
 {
     match node {
@@ -38,20 +33,18 @@ fn closure_from(system: &System, node: Option<u32>) -> Option<NodeSet>
     }
 }
 
-/// The trust closure of the node that `--from` names, or none where the option is not given.
-pub fn closure_named(
-    alloc: Global,
-    system: &System,
-    from: &Option<String>,
-) -> Result<Option<NodeSet>, Early>
-    ensures { ReadsTo result (closure_named system.now (option_map string_bytes from.now)) (FitsClosure system.now) }
+// The node that `--node` names: no command asks about one in a trust closure.
+fn node_of_whole(from: Option<u32>, node: Option<u32>) -> Option<u32>
+    ensures { result ≡ spec_node_of_whole from node }
 {
-    let node = from_named(alloc, system, from)?;
-    Ok(closure_from(system, node))
+    match from {
+        Some(_) => None,
+        None => node,
+    }
 }
 
-/// The nodes of a set that are in the part, by their numbers there.
-pub fn cut_to(system: &System, closure: &Option<NodeSet>, set: NodeSet) -> NodeSet
+// The nodes of a set that are in the part, by their numbers there.
+fn cut_to(system: &System, closure: &Option<NodeSet>, set: NodeSet) -> NodeSet
     requires fits { FitsClosure system.now closure.now }
     requires same_n { length set ≡ length system.now.sets }
     ensures cut { result ≡ cut_to closure.now set }
@@ -63,8 +56,8 @@ pub fn cut_to(system: &System, closure: &Option<NodeSet>, set: NodeSet) -> NodeS
     }
 }
 
-/// The system restricted to a trust closure, or the whole system.
-pub fn restricted_to(
+// The system restricted to a trust closure, or the whole system.
+fn restricted_to(
     alloc: Global,
     system: System,
     closure: &Option<NodeSet>,
@@ -76,4 +69,33 @@ pub fn restricted_to(
         Some(closure) => system.restrict(alloc, closure),
         None => Ok(system),
     }
+}
+
+/// The part that the options name, the whole system or the trust closure of a node, and the nodes in it.
+pub fn part_named(alloc: Global, operands: Operands) -> Result<NodesInPart, AllocError>
+    requires { FitsOperands operands }
+    ensures part { IfOk result (λ p. p ≡ spec_part_named operands) }
+    ensures fits { IfOk result FitsPart }
+{
+    let Operands {
+        system,
+        orgs: _,
+        named,
+    } = operands;
+    let NamedNodes {
+        node,
+        from,
+        faulty,
+        set,
+    } = named;
+    let closure = closure_from(&system, from);
+    let faulty_there = cut_to(&system, &closure, faulty);
+    let set_there = cut_to(&system, &closure, set);
+    let part = restricted_to(alloc, system, &closure)?;
+    Ok(NodesInPart {
+        system: part,
+        node: node_of_whole(from, node),
+        faulty: faulty_there,
+        set: set_there,
+    })
 }

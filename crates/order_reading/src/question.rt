@@ -1,20 +1,16 @@
 //! What is asked of a system.
-ghost use Rattle.std.specs.Prelude.{◌≡◌, None, []};
+ghost use Rattle.std.specs.Prelude.{◌≡◌, ◌<◌, IfOk, IfSome, Some, length};
 ghost use Rattle.cli_words.specs.Order.{order_view};
-ghost use Rattle.order_reading.specs.Given.{AreOver, orgs_among};
-ghost use Rattle.order_reading.specs.Questions.{question_of, FitsInquiry};
+ghost use Rattle.order_reading.specs.Questions.{node_needed as spec_node_needed, origin_of as spec_origin_of, question_of as spec_question_of, FitsQuestion};
 ghost use Rattle.order_reading.specs.Reading.{ReadsTo};
 
 use crate::early::Early;
-use crate::names::{faulty_named, node_named, set_named};
-use crate::parts::{closure_named, cut_to};
+use crate::reply::refuse_usage;
 use crate::word::{Word, word_if_any};
-use certificate_file::GivenOrgs;
 use cli_words::{Order, Query};
 use digest_text::digest;
-use fbas_core::System;
 use name_set::NodeSet;
-use std::alloc::Global;
+use std::alloc::{AllocError, Global};
 
 /// Where an exported formula comes from.
 #[derive(Drop)]
@@ -44,134 +40,48 @@ pub enum Question {
     Export(Origin, NodeSet),
 }
 
-/// A question, and the trust closure that it is about: none where it is about the whole system.
-#[derive(Drop)]
-pub struct Inquiry {
-    pub closure: Option<NodeSet>,
-    pub question: Question,
-}
-
-// A question about the whole system.
-fn of_the_whole(question: Question) -> Inquiry
-    ensures { result ≡ record { closure = None; question = question } }
+// The node that a command needs: without it the words are refused.
+fn node_needed(alloc: Global, node: Option<u32>) -> Result<u32, Early>
+    ensures { ReadsTo result (spec_node_needed node) (λ v. node ≡ Some v) }
 {
-    Inquiry {
-        closure: None,
-        question,
+    match node {
+        Some(node) => Ok(node),
+        None => Err(Early::Refused(refuse_usage(alloc)?)),
     }
 }
 
-// The order `closure`.
-fn closure_asked(alloc: Global, order: &Order, system: &System) -> Result<Inquiry, Early>
-    ensures { ReadsTo result (question_of Query.Closure system.now [] [] (order_view order.now)) (FitsInquiry system.now) }
+// Where a formula of this configuration comes from.
+fn origin_of(alloc: Global, order: &Order, config: &[u8]) -> Result<Origin, AllocError>
+    ensures { IfOk result (λ origin. origin ≡ spec_origin_of config.now (order_view order.now)) }
 {
-    let node = node_named(alloc, system, "--node", &order.node)?;
-    Ok(of_the_whole(Question::Closure(node)))
-}
-
-// The order `greatest`.
-fn greatest_asked(
-    alloc: Global,
-    order: &Order,
-    system: &System,
-    given: &Option<GivenOrgs>,
-) -> Result<Inquiry, Early>
-    requires { AreOver system.now given.now }
-    ensures { ReadsTo result (question_of Query.Greatest system.now [] (orgs_among given.now) (order_view order.now))
-        (FitsInquiry system.now) }
-{
-    let closure = closure_named(alloc, system, &order.from)?;
-    let named = faulty_named(alloc, system, given, order)?;
-    let faulty = cut_to(system, &closure, named);
-    let question = Question::Greatest(faulty);
-    Ok(Inquiry { closure, question })
-}
-
-// The order `available`.
-fn available_asked(alloc: Global, order: &Order, system: &System) -> Result<Inquiry, Early>
-    ensures { ReadsTo result (question_of Query.Available system.now [] [] (order_view order.now)) (FitsInquiry system.now) }
-{
-    let closure = closure_named(alloc, system, &order.from)?;
-    let named = set_named(alloc, system, "--set", &order.set)?;
-    let set = cut_to(system, &closure, named);
-    let question = Question::Available(set);
-    Ok(Inquiry { closure, question })
-}
-
-// The order `blocks`.
-fn blocks_asked(
-    alloc: Global,
-    order: &Order,
-    system: &System,
-    given: &Option<GivenOrgs>,
-) -> Result<Inquiry, Early>
-    requires { AreOver system.now given.now }
-    ensures { ReadsTo result (question_of Query.Blocks system.now [] (orgs_among given.now) (order_view order.now))
-        (FitsInquiry system.now) }
-{
-    let closure = closure_named(alloc, system, &order.from)?;
-    let named_faulty = faulty_named(alloc, system, given, order)?;
-    let named = set_named(alloc, system, "--set", &order.set)?;
-    let faulty = cut_to(system, &closure, named_faulty);
-    let set = cut_to(system, &closure, named);
-    let question = Question::Blocks(set, faulty);
-    Ok(Inquiry { closure, question })
-}
-
-// The order `vblocks`.
-fn vblocks_asked(alloc: Global, order: &Order, system: &System) -> Result<Inquiry, Early>
-    ensures { ReadsTo result (question_of Query.Vblocks system.now [] [] (order_view order.now)) (FitsInquiry system.now) }
-{
-    let node = node_named(alloc, system, "--node", &order.node)?;
-    let set = set_named(alloc, system, "--set", &order.set)?;
-    Ok(of_the_whole(Question::Vblocks(node, set)))
-}
-
-// The order `export`, over a configuration.
-fn export_asked(
-    alloc: Global,
-    order: &Order,
-    system: &System,
-    config: &[u8],
-    given: &Option<GivenOrgs>,
-) -> Result<Inquiry, Early>
-    requires { AreOver system.now given.now }
-    ensures { ReadsTo result (question_of Query.Export system.now config.now (orgs_among given.now) (order_view order.now))
-        (FitsInquiry system.now) }
-{
-    let closure = closure_named(alloc, system, &order.from)?;
-    let named = faulty_named(alloc, system, given, order)?;
-    let faulty = cut_to(system, &closure, named);
     let from = word_if_any(alloc, &order.from)?;
-    let origin = Origin {
+    Ok(Origin {
         digest: digest(config),
         from,
-    };
-    let question = Question::Export(origin, faulty);
-    Ok(Inquiry { closure, question })
+    })
 }
 
-/// What an order with this question asks of the system of a configuration. The names are read in the order of the options `--node`, `--from`, `--faulty`,
-/// `--faulty-orgs`, `--set`.
-pub fn question_asked(
+/// What an order with this question asks of a part of the system of a configuration, by the nodes that it names there.
+pub fn question_of(
     alloc: Global,
     query: Query,
     order: &Order,
-    system: &System,
     config: &[u8],
-    given: &Option<GivenOrgs>,
-) -> Result<Inquiry, Early>
-    requires { AreOver system.now given.now }
-    ensures { ReadsTo result (question_of query system.now config.now (orgs_among given.now) (order_view order.now))
-        (FitsInquiry system.now) }
+    node: Option<u32>,
+    faulty: NodeSet,
+    set: NodeSet,
+) -> Result<Question, Early>
+    requires node { IfSome node (λ v. v < length faulty) }
+    requires same_n { length set ≡ length faulty }
+    ensures { ReadsTo result (spec_question_of query (order_view order.now) config.now node faulty set) (FitsQuestion (length faulty)) }
 {
     match query {
-        Query::Show => Ok(of_the_whole(Question::Show)),
-        Query::Closure => closure_asked(alloc, order, system),
-        Query::Greatest => greatest_asked(alloc, order, system, given),
-        Query::Available => available_asked(alloc, order, system),
-        Query::Blocks => blocks_asked(alloc, order, system, given),
-        Query::Vblocks => vblocks_asked(alloc, order, system),
-        Query::Export => export_asked(alloc, order, system, config, given),
+        Query::Show => Ok(Question::Show),
+        Query::Closure => Ok(Question::Closure(node_needed(alloc, node)?)),
+        Query::Greatest => Ok(Question::Greatest(faulty)),
+        Query::Available => Ok(Question::Available(set)),
+        Query::Blocks => Ok(Question::Blocks(set, faulty)),
+        Query::Vblocks => Ok(Question::Vblocks(node_needed(alloc, node)?, set)),
+        Query::Export => Ok(Question::Export(origin_of(alloc, order, config)?, faulty)),
     }
 }

@@ -8,25 +8,22 @@ ghost use Rattle.cli_words.specs.Words.{order_of};
 ghost use Rattle.cli_words.specs.declared.budget.TheConstants.{MOST_BUDGET};
 ghost use Rattle.cli_words.specs.declared.organisations.TheConstants.{MOST_ORGANISATIONS};
 ghost use Rattle.report.specs.Lines.{config_refused};
-ghost use Rattle.order_reading.specs.Answers.{words_of, asked_of, or_words_refused, order_asked, refused_words, file_asked, trial_asked, config_asked, command_asked, query_asked, asked_about as spec_asked_about, is_told, system_in, FitsAsked};
-ghost use Rattle.order_reading.specs.Meaning.{MeansYes, OfConfig, OfFile, OfWords, YesMeans, IsTold, IsUsage};
-ghost use Rattle.order_reading.specs.Given.{AreOver};
-ghost use Rattle.order_reading.specs.Questions.{FitsInquiry};
-ghost use Rattle.order_reading.specs.Reading.{Fails, Gives, GivesReading, IsRefusal, IsAnswer, ReadsDesk, ReadsTo};
+ghost use Rattle.order_reading.specs.Answers.{words_of, asked_of, or_words_refused, order_asked, refused_words, file_asked, trial_asked, config_asked, command_asked, query_asked, claim_by, is_check, system_in, FitsAsked};
+ghost use Rattle.order_reading.specs.Meaning.{HasFile, ShowsClaim, ConfigMeans, FileMeans, WordsMean, YesMeans, ChecksFile, IsUsage};
+ghost use Rattle.order_reading.specs.Given.{FitsOperands};
+ghost use Rattle.order_reading.specs.Reading.{Fails, Gives, GivesReading, IsRefusal, ReadsDesk, ReadsTo};
 
-use crate::checking::check_by;
+use crate::checking::check;
 use crate::early::Early;
-use crate::edits::{Edits, edits_named};
+use crate::edits::{Edits, edits_of};
 use crate::files::read_file;
-use crate::orgs::orgs_for;
-use crate::parts::restricted_to;
-use crate::question::{Inquiry, Question, question_asked};
-use crate::reply::{Reply, says};
-use crate::searches::{Search, search_asked, trial_search};
+use crate::operands::{Operands, operands_of};
+use crate::parts::{NodesInPart, part_named};
+use crate::question::{Question, question_of};
+use crate::reply::{Reply, refuse_usage, says};
+use crate::searches::{Search, search_of, trial_of};
 use crate::status::Status;
-use crate::verifying::verify_by;
-use certificate_file::GivenOrgs;
-use cli_words::{Command, Goal, Order, OrderFault, Query};
+use cli_words::{Command, Order, OrderFault, Query};
 use desk_io::{Desk, Which};
 use fbas_core::System;
 use node_json::{ConfigFault, read_config};
@@ -42,15 +39,17 @@ pub enum Asked {
     Search(Search),
     /// Edits of the system, tried one after another.
     Edits(Edits),
+    /// The check of a certificate, or of a proof, with what it says.
+    Checked(Reply),
 }
 
 // The answer to words that are refused.
 fn refuse_words(alloc: Global, fault: OrderFault) -> Result<Reply, AllocError>
-    ensures says { IfOk result (λ a. refused_words fault ≡ Early.Told a) }
+    ensures says { IfOk result (λ a. refused_words fault ≡ Early.Refused a) }
     ensures usage { IfOk result (λ a. a.status ≡ Status.Usage) }
 {
     match fault {
-        OrderFault::Words => Ok(Reply::new(Status::Usage, cli_words::usage(alloc)?)),
+        OrderFault::Words => refuse_usage(alloc),
         OrderFault::SamePath => says(alloc, Status::Usage, "usage same-path\n"),
         OrderFault::Memory => Err(AllocError),
     }
@@ -66,7 +65,7 @@ fn order_in(alloc: Global, words: &[String]) -> Result<Order, Early>
 {
     match cli_words::order(alloc, words) {
         Ok(order) => Ok(order),
-        Err(fault) => Err(Early::Told(refuse_words(alloc, fault)?)),
+        Err(fault) => Err(Early::Refused(refuse_words(alloc, fault)?)),
     }
 }
 
@@ -86,35 +85,29 @@ fn system_in(alloc: Global, config: &[u8]) -> Result<System, Early>
     match read_config(alloc, config) {
         Ok(system) => Ok(system),
         Err(ConfigFault::Memory) => Err(Early::Memory),
-        Err(fault) => Err(Early::Told(refuse_config(alloc, fault)?)),
+        Err(fault) => Err(Early::Refused(refuse_config(alloc, fault)?)),
     }
 }
 
-// The part that an inquiry is about, and its question.
-fn asked_about(alloc: Global, system: System, inquiry: Inquiry) -> Result<Asked, AllocError>
-    requires { FitsInquiry system inquiry }
-    ensures gives { IfOk result (λ asked. asked ≡ spec_asked_about system inquiry) }
-    ensures fits { IfOk result FitsAsked }
-{
-    let Inquiry { closure, question } = inquiry;
-    let part = restricted_to(alloc, system, &closure)?;
-    Ok(Asked::Question(part, question))
-}
-
-// What an order with this question asks of a part of the system, once the organisations were read.
-fn ask_about(
+// What an order with this question asks of the part that its options name.
+fn ask(
     alloc: Global,
     query: Query,
     order: &Order,
-    system: System,
     config: &[u8],
-    given: &Option<GivenOrgs>,
+    operands: Operands,
 ) -> Result<Asked, Early>
-    requires { AreOver system given.now }
-    ensures { ReadsTo result (query_asked query (order_view order.now) system config.now given.now) FitsAsked }
+    requires { FitsOperands operands }
+    ensures { ReadsTo result (query_asked query (order_view order.now) config.now operands) FitsAsked }
 {
-    match question_asked(alloc, query, order, &system, config, given) {
-        Ok(inquiry) => Ok(asked_about(alloc, system, inquiry)?),
+    let NodesInPart {
+        system,
+        node,
+        faulty,
+        set,
+    } = part_named(alloc, operands)?;
+    match question_of(alloc, query, order, config, node, faulty, set) {
+        Ok(question) => Ok(Asked::Question(system, question)),
         Err(early) => {
             drop(system);
             Err(early)
@@ -122,89 +115,34 @@ fn ask_about(
     }
 }
 
-// What an order with this question asks over a configuration that was read.
-fn ask<D: Desk>(
-    alloc: Global,
-    query: Query,
-    order: &Order,
-    system: System,
-    config: &[u8],
-    desk: &mut D,
-) -> Result<Asked, Early>
-    ensures gives { IsTrue D.tells → GivesReading (D.state desk.old).plain result
-        (command_asked (Command.Query query) (order_view order.now) system config.now (D.state desk.old).files) }
-    ensures refused { IfErr result IsRefusal }
-    ensures fits { IfOk result FitsAsked }
-    ensures desk { ReadsDesk D.tells D.state D.faults desk.old desk.new (IsErrOf result Early.Read) }
-{
-    match orgs_for(alloc, &system, desk, &order.orgs) {
-        Ok(given) => ask_about(alloc, query, order, system, config, &given),
-        Err(early) => {
-            drop(system);
-            Err(early)
-        }
-    }
-}
-
-// What an order with this goal asks over a configuration that was read.
-fn seek<D: Desk>(
-    alloc: Global,
-    goal: Goal,
-    order: &Order,
-    system: System,
-    config: &[u8],
-    desk: &mut D,
-) -> Result<Asked, Early>
-    requires few { order.now.budget ≤ MOST_BUDGET }
-    requires file { IsTrue (has_configuration (Command.Search goal)) }
-    ensures gives { IsTrue D.tells → GivesReading (D.state desk.old).plain result
-        (command_asked (Command.Search goal) (order_view order.now) system config.now (D.state desk.old).files) }
-    ensures refused { IfErr result IsRefusal }
-    ensures fits { IfOk result FitsAsked }
-    ensures desk { ReadsDesk D.tells D.state D.faults desk.old desk.new (IsErrOf result Early.Read) }
-{
-    match orgs_for(alloc, &system, desk, &order.orgs) {
-        Ok(given) => Ok(Asked::Search(search_asked(alloc, goal, order, system, config, given)?)),
-        Err(early) => {
-            drop(system);
-            Err(early)
-        }
-    }
-}
-
-// What a command asks over a configuration that was read.
+// What a command asks, by what its order names; a check with what it says.
 fn command<D: Desk>(
     alloc: Global,
     order: &Order,
-    system: System,
     config: &[u8],
+    operands: Operands,
     desk: &mut D,
 ) -> Result<Asked, Early>
+    requires operands { FitsOperands operands }
     requires few { order.now.budget ≤ MOST_BUDGET }
     requires file { IsTrue (has_configuration order.now.command) }
     ensures gives { IsTrue D.tells → GivesReading (D.state desk.old).plain result
-        (command_asked order.now.command (order_view order.now) system config.now (D.state desk.old).files) }
-    ensures answers { IfErr result IsAnswer }
+        (command_asked order.now.command (order_view order.now) config.now operands (D.state desk.old).files) }
+    ensures refused { IfErr result IsRefusal }
     ensures fits { IfOk result FitsAsked }
-    ensures told { IsTrue (is_told order.now.command) → IsErr result }
-    ensures shows { IfErr result (λ e. IsTrue D.tells → YesMeans
-        (MeansYes order.now.command (order_view order.now) system config.now (D.state desk.old).files) e) }
+    ensures shows { IfOk result (λ asked. IsTrue (is_check order.now.command) → IsTrue D.tells → YesMeans
+        (HasFile (ShowsClaim operands.system (claim_by order.now.command config.now operands.system operands.orgs operands.named)) (D.state desk.old).files (order_view order.now).cert) asked) }
     ensures desk { ReadsDesk D.tells D.state D.faults desk.old desk.new (IsErrOf result Early.Read) }
 {
     match order.command {
-        Command::Check => {
-            let reply = check_by(alloc, order, &system, config, desk);
-            drop(system);
-            Err(Early::Told(reply?))
+        Command::Query(query) => ask(alloc, query, order, config, operands),
+        Command::Search(goal) => Ok(Asked::Search(search_of(
+            alloc, goal, order, config, operands,
+        )?)),
+        Command::Whatif => Ok(Asked::Edits(edits_of(alloc, order, operands, desk)?)),
+        Command::Check | Command::CheckLrat => {
+            Ok(Asked::Checked(check(alloc, order, config, operands, desk)?))
         }
-        Command::CheckLrat => {
-            let reply = verify_by(alloc, order, &system, desk);
-            drop(system);
-            Err(Early::Told(reply?))
-        }
-        Command::Query(query) => ask(alloc, query, order, system, config, desk),
-        Command::Search(goal) => seek(alloc, goal, order, system, config, desk),
-        Command::Whatif => Ok(Asked::Edits(edits_named(alloc, order, system, desk)?)),
     }
 }
 
@@ -219,15 +157,15 @@ fn over_config<D: Desk>(
     requires file { IsTrue (has_configuration order.now.command) }
     ensures gives { IsTrue D.tells → GivesReading (D.state desk.old).plain result
         (config_asked (order_view order.now) (D.state desk.old).files config.now) }
-    ensures answers { IfErr result IsAnswer }
+    ensures refused { IfErr result IsRefusal }
     ensures fits { IfOk result FitsAsked }
-    ensures told { IsTrue (is_told order.now.command) → IsErr result }
-    ensures shows { IfErr result (λ e. IsTrue D.tells → YesMeans
-        (OfConfig (λ system. MeansYes order.now.command (order_view order.now) system config.now (D.state desk.old).files) config.now) e) }
+    ensures shows { IfOk result (λ asked. IsTrue (is_check order.now.command) → IsTrue D.tells → YesMeans
+        (ConfigMeans (order_view order.now) (D.state desk.old).files config.now) asked) }
     ensures desk { ReadsDesk D.tells D.state D.faults desk.old desk.new (IsErrOf result Early.Read) }
 {
     let system = system_in(alloc, config)?;
-    command(alloc, order, system, config, desk)
+    let operands = operands_of(alloc, order, system, desk)?;
+    command(alloc, order, config, operands, desk)
 }
 
 // What an order asks over the file of its configuration.
@@ -235,11 +173,10 @@ fn over_file<D: Desk>(alloc: Global, order: &Order, desk: &mut D) -> Result<Aske
     requires few { order.now.budget ≤ MOST_BUDGET }
     requires file { IsTrue (has_configuration order.now.command) }
     ensures gives { IsTrue D.tells → GivesReading (D.state desk.old).plain result (file_asked (order_view order.now) (D.state desk.old).files) }
-    ensures answers { IfErr result IsAnswer }
+    ensures refused { IfErr result IsRefusal }
     ensures fits { IfOk result FitsAsked }
-    ensures told { IsTrue (is_told order.now.command) → IsErr result }
-    ensures shows { IfErr result (λ e. IsTrue D.tells → YesMeans
-        (OfFile (λ system config. MeansYes order.now.command (order_view order.now) system config (D.state desk.old).files) (D.state desk.old).files (order_view order.now).config) e) }
+    ensures shows { IfOk result (λ asked. IsTrue (is_check order.now.command) → IsTrue D.tells → YesMeans
+        (FileMeans (order_view order.now) (D.state desk.old).files) asked) }
     ensures desk { ReadsDesk D.tells D.state D.faults desk.old desk.new (IsErrOf result Early.Read) }
 {
     let config = read_file(
@@ -262,7 +199,7 @@ fn over_trial(alloc: Global, order: &Order) -> Result<Asked, Early>
     ensures failing { IfErr result (λ e. e ≡ Early.Memory) }
 {
     let Trial { text, system } = Trial::of(alloc, order.trial)?;
-    let search = trial_search(alloc, order, system, text.as_bytes())?;
+    let search = trial_of(alloc, order, system, text.as_bytes())?;
     Ok(Asked::Search(search))
 }
 
@@ -271,11 +208,10 @@ fn carry_out<D: Desk>(alloc: Global, order: &Order, desk: &mut D) -> Result<Aske
     requires few { order.now.budget ≤ MOST_BUDGET }
     requires organisations { has_configuration order.now.command ≡ false → (1 ≤ order.now.trial) × (order.now.trial ≤ MOST_ORGANISATIONS) }
     ensures gives { IsTrue D.tells → GivesReading (D.state desk.old).plain result (order_asked (order_view order.now) (D.state desk.old).files) }
-    ensures answers { IfErr result IsAnswer }
+    ensures refused { IfErr result IsRefusal }
     ensures fits { IfOk result FitsAsked }
-    ensures told { IsTrue (is_told order.now.command) → IsErr result }
-    ensures shows { IfErr result (λ e. IsTrue D.tells → YesMeans
-        (OfFile (λ system config. MeansYes order.now.command (order_view order.now) system config (D.state desk.old).files) (D.state desk.old).files (order_view order.now).config) e) }
+    ensures shows { IfOk result (λ asked. IsTrue (is_check order.now.command) → IsTrue D.tells → YesMeans
+        (FileMeans (order_view order.now) (D.state desk.old).files) asked) }
     ensures desk { ReadsDesk D.tells D.state D.faults desk.old desk.new (IsErrOf result Early.Read) }
 {
     if order.command.has_configuration() {
@@ -284,15 +220,14 @@ fn carry_out<D: Desk>(alloc: Global, order: &Order, desk: &mut D) -> Result<Aske
     over_trial(alloc, order)
 }
 
-/// What the words ask, which begin with the program's name, or the early answer.
+/// What the words ask, which begin with the program's name, or why nothing is asked. What a check says comes with it.
 pub fn ask_by_words<D: Desk>(alloc: Global, words: &[String], desk: &mut D) -> Result<Asked, Early>
     ensures gives { IsTrue D.tells → GivesReading (D.state desk.old).plain result (asked_of (words_of words.now) (D.state desk.old).files) }
-    ensures answers { IfErr result IsAnswer }
+    ensures refused { IfErr result IsRefusal }
     ensures fits { IfOk result FitsAsked }
-    ensures told { IsTold (order_of (words_of words.now)) → IsErr result }
-    ensures shows { IfErr result (λ e. IsTrue D.tells → YesMeans
-        (OfWords (λ order system config. MeansYes order.command order system config (D.state desk.old).files) (D.state desk.old).files (words_of words.now)) e) }
-    ensures refused { IsErr (order_of (words_of words.now)) → IfErr result IsUsage }
+    ensures shows { IfOk result (λ asked. ChecksFile (order_of (words_of words.now)) → IsTrue D.tells → YesMeans
+        (WordsMean (words_of words.now) (D.state desk.old).files) asked) }
+    ensures usage { IsErr (order_of (words_of words.now)) → IfErr result IsUsage }
     ensures unasked { IsErr (order_of (words_of words.now)) → IsErr result }
     ensures taken { IsErrOf result Early.Read → IsOk (order_of (words_of words.now)) }
     ensures unread { IsErr (order_of (words_of words.now)) → IsTrue D.tells → D.state desk.new ≡ D.state desk.old }

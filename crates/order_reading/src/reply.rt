@@ -1,5 +1,6 @@
 //! An answer.
 ghost use Rattle.std.specs.Prelude.{◌≡◌, IfOk};
+ghost use Rattle.cli_words.specs.Usage.{usage};
 
 use crate::status::Status;
 use std::alloc::{AllocError, Global};
@@ -58,4 +59,11 @@ pub fn says(alloc: Global, status: Status, text: &str) -> Result<Reply, AllocErr
     ensures { IfOk result (λ a. a ≡ record { status = status; text = text.now }) }
 {
     Ok(Reply::new(status, Vec::from_slice(alloc, text.as_bytes())?))
+}
+
+/// The answer to words that are those of no command: the usage text.
+pub fn refuse_usage(alloc: Global) -> Result<Reply, AllocError>
+    ensures { IfOk result (λ a. a ≡ record { status = Status.Usage; text = usage }) }
+{
+    Ok(Reply::new(Status::Usage, cli_words::usage(alloc)?))
 }

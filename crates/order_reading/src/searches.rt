@@ -4,10 +4,11 @@ ghost use Rattle.fbas_model.specs.Nodes.{members, ∅};
 ghost use Rattle.fbas_model.specs.Fbas.{Intersects};
 ghost use Rattle.cli_words.specs.Order.{order_view};
 ghost use Rattle.cli_words.specs.Table.{has_configuration};
-ghost use Rattle.cli_words.specs.Usage.{usage};
 ghost use Rattle.cli_words.specs.declared.budget.TheConstants.{MOST_BUDGET};
-ghost use Rattle.order_reading.specs.Searches.{deleted_by, nobody as spec_nobody, cut_within as spec_cut_within, header_by_goal, orgs_needed as spec_orgs_needed, orgs_sought as spec_orgs_sought, search_of, trial_of, FitsSearch};
-ghost use Rattle.order_reading.specs.Given.{AreOver, AreRead, orgs_among};
+ghost use Rattle.fbas_model.specs.Restriction.{union};
+ghost use Rattle.order_reading.specs.Searches.{nobody as spec_nobody, cut_within as spec_cut_within, header_of as spec_header_of, orgs_needed as spec_orgs_needed, orgs_sought as spec_orgs_sought, search_of as spec_search_of, trial_of as spec_trial_of, FitsSearch};
+ghost use Rattle.order_reading.specs.Given.{FitsOperands};
+ghost use Rattle.order_reading.specs.Names.{FitsNamed};
 ghost use Rattle.hex.specs.Hex.{IsBytes};
 ghost use Rattle.sha2.specs.Sha256.{sha256};
 ghost use Rattle.cert_writer.specs.Promises.{IsHeader};
@@ -15,10 +16,9 @@ ghost use Rattle.certificate_file.specs.Known.{FitsHeader};
 ghost use Rattle.order_reading.specs.Reading.{ReadsTo};
 
 use crate::early::Early;
-use crate::names::{faulty_named, set_named};
-use crate::parts::from_named;
-use crate::reply::Reply;
-use crate::status::Status;
+use crate::names::NamedNodes;
+use crate::operands::Operands;
+use crate::reply::refuse_usage;
 use crate::word::Word;
 use certificate_file::{GivenOrgs, Header};
 use cli_words::{Command, Goal, Order};
@@ -54,43 +54,15 @@ fn nobody(system: &System) -> NodeSet
     NodeSet::new(system.len())
 }
 
-// The nodes that are deleted: the faulty ones, those of the set, or both, and none in a trial.
-fn deleted(
-    alloc: Global,
-    goal: Goal,
-    system: &System,
-    given: &Option<GivenOrgs>,
-    order: &Order,
-) -> Result<NodeSet, Early>
-    requires { AreOver system.now given.now }
-    ensures { ReadsTo result (deleted_by goal system.now (orgs_among given.now) (order_view order.now))
-        (λ s. length s ≡ length system.now.sets) }
+// The nodes of either set.
+fn joined(first: NodeSet, second: &NodeSet) -> NodeSet
+    requires { length first ≡ length second.now }
+    ensures value { result ≡ union first second.now }
+    ensures places { length result ≡ length first }
 {
-    match goal {
-        Goal::Intersect | Goal::Blocking | Goal::Quorums | Goal::Least | Goal::OrgBlocking => {
-            faulty_named(alloc, system, given, order)
-        }
-        Goal::Dset => set_named(alloc, system, "--set", &order.set),
-        Goal::Splits => both_named(alloc, system, given, order),
-        Goal::Trial => Ok(nobody(system)),
-    }
-}
-
-// The faulty nodes and those of the set.
-fn both_named(
-    alloc: Global,
-    system: &System,
-    given: &Option<GivenOrgs>,
-    order: &Order,
-) -> Result<NodeSet, Early>
-    requires { AreOver system.now given.now }
-    ensures { ReadsTo result (deleted_by Goal.Splits system.now (orgs_among given.now) (order_view order.now))
-        (λ s. length s ≡ length system.now.sets) }
-{
-    let mut faulty = faulty_named(alloc, system, given, order)?;
-    let set = set_named(alloc, system, "--set", &order.set)?;
-    faulty.join(&set);
-    Ok(faulty)
+    let mut all = first;
+    all.join(second);
+    all
 }
 
 // The nodes of a set that are in the part, the whole system or the trust closure of a node.
@@ -107,8 +79,8 @@ fn cut_within(system: &System, from: Option<u32>, set: NodeSet) -> NodeSet
     set
 }
 
-/// The part that is meant, and the nodes of it that are deleted.
-pub fn header_of(system: &System, from: Option<u32>, named: NodeSet) -> Header
+// The part that is meant, and the nodes of it that are deleted.
+fn header_with(system: &System, from: Option<u32>, named: NodeSet) -> Header
     requires node { IfSome from (λ v. v < length system.now.sets) }
     requires same_n { length named ≡ length system.now.sets }
     ensures value { result ≡ record { from = from; faulty = spec_cut_within system.now from named } }
@@ -118,6 +90,22 @@ pub fn header_of(system: &System, from: Option<u32>, named: NodeSet) -> Header
     let _ = system.len();
     let faulty = cut_within(system, from, named);
     Header { from, faulty }
+}
+
+/// The part that the options name, and the nodes of it that are deleted: the faulty ones, and those of the set.
+pub fn header_of(system: &System, named: NamedNodes) -> Header
+    requires { FitsNamed (length system.now.sets) named }
+    ensures value { result ≡ spec_header_of system.now named }
+    ensures fits { IsHeader system.now result }
+    ensures places { FitsHeader system.now result }
+{
+    let NamedNodes {
+        node: _,
+        from,
+        faulty,
+        set,
+    } = named;
+    header_with(system, from, joined(faulty, &set))
 }
 
 // What is known of the bytes of an array is known where it is handed to a call.
@@ -131,13 +119,6 @@ pub fn look(digest: &[u8; 32])
     hand(digest);
 }
 
-// The answer to words that name no file of organisations, where their blocking sets are sought.
-fn refuse_without_orgs(alloc: Global) -> Result<Reply, AllocError>
-    ensures { IfOk result (λ a. a ≡ record { status = Status.Usage; text = usage }) }
-{
-    Ok(Reply::new(Status::Usage, cli_words::usage(alloc)?))
-}
-
 // Blocking sets of organisations are sought over a file of them.
 fn orgs_needed(alloc: Global, goal: Goal, given: &Option<GivenOrgs>) -> Result<(), Early>
     ensures { ReadsTo result (spec_orgs_needed goal given.now) (λ _. goal ≡ Goal.OrgBlocking → IsSome given.now) }
@@ -145,7 +126,7 @@ fn orgs_needed(alloc: Global, goal: Goal, given: &Option<GivenOrgs>) -> Result<(
     match goal {
         Goal::OrgBlocking => match given {
             Some(_) => Ok(()),
-            None => Err(Early::Told(refuse_without_orgs(alloc)?)),
+            None => Err(Early::Refused(refuse_usage(alloc)?)),
         },
         _ => Ok(()),
     }
@@ -163,25 +144,6 @@ fn orgs_sought(goal: Goal, given: Option<GivenOrgs>) -> Option<GivenOrgs>
             None
         }
     }
-}
-
-// The part that an order with this goal means, and the nodes of it that are deleted. The names are read in the order of the options
-// `--from`, `--faulty`, `--faulty-orgs`, `--set`.
-fn header_asked(
-    alloc: Global,
-    goal: Goal,
-    order: &Order,
-    system: &System,
-    given: &Option<GivenOrgs>,
-) -> Result<Header, Early>
-    requires { AreOver system.now given.now }
-    ensures reads { ReadsTo result (header_by_goal goal system.now given.now (order_view order.now)) (IsHeader system.now) }
-    ensures needed { IfOk result (λ _. goal ≡ Goal.OrgBlocking → IsSome given.now) }
-{
-    orgs_needed(alloc, goal, given)?;
-    let from = from_named(alloc, system, &order.from)?;
-    let named = deleted(alloc, goal, system, given, order)?;
-    Ok(header_of(system, from, named))
 }
 
 // The search with this header and these organisations, which nothing can refuse any more.
@@ -212,30 +174,35 @@ fn search_with(
     })
 }
 
-/// What an order with this goal asks of the system of a configuration.
+/// What an order with this goal asks, by what it names in the system of a configuration.
 #[tactic(auto, unfolding(cli_words::specs::Table::row_of))]
-pub fn search_asked(
+pub fn search_of(
     alloc: Global,
     goal: Goal,
     order: &Order,
-    system: System,
     config: &[u8],
-    given: Option<GivenOrgs>,
+    operands: Operands,
 ) -> Result<Search, Early>
-    requires over { AreOver system given }
-    requires read { AreRead system given }
+    requires fits { FitsOperands operands }
     requires few { order.now.budget ≤ MOST_BUDGET }
     requires file { IsTrue (has_configuration (Command.Search goal)) }
-    ensures { ReadsTo result (search_of goal system config.now given (order_view order.now)) FitsSearch }
+    ensures { ReadsTo result (spec_search_of goal (order_view order.now) config.now operands) FitsSearch }
 {
-    match header_asked(alloc, goal, order, &system, &given) {
-        Ok(header) => {
-            let orgs = orgs_sought(goal, given);
+    let Operands {
+        system,
+        orgs,
+        named,
+    } = operands;
+    match orgs_needed(alloc, goal, &orgs) {
+        Ok(()) => {
+            let header = header_of(&system, named);
+            let orgs = orgs_sought(goal, orgs);
             Ok(search_with(alloc, goal, order, system, config, header, orgs)?)
         }
         Err(early) => {
             drop(system);
-            drop(given);
+            drop(orgs);
+            drop(named);
             Err(early)
         }
     }
@@ -243,7 +210,7 @@ pub fn search_asked(
 
 /// What a trial asks of the system of its configuration's text, in which every two quorums share a node. It is the whole system
 /// that is meant, and nobody is deleted.
-pub fn trial_search(
+pub fn trial_of(
     alloc: Global,
     order: &Order,
     system: System,
@@ -251,9 +218,9 @@ pub fn trial_search(
 ) -> Result<Search, AllocError>
     requires few { order.now.budget ≤ MOST_BUDGET }
     requires meets { Intersects system.sets ∅ }
-    ensures gives { IfOk result (λ s. s ≡ trial_of system config.now (order_view order.now)) }
+    ensures gives { IfOk result (λ s. s ≡ spec_trial_of system config.now (order_view order.now)) }
     ensures fits { IfOk result FitsSearch }
 {
-    let header = header_of(&system, None, nobody(&system));
+    let header = header_with(&system, None, nobody(&system));
     search_with(alloc, Goal::Trial, order, system, config, header, None)
 }

@@ -1,6 +1,6 @@
 use Rattle.std.proofs.Common.{Err, Some, sym, ◌∙◌, ap}
 use Rattle.desk_io.specs.State.{left_of}
-use Rattle.order_reading.proofs.Told.{file_read, file_refused}
+use Rattle.order_reading.proofs.Readings.{file_read, file_refused}
 use Rattle.order_reading.proofs.files.read_within.Goals as goal
 
 pub returns-in-Ok-read_all-clause-ok : goal.returns-in-Ok-read_all-clause-ok

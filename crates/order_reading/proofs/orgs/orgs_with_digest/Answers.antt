@@ -1,4 +1,4 @@
-use Rattle.order_reading.proofs.Told.{are_orgs}
+use Rattle.order_reading.proofs.Readings.{are_orgs}
 use Rattle.order_reading.proofs.orgs.orgs_with_digest.Goals as goal
 
 pub returns-clause-read : goal.returns-clause-read

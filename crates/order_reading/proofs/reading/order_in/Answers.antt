@@ -1,6 +1,6 @@
 use Rattle.cli_words.specs.Words.{order_of}
 use Rattle.order_reading.specs.Answers.{words_of}
-use Rattle.order_reading.proofs.Told.{words_refused}
+use Rattle.order_reading.proofs.Readings.{words_refused}
 use Rattle.order_reading.proofs.reading.order_in.Goals as goal
 
 pub returns-in_ok-refuse_words-in-Err-clause-err : goal.returns-in_ok-refuse_words-in-Err-clause-err

@@ -3,7 +3,7 @@ use Rattle.fbas_model.specs.Nodes.{Table}
 use Rattle.witness_pair.specs.Making.{shared}
 use Rattle.certificate_file.specs.Meaning.{part_from}
 use Rattle.order_reading.proofs.Cuts.{cut_inside}
-use Rattle.order_reading.proofs.searches.header_of.Goals as goal
+use Rattle.order_reading.proofs.searches.header_with.Goals as goal
 
 pub returns-clause-fits : goal.returns-clause-fits
 returns-clause-fits c =
