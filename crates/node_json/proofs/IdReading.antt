@@ -61,8 +61,3 @@ module _ (orgs : List Org) (k : ℕ) (id : Name) (h : (length id == 0) ≡ false
   pub item-known : (r : Option (Bor Table)) → option_copied r ≡ members_under orgs id → IfOk (ok_or r (Unknown k)) (λ s. (at : ℕ) × (node_at (ids_of orgs) k id ≡ Ok at))
   item-known None e = tt
   item-known (Some s) e = let at = known-place orgs id s.now (sym e) in (at.0, node_at-key (ids_of orgs) k id h key ∙ rw at.1 refl)
-
--- ---- the item at hand
-
-pub item_here : (items : List Name) (i n : ℕ) (item : Name) → i ≡ n → (n < length items) × (item ≡ get_or items n item) → (i < length items) × (item ≡ get_or items i item)
-item_here items i n item e turn = rw e turn

@@ -6,8 +6,8 @@ use Rattle.std.proofs.lemmas.Iterator.Splits.{YieldsList-from_slice_split}
 use Rattle.fbas_model.specs.Nodes.{Nodes}
 use Rattle.node_json.specs.Organisations.{ids_of}
 use Rattle.node_json.proofs.OrgPlaces.{under-sized}
-use Rattle.name_set.proofs.ListLaws.{parts, known_more, faulty_here}
-use Rattle.node_json.proofs.IdReading.{united, members-more, read-nothing, read-parts, read_all, item_here}
+use Rattle.name_set.proofs.ListLaws.{parts, item_here, known_more, faulty_here}
+use Rattle.node_json.proofs.IdReading.{united, members-more, read-nothing, read-parts, read_all}
 use Rattle.node_json.proofs.ids.read_ids.Goals as goal
 
 pub returns-then-is_empty-clause-ok : goal.returns-then-is_empty-clause-ok
