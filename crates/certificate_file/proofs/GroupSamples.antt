@@ -8,8 +8,10 @@ use Rattle.node_json.specs.Groups.{Group, groups_of}
 use Rattle.certificate_file.specs.declared.given.Given.{Given}
 use Rattle.certificate_file.specs.Acceptance.{checked, take_line}
 use Rattle.certificate_file.specs.declared.places.Accepted.{Accepted}
-use Rattle.certificate_file.specs.declared.places.Conclusion.{Conclusion}
-use Rattle.certificate_file.specs.declared.places.Conclusion.TheVariants.{OrgBlocking, PartialOrgBlocking}
+use Rattle.certificate_file.specs.declared.places.Conclusion.TheVariants.{Reached}
+use Rattle.reach_kinds.specs.declared.kinds.ReachKind.TheVariants.{Groups}
+use Rattle.reach_kinds.specs.declared.places.Reached.{Reached as Shown}
+use Rattle.reach_kinds.specs.declared.places.Reached.TheVariants.{OrgBlocking, Partial}
 use Rattle.cert_lines.specs.declared.faults.CertError.TheVariants.{BadLine, NoOrgs, OrgsDigest, UnknownNode, NotQuorum, NotBlocking, NotMinimal, NotNew}
 
 two_of_three : Option QuorumSet
@@ -33,8 +35,8 @@ part = codes "fbas-cert 2\nconfig 0000000000000000000000000000000000000000000000
 without_c : List ℕ
 without_c = codes "fbas-cert 2\nconfig 0000000000000000000000000000000000000000000000000000000000000000\nfrom\nfaulty c\nkind org-blocking\norgs 0000000000000000000000000000000000000000000000000000000000000000\n"
 
-abbrev shows : Conclusion → Accepted
-shows answer = record { header = record { from = None; faulty = false ∷ false ∷ false ∷ [] }; answer = answer }
+abbrev shows : Shown → Accepted
+shows answer = record { header = record { from = None; faulty = false ∷ false ∷ false ∷ [] }; answer = Reached answer }
 
 abbrev two_groups : List Group
 two_groups = (record { text = codes "node:c"; members = false ∷ false ∷ true ∷ [] }) ∷ (record { text = codes "org:A"; members = true ∷ true ∷ false ∷ [] }) ∷ []
@@ -43,7 +45,7 @@ worked : checked three given (header ++ codes "q 1 a b\nb 2 org:A\n3 0 1 2 0\nen
 unfolding checked take_line encode_with decode_pairs greatest_of groups_of three two_of_three zeros given header
 worked = refl
 
-one_line : checked three given (part ++ codes "q 1 a b\nend\n") ≡ Ok (shows (PartialOrgBlocking 1))
+one_line : checked three given (part ++ codes "q 1 a b\nend\n") ≡ Ok (shows (Partial Groups 1))
 unfolding checked take_line encode_with decode_pairs greatest_of groups_of three two_of_three zeros given part
 one_line = refl
 

@@ -9,8 +9,11 @@ use Rattle.greatest_quorum.specs.Greatest.{greatest_of}
 use Rattle.certificate_file.specs.declared.given.Given.{Given}
 use Rattle.certificate_file.specs.Acceptance.{checked, take_line}
 use Rattle.certificate_file.specs.declared.places.Accepted.{Accepted}
-use Rattle.certificate_file.specs.declared.places.Conclusion.{Conclusion}
-use Rattle.certificate_file.specs.declared.places.Conclusion.TheVariants.{Blocking, PartialBlocking, Quorums, Least, PartialLeast}
+use Rattle.certificate_file.specs.declared.places.Conclusion.TheVariants.{Reached}
+use Rattle.list_journal.specs.declared.kinds.Listed.TheVariants as listed
+use Rattle.reach_kinds.specs.declared.kinds.ReachKind.TheVariants.{Nodes}
+use Rattle.reach_kinds.specs.declared.places.Reached.{Reached as Shown}
+use Rattle.reach_kinds.specs.declared.places.Reached.TheVariants.{Minimal, Least, Partial}
 use Rattle.cert_lines.specs.declared.faults.CertError.TheVariants.{BadLine, UnknownNode, NotQuorum, NotBlocking, NotMinimal, NotSmaller, Formula, Step, NotNew, NotRefuted}
 
 two_of_three : Option QuorumSet
@@ -31,18 +34,18 @@ part = codes "fbas-cert 1\nconfig 0000000000000000000000000000000000000000000000
 without_a : List ℕ
 without_a = codes "fbas-cert 1\nconfig 0000000000000000000000000000000000000000000000000000000000000000\nfrom\nfaulty a\nkind blocking\n"
 
-abbrev shows : Conclusion → Accepted
-shows answer = record { header = record { from = None; faulty = false ∷ false ∷ false ∷ [] }; answer = answer }
+abbrev shows : Shown → Accepted
+shows answer = record { header = record { from = None; faulty = false ∷ false ∷ false ∷ [] }; answer = Reached answer }
 
 abbrev all_three : List Table
 all_three = (true ∷ true ∷ false ∷ []) ∷ (true ∷ false ∷ true ∷ []) ∷ (false ∷ true ∷ true ∷ []) ∷ []
 
-worked : checked three zeros (whole ++ codes "q 1 a b\nq 2 a c\nq 3 b c\nb 4 a b\nb 5 a c\nb 6 b c\n7 -1 0 4 5 3 0\n8 0 7 1 2 6 0\nend\n") ≡ Ok (shows (Blocking all_three))
+worked : checked three zeros (whole ++ codes "q 1 a b\nq 2 a c\nq 3 b c\nb 4 a b\nb 5 a c\nb 6 b c\n7 -1 0 4 5 3 0\n8 0 7 1 2 6 0\nend\n") ≡ Ok (shows (Minimal listed.Blocking all_three))
 unfolding checked take_line encode_with decode_pairs greatest_of three two_of_three zeros whole
 worked = refl
 
 -- a set that is listed again behind the deletion of its clause counts once
-listed_again : checked three zeros (whole ++ codes "b 1 b c\nb 2 a b\n2 d 2 0\nb 3 a b\nq 4 a b\nq 5 a c\nq 6 b c\nb 7 a c\n8 -1 0 3 7 6 0\n9 0 8 4 5 1 0\nend\n") ≡ Ok (shows (Blocking all_three))
+listed_again : checked three zeros (whole ++ codes "b 1 b c\nb 2 a b\n2 d 2 0\nb 3 a b\nq 4 a b\nq 5 a c\nq 6 b c\nb 7 a c\n8 -1 0 3 7 6 0\n9 0 8 4 5 1 0\nend\n") ≡ Ok (shows (Minimal listed.Blocking all_three))
 unfolding checked take_line encode_with decode_pairs greatest_of three two_of_three zeros whole
 listed_again = refl
 
@@ -55,7 +58,7 @@ quorum_twice : checked three zeros (whole ++ codes "q 1 a b\nq 2 a b c\nend\n") 
 unfolding checked take_line encode_with decode_pairs greatest_of three two_of_three zeros whole
 quorum_twice = refl
 
-one_line : checked three zeros (part ++ codes "q 1 a b\nend\n") ≡ Ok (shows (PartialBlocking 1))
+one_line : checked three zeros (part ++ codes "q 1 a b\nend\n") ≡ Ok (shows (Partial (Nodes listed.Blocking) 1))
 unfolding checked take_line encode_with decode_pairs greatest_of three two_of_three zeros part
 one_line = refl
 
@@ -104,7 +107,7 @@ empty_lemma_in_a_part = refl
 quorums : List ℕ
 quorums = codes "fbas-cert 2\nconfig 0000000000000000000000000000000000000000000000000000000000000000\nfrom\nfaulty\nkind quorums\n"
 
-worked_quorums : checked three zeros (quorums ++ codes "b 1 a b\nb 2 a c\nb 3 b c\nq 4 a b\nq 5 a c\nq 6 b c\n7 -1 0 4 5 3 0\n8 0 7 1 2 6 0\nend\n") ≡ Ok (shows (Quorums all_three))
+worked_quorums : checked three zeros (quorums ++ codes "b 1 a b\nb 2 a c\nb 3 b c\nq 4 a b\nq 5 a c\nq 6 b c\n7 -1 0 4 5 3 0\n8 0 7 1 2 6 0\nend\n") ≡ Ok (shows (Minimal listed.Quorum all_three))
 unfolding checked take_line encode_with decode_pairs greatest_of three two_of_three zeros quorums
 worked_quorums = refl
 
@@ -161,7 +164,7 @@ unfolding checked take_line encode_with decode_pairs greatest_of three two_of_th
 quorum_by_the_other_letter = refl
 
 -- a listed quorum takes no unit
-units_of_blocking_sets : checked three zeros (partial_least ++ codes "counter 9 9\ns 10 a b c\ns 11 a b\nb 12 a b\nend\n") ≡ Ok (shows (PartialLeast 1))
+units_of_blocking_sets : checked three zeros (partial_least ++ codes "counter 9 9\ns 10 a b c\ns 11 a b\nb 12 a b\nend\n") ≡ Ok (shows (Partial (Nodes listed.Smaller) 1))
 unfolding checked take_line encode_with decode_pairs greatest_of three two_of_three zeros partial_least
 units_of_blocking_sets = refl
 
@@ -175,6 +178,6 @@ unfolding checked take_line encode_with decode_pairs greatest_of three two_of_th
 old_blocking_set = refl
 
 -- without a quorum the counter is empty, and nobody blocks
-no_quorum : checked (record { names = []; sets = [] }) zeros (least ++ codes "counter 0 0\nb 1\n2 0 1 0\nend\n") ≡ Ok (record { header = record { from = None; faulty = [] }; answer = Least None })
+no_quorum : checked (record { names = []; sets = [] }) zeros (least ++ codes "counter 0 0\nb 1\n2 0 1 0\nend\n") ≡ Ok (record { header = record { from = None; faulty = [] }; answer = Reached (Least None) })
 unfolding checked take_line encode_with decode_pairs greatest_of zeros least
 no_quorum = refl

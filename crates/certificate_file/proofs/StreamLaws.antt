@@ -25,13 +25,15 @@ use Rattle.cert_lines.specs.declared.faults.CertError.{CertError}
 use Rattle.cert_lines.specs.Limits.{unless}
 use Rattle.cert_lines.specs.declared.faults.CertError.TheVariants.{NotNew}
 use Rattle.certificate_file.specs.declared.given.Given.{Given}
-use Rattle.certificate_file.specs.Acceptance.{in_reach, step_unless, take_step, step_line, lemma_unless, take_lemma, lemma_line, after_progress, take_line}
-use Rattle.reach_kinds.specs.Bodies.{and_then, is_covered, with_literal, listed_by, literal_in, list_step_unless, list_step, list_line, list_text, after_list_step}
+use Rattle.certificate_file.specs.Acceptance.{in_reach, extent, step_unless, take_step, step_line, after_progress, take_line}
+use Rattle.reach_kinds.specs.Bodies.{and_then, is_covered, asks_steps, listed_by, literal_in, list_step_unless, list_step, list_line, list_text, after_list_step}
 use Rattle.certificate_file.specs.Known.{IsKnown, IsKnownState}
-use Rattle.certificate_file.proofs.Meaning.{known_step, known_lemma, known_reach}
-use Rattle.certificate_file.specs.Streamed.{Finished, after_deletion, read, is_part_kind, is_part, place_of, after_step_of, checking_of, HasSizedSets}
+use Rattle.certificate_file.proofs.Meaning.{known_step, known_reach}
+use Rattle.certificate_file.specs.Streamed.{Finished, after_deletion, read, is_part, place_of, after_step_of, checking_of, HasSizedSets}
 use Rattle.certificate_file.specs.declared.places.Proof.{Proof}
 use Rattle.certificate_file.specs.declared.places.Proof.TheVariants as proof
+use Rattle.certificate_file.specs.declared.places.Aim.{Aim}
+use Rattle.certificate_file.specs.declared.places.Aim.TheVariants as aim
 use Rattle.certificate_file.specs.declared.places.Header.{Header}
 use Rattle.certificate_file.specs.declared.places.Subject.{Subject}
 use Rattle.reach_kinds.specs.GroupBodies.{group_step_unless, group_step, group_line, group_text, after_group_step}
@@ -39,7 +41,7 @@ use Rattle.reach_kinds.specs.declared.places.ListPart.{ListPart}
 use Rattle.reach_kinds.specs.declared.places.GroupPart.{GroupPart}
 use Rattle.reach_kinds.specs.declared.places.GroupListing.{GroupListing}
 use Rattle.reach_kinds.specs.declared.places.Listing.{Listing}
-use Rattle.certificate_file.specs.declared.places.Place.TheVariants.{AtSteps, AtLemmas, AtReach}
+use Rattle.certificate_file.specs.declared.places.Place.TheVariants.{AtSteps, AtReach}
 use Rattle.reach_kinds.specs.declared.places.ReachPlace.TheVariants.{AtList, AtGroups}
 use Rattle.reach_kinds.specs.declared.places.ReachState.{ReachState}
 use Rattle.list_journal.specs.declared.kinds.Listed.{Listed}
@@ -74,13 +76,9 @@ not_listed sought (b ∷ bytes) is =
     ]
 
 -- the places of steps, where lines are taken so
-pub at_steps : (f : System) (given : Given) (h : Header) (c : Checking) (l : ℕ) (text : List ℕ) → take_line f given (AtSteps h c) l text ≡ step_line h c l text
+pub at_steps : (f : System) (given : Given) (to : Aim) (h : Header) (c : Checking) (n l : ℕ) (text : List ℕ) → take_line f given (AtSteps to h c n) l text ≡ step_line to h c n l text
 unfolding take_line
-at_steps f given h c l text = refl
-
-pub at_lemmas : (f : System) (given : Given) (h : Header) (c : Checking) (n l : ℕ) (text : List ℕ) → take_line f given (AtLemmas h c n) l text ≡ lemma_line h c n l text
-unfolding take_line
-at_lemmas f given h c n l text = refl
+at_steps f given to h c n l text = refl
 
 pub at_list : (f : System) (given : Given) (s : Subject) (k : Listing) (l : ℕ) (text : List ℕ) → take_line f given (AtReach s (AtList k)) l text ≡ and_then (λ r. Ok (in_reach s r)) (list_line f s.nodes k l text)
 unfolding take_line
@@ -104,9 +102,9 @@ unless_both : {A B C : Type 0} (w : A → Result C CertError) (g : B → Result 
 unless_both w g e true a b same = same
 unless_both w g e false a b same = refl
 
-progress_so : (h : Header) (c : Checking) (n : ℕ) (p : Progress) → after_progress h c p ≡ after_step_of (proof.Refutation h) c n p
-progress_so h c n going = refl
-progress_so h c n Refuted = refl
+progress_so : (to : Aim) (h : Header) (c : Checking) (n : ℕ) (p : Progress) → after_progress to h c n p ≡ after_step_of (proof.Steps to h) c n p
+progress_so to h c n going = refl
+progress_so to h c n Refuted = refl
 
 list_progress_so : (s : Subject) (sought : Listed) (kind : ListKind) (part : ListPart) (sets : List Table) (c : Checking) (n : ℕ) (p : Progress) → in_reach s (after_list_step (record { sought = sought; kind = kind; part = part; checker = c; sets = sets; units = n }) p) ≡ after_step_of (proof.List s sought kind part sets) c n p
 list_progress_so s sought kind part sets c n going = refl
@@ -119,31 +117,29 @@ group_progress_so s kind over sets c n going = refl
 group_progress_so s kind over sets c n Refuted = refl
 
 module _ (l : ℕ) (h : Header) (c : Checking) (n : ℕ) where
-  step_taken : (r : Result ProofStep LineFault) → and_then (take_step l h c) (or_bad_line l r) ≡ and_then (next_of (proof.Refutation h)) (read l false c.rule c.vars c.database n (outline_in c.rule c.vars c.database r))
-  step_taken (Err e) = refl
-  step_taken (Ok (Addition id lits hints)) = elim (addition_fault_by c.rule c.vars c.database id lits hints) as (λ o. step_unless l h c (Addition id lits hints) o ≡ and_then (next_of (proof.Refutation h)) (read l false c.rule c.vars c.database n (Some (Adds id lits o)))) [
+  step_taken : (to : Aim) (r : Result ProofStep LineFault) → and_then (take_step l to h c n) (and_then (literal_in (extent to) l) (or_bad_line l r)) ≡ and_then (next_of (proof.Steps to h)) (read l (asks_steps (extent to)) c.rule c.vars c.database n (outline_in c.rule c.vars c.database r))
+  step_taken aim.Refutation (Err e) = refl
+  step_taken aim.Partial (Err e) = refl
+  step_taken aim.Refutation (Ok (Addition id lits hints)) = elim (addition_fault_by c.rule c.vars c.database id lits hints) as (λ o. step_unless l aim.Refutation h c n (Addition id lits hints) o ≡ and_then (next_of (proof.Steps aim.Refutation h)) (read l false c.rule c.vars c.database n (Some (Adds id lits o)))) [
     | Some fault ↦ refl
-    | None ↦ ap (λ (s : State). Ok s) (progress_so h (record { rule = c.rule; vars = c.vars; database = record { held = with_clause c.database.held id lits; last = id } }) (n + 1) (progress_at lits))
+    | None ↦ ap (λ (s : State). Ok s) (progress_so aim.Refutation h (record { rule = c.rule; vars = c.vars; database = record { held = with_clause c.database.held id lits; last = id } }) (n + 1) (progress_at lits))
   ]
-  step_taken (Ok (Deletion id ids)) = elim (deletion_fault c.database.held [] ids) as (λ o. step_unless l h c (Deletion id ids) o ≡ and_then (next_of (proof.Refutation h)) (and_then (λ t. Ok (t, n)) (after_deletion l c.rule c.vars c.database ids o))) [
+  step_taken aim.Partial (Ok (Addition id [] hints)) = refl
+  step_taken aim.Partial (Ok (Addition id (x ∷ xs) hints)) = elim (addition_fault_by c.rule c.vars c.database id (x ∷ xs) hints) as (λ o. step_unless l aim.Partial h c n (Addition id (x ∷ xs) hints) o ≡ and_then (next_of (proof.Steps aim.Partial h)) (read l true c.rule c.vars c.database n (Some (Adds id (x ∷ xs) o)))) [
+    | Some fault ↦ refl
+    | None ↦ unless_then (next_of (proof.Steps aim.Partial h)) (NotNew l) (not (is_covered c.database.held id (x ∷ xs))) (Ok ((record { rule = c.rule; vars = c.vars; database = record { held = with_clause c.database.held id (x ∷ xs); last = id } }, going), n + 1))
+  ]
+  step_taken aim.Refutation (Ok (Deletion id ids)) = elim (deletion_fault c.database.held [] ids) as (λ o. step_unless l aim.Refutation h c n (Deletion id ids) o ≡ and_then (next_of (proof.Steps aim.Refutation h)) (and_then (λ t. Ok (t, n)) (after_deletion l c.rule c.vars c.database ids o))) [
     | Some fault ↦ refl
     | None ↦ refl
   ]
-
-  lemma_taken : (r : Result ProofStep LineFault) → and_then (take_lemma l h c n) (and_then (with_literal l) (or_bad_line l r)) ≡ and_then (next_of (proof.Partial h)) (read l true c.rule c.vars c.database n (outline_in c.rule c.vars c.database r))
-  lemma_taken (Err e) = refl
-  lemma_taken (Ok (Addition id [] hints)) = refl
-  lemma_taken (Ok (Addition id (x ∷ xs) hints)) = elim (addition_fault_by c.rule c.vars c.database id (x ∷ xs) hints) as (λ o. lemma_unless l h c n (Addition id (x ∷ xs) hints) o ≡ and_then (next_of (proof.Partial h)) (read l true c.rule c.vars c.database n (Some (Adds id (x ∷ xs) o)))) [
-    | Some fault ↦ refl
-    | None ↦ unless_then (next_of (proof.Partial h)) (NotNew l) (not (is_covered c.database.held id (x ∷ xs))) (Ok ((record { rule = c.rule; vars = c.vars; database = record { held = with_clause c.database.held id (x ∷ xs); last = id } }, going), n + 1))
-  ]
-  lemma_taken (Ok (Deletion id ids)) = elim (deletion_fault c.database.held [] ids) as (λ o. lemma_unless l h c n (Deletion id ids) o ≡ and_then (next_of (proof.Partial h)) (and_then (λ t. Ok (t, n)) (after_deletion l c.rule c.vars c.database ids o))) [
+  step_taken aim.Partial (Ok (Deletion id ids)) = elim (deletion_fault c.database.held [] ids) as (λ o. step_unless l aim.Partial h c n (Deletion id ids) o ≡ and_then (next_of (proof.Steps aim.Partial h)) (and_then (λ t. Ok (t, n)) (after_deletion l c.rule c.vars c.database ids o))) [
     | Some fault ↦ refl
     | None ↦ refl
   ]
 
 module _ (l : ℕ) (s : Subject) (sought : Listed) (part : ListPart) (c : Checking) (sets : List Table) (n : ℕ) where
-  list_taken : (kind : ListKind) (r : Result ProofStep LineFault) → and_then (λ x. Ok (in_reach s x)) (and_then (list_step (record { sought = sought; kind = kind; part = part; checker = c; sets = sets; units = n }) l) (and_then (literal_in kind l) (or_bad_line l r))) ≡ and_then (next_of (proof.List s sought kind part sets)) (read l (is_part_kind kind) c.rule c.vars c.database n (outline_in c.rule c.vars c.database r))
+  list_taken : (kind : ListKind) (r : Result ProofStep LineFault) → and_then (λ x. Ok (in_reach s x)) (and_then (list_step (record { sought = sought; kind = kind; part = part; checker = c; sets = sets; units = n }) l) (and_then (literal_in kind l) (or_bad_line l r))) ≡ and_then (next_of (proof.List s sought kind part sets)) (read l (asks_steps kind) c.rule c.vars c.database n (outline_in c.rule c.vars c.database r))
   list_taken Whole (Err e) = refl
   list_taken Part (Err e) = refl
   list_taken Whole (Ok (Addition id lits hints)) = elim (addition_fault_by c.rule c.vars c.database id lits hints) as (λ o. and_then (λ x. Ok (in_reach s x)) (list_step_unless l (record { sought = sought; kind = Whole; part = part; checker = c; sets = sets; units = n }) (Addition id lits hints) o) ≡ and_then (next_of (proof.List s sought Whole part sets)) (read l false c.rule c.vars c.database n (Some (Adds id lits o)))) [
@@ -165,7 +161,7 @@ module _ (l : ℕ) (s : Subject) (sought : Listed) (part : ListPart) (c : Checki
   ]
 
 module _ (l : ℕ) (s : Subject) (over : GroupPart) (c : Checking) (sets : List Table) (n : ℕ) where
-  group_taken : (kind : ListKind) (r : Result ProofStep LineFault) → and_then (λ x. Ok (in_reach s x)) (and_then (group_step (record { kind = kind; over = over; checker = c; sets = sets; units = n }) l) (and_then (literal_in kind l) (or_bad_line l r))) ≡ and_then (next_of (proof.Groups s kind over sets)) (read l (is_part_kind kind) c.rule c.vars c.database n (outline_in c.rule c.vars c.database r))
+  group_taken : (kind : ListKind) (r : Result ProofStep LineFault) → and_then (λ x. Ok (in_reach s x)) (and_then (group_step (record { kind = kind; over = over; checker = c; sets = sets; units = n }) l) (and_then (literal_in kind l) (or_bad_line l r))) ≡ and_then (next_of (proof.Groups s kind over sets)) (read l (asks_steps kind) c.rule c.vars c.database n (outline_in c.rule c.vars c.database r))
   group_taken Whole (Err e) = refl
   group_taken Part (Err e) = refl
   group_taken Whole (Ok (Addition id lits hints)) = elim (addition_fault_by c.rule c.vars c.database id lits hints) as (λ o. and_then (λ x. Ok (in_reach s x)) (group_step_unless l (record { kind = Whole; over = over; checker = c; sets = sets; units = n }) (Addition id lits hints) o) ≡ and_then (next_of (proof.Groups s Whole over sets)) (read l false c.rule c.vars c.database n (Some (Adds id lits o)))) [
@@ -188,8 +184,7 @@ module _ (l : ℕ) (s : Subject) (over : GroupPart) (c : Checking) (sets : List 
 
 -- a step line is taken as its outline is
 read_so : (f : System) (given : Given) (p : Proof) (c : Checking) (n l : ℕ) (text : List ℕ) → is_other text ≡ false → take_line f given (place_of p c n) l text ≡ and_then (next_of p) (read l (is_part p) c.rule c.vars c.database n (outline_in c.rule c.vars c.database (step_in text)))
-read_so f given (proof.Refutation h) c n l text is = at_steps f given h c l text ∙ rw (not_end text is) (step_taken l h c n (step_in text))
-read_so f given (proof.Partial h) c n l text is = at_lemmas f given h c n l text ∙ rw (not_end text is) (lemma_taken l h c n (step_in text))
+read_so f given (proof.Steps to h) c n l text is = at_steps f given to h c n l text ∙ rw (not_end text is) (step_taken l h c n to (step_in text))
 read_so f given (proof.List s sought kind part sets) c n l text is =
     at_list f given s (record { sought = sought; kind = kind; part = part; checker = c; sets = sets; units = n }) l text
     ∙ rw (not_end text is)
@@ -219,15 +214,13 @@ read_line f given p part now later n l line words text r rule vars database numb
 
 -- the sets of a proof's list have places for the system's nodes
 pub sized_sets : (f : System) (given : Given) (p : Proof) (c : Checking) (n : ℕ) → IsKnown f given (place_of p c n) → HasSizedSets p
-sized_sets f given (proof.Refutation h) c n is = tt
-sized_sets f given (proof.Partial h) c n is = tt
+sized_sets f given (proof.Steps to h) c n is = tt
 sized_sets f given (proof.List s sought kind part sets) c n is = (length f.sets, λ k t low. (is.1.sets k t low).places)
 sized_sets f given (proof.Groups s kind over sets) c n is = (length over.groups, is.1.sets)
 
 -- what is known behind a line of a proof by steps
 pub known_after : (f : System) (given : Given) (p : Proof) (c : Checking) (n l : ℕ) (text : List ℕ) (state : State) → IsKnown f given (place_of p c n) → take_line f given (place_of p c n) l text ≡ Ok state → IsKnownState f given state
-known_after f given (proof.Refutation h) c n l text state is e = known_step f given h c l text is state (sym (at_steps f given h c l text) ∙ e)
-known_after f given (proof.Partial h) c n l text state is e = known_lemma f given h c n l text is state (sym (at_lemmas f given h c n l text) ∙ e)
+known_after f given (proof.Steps to h) c n l text state is e = known_step f given to h c n l text is state (sym (at_steps f given to h c n l text) ∙ e)
 known_after f given (proof.List s sought kind part sets) c n l text state is e =
     let k : Listing = record { sought = sought; kind = kind; part = part; checker = c; sets = sets; units = n } in
     known_reach f given s (AtList k) l text is state (sym (at_list f given s k l text) ∙ e)

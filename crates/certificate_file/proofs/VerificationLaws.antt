@@ -34,6 +34,7 @@ use Rattle.certificate_file.specs.Meaning.{part_from}
 use Rattle.certificate_file.specs.Formulas.{formula_of}
 use Rattle.reach_kinds.proofs.Starts.{same_checking}
 use Rattle.certificate_file.proofs.RefutationLaws.{formula_known, after_known}
+use Rattle.certificate_file.specs.declared.places.Aim.TheVariants as aim
 
 -- the parts of a subject
 pub subject_is : (f : System) (h : Header) (faulty nodes : Table) → faulty ≡ h.faulty → nodes ≡ part_from f h.from → record { version = Two; header = record { from = h.from; faulty = faulty }; nodes = nodes } ≡ subject_from f h
@@ -43,8 +44,8 @@ subject_is f h faulty nodes same part = rw (same, part) refl
 
 lemma_known : (f : System) (h : Header) (c : Checking) (step : ProofStep) (p : Progress) → AreSteps f h c → step_fault_by c.rule c.vars c.database step ≡ None → progress_of step ≡ p
     → IsKnownLeft f h (after_lemma (holding c (after_step c.database step)) p)
-lemma_known f h c step going k at is = after_known f (record { digest = []; orgs = None }) h c step going k at is
-lemma_known f h c step Refuted k at is = (after_known f (record { digest = []; orgs = None }) h c step Refuted k at is).1
+lemma_known f h c step going k at is = after_known f (record { digest = []; orgs = None }) aim.Refutation h c 0 step going k at is
+lemma_known f h c step Refuted k at is = (after_known f (record { digest = []; orgs = None }) aim.Refutation h c 0 step Refuted k at is).1
 
 step_known : (f : System) (h : Header) (l : ℕ) (c : Checking) (step : ProofStep) (left : Option Checking) → AreSteps f h c → taken l c step ≡ Ok left → IsKnownLeft f h left
 step_known f h l c step left k e = elim (step_fault_by c.rule c.vars c.database step) as (λ (o : Option StepFault). step_fault_by c.rule c.vars c.database step ≡ o → taken_unless l c step o ≡ Ok left → IsKnownLeft f h left) [

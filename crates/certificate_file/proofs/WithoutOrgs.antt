@@ -14,7 +14,7 @@ use Rattle.certificate_file.specs.Acceptance.{orgs_found, take_line, check_lines
 use Rattle.certificate_file.specs.declared.given.Given.{Given}
 use Rattle.certificate_file.specs.declared.places.Accepted.{Accepted}
 use Rattle.certificate_file.specs.declared.places.Place.{Place}
-use Rattle.certificate_file.specs.declared.places.Place.TheVariants.{AtTitle, AtDigest, AtFrom, AtFaulty, AtKind, AtOrgs, AtFirst, AtSecond, AtFormula, AtSteps, AtLemmas, AtReach, AtEnd}
+use Rattle.certificate_file.specs.declared.places.Place.TheVariants.{AtTitle, AtDigest, AtFrom, AtFaulty, AtKind, AtOrgs, AtFirst, AtSecond, AtFormula, AtSteps, AtReach, AtEnd}
 use Rattle.certificate_file.specs.declared.places.State.{State}
 use Rattle.certificate_file.specs.declared.places.State.TheVariants.{Going, Done}
 
@@ -36,8 +36,7 @@ line_alike f given (AtOrgs kind subject) l text = elim (orgs_digest_in text) as 
 line_alike f given (AtFirst subject) l text = inr refl
 line_alike f given (AtSecond subject u) l text = inr refl
 line_alike f given (AtFormula to subject) l text = inr refl
-line_alike f given (AtSteps h c) l text = inr refl
-line_alike f given (AtLemmas h c n) l text = inr refl
+line_alike f given (AtSteps to h c n) l text = inr refl
 line_alike f given (AtReach subject p) l text = inr refl
 line_alike f given (AtEnd a) l text = inr refl
 

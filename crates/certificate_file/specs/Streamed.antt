@@ -9,16 +9,15 @@ use Rattle.lrat_model.specs.declared.step.Progress.TheVariants.{Going as going, 
 use Rattle.lrat_checker.specs.Checking.{Checking, Stepping}
 use Rattle.step_stream.specs.Outline.{StepOutline, Adds, Deletes}
 use Rattle.list_journal.specs.Order.{ordered}
-use Rattle.list_journal.specs.declared.kinds.ListKind.{ListKind}
-use Rattle.list_journal.specs.declared.kinds.ListKind.TheVariants.{Whole, Partial as Part}
 use Rattle.cert_lines.specs.Limits.{unless}
-use Rattle.reach_kinds.specs.Bodies.{and_then, is_covered}
+use Rattle.reach_kinds.specs.Bodies.{and_then, is_covered, asks_steps}
+use Rattle.certificate_file.specs.Acceptance.{extent}
 use Rattle.certificate_file.specs.declared.places.Conclusion.TheVariants.{Refutation}
 use Rattle.reach_kinds.specs.declared.places.ReachPlace.TheVariants.{AtList, AtGroups, AtEnd as Ended}
 use Rattle.reach_kinds.specs.declared.places.Reached.TheVariants as reached
 use Rattle.reach_kinds.specs.Bodies.{in_shown_order, whole_of}
 use Rattle.certificate_file.specs.declared.places.Place.{Place}
-use Rattle.certificate_file.specs.declared.places.Place.TheVariants.{AtSteps, AtLemmas, AtReach, AtEnd}
+use Rattle.certificate_file.specs.declared.places.Place.TheVariants.{AtSteps, AtReach, AtEnd}
 use Rattle.certificate_file.specs.declared.places.State.{State}
 use Rattle.certificate_file.specs.declared.places.State.TheVariants.{Going}
 use Rattle.certificate_file.specs.declared.places.Proof.{Proof}
@@ -73,29 +72,21 @@ checking_of c = record { rule = c.rule; vars = c.vars; database = c.database }
 
 -- ---- proofs by steps
 
--- whether it is a part of such a list
-abbrev pub is_part_kind : ListKind → Bool
-is_part_kind Whole = false
-is_part_kind Part = true
-
 -- whether it is a part of a proof
 abbrev pub is_part : Proof → Bool
-is_part (proof.Refutation h) = false
-is_part (proof.Partial h) = true
-is_part (proof.List s sought kind part sets) = is_part_kind kind
-is_part (proof.Groups s kind over sets) = is_part_kind kind
+is_part (proof.Steps to h) = asks_steps (extent to)
+is_part (proof.List s sought kind part sets) = asks_steps kind
+is_part (proof.Groups s kind over sets) = asks_steps kind
 
 -- the place of its next line, where this is held and there are so many units
 abbrev pub place_of : Proof → Checking → ℕ → Place
-place_of (proof.Refutation h) c n = AtSteps h c
-place_of (proof.Partial h) c n = AtLemmas h c n
+place_of (proof.Steps to h) c n = AtSteps to h c n
 place_of (proof.List s sought kind part sets) c n = AtReach s (AtList (record { sought = sought; kind = kind; part = part; checker = c; sets = sets; units = n }))
 place_of (proof.Groups s kind over sets) c n = AtReach s (AtGroups (record { kind = kind; over = over; checker = c; sets = sets; units = n }))
 
 -- the place behind the empty lemma
 abbrev pub end_of : Proof → Place
-end_of (proof.Refutation h) = AtEnd (record { header = h; answer = Refutation })
-end_of (proof.Partial h) = AtEnd (record { header = h; answer = Refutation })
+end_of (proof.Steps to h) = AtEnd (record { header = h; answer = Refutation })
 end_of (proof.List s sought kind part sets) = AtReach s (Ended (whole_of sought (in_shown_order sought sets)))
 end_of (proof.Groups s kind over sets) = AtReach s (Ended (reached.OrgBlocking over.groups (ordered sets)))
 
@@ -106,7 +97,6 @@ after_step_of p c n Refuted = Going (end_of p)
 
 -- the sets of a list have places for one number of nodes
 abbrev pub HasSizedSets : Proof → Type 0
-HasSizedSets (proof.Refutation h) = Unit {0}
-HasSizedSets (proof.Partial h) = Unit {0}
+HasSizedSets (proof.Steps to h) = Unit {0}
 HasSizedSets (proof.List s sought kind part sets) = (n : ℕ) × All (λ t. length t ≡ n) sets
 HasSizedSets (proof.Groups s kind over sets) = (n : ℕ) × All (λ t. length t ≡ n) sets

@@ -1,52 +1,21 @@
-//! The kinds of lists over organisations, and the line of their digest.
+//! The line of the digest of the organisations that a list is over.
 ghost use Rattle.std.specs.Prelude.{◌≡◌, ◌⊎◌, All, IfOk, IfErr, IsErrOf, length, ok_or, Ok, Err};
 ghost use Rattle.cert_lines.specs.Words.{orgs_digest_in};
 ghost use Rattle.reach_kinds.specs.Known.{IsReachPlace};
 ghost use Rattle.reach_kinds.specs.GroupBodies.{groups_begin};
-ghost use Rattle.certificate_file.specs.Acceptance.{group_kind, group_kind_line, orgs_line};
+ghost use Rattle.certificate_file.specs.Acceptance.{orgs_line};
 ghost use Rattle.certificate_file.specs.Organisations.{FitsGiven};
 ghost use Rattle.certificate_file.specs.Known.{IsSubject, IsKnownState};
 
 use crate::given::Given;
 use crate::places::{Place, State, Subject};
-use crate::taking::kind_line;
 use cert_lines::{CertError, orgs_digits_in};
-use clause_encoder::Version;
 use digest_text::read_digits;
 use fbas_core::System;
 use list_journal::ListKind;
 use node_json::Orgs;
 use reach_kinds::{Scope, groups_begin};
 use std::alloc::Global;
-
-/// Whether a kind of version two is a list over organisations, whole or in part.
-fn group_kind(version: Version, text: &[u8]) -> Option<ListKind>
-    ensures { result ≡ group_kind version text.now }
-{
-    match version {
-        Version::One => None,
-        Version::Two => {
-            if text == b"kind org-blocking".as_slice() {
-                return Some(ListKind::Whole);
-            }
-            if text == b"kind partial-org-blocking".as_slice() {
-                return Some(ListKind::Partial);
-            }
-            None
-        }
-    }
-}
-
-/// A list over organisations, or else a kind without a list.
-pub fn group_kind_line(line: u64, text: &[u8], subject: Subject) -> Result<State, CertError>
-    ensures unread { IsErrOf result CertError.Read → ⊥ }
-    ensures value { result ≡ group_kind_line subject line text.now (group_kind subject.version text.now) }
-{
-    match group_kind(subject.version, text) {
-        Some(kind) => Ok(State::Going(Place::AtOrgs(kind, subject))),
-        None => kind_line(line, text, subject),
-    }
-}
 
 /// The first line of a list over these organisations is awaited.
 fn list_over(

@@ -10,19 +10,19 @@ ghost use Rattle.reach_kinds.specs.Bodies.{and_then};
 ghost use Rattle.certificate_file.specs.Organisations.{FitsGiven};
 ghost use Rattle.certificate_file.specs.declared.given.Given.{Given};
 ghost use Rattle.certificate_file.specs.Known.{IsKnown, IsKnownState};
-ghost use Rattle.certificate_file.specs.Streamed.{is_part, is_part_kind, place_of, end_of, checking_of, HasSizedSets};
+ghost use Rattle.certificate_file.specs.Streamed.{is_part, place_of, end_of, checking_of, HasSizedSets};
 
 use crate::given::Given;
 use crate::places::{Accepted, Conclusion, Place, Proof, State};
+use crate::proving::extent;
 use crate::streaming::take_read;
 use crate::taking::take_line;
 use cert_lines::{CertError, Lines, line_or_step};
 use desk_io::{Desk, Which};
 use fbas_core::System;
-use list_journal::ListKind;
 use lrat_checker::{Checker, IdleChecker};
 use lrat_model::Progress;
-use reach_kinds::{GroupListing, Listing, ReachPlace, group_whole, whole_of};
+use reach_kinds::{GroupListing, Listing, ReachPlace, asks_steps, group_whole, whole_of};
 use std::alloc::Global;
 use step_stream::StepReader;
 
@@ -41,13 +41,8 @@ impl Steps {
         ensures other { IfErr result (λ p. p ≡ place) }
     {
         match place {
-            Place::AtSteps(header, checker) => Ok(Steps {
-                proof: Proof::Refutation(header),
-                checker,
-                units: 0,
-            }),
-            Place::AtLemmas(header, checker, units) => Ok(Steps {
-                proof: Proof::Partial(header),
+            Place::AtSteps(to, header, checker, units) => Ok(Steps {
+                proof: Proof::Steps(to, header),
                 checker,
                 units,
             }),
@@ -96,10 +91,9 @@ impl Proof {
         ensures { result ≡ is_part self.now }
     {
         match self {
-            Proof::Refutation(_) => false,
-            Proof::Partial(_) => true,
-            Proof::List(_, _, kind, _, _) => is_part_kind(*kind),
-            Proof::Groups(_, kind, _, _) => is_part_kind(*kind),
+            Proof::Steps(to, _) => asks_steps(extent(*to)),
+            Proof::List(_, _, kind, _, _) => asks_steps(*kind),
+            Proof::Groups(_, kind, _, _) => asks_steps(*kind),
         }
     }
 
@@ -108,8 +102,7 @@ impl Proof {
         ensures { result ≡ place_of self checker units }
     {
         match self {
-            Proof::Refutation(header) => Place::AtSteps(header, checker),
-            Proof::Partial(header) => Place::AtLemmas(header, checker, units),
+            Proof::Steps(to, header) => Place::AtSteps(to, header, checker, units),
             Proof::List(subject, sought, kind, part, sets) => {
                 let listing = Listing {
                     sought,
@@ -140,11 +133,7 @@ impl Proof {
         ensures { result ≡ end_of self }
     {
         match self {
-            Proof::Refutation(header) => Place::AtEnd(Accepted {
-                header,
-                answer: Conclusion::Refutation,
-            }),
-            Proof::Partial(header) => Place::AtEnd(Accepted {
+            Proof::Steps(_, header) => Place::AtEnd(Accepted {
                 header,
                 answer: Conclusion::Refutation,
             }),
@@ -156,16 +145,6 @@ impl Proof {
                 Place::AtReach(subject, ReachPlace::AtEnd(group_whole(over, sets)))
             }
         }
-    }
-}
-
-/// Whether it is a part of such a list.
-fn is_part_kind(kind: ListKind) -> bool
-    ensures { result ≡ is_part_kind kind }
-{
-    match kind {
-        ListKind::Whole => false,
-        ListKind::Partial => true,
     }
 }
 

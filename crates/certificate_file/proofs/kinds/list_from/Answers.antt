@@ -1,5 +1,5 @@
 use Rattle.certificate_file.proofs.PartLaws.{nodes_known}
-use Rattle.certificate_file.proofs.list_kinds.list_from.Goals as goal
+use Rattle.certificate_file.proofs.kinds.list_from.Goals as goal
 
 pub body_begins-requires : goal.body_begins-requires
 body_begins-requires c = nodes_known c.args.system.now c.args.subject c.requires
