@@ -24,7 +24,15 @@ use Rattle.certificate_file.specs.declared.places.Accepted.{Accepted}
 use Rattle.certificate_file.specs.declared.places.Header.{Header}
 use Rattle.witness_pair.specs.declared.Pair.{Pair}
 use Rattle.certificate_file.specs.declared.places.Conclusion.{Conclusion}
-use Rattle.certificate_file.specs.declared.places.Conclusion.TheVariants.{Pair as pair, Refutation, Partial, Blocking, PartialBlocking, Quorums, PartialQuorums, Least, PartialLeast, OrgBlocking, PartialOrgBlocking}
+use Rattle.certificate_file.specs.declared.places.Conclusion.TheVariants.{Pair as pair, Refutation, Partial, Reached}
+use Rattle.certificate_file.specs.Acceptance.{aim_word}
+use Rattle.certificate_file.specs.declared.places.Aim.TheVariants as aim
+use Rattle.list_journal.specs.declared.kinds.ListKind.TheVariants.{Whole, Partial as Part}
+use Rattle.list_journal.specs.declared.kinds.Listed.TheVariants.{Smaller}
+use Rattle.reach_kinds.specs.Kinds.{kind_word}
+use Rattle.reach_kinds.specs.declared.kinds.ReachKind.TheVariants.{Nodes, Groups}
+use Rattle.reach_kinds.specs.declared.places.Reached.{Reached as Shown}
+use Rattle.reach_kinds.specs.declared.places.Reached.TheVariants as reached
 
 abbrev pub Text : Type 0
 Text = List ℕ
@@ -171,19 +179,23 @@ cert_refused names fault = line (cert_fault names fault)
 
 -- ---- answers
 
+-- a certificate of the kind that has this word is accepted
+abbrev pub accepted_word : Text → Text
+accepted_word word = worded (codes "accepted") word
+
+-- a body that is read line by line: how many sets it lists, the size of its set, or its units
+abbrev pub accepted_body : Shown → Text
+accepted_body (reached.Minimal sought sets) = counted (accepted_word (kind_word (Nodes sought) Whole)) (length sets)
+accepted_body (reached.Least None) = line (worded (accepted_word (kind_word (Nodes Smaller) Whole)) (codes "none"))
+accepted_body (reached.Least (Some u)) = counted (accepted_word (kind_word (Nodes Smaller) Whole)) (size u)
+accepted_body (reached.OrgBlocking groups sets) = counted (accepted_word (kind_word Groups Whole)) (length sets)
+accepted_body (reached.Partial shows units) = counted (accepted_word (kind_word shows Part)) units
+
 abbrev pub accepted_kind : Conclusion → Text
-accepted_kind (pair p) = codes "accepted pair\n"
-accepted_kind Refutation = codes "accepted refutation\n"
-accepted_kind (Partial units) = counted (codes "accepted partial") units
-accepted_kind (Blocking sets) = counted (codes "accepted blocking") (length sets)
-accepted_kind (PartialBlocking units) = counted (codes "accepted partial-blocking") units
-accepted_kind (Quorums sets) = counted (codes "accepted quorums") (length sets)
-accepted_kind (PartialQuorums units) = counted (codes "accepted partial-quorums") units
-accepted_kind (Least None) = codes "accepted least none\n"
-accepted_kind (Least (Some u)) = counted (codes "accepted least") (size u)
-accepted_kind (PartialLeast units) = counted (codes "accepted partial-least") units
-accepted_kind (OrgBlocking groups sets) = counted (codes "accepted org-blocking") (length sets)
-accepted_kind (PartialOrgBlocking units) = counted (codes "accepted partial-org-blocking") units
+accepted_kind (pair p) = line (accepted_word (codes "pair"))
+accepted_kind Refutation = line (accepted_word (aim_word aim.Refutation))
+accepted_kind (Partial units) = counted (accepted_word (aim_word aim.Partial)) units
+accepted_kind (Reached body) = accepted_body body
 
 -- a line for each set
 abbrev pub set_lines : List Name → List Table → Text
@@ -202,20 +214,19 @@ abbrev pub smallest_if_any : List Name → Option Table → Text
 smallest_if_any names None = codes "least none\n"
 smallest_if_any names (Some u) = smallest names u
 
--- a line for each set of an answer, by the names of its nodes, or by the texts of its groups
+-- a line for each set of a body, by the names of its nodes, or by the texts of its groups
+abbrev pub body_lines : List Name → Shown → Text
+body_lines names (reached.Minimal sought sets) = set_lines names sets
+body_lines names (reached.Least None) = []
+body_lines names (reached.Least (Some u)) = line (list (codes "set") names u)
+body_lines names (reached.OrgBlocking groups sets) = set_lines (texts_of groups) sets
+body_lines names (reached.Partial shows units) = []
+
 abbrev pub answer_lines : List Name → Conclusion → Text
 answer_lines names (pair p) = []
 answer_lines names Refutation = []
 answer_lines names (Partial units) = []
-answer_lines names (Blocking sets) = set_lines names sets
-answer_lines names (PartialBlocking units) = []
-answer_lines names (Quorums sets) = set_lines names sets
-answer_lines names (PartialQuorums units) = []
-answer_lines names (Least None) = []
-answer_lines names (Least (Some u)) = line (list (codes "set") names u)
-answer_lines names (PartialLeast units) = []
-answer_lines names (OrgBlocking groups sets) = set_lines (texts_of groups) sets
-answer_lines names (PartialOrgBlocking units) = []
+answer_lines names (Reached body) = body_lines names body
 
 -- a word, and behind it the name of a node where there is one
 abbrev pub word_if_any : Text → List Name → Option ℕ → Text

@@ -1,13 +1,16 @@
 //! Words, numbers and names, one behind another.
 ghost use Rattle.std.specs.Prelude.{◌≡◌, ◌<◌, ◌++◌, ◌∷◌, [], length, decimal, codes, option_map, All, OnOk, IfOk};
+ghost use Rattle.reach_kinds.specs.Shown.{ReachedHasPlaces};
 ghost use Rattle.certificate_file.specs.Meaning.{HasPlaces, ConclusionHasPlaces};
-ghost use Rattle.report.specs.Lines.{numbered, worded, list, listed, line, word_if_any, accepted as spec_accepted, accepted_kind, verified_lines as spec_verified_lines, set_lines, answer_lines, with_list as spec_with_list, counts as spec_counts, export_head as spec_export_head, export_comments as spec_export_comments, with_pair as spec_with_pair, with_sets as spec_with_sets, smallest as spec_smallest, trial_size as spec_trial_size, counted as spec_counted, available_lines, edit_lines, name_at as spec_name_at};
+ghost use Rattle.report.specs.Lines.{numbered, worded, list, listed, line, word_if_any, accepted as spec_accepted, accepted_word, accepted_body, accepted_kind, verified_lines as spec_verified_lines, set_lines, body_lines, answer_lines, with_list as spec_with_list, counts as spec_counts, export_head as spec_export_head, export_comments as spec_export_comments, with_pair as spec_with_pair, with_sets as spec_with_sets, smallest as spec_smallest, trial_size as spec_trial_size, counted as spec_counted, available_lines, edit_lines, name_at as spec_name_at};
 
 use crate::groups::push_group_sets;
-use certificate_file::{Accepted, Conclusion, Header, Pair};
+use certificate_file::{Accepted, Aim, Conclusion, Header, Pair, aim_word};
 use fbas_core::System;
 use itoa::Buffer;
+use list_journal::{ListKind, Listed};
 use name_set::{Names, NodeSet};
+use reach_kinds::{ReachKind, Reached, kind_word};
 use std::alloc::{AllocError, Global};
 
 // Adds a word.
@@ -97,13 +100,68 @@ fn push_word_if_any(
     Ok(())
 }
 
+// Adds that a certificate of the kind that has this word is accepted.
+fn push_accepted(text: &mut Vec<u8>, word: &str) -> Result<(), AllocError>
+    ensures { OnOk result (text.new.items ≡ text.old.items ++ accepted_word word.now) }
+{
+    push_word(text, "accepted")?;
+    push_behind(text, word.as_bytes())
+}
+
+// The same as a line.
+fn push_accepted_line(text: &mut Vec<u8>, word: &str) -> Result<(), AllocError>
+    ensures { OnOk result (text.new.items ≡ text.old.items ++ line (accepted_word word.now)) }
+{
+    push_accepted(text, word)?;
+    text.push(b'\n')?;
+    Ok(())
+}
+
+// The same as a line that ends with a number.
+fn push_accepted_count(text: &mut Vec<u8>, word: &str, number: u64) -> Result<(), AllocError>
+    ensures { OnOk result (text.new.items ≡ text.old.items ++ spec_counted (accepted_word word.now) number) }
+{
+    push_accepted(text, word)?;
+    push_number(text, number)?;
+    text.push(b'\n')?;
+    Ok(())
+}
+
 // Adds the line of a smallest quorum that a certificate shows: how many nodes it has, or that there is none.
 fn push_least(text: &mut Vec<u8>, answer: &Option<NodeSet>) -> Result<(), AllocError>
-    ensures { OnOk result (text.new.items ≡ text.old.items ++ accepted_kind (Conclusion.Least answer.now)) }
+    ensures { OnOk result (text.new.items ≡ text.old.items ++ accepted_body (Reached.Least answer.now)) }
 {
+    let word = kind_word(ReachKind::Nodes(Listed::Smaller), ListKind::Whole);
     match answer {
-        Some(set) => push_count(text, "accepted least", u64::from(set.count())),
-        None => push_word(text, "accepted least none\n"),
+        Some(set) => push_accepted_count(text, word, u64::from(set.count())),
+        None => {
+            push_accepted(text, word)?;
+            push_behind(text, b"none")?;
+            text.push(b'\n')?;
+            Ok(())
+        }
+    }
+}
+
+// Adds the line of what a body shows that is read line by line.
+fn push_body(text: &mut Vec<u8>, shown: &Reached) -> Result<(), AllocError>
+    ensures { OnOk result (text.new.items ≡ text.old.items ++ accepted_body shown.now) }
+{
+    match shown {
+        Reached::Minimal(sought, sets) => push_accepted_count(
+            text,
+            kind_word(ReachKind::Nodes(*sought), ListKind::Whole),
+            sets.as_slice().len() as u64,
+        ),
+        Reached::Least(answer) => push_least(text, answer),
+        Reached::OrgBlocking(_, sets) => push_accepted_count(
+            text,
+            kind_word(ReachKind::Groups, ListKind::Whole),
+            sets.as_slice().len() as u64,
+        ),
+        Reached::Partial(shows, units) => {
+            push_accepted_count(text, kind_word(*shows, ListKind::Partial), *units)
+        }
     }
 }
 
@@ -112,27 +170,10 @@ fn push_kind(text: &mut Vec<u8>, answer: &Conclusion) -> Result<(), AllocError>
     ensures { OnOk result (text.new.items ≡ text.old.items ++ accepted_kind answer.now) }
 {
     match answer {
-        Conclusion::Pair(_) => push_word(text, "accepted pair\n"),
-        Conclusion::Refutation => push_word(text, "accepted refutation\n"),
-        Conclusion::Partial(units) => push_count(text, "accepted partial", *units),
-        Conclusion::Blocking(sets) => {
-            push_count(text, "accepted blocking", sets.as_slice().len() as u64)
-        }
-        Conclusion::PartialBlocking(units) => push_count(text, "accepted partial-blocking", *units),
-        Conclusion::Quorums(sets) => push_count(
-            text,
-            "accepted quorums",
-            sets.as_slice().len() as u64,
-        ),
-        Conclusion::PartialQuorums(units) => push_count(text, "accepted partial-quorums", *units),
-        Conclusion::Least(answer) => push_least(text, answer),
-        Conclusion::PartialLeast(units) => push_count(text, "accepted partial-least", *units),
-        Conclusion::OrgBlocking(_, sets) => {
-            push_count(text, "accepted org-blocking", sets.as_slice().len() as u64)
-        }
-        Conclusion::PartialOrgBlocking(units) => {
-            push_count(text, "accepted partial-org-blocking", *units)
-        }
+        Conclusion::Pair(_) => push_accepted_line(text, "pair"),
+        Conclusion::Refutation => push_accepted_line(text, aim_word(Aim::Refutation)),
+        Conclusion::Partial(units) => push_accepted_count(text, aim_word(Aim::Partial), *units),
+        Conclusion::Reached(shown) => push_body(text, shown),
     }
 }
 
@@ -147,6 +188,19 @@ pub fn push_sets(text: &mut Vec<u8>, system: &System, sets: &[NodeSet]) -> Resul
     Ok(())
 }
 
+// Adds the lines of a body's sets, where it has some.
+fn push_body_sets(text: &mut Vec<u8>, system: &System, shown: &Reached) -> Result<(), AllocError>
+    requires { ReachedHasPlaces (length system.now.sets) shown.now }
+    ensures { OnOk result (text.new.items ≡ text.old.items ++ body_lines system.now.names shown.now) }
+{
+    match shown {
+        Reached::Minimal(_, sets) => push_sets(text, system, sets.as_slice()),
+        Reached::Least(Some(set)) => push_list(text, "set", system, set),
+        Reached::OrgBlocking(groups, sets) => push_group_sets(text, groups, sets.as_slice()),
+        _ => Ok(()),
+    }
+}
+
 // Adds the lines of an answer's sets, where it has some.
 fn push_answer_sets(
     text: &mut Vec<u8>,
@@ -157,11 +211,7 @@ fn push_answer_sets(
     ensures { OnOk result (text.new.items ≡ text.old.items ++ answer_lines system.now.names answer.now) }
 {
     match answer {
-        Conclusion::Blocking(sets) | Conclusion::Quorums(sets) => {
-            push_sets(text, system, sets.as_slice())
-        }
-        Conclusion::Least(Some(set)) => push_list(text, "set", system, set),
-        Conclusion::OrgBlocking(groups, sets) => push_group_sets(text, groups, sets.as_slice()),
+        Conclusion::Reached(shown) => push_body_sets(text, system, shown),
         _ => Ok(()),
     }
 }
