@@ -1,5 +1,6 @@
 -- What the counts of a trail tell, and how they go on with it.
-use Rattle.std.proofs.Common.{◌≡◌, ℕ, ◌+◌, ◌<◌, ◌≤◌, true, List, [], ◌∷◌, ◌++◌, length, filter, get_or, take, ⊎_elim, sym, ap, ◌∙◌, subst, arith}
+use Rattle.std.proofs.Common.{◌≡◌, ℕ, ◌+◌, ◌-◌, ◌<◌, ◌≤◌, true, List, [], ◌∷◌, ◌++◌, length, filter, get_or, take, ⊎_elim, sym, ap, ◌∙◌, subst, arith}
+use Rattle.std.specs.Global.{Vec}
 use Rattle.std.specs.Prelude.{slice_index, slice_index_or}
 use Rattle.std.proofs.lemmas.List.{take_all, take_more}
 use Rattle.std.proofs.lemmas.Bool.{cases_lt}
@@ -8,6 +9,7 @@ use Rattle.gate_counts.specs.Gates.{IsGate, IsSetOf, IsOpen, is_part, has_number
 use Rattle.gate_counts.specs.Counts.{tally, IsCounting}
 use Rattle.gate_counts.specs.declared.gate.Gate.{Gate}
 use Rattle.gate_counts.specs.declared.gates.Gates.{Gates}
+use Rattle.gate_counts.specs.declared.guesses.Guesses.{Guesses}
 use Rattle.gate_counts.proofs.Tallies.{AreNaming, falses_counted, tally-push}
 use Rattle.gate_counts.proofs.PartLaws.{IsInput, part_inputs, part_distinct}
 
@@ -91,3 +93,28 @@ module _ (gates : Gates) (trues : List Literal) (counting : IsCounting gates tru
       let own : IsSetOf gate clause = subst (λ (k : Gate). IsSetOf k clause) (ap (λ i. slice_index_or gates.gates.items i gate) same_place ∙ at gate) (is gate) in
       subst (λ ls. IsOpen trues ls) (sym own.1) (quiet own.0 own.2 own.3 (few_at own.0 own.3)))
       (cases_lt g place)
+
+-- ---- one literal more or less
+
+module _ (gates : Gates) (trail : List Literal) (counting : IsCounting gates trail) where
+  -- the last literal that is counted
+  module _ (len : ℕ) (above : len < gates.counted) where
+    pub last_within : gates.counted - 1 < length trail
+    last_within = omega (arith, above, counting.within)
+
+    pub last_tallied : IsTallied gates.starts.items gates.entries.items gates.counts.items (take (gates.counted - 1 + 1) trail)
+    last_tallied =
+        let next : gates.counted ≡ gates.counted - 1 + 1 = omega (arith, above) in
+        subst (λ n. IsTallied gates.starts.items gates.entries.items gates.counts.items (take n trail)) next counting.tallied
+
+  -- with these counts, of this many literals
+  pub recounted : (counts : Vec ℕ) (new : List ℕ) (counted : ℕ) (guesses : Guesses) → counts.items ≡ new → length new ≡ length gates.counts.items → counted ≤ length trail
+      → IsTallied gates.starts.items gates.entries.items new (take counted trail) → IsCounting (record gates { counts = counts; counted = counted; guesses = guesses }) trail
+  recounted counts new counted guesses is long within tallied = record {
+    small = counting.small;
+    sound = counting.sound;
+    listed = counting.listed;
+    long = ap (λ (xs : List ℕ). length xs) is ∙ long ∙ counting.long;
+    within = within;
+    tallied = subst (λ (xs : List ℕ). IsTallied gates.starts.items gates.entries.items xs (take counted trail)) (sym is) tallied;
+  }

@@ -1,50 +1,32 @@
-use Rattle.std.proofs.Common.{◌≡◌, ◌+◌, ◌-◌, ◌<◌, ℕ, List, length, take, arith, sym, subst, ap, ◌∙◌, refl}
+use Rattle.std.proofs.Common.{◌≡◌, ◌-◌, ◌<◌, length, arith, ap, ◌∙◌, refl}
 use Rattle.std.specs.Vec.{with_items}
 use Rattle.std.proofs.lemmas.List.{with_items_is}
-use Rattle.lrat_model.specs.Literal.{Literal}
-use Rattle.gate_counts.specs.declared.gates.Gates.{Gates}
-use Rattle.gate_counts.proofs.CountLaws.{IsTallied, MayLower, IsLowered, may_lower, may_lower_same, lowered_same, tallied_less}
+use Rattle.gate_counts.proofs.CountLaws.{last_tallied, last_within, lowered_same, may_lower, may_lower_same, recounted, tallied_less}
 use Rattle.gate_counts.proofs.gates.Gates.back_to.Goals as goal
 
 pub lower_by-requires : goal.lower_by-requires
 lower_by-requires c =
-    let before : Gates = c.loop-self.self in
-    let l : Literal = c.index-trail-self.result in
-    let last : ℕ = before.counted - 1 in
-    let above : c.args.len < before.counted = c.loop-self-test.true in
-    let next : before.counted ≡ last + 1 = omega (arith, above) in
-    let within : last < length c.args.trail.now = omega (arith, above, c.loop-self.invariant.counting.within) in
-    let tallied : IsTallied before.starts.items before.entries.items before.counts.items (take (last + 1) c.args.trail.now) =
-    subst (λ n. IsTallied before.starts.items before.entries.items before.counts.items (take n c.args.trail.now)) next c.loop-self.invariant.counting.tallied in
-    let may : MayLower before.starts.items before.entries.items before.counts.items l =
-    may_lower before.starts.items before.entries.items before.counts.items before.counts.items c.args.trail.now l refl last within c.index-trail-self.is tallied in
+    let before = c.loop-self.self in
+    let counting = c.loop-self.invariant.counting in
+    let trail = c.args.trail.now in
+    let l = c.index-trail-self.result in
+    let may = may_lower before.starts.items before.entries.items before.counts.items before.counts.items trail l refl (before.counted - 1) (last_within before trail counting c.args.len c.loop-self-test.true) c.index-trail-self.is (last_tallied before trail counting c.args.len c.loop-self-test.true) in
     may_lower_same before.starts.items before.entries.items before.counts.items c.deref.result.now c.deref-in-loop-self.result.now c.as_mut_slice.result.now l c.deref.ensures.value c.deref-in-loop-self.ensures.value c.as_mut_slice.ensures.value may
 
 pub loop-self-preserved : goal.loop-self-preserved
 loop-self-preserved c =
-    let before : Gates = c.loop-self.self in
-    let new : List ℕ = c.lower_by.new.counts in
-    let l : Literal = c.index-trail-self.result in
-    let last : ℕ = before.counted - 1 in
-    let above : c.args.len < before.counted = c.loop-self-test.true in
-    let next : before.counted ≡ last + 1 = omega (arith, above) in
-    let within : last < length c.args.trail.now = omega (arith, above, c.loop-self.invariant.counting.within) in
-    let tallied : IsTallied before.starts.items before.entries.items before.counts.items (take (last + 1) c.args.trail.now) =
-    subst (λ n. IsTallied before.starts.items before.entries.items before.counts.items (take n c.args.trail.now)) next c.loop-self.invariant.counting.tallied in
+    let before = c.loop-self.self in
+    let counting = c.loop-self.invariant.counting in
+    let new = c.lower_by.new.counts in
+    let trail = c.args.trail.now in
+    let l = c.index-trail-self.result in
+    let inside : before.counted - 1 < length trail = last_within before trail counting c.args.len c.loop-self-test.true in
     let long : length new ≡ length before.counts.items = c.lower_by.ensures.long ∙ ap length c.as_mut_slice.ensures.value in
-    let items : (with_items before.counts new).items ≡ new = with_items_is before.counts new (omega (arith, long, before.counts.ok.0)) in
-    let lowered : IsLowered before.starts.items before.entries.items before.counts.items new l =
-    lowered_same before.starts.items before.entries.items before.counts.items c.deref.result.now c.deref-in-loop-self.result.now c.as_mut_slice.result.now new l c.deref.ensures.value c.deref-in-loop-self.ensures.value c.as_mut_slice.ensures.value c.lower_by.ensures.lowered in
+    let items = with_items_is before.counts new (omega (arith, long, before.counts.ok.0)) in
+    let lowered = lowered_same before.starts.items before.entries.items before.counts.items c.deref.result.now c.deref-in-loop-self.result.now c.as_mut_slice.result.now new l c.deref.ensures.value c.deref-in-loop-self.ensures.value c.as_mut_slice.ensures.value c.lower_by.ensures.lowered in
+    let tallied = tallied_less before.starts.items before.entries.items before.counts.items new trail l long (before.counted - 1) inside c.index-trail-self.is (last_tallied before trail counting c.args.len c.loop-self-test.true) lowered in
     record {
-      counting = record {
-        small = c.loop-self.invariant.counting.small;
-        sound = c.loop-self.invariant.counting.sound;
-        listed = c.loop-self.invariant.counting.listed;
-        long = ap length items ∙ long ∙ c.loop-self.invariant.counting.long;
-        within = omega (arith, within);
-        tallied = subst (λ (xs : List ℕ). IsTallied before.starts.items before.entries.items xs (take last c.args.trail.now)) (sym items)
-            (tallied_less before.starts.items before.entries.items before.counts.items new c.args.trail.now l long last within c.index-trail-self.is tallied lowered);
-      };
+      counting = recounted before trail counting (with_items before.counts new) new (before.counted - 1) before.guesses items long (omega (arith, inside)) tallied;
       gates = c.loop-self.invariant.gates;
       vars = c.loop-self.invariant.vars;
     }
