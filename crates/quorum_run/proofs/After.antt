@@ -10,6 +10,9 @@ use Rattle.order_reading.specs.declared.status.Status.TheVariants.{WriteFault, M
 use Rattle.order_reading.specs.Status.{is_answer}
 use Rattle.quorum_run.specs.Headline.{IsCertOf, MayChange}
 use Rattle.quorum_run.specs.Edits.{edits_answer}
+use Rattle.quorum_run.specs.Meanings.{cert_of, meaning_of}
+use Rattle.quorum_run.specs.Replies.{too_large_answer}
+use Rattle.quorum_run.specs.Sought.{request}
 use Rattle.order_reading.specs.declared.early.Early.{Early}
 use Rattle.order_reading.specs.declared.early.Early.TheVariants.{Told}
 use Rattle.order_reading.specs.declared.reading.Asked.{Asked}
@@ -73,14 +76,14 @@ came_after path cert text old mid new only (in_text n short f o why) =
 
 pub asked_after : (a : Asked) (old mid new : DeskState) (st : Status) → OnlyReads old mid → PrintsAsked a mid new st → PrintsAsked a old new st
 asked_after (asked.Question f q) old mid new st only p = record { answer = p.answer; is = p.is; printed = answer_after p.answer old mid new st only p.printed }
-asked_after (asked.Search s) old mid new st only (inl p) = inl (record { reply = p.reply; put = both_after s.path p.reply.cert p.reply.answer old mid new st only p.put })
-asked_after (asked.Search s) old mid new st only (inr p) = inr (record { answer = p.answer; is = p.is; printed = answer_after p.answer old mid new st only p.printed })
+asked_after (asked.Search s) old mid new st only (inl p) = inl (record { reply = p.reply; put = both_after s.path _ p.reply.answer old mid new st only p.put })
+asked_after (asked.Search s) old mid new st only (inr p) = inr (record { vars = p.vars; many = p.many; printed = answer_after (too_large_answer p.vars) old mid new st only p.printed })
 asked_after (asked.Edits e) old mid new st only p = answer_after (edits_answer e) old mid new st only p
 
 asked_part_after : (a : Asked) (old mid new : DeskState) → OnlyReads old mid → PrintsAskedPart a mid new → PrintsAskedPart a old new
 asked_part_after (asked.Question f q) old mid new only p = record { answer = p.answer; is = p.is; printed = part_after p.answer old mid new only p.printed }
-asked_part_after (asked.Search s) old mid new only (inl p) = inl (record { reply = p.reply; came = came_after s.path p.reply.cert p.reply.answer.text old mid new only p.came })
-asked_part_after (asked.Search s) old mid new only (inr p) = inr (record { answer = p.answer; is = p.is; printed = part_after p.answer old mid new only p.printed })
+asked_part_after (asked.Search s) old mid new only (inl p) = inl (record { reply = p.reply; came = came_after s.path _ p.reply.answer.text old mid new only p.came })
+asked_part_after (asked.Search s) old mid new only (inr p) = inr (record { vars = p.vars; many = p.many; printed = part_after (too_large_answer p.vars) old mid new only p.printed })
 asked_part_after (asked.Edits e) old mid new only p = part_after (edits_answer e) old mid new only p
 
 -- ---- what comes of the words
@@ -110,7 +113,7 @@ at_path path files now e = ap (λ (f : Files). f path) e
 
 printed_files : (a : Asked) (old new : DeskState) (st : Status) (path : List ℕ) → (IsCertOf path a → ⊥) → PrintsAsked a old new st → new.files path ≡ old.files path
 printed_files (asked.Question f q) old new st path other p = at_path path old.files new.files p.printed.files
-printed_files (asked.Search s) old new st path other (inl p) = at_path path (with_file s.path p.reply.cert old.files) new.files p.put.files ∙ other_file path s.path p.reply.cert old.files other
+printed_files (asked.Search s) old new st path other (inl p) = at_path path (with_file s.path (cert_of (meaning_of s.goal) (request s) p.reply.found) old.files) new.files p.put.files ∙ other_file path s.path (cert_of (meaning_of s.goal) (request s) p.reply.found) old.files other
 printed_files (asked.Search s) old new st path other (inr p) = at_path path old.files new.files p.printed.files
 printed_files (asked.Edits e) old new st path other p = at_path path old.files new.files p.files
 
@@ -121,7 +124,7 @@ came_files name cert text old new path other (in_text n short f o why) = at_path
 
 part_files : (a : Asked) (old new : DeskState) (path : List ℕ) → (IsCertOf path a → ⊥) → PrintsAskedPart a old new → new.files path ≡ old.files path
 part_files (asked.Question f q) old new path other p = at_path path old.files new.files p.printed.files
-part_files (asked.Search s) old new path other (inl p) = came_files s.path p.reply.cert p.reply.answer.text old new path other p.came
+part_files (asked.Search s) old new path other (inl p) = came_files s.path _ p.reply.answer.text old new path other p.came
 part_files (asked.Search s) old new path other (inr p) = at_path path old.files new.files p.printed.files
 part_files (asked.Edits e) old new path other p = at_path path old.files new.files p.files
 

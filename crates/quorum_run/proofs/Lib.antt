@@ -1,6 +1,6 @@
 pub mod Puts
 pub mod Replied
-pub mod Shown
+pub mod Over
 pub mod Titles
 pub mod Headlines
 pub mod After

@@ -1,25 +1,15 @@
 -- What is on the desk after a certificate and a text were put, whole or in part.
-use Rattle.std.proofs.Common.{◌≡◌, ℕ, ◌+◌, ◌<◌, arith, Bool, List, [], length, take, Some, Result, Ok, Err, OnErr, IsTrue, inl, inr, refl, sym, ◌∙◌, ap, subst}
+use Rattle.std.proofs.Common.{◌≡◌, ℕ, ◌+◌, ◌<◌, arith, List, [], length, take, Some, Result, Ok, Err, OnErr, IsTrue, inl, inr, refl, ◌∙◌, ap, subst}
 use Rattle.std.specs.Str.{bytes_eq}
 use Rattle.std.proofs.lemmas.Bool.{cases_Bool}
 use mathlib.Core.Path.{fun_ext}
 use Rattle.desk_io.specs.State.{Files, DeskState, with_file, with_certificate, appended, written, CannotPut}
-use Rattle.desk_io.specs.Faults.{Faults}
 use Rattle.desk_io.specs.declared.desk.To.TheVariants.{Out, Cert}
-use Rattle.fbas_model.specs.Systems.{System}
-use Rattle.certificate_file.specs.declared.places.Header.{Header}
-use Rattle.cert_writer.specs.Promises.{PutsPart, PutsCertificate}
+use Rattle.cert_writer.specs.Promises.{PutsPart}
 use Rattle.cert_writer.specs.declared.writer.TheConstants.{BUFFER}
 use Rattle.report.specs.Lines.{Text}
 use Rattle.order_reading.specs.declared.reply.Reply.{Reply as Answer}
-use Rattle.quorum_run.specs.Finding.{cert_over}
-use Rattle.quorum_run.specs.declared.found.Found.{Found}
 use Rattle.quorum_run.specs.Putting.{LacksBuffer, LacksText, put_whole, PutsSome, unmade, cert_part, text_part, PutsBoth, CameTo, uncreated, in_cert, in_text}
-
--- the certificate of what was found, by its kind
-pub puts_found : {T E : Type 0} (tells : Bool) (f : System) (digest : List ℕ) (h : Header) (found kind : Found) (r : Result T E) (s : DeskState) (e : Faults) (v : DeskState) (g : Faults)
-    → found ≡ kind → PutsCertificate tells (cert_over f digest h kind) r s e v g → PutsCertificate tells (cert_over f digest h found) r s e v g
-puts_found tells f digest h found kind r s e v g is put = subst (λ (x : Found). PutsCertificate tells (cert_over f digest h x) r s e v g) (sym is) put
 
 appended-created : (path bytes : List ℕ) (files : Files) → appended (Some path) bytes (with_file path [] files) ≡ with_file path bytes files
 appended-created path bytes files = fun_ext (λ (n : List ℕ). elim (cases_Bool (bytes_eq n path)) [

@@ -16,7 +16,7 @@ use Rattle.cert_writer.specs.Promises.{groups_in}
 use Rattle.cert_writer.specs.Grouping.{group_cert_over, group_accepted_as}
 use Rattle.report.specs.Lines.{with_sets, counted}
 use Rattle.order_reading.specs.declared.searches.Search.{Search}
-use Rattle.quorum_run.specs.Printing.{part, deleted, request}
+use Rattle.quorum_run.specs.Sought.{part, deleted, request}
 use Rattle.quorum_run.specs.Showing.{IsAccepted}
 
 -- the certificate of what was found over groups by an organisations file of this digest

@@ -1,6 +1,7 @@
 pub mod QuestionAnswers
-pub mod Finding
 pub mod Replies
+pub mod Sought
+pub mod Meanings
 pub mod Searching
 pub mod Putting
 pub mod Printing

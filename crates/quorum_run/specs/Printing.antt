@@ -2,14 +2,10 @@
 use Rattle.std.specs.Prelude.{◌≡◌, ◌⊎◌, ℕ, ◌<◌, ◌++◌, IsTrue, length, take, Result, Ok, Err}
 use Rattle.desk_io.specs.State.{DeskState}
 use Rattle.fbas_model.specs.Systems.{System}
-use Rattle.fbas_model.specs.Nodes.{Table}
-use Rattle.cert_writer.specs.Promises.{part_of, faulty_in}
-use Rattle.cert_writer.specs.Finding.{Request}
-use Rattle.report.specs.Lines.{Text}
 use Rattle.order_reading.specs.declared.searches.Search.{Search}
-use Rattle.quorum_run.specs.declared.found.Found.{Found}
-use Rattle.quorum_run.specs.Finding.{FindsFound}
-use Rattle.quorum_run.specs.Replies.{Encodes, IsLarge, IsLargeFor, Replies, RepliesTooLarge}
+use Rattle.quorum_run.specs.Sought.{part, deleted, request}
+use Rattle.quorum_run.specs.Meanings.{Meaning, cert_of, IsCertified, AreTooMany, meaning_of}
+use Rattle.quorum_run.specs.Replies.{IsLarge, too_large_answer}
 use Rattle.quorum_run.specs.Putting.{PutsBoth, CameTo}
 use Rattle.order_reading.specs.declared.status.Status.{Status}
 use Rattle.order_reading.specs.declared.status.Status.TheVariants.{TooLarge}
@@ -53,51 +49,45 @@ pub record PrintsAnswerToPart (f : System) (q : Question) (old new : DeskState) 
 
 -- ---- what a search prints and writes
 
-abbrev pub part : Search → System
-part s = part_of s.whole s.header.from
-
--- the deleted nodes, by their numbers in the part
-abbrev pub deleted : Search → Table
-deleted s = faulty_in s.whole s.header
-
--- what is asked for, but for where the certificate goes and what is told of it
-abbrev pub request : Search → Request
-request s = record { whole = s.whole; digest = s.digest; header = s.header; budget = s.budget; orgs = s.orgs }
-
--- what the search found, where the formula is not too large: it shows the answer, its certificate is accepted, and this is the reply
-pub record FindsReply (s : Search) : Type 0 where
-  pub small : Encodes s.goal → IsLargeFor s.goal (part s) (deleted s) → ⊥
-  pub found : Found
-  pub cert : Text
-  pub finds : FindsFound (request s) found cert
+-- what the search found, where its clauses are not too large: it shows the answer, its certificate is accepted, and this is the reply
+pub record FindsReply (m : Meaning) (s : Search) : Type 0 where
+  pub small : (n : ℕ) → AreTooMany m.vars (part s) (deleted s) n → ⊥
+  pub found : m.Finding
+  pub finds : IsCertified m (request s) found
   pub answer : Answer
-  pub is : Replies s.goal (part s) (deleted s) s.budget found answer
+  pub is : m.Replies (part s) (deleted s) s.budget found answer
 
 -- what was found is told, and its certificate is in the file
-pub record PrintsFound (s : Search) (old new : DeskState) (status : Status) : Type 0 where
-  pub reply : FindsReply s
-  pub put : PutsBoth s.path reply.cert reply.answer old new status
+pub record PrintsFound (m : Meaning) (s : Search) (old new : DeskState) (status : Status) : Type 0 where
+  pub reply : FindsReply m s
+  pub put : PutsBoth s.path (cert_of m (request s) reply.found) reply.answer old new status
 
--- the formula is too large, which is told
-pub record PrintsTooLarge (s : Search) (old new : DeskState) (status : Status) : Type 0 where
-  pub answer : Answer
-  pub is : RepliesTooLarge s.goal (part s) (deleted s) answer
-  pub printed : PrintsAnswer answer old new status
+-- the clauses are too large, which is told
+pub record PrintsTooLarge (m : Meaning) (s : Search) (old new : DeskState) (status : Status) : Type 0 where
+  pub vars : ℕ
+  pub many : AreTooMany m.vars (part s) (deleted s) vars
+  pub printed : PrintsAnswer (too_large_answer vars) old new status
 
-pub record PrintsFoundPart (s : Search) (old new : DeskState) : Type 0 where
-  pub reply : FindsReply s
-  pub came : CameTo s.path reply.cert reply.answer.text old new
+pub record PrintsFoundPart (m : Meaning) (s : Search) (old new : DeskState) : Type 0 where
+  pub reply : FindsReply m s
+  pub came : CameTo s.path (cert_of m (request s) reply.found) reply.answer.text old new
 
-pub record PrintsTooLargePart (s : Search) (old new : DeskState) : Type 0 where
-  pub answer : Answer
-  pub is : RepliesTooLarge s.goal (part s) (deleted s) answer
-  pub printed : PrintsAnswerPart answer old new
+pub record PrintsTooLargePart (m : Meaning) (s : Search) (old new : DeskState) : Type 0 where
+  pub vars : ℕ
+  pub many : AreTooMany m.vars (part s) (deleted s) vars
+  pub printed : PrintsAnswerPart (too_large_answer vars) old new
+
+abbrev pub PrintsBy : Meaning → Search → DeskState → DeskState → Status → Type 0
+PrintsBy m s old new status = PrintsFound m s old new status ⊎ PrintsTooLarge m s old new status
+
+abbrev pub PrintsPartBy : Meaning → Search → DeskState → DeskState → Type 0
+PrintsPartBy m s old new = PrintsFoundPart m s old new ⊎ PrintsTooLargePart m s old new
 
 abbrev pub PrintsSearch : Search → DeskState → DeskState → Status → Type 0
-PrintsSearch s old new status = PrintsFound s old new status ⊎ PrintsTooLarge s old new status
+PrintsSearch s old new status = PrintsBy (meaning_of s.goal) s old new status
 
 abbrev pub PrintsSearchPart : Search → DeskState → DeskState → Type 0
-PrintsSearchPart s old new = PrintsFoundPart s old new ⊎ PrintsTooLargePart s old new
+PrintsSearchPart s old new = PrintsPartBy (meaning_of s.goal) s old new
 
 -- ---- what answers the words
 
@@ -139,7 +129,7 @@ IsLargeQuestion f question = ⊥
 
 abbrev pub IsLargeAsked : Asked → Type 0
 IsLargeAsked (asked.Question f question) = IsLargeQuestion f question
-IsLargeAsked (asked.Search s) = Encodes s.goal × IsLargeFor s.goal (part s) (deleted s)
+IsLargeAsked (asked.Search s) = (n : ℕ) × AreTooMany (meaning_of s.goal).vars (part s) (deleted s) n
 IsLargeAsked (asked.Edits e) = ⊥
 
 abbrev pub IsLargeEarly : Early → Type 0

@@ -1,12 +1,9 @@
 -- What a search prints of what it found.
-use Rattle.std.specs.Prelude.{◌≡◌, ◌↔◌, ◌<◌, ℕ, ◌++◌, ◌/◌, Bool, true, false, IsTrue, List, All, length, Option, Some, None, codes}
+use Rattle.std.specs.Prelude.{◌≡◌, ◌↔◌, ◌<◌, ℕ, ◌++◌, ◌/◌, Bool, true, false, IsTrue, List, All, length, Some, None, codes}
 use Rattle.fbas_model.specs.Names.{Name}
-use Rattle.fbas_model.specs.Nodes.{Table, members, size}
-use Rattle.greatest_quorum.specs.Greatest.{greatest_of}
-use Rattle.clause_encoder.specs.NameCounter.{counter_vars}
+use Rattle.fbas_model.specs.Nodes.{Table, members}
 use Rattle.least_quorum.specs.declared.outcome.LeastOutcome.{LeastOutcome}
 use Rattle.least_quorum.specs.declared.outcome.LeastOutcome.TheVariants as found_least
-use Rattle.node_json.specs.Groups.{Group, texts_of}
 use Rattle.group_lists.specs.declared.outcome.GroupOutcome.{GroupOutcome}
 use Rattle.group_lists.specs.declared.outcome.GroupOutcome.TheVariants as found_groups
 use Rattle.fbas_model.specs.Fbas.{Available, AreUnmet}
@@ -20,14 +17,10 @@ use Rattle.list_journal.specs.declared.kinds.Listed.TheVariants as listed
 use Rattle.blocking_lists.specs.declared.outcome.ListOutcome.{ListOutcome}
 use Rattle.blocking_lists.specs.declared.outcome.ListOutcome.TheVariants.{Whole as whole, Spent as part}
 use Rattle.clause_encoder.specs.declared.limits.TheConstants.{MOST_VARS}
-use Rattle.cli_words.specs.declared.orders.Goal.{Goal}
-use Rattle.cli_words.specs.declared.orders.Goal.TheVariants.{Intersect, Dset, Splits, Blocking, Trial, Quorums, Least, OrgBlocking}
 use Rattle.report.specs.Lines.{Text, with_pair, with_sets, smallest_if_any, trial_size, counted, available_lines, too_large}
 use Rattle.order_reading.specs.declared.status.Status.{Status}
 use Rattle.order_reading.specs.declared.status.Status.TheVariants.{Yes, No, Unknown, TooLarge}
 use Rattle.order_reading.specs.declared.reply.Reply.{Reply as Answer}
-use Rattle.quorum_run.specs.declared.found.Found.{Found}
-use Rattle.quorum_run.specs.declared.found.Found.TheVariants.{Shared, Listed, Smallest, Grouped}
 
 -- whether every two quorums share a node, by the names of the part
 abbrev pub intersect_answer : List Name → ℕ → Shown → Answer
@@ -41,13 +34,7 @@ splits_answer names budget (together log size) = record { status = No; text = co
 splits_answer names budget (apart p) = record { status = Yes; text = with_pair (codes "splits yes\n") names p }
 splits_answer names budget (spent log size) = record { status = Unknown; text = counted (codes "splits unknown") budget }
 
--- the sets that a search lists, if it lists sets
-abbrev pub listed_by : Goal → Option Kind
-listed_by Blocking = Some listed.Blocking
-listed_by Quorums = Some listed.Quorum
-listed_by goal = None
-
--- what the line of their number begins with, and the line of a spent budget
+-- what the line of the number of sets begins with, and the line of a spent budget
 abbrev pub list_word : Kind → Text
 list_word listed.Quorum = codes "quorums"
 list_word listed.Blocking = codes "blocking"
@@ -63,11 +50,6 @@ abbrev pub list_answer : Kind → List Name → ℕ → ListOutcome → Answer
 list_answer sought names budget (whole sets journal) = record { status = Yes; text = with_sets (list_word sought) names sets.items }
 list_answer sought names budget (part journal) = record { status = Unknown; text = counted (unknown_word sought) budget }
 
--- those that were asked for are listed
-abbrev pub RepliesListed : Option Kind → System → ℕ → Kind → ListOutcome → Answer → Type 0
-RepliesListed None f budget sought found a = ⊥
-RepliesListed (Some kind) f budget sought found a = (sought ≡ kind) × (a ≡ list_answer kind f.names budget found)
-
 -- each listed set has a place for each of n nodes
 abbrev pub HasSets : ℕ → ListOutcome → Type 0
 HasSets n (whole sets journal) = All (λ s. length s ≡ n) sets.items
@@ -81,11 +63,6 @@ least_answer names budget (found_least.Least set journal) = record { status = Ye
 least_answer names budget (found_least.NoQuorum journal) = record { status = Yes; text = smallest_if_any names None }
 least_answer names budget (found_least.Spent journal) = record { status = Unknown; text = counted (unknown_word listed.Smaller) budget }
 
--- it was asked for
-abbrev pub RepliesLeast : Goal → System → ℕ → LeastOutcome → Answer → Type 0
-RepliesLeast Least f budget found a = a ≡ least_answer f.names budget found
-RepliesLeast goal f budget found a = ⊥
-
 -- the set has a place for each of n nodes
 abbrev pub HasPlaces : ℕ → LeastOutcome → Type 0
 HasPlaces n (found_least.Least set journal) = length set ≡ n
@@ -98,11 +75,6 @@ HasPlaces n (found_least.Spent journal) = Unit {0}
 abbrev pub group_answer : List Name → ℕ → GroupOutcome → Answer
 group_answer texts budget (found_groups.Whole sets journal) = record { status = Yes; text = with_sets (codes "org-blocking") texts sets.items }
 group_answer texts budget (found_groups.Spent journal) = record { status = Unknown; text = counted (codes "org-blocking unknown") budget }
-
--- they were asked for
-abbrev pub RepliesGroups : Goal → List Group → ℕ → GroupOutcome → Answer → Type 0
-RepliesGroups OrgBlocking groups budget found a = a ≡ group_answer (texts_of groups) budget found
-RepliesGroups goal groups budget found a = ⊥
 
 -- each listed set has a place for each of n groups
 abbrev pub HasGroupSets : ℕ → GroupOutcome → Type 0
@@ -158,43 +130,11 @@ pub record RepliesTrial (f : System) (budget : ℕ) (found : Shown) (a : Answer)
   pub has : HasSize found size
   pub said : a ≡ record (intersect_answer f.names budget found) { text = size_lines f size ++ (intersect_answer f.names budget found).text }
 
--- ---- the reply of a search over a part of the system, of which these nodes are deleted and this was found
-
-abbrev pub Replies : Goal → System → Table → ℕ → Found → Answer → Type 0
-Replies goal f deleted budget (Listed sought found) a = RepliesListed (listed_by goal) f budget sought found a
-Replies goal f deleted budget (Smallest nodes found) a = RepliesLeast goal f budget found a
-Replies goal f deleted budget (Grouped digest groups found) a = RepliesGroups goal groups budget found a
-Replies Intersect f deleted budget (Shared found) a = a ≡ intersect_answer f.names budget found
-Replies Splits f deleted budget (Shared found) a = a ≡ splits_answer f.names budget found
-Replies Dset f deleted budget (Shared found) a = RepliesDset f deleted budget found a
-Replies Trial f deleted budget (Shared found) a = RepliesTrial f budget found a
-Replies goal f deleted budget (Shared found) a = ⊥
-
 -- ---- a formula that is too large
-
--- a search with this goal begins with clauses, those of the intersection formula or of a counter: all but one for a list of sets, of nodes or of organisations
-abbrev pub ListsNone : Option Kind → Type 0
-ListsNone None = Unit {0}
-ListsNone (Some kind) = ⊥
-
-abbrev pub Encodes : Goal → Type 0
-Encodes OrgBlocking = ⊥
-Encodes goal = ListsNone (listed_by goal)
 
 -- the formula has too many variables
 abbrev pub IsLarge : System → Table → Type 0
 IsLarge f deleted = MOST_VARS < vars_of f.sets deleted
 
--- how many variables they have: the counter is that of the nodes of the greatest quorum
-abbrev pub vars_by : Goal → System → Table → ℕ
-vars_by Least f deleted = counter_vars (size (greatest_of f.sets deleted))
-vars_by goal f deleted = vars_of f.sets deleted
-
-abbrev pub IsLargeFor : Goal → System → Table → Type 0
-IsLargeFor goal f deleted = MOST_VARS < vars_by goal f deleted
-
--- the clauses are encoded, and have too many variables, which are told
-pub record RepliesTooLarge (goal : Goal) (f : System) (deleted : Table) (a : Answer) : Type 0 where
-  pub encodes : Encodes goal
-  pub large : IsLargeFor goal f deleted
-  pub said : a ≡ record { status = TooLarge; text = too_large (vars_by goal f deleted) }
+abbrev pub too_large_answer : ℕ → Answer
+too_large_answer n = record { status = TooLarge; text = too_large n }

@@ -23,7 +23,7 @@ use Rattle.quorum_questions.specs.declared.answers.Size.{Size}
 use Rattle.quorum_questions.specs.declared.answers.Answer.TheVariants.{Yes as together, Spent as spent}
 use Rattle.report.specs.Lines.{Text, with_pair, with_sets, counted}
 use Rattle.order_reading.specs.declared.searches.Search.{Search}
-use Rattle.quorum_run.specs.Printing.{part, deleted, request}
+use Rattle.quorum_run.specs.Sought.{part, deleted, request}
 use Rattle.quorum_run.specs.Replies.{size_lines, list_word, unknown_word}
 
 -- the certificate says this, for the asked node and the deleted nodes, and is accepted

@@ -11,7 +11,7 @@ use Rattle.certificate_file.specs.declared.places.Conclusion.TheVariants.{Least,
 use Rattle.cert_writer.specs.Least.{least_cert_by, raised_if_any}
 use Rattle.report.specs.Lines.{smallest_if_any, counted}
 use Rattle.order_reading.specs.declared.searches.Search.{Search}
-use Rattle.quorum_run.specs.Printing.{part, deleted}
+use Rattle.quorum_run.specs.Sought.{part, deleted}
 use Rattle.quorum_run.specs.Replies.{unknown_word}
 use Rattle.quorum_run.specs.Showing.{IsAccepted}
 

@@ -10,10 +10,13 @@ ghost use Rattle.order_reading.specs.Answers.{words_of, asked_of, FitsAsked};
 ghost use Rattle.quorum_run.specs.Headline.{Headline, MayChange};
 ghost use Rattle.quorum_run.specs.Printing.{PrintsAnswer, PrintsAnswerPart, PrintsAsked, PrintsAskedPart, Prints, PrintsPart, IsTooLarge};
 
+mod commands;
 mod ending;
+mod finding;
 mod found;
 mod printing;
 mod replies;
+mod searched;
 mod searching;
 mod solving;
 mod trying;

@@ -4,8 +4,8 @@ ghost use Rattle.witness_pair.specs.declared.Pair.{Pair};
 ghost use Rattle.fbas_model.specs.Nodes.{members};
 ghost use Rattle.fbas_model.specs.Fbas.{Available, AreUnmet};
 ghost use Rattle.cert_writer.specs.Finding.{CanBeWritten};
-ghost use Rattle.report.specs.Lines.{available_lines as spec_available};
-ghost use Rattle.quorum_run.specs.Replies.{intersect_answer as spec_intersect, splits_answer as spec_splits, list_word as spec_list_word, unknown_word as spec_unknown_word, list_answer as spec_list, HasSets, least_answer as spec_least, HasPlaces, group_answer as spec_groups, HasGroupSets, HasSize, RepliesTrial, dset_status as spec_dset_status, dset_line as spec_dset_line, dset_answer as spec_dset};
+ghost use Rattle.report.specs.Lines.{available_lines as spec_available, counted};
+ghost use Rattle.quorum_run.specs.Replies.{intersect_answer as spec_intersect, splits_answer as spec_splits, list_word as spec_list_word, unknown_word as spec_unknown_word, list_answer as spec_list, HasSets, least_answer as spec_least, HasPlaces, group_answer as spec_groups, HasGroupSets, HasSize, RepliesTrial, dset_status as spec_dset_status, dset_line as spec_dset_line, dset_answer as spec_dset, too_large_answer};
 ghost use Rattle.order_reading.specs.Status.{is_answer};
 ghost use Rattle.node_json.specs.Groups.{texts_of};
 
@@ -19,6 +19,22 @@ use node_json::Groups;
 use order_reading::{Reply, Status, says};
 use quorum_questions::{Answer, Size};
 use std::alloc::{AllocError, Global};
+
+/// That clauses of so many variables are too large.
+pub fn too_large(alloc: Global, vars: u64) -> Result<Reply, AllocError>
+    ensures { IfOk result (λ a. a ≡ too_large_answer vars) }
+{
+    let text = report::counted(alloc, "too-large", vars)?;
+    Ok(Reply::new(Status::TooLarge, text))
+}
+
+// That the budget is spent.
+fn unknown(alloc: Global, word: &str, budget: u64) -> Result<Reply, AllocError>
+    ensures { IfOk result (λ a. a ≡ record { status = Status.Unknown; text = counted word.now budget }) }
+{
+    let text = report::counted(alloc, word, budget)?;
+    Ok(Reply::new(Status::Unknown, text))
+}
 
 /// Whether every two quorums share a node, by what a search found.
 pub fn intersect_answer(
@@ -36,10 +52,7 @@ pub fn intersect_answer(
             let text = report::with_pair(alloc, "intersects no\n", part, pair)?;
             Ok(Reply::new(Status::No, text))
         }
-        Answer::Spent(_, _) => {
-            let text = report::counted(alloc, "intersects unknown", budget)?;
-            Ok(Reply::new(Status::Unknown, text))
-        }
+        Answer::Spent(_, _) => unknown(alloc, "intersects unknown", budget),
     }
 }
 
@@ -59,10 +72,7 @@ pub fn splits_answer(
             let text = report::with_pair(alloc, "splits yes\n", part, pair)?;
             Ok(Reply::new(Status::Yes, text))
         }
-        Answer::Spent(_, _) => {
-            let text = report::counted(alloc, "splits unknown", budget)?;
-            Ok(Reply::new(Status::Unknown, text))
-        }
+        Answer::Spent(_, _) => unknown(alloc, "splits unknown", budget),
     }
 }
 
@@ -104,10 +114,7 @@ pub fn list_answer(
             let text = report::with_sets(alloc, list_word(sought), part, sets.as_slice())?;
             Ok(Reply::new(Status::Yes, text))
         }
-        ListOutcome::Spent(_) => {
-            let text = report::counted(alloc, unknown_word(sought), budget)?;
-            Ok(Reply::new(Status::Unknown, text))
-        }
+        ListOutcome::Spent(_) => unknown(alloc, unknown_word(sought), budget),
     }
 }
 
@@ -127,10 +134,7 @@ pub fn least_answer(
             Ok(Reply::new(Status::Yes, text))
         }
         LeastOutcome::NoQuorum(_) => says(alloc, Status::Yes, "least none\n"),
-        LeastOutcome::Spent(_) => {
-            let text = report::counted(alloc, unknown_word(Listed::Smaller), budget)?;
-            Ok(Reply::new(Status::Unknown, text))
-        }
+        LeastOutcome::Spent(_) => unknown(alloc, unknown_word(Listed::Smaller), budget),
     }
 }
 
@@ -149,10 +153,7 @@ pub fn group_answer(
             let text = report::with_group_sets(alloc, "org-blocking", groups, sets)?;
             Ok(Reply::new(Status::Yes, text))
         }
-        GroupOutcome::Spent(_) => {
-            let text = report::counted(alloc, "org-blocking unknown", budget)?;
-            Ok(Reply::new(Status::Unknown, text))
-        }
+        GroupOutcome::Spent(_) => unknown(alloc, "org-blocking unknown", budget),
     }
 }
 

@@ -9,6 +9,7 @@ ghost use Rattle.lrat_model.specs.Literal.{Literal};
 ghost use Rattle.clause_encoder.specs.Dimacs.{dimacs};
 ghost use Rattle.lrat_model.specs.Runs.{formula_database};
 
+use crate::replies::too_large;
 use clause_encoder::{EncodeError, VarMap, Version, encode, push_dimacs};
 use clause_store::Store;
 use fbas_core::System;
@@ -127,10 +128,7 @@ fn formula(
 {
     match encode(alloc, Version::Two, system, faulty, greatest) {
         Ok((store, map)) => formula_text(alloc, system, origin, faulty, &store, &map),
-        Err(EncodeError::TooLarge(vars)) => {
-            let text = report::counted(alloc, "too-large", vars)?;
-            Ok(Reply::new(Status::TooLarge, text))
-        }
+        Err(EncodeError::TooLarge(vars)) => too_large(alloc, vars),
         Err(EncodeError::Memory) => Err(AllocError),
     }
 }
