@@ -14,7 +14,7 @@ use Rattle.quorum_run.specs.Meanings.{cert_of, meaning_of}
 use Rattle.quorum_run.specs.Replies.{too_large_answer}
 use Rattle.quorum_run.specs.Sought.{request}
 use Rattle.order_reading.specs.declared.early.Early.{Early}
-use Rattle.order_reading.specs.declared.early.Early.TheVariants.{Told}
+use Rattle.order_reading.specs.declared.early.Early.TheVariants.{Refused}
 use Rattle.order_reading.specs.declared.reading.Asked.{Asked}
 use Rattle.order_reading.specs.declared.reading.Asked.TheVariants as asked
 use Rattle.quorum_run.specs.Putting.{IsBarred, PutsBoth, CameTo, uncreated, in_cert, in_text}
@@ -79,26 +79,28 @@ asked_after (asked.Question f q) old mid new st only p = record { answer = p.ans
 asked_after (asked.Search s) old mid new st only (inl p) = inl (record { reply = p.reply; put = both_after s.path _ p.reply.answer old mid new st only p.put })
 asked_after (asked.Search s) old mid new st only (inr p) = inr (record { vars = p.vars; many = p.many; printed = answer_after (too_large_answer p.vars) old mid new st only p.printed })
 asked_after (asked.Edits e) old mid new st only p = answer_after (edits_answer e) old mid new st only p
+asked_after (asked.Checked a) old mid new st only p = answer_after a old mid new st only p
 
 asked_part_after : (a : Asked) (old mid new : DeskState) → OnlyReads old mid → PrintsAskedPart a mid new → PrintsAskedPart a old new
 asked_part_after (asked.Question f q) old mid new only p = record { answer = p.answer; is = p.is; printed = part_after p.answer old mid new only p.printed }
 asked_part_after (asked.Search s) old mid new only (inl p) = inl (record { reply = p.reply; came = came_after s.path _ p.reply.answer.text old mid new only p.came })
 asked_part_after (asked.Search s) old mid new only (inr p) = inr (record { vars = p.vars; many = p.many; printed = part_after (too_large_answer p.vars) old mid new only p.printed })
 asked_part_after (asked.Edits e) old mid new only p = part_after (edits_answer e) old mid new only p
+asked_part_after (asked.Checked a) old mid new only p = part_after a old mid new only p
 
 -- ---- what comes of the words
 
 pub prints_ok : (r : Result Asked Early) (a : Asked) (old mid new : DeskState) (st : Status) → r ≡ Ok a → OnlyReads old mid → PrintsAsked a mid new st → Prints r old new st
 prints_ok r a old mid new st is only p = subst (λ (x : Result Asked Early). Prints x old new st) (sym is) (asked_after a old mid new st only p)
 
-pub prints_told : (r : Result Asked Early) (a : Answer) (old mid new : DeskState) (st : Status) → r ≡ Err (Told a) → OnlyReads old mid → PrintsAnswer a mid new st → Prints r old new st
-prints_told r a old mid new st is only p = subst (λ (x : Result Asked Early). Prints x old new st) (sym is) (answer_after a old mid new st only p)
+pub prints_refused : (r : Result Asked Early) (a : Answer) (old mid new : DeskState) (st : Status) → r ≡ Err (Refused a) → OnlyReads old mid → PrintsAnswer a mid new st → Prints r old new st
+prints_refused r a old mid new st is only p = subst (λ (x : Result Asked Early). Prints x old new st) (sym is) (answer_after a old mid new st only p)
 
 pub part_ok : (r : Result Asked Early) (a : Asked) (old mid new : DeskState) → r ≡ Ok a → OnlyReads old mid → PrintsAskedPart a mid new → PrintsPart r old new
 part_ok r a old mid new is only p = subst (λ (x : Result Asked Early). PrintsPart x old new) (sym is) (asked_part_after a old mid new only p)
 
-pub part_told : (r : Result Asked Early) (a : Answer) (old mid new : DeskState) → r ≡ Err (Told a) → OnlyReads old mid → PrintsAnswerPart a mid new → PrintsPart r old new
-part_told r a old mid new is only p = subst (λ (x : Result Asked Early). PrintsPart x old new) (sym is) (part_after a old mid new only p)
+pub part_refused : (r : Result Asked Early) (a : Answer) (old mid new : DeskState) → r ≡ Err (Refused a) → OnlyReads old mid → PrintsAnswerPart a mid new → PrintsPart r old new
+part_refused r a old mid new is only p = subst (λ (x : Result Asked Early). PrintsPart x old new) (sym is) (part_after a old mid new only p)
 
 -- ---- no other file changes
 
@@ -116,6 +118,7 @@ printed_files (asked.Question f q) old new st path other p = at_path path old.fi
 printed_files (asked.Search s) old new st path other (inl p) = at_path path (with_file s.path (cert_of (meaning_of s.goal) (request s) p.reply.found) old.files) new.files p.put.files ∙ other_file path s.path (cert_of (meaning_of s.goal) (request s) p.reply.found) old.files other
 printed_files (asked.Search s) old new st path other (inr p) = at_path path old.files new.files p.printed.files
 printed_files (asked.Edits e) old new st path other p = at_path path old.files new.files p.files
+printed_files (asked.Checked a) old new st path other p = at_path path old.files new.files p.files
 
 came_files : (name : List ℕ) (cert text : Text) (old new : DeskState) (path : List ℕ) → (bytes_eq path name ≡ true → ⊥) → CameTo name cert text old new → new.files path ≡ old.files path
 came_files name cert text old new path other (uncreated f o why) = at_path path old.files new.files f
@@ -127,6 +130,7 @@ part_files (asked.Question f q) old new path other p = at_path path old.files ne
 part_files (asked.Search s) old new path other (inl p) = came_files s.path _ p.reply.answer.text old new path other p.came
 part_files (asked.Search s) old new path other (inr p) = at_path path old.files new.files p.printed.files
 part_files (asked.Edits e) old new path other p = at_path path old.files new.files p.files
+part_files (asked.Checked a) old new path other p = at_path path old.files new.files p.files
 
 -- how an answer to what is asked ends
 pub record Ended (a : Asked) (old new : DeskState) (st : Status) : Type 0 where
@@ -148,14 +152,14 @@ pub files_ok : (r : Result Asked Early) (a : Asked) (old mid new : DeskState) (s
 files_ok r a old mid new st path is only other e =
     ended_files a mid new st path (subst (λ (x : Result Asked Early). MayChange path x → ⊥) is other) e ∙ at_path path old.files mid.files (files_kept old mid only)
 
--- how an early answer ends
+-- how a refusal ends
 pub record EndedEarly (a : Answer) (old new : DeskState) (st : Status) : Type 0 where
   pub answered : IsTrue (is_answer st) → PrintsAnswer a old new st
   pub part : st ≡ WriteFault → PrintsAnswerPart a old new
   pub ends : (st ≡ a.status) ⊎ (st ≡ WriteFault)
 
-pub files_told : (a : Answer) (old mid new : DeskState) (st : Status) (path : List ℕ) → OnlyReads old mid → IsTrue (is_answer a.status) → EndedEarly a mid new st → new.files path ≡ old.files path
-files_told a old mid new st path only is e = elim e.ends [
+pub files_refused : (a : Answer) (old mid new : DeskState) (st : Status) (path : List ℕ) → OnlyReads old mid → IsTrue (is_answer a.status) → EndedEarly a mid new st → new.files path ≡ old.files path
+files_refused a old mid new st path only is e = elim e.ends [
   | inl same ↦ at_path path mid.files new.files ((e.answered (subst (λ (x : Status). IsTrue (is_answer x)) (sym same) is)).files) ∙ at_path path old.files mid.files (files_kept old mid only)
   | inr written ↦ at_path path mid.files new.files ((e.part written).files) ∙ at_path path old.files mid.files (files_kept old mid only)
 ]

@@ -1,5 +1,5 @@
 -- The answer is that a formula is too large exactly where there is one.
-use Rattle.std.proofs.Common.{◌≡◌, ◌↔◌, ◌<◌, ◌≤◌, ℕ, inl, inr, nat_le, if◌then◌else◌, arith, List, Result, Ok, Err, refl, sym, ◌∙◌, ap}
+use Rattle.std.proofs.Common.{◌≡◌, ◌↔◌, ◌<◌, ◌≤◌, ℕ, inl, inr, true, false, nat_le, if◌then◌else◌, arith, List, Result, Ok, Err, IfErr, IsTrue, refl, sym, ◌∙◌, ap, subst}
 use Rattle.std.proofs.lemmas.Bool.{cases_Bool, leb-true, leb-false}
 use Rattle.fbas_model.specs.Nodes.{Table}
 use Rattle.fbas_model.specs.Systems.{System}
@@ -10,7 +10,8 @@ use Rattle.order_reading.specs.declared.status.Status.{Status}
 use Rattle.order_reading.specs.declared.status.Status.TheVariants.{Yes, No, Unknown, TooLarge, ScriptRefused}
 use Rattle.order_reading.specs.declared.reply.Reply.{Reply as Answer}
 use Rattle.order_reading.specs.declared.early.Early.{Early}
-use Rattle.order_reading.specs.declared.early.Early.TheVariants.{Told, Read, Memory}
+use Rattle.order_reading.specs.declared.early.Early.TheVariants.{Refused, Read, Memory}
+use Rattle.order_reading.specs.Reading.{is_refusal, IsRefusal}
 use Rattle.order_reading.specs.declared.question.Question.{Question}
 use Rattle.order_reading.specs.declared.question.Question.TheVariants.{Show, Closure, Greatest, Available, Blocks, Export, Vblocks}
 use Rattle.order_reading.specs.declared.question.Origin.{Origin}
@@ -94,9 +95,15 @@ asked_large : (a : Asked) (old new : DeskState) (status : Status) → PrintsAske
 asked_large (asked.Question f q) old new status p = by_status _ p.answer.status status p.printed.status_is (answer_large f q p.answer p.is)
 asked_large (asked.Search s) old new status p = search_large s old new status p
 asked_large (asked.Edits e) old new status p = by_status _ (edits_answer e).status status p.status_is (states_small e.set (states_of e.system e.script))
+asked_large (asked.Checked a) old new status p = by_status _ a.status status p.status_is (λ e. e, λ e. e)
 
-pub too_large_of : (r : Result Asked Early) (old new : DeskState) (status : Status) → Prints r old new status → (status ≡ TooLarge) ↔ IsTooLarge r
-too_large_of (Ok a) old new status p = asked_large a old new status p
-too_large_of (Err (Told a)) old new status p = by_status _ a.status status p.status_is (λ e. e, λ e. e)
-too_large_of (Err Read) old new status p = absurd p
-too_large_of (Err Memory) old new status p = absurd p
+refusal_small : (refused : Status) → IsTrue (is_refusal refused) → IsSmall refused
+refusal_small refused is e =
+    let k : IsTrue (is_refusal TooLarge) = subst (λ (x : Status). IsTrue (is_refusal x)) e is in
+    absurd (let f : false ≡ true = k in cc)
+
+pub too_large_of : (r : Result Asked Early) (old new : DeskState) (status : Status) → IfErr r IsRefusal → Prints r old new status → (status ≡ TooLarge) ↔ IsTooLarge r
+too_large_of (Ok a) old new status refused p = asked_large a old new status p
+too_large_of (Err (Refused a)) old new status refused p = by_status _ a.status status p.status_is (refusal_small a.status refused, λ none. absurd none)
+too_large_of (Err Read) old new status refused p = absurd p
+too_large_of (Err Memory) old new status refused p = absurd p

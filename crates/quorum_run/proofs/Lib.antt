@@ -7,3 +7,4 @@ pub mod After
 pub mod Large
 pub mod Edited
 pub mod Ends
+pub mod Checks

@@ -45,6 +45,7 @@ abbrev pub IsCertOf : List ℕ → Asked → Type 0
 IsCertOf path (asked.Search s) = bytes_eq path s.path ≡ true
 IsCertOf path (asked.Question f question) = ⊥
 IsCertOf path (asked.Edits e) = ⊥
+IsCertOf path (asked.Checked answer) = ⊥
 
 abbrev pub MayChange : List ℕ → Result Asked Early → Type 0
 MayChange path (Ok a) = IsCertOf path a

@@ -11,7 +11,7 @@ use Rattle.order_reading.specs.declared.status.Status.{Status}
 use Rattle.order_reading.specs.declared.status.Status.TheVariants.{TooLarge}
 use Rattle.order_reading.specs.declared.reply.Reply.{Reply as Answer}
 use Rattle.order_reading.specs.declared.early.Early.{Early}
-use Rattle.order_reading.specs.declared.early.Early.TheVariants.{Told, Read, Memory}
+use Rattle.order_reading.specs.declared.early.Early.TheVariants.{Refused, Read, Memory}
 use Rattle.order_reading.specs.declared.question.Question.{Question}
 use Rattle.order_reading.specs.declared.question.Question.TheVariants.{Export}
 use Rattle.order_reading.specs.declared.reading.Asked.{Asked}
@@ -95,13 +95,14 @@ abbrev pub PrintsAsked : Asked → DeskState → DeskState → Status → Type 0
 PrintsAsked (asked.Question f question) old new status = PrintsAnswerTo f question old new status
 PrintsAsked (asked.Search s) old new status = PrintsSearch s old new status
 PrintsAsked (asked.Edits e) old new status = PrintsAnswer (edits_answer e) old new status
+PrintsAsked (asked.Checked answer) old new status = PrintsAnswer answer old new status
 
 abbrev pub PrintsEarly : Early → DeskState → DeskState → Status → Type 0
-PrintsEarly (Told answer) old new status = PrintsAnswer answer old new status
+PrintsEarly (Refused answer) old new status = PrintsAnswer answer old new status
 PrintsEarly Read old new status = ⊥
 PrintsEarly Memory old new status = ⊥
 
--- an answer to what is asked is out, or the early answer
+-- an answer to what is asked is out, or a refusal
 abbrev pub Prints : Result Asked Early → DeskState → DeskState → Status → Type 0
 Prints (Ok a) old new status = PrintsAsked a old new status
 Prints (Err early) old new status = PrintsEarly early old new status
@@ -110,9 +111,10 @@ abbrev pub PrintsAskedPart : Asked → DeskState → DeskState → Type 0
 PrintsAskedPart (asked.Question f question) old new = PrintsAnswerToPart f question old new
 PrintsAskedPart (asked.Search s) old new = PrintsSearchPart s old new
 PrintsAskedPart (asked.Edits e) old new = PrintsAnswerPart (edits_answer e) old new
+PrintsAskedPart (asked.Checked answer) old new = PrintsAnswerPart answer old new
 
 abbrev pub PrintsEarlyPart : Early → DeskState → DeskState → Type 0
-PrintsEarlyPart (Told answer) old new = PrintsAnswerPart answer old new
+PrintsEarlyPart (Refused answer) old new = PrintsAnswerPart answer old new
 PrintsEarlyPart Read old new = ⊥
 PrintsEarlyPart Memory old new = ⊥
 
@@ -131,13 +133,9 @@ abbrev pub IsLargeAsked : Asked → Type 0
 IsLargeAsked (asked.Question f question) = IsLargeQuestion f question
 IsLargeAsked (asked.Search s) = (n : ℕ) × AreTooMany (meaning_of s.goal).vars (part s) (deleted s) n
 IsLargeAsked (asked.Edits e) = ⊥
-
-abbrev pub IsLargeEarly : Early → Type 0
-IsLargeEarly (Told answer) = answer.status ≡ TooLarge
-IsLargeEarly Read = ⊥
-IsLargeEarly Memory = ⊥
+IsLargeAsked (asked.Checked answer) = answer.status ≡ TooLarge
 
 -- what is asked encodes a formula, or a counter, that has too many variables, or such a one stands in the certificate that is checked
 abbrev pub IsTooLarge : Result Asked Early → Type 0
 IsTooLarge (Ok a) = IsLargeAsked a
-IsTooLarge (Err early) = IsLargeEarly early
+IsTooLarge (Err early) = ⊥

@@ -50,6 +50,7 @@ fn answer<D: Desk>(alloc: Global, desk: &mut D, asked: Asked) -> Status
             Ok(reply) => print(desk, &reply),
             Err(AllocError) => Status::Memory,
         },
+        Asked::Checked(reply) => print(desk, &reply),
     }
 }
 
@@ -99,7 +100,7 @@ pub fn run<D: Desk>(alloc: Global, words: &[String], desk: &mut D) -> Status
 {
     match ask_by_words(alloc, words, desk) {
         Ok(asked) => answer(alloc, desk, asked),
-        Err(Early::Told(reply)) => print(desk, &reply),
+        Err(Early::Refused(reply)) => print(desk, &reply),
         Err(Early::Read) => Status::ReadFault,
         Err(Early::Memory) => Status::Memory,
     }

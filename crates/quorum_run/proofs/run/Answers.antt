@@ -1,15 +1,17 @@
-use Rattle.std.proofs.Common.{Result, sym, ◌∙◌, subst}
+use Rattle.std.proofs.Common.{◌≡◌, Result, Ok, Err, IfErr, sym, ◌∙◌, subst}
 use Rattle.order_reading.specs.Answers.{words_of, asked_of}
 use Rattle.cli_words.specs.Words.{order_of}
-use Rattle.order_reading.specs.Meaning.{YesMeans}
-use Rattle.order_reading.specs.Reading.{FailsReading}
-use Rattle.quorum_run.specs.Printing.{PrintsAnswer}
+use Rattle.order_reading.specs.Reading.{FailsReading, IsRefusal}
+use Rattle.quorum_run.specs.Printing.{PrintsAnswer, PrintsAsked}
 use Rattle.order_reading.specs.declared.early.Early.{Early}
+use Rattle.order_reading.specs.declared.early.Early.TheVariants.{Refused}
 use Rattle.order_reading.specs.declared.reading.Asked.{Asked}
-use Rattle.quorum_run.proofs.After.{prints_ok, prints_told, part_ok, files_ok}
+use Rattle.quorum_run.proofs.After.{prints_ok, prints_refused, part_ok, files_ok}
+use Rattle.quorum_run.proofs.Checks.{said_yes, refused_yes}
 use Rattle.quorum_run.proofs.Headlines.{headline_of}
 use Rattle.quorum_run.proofs.Large.{too_large_of}
-use Rattle.order_reading.proofs.Told.{WordsMean, check_is_told, check_lrat_is_told, accepted_by, verified_by}
+use Rattle.order_reading.specs.Meaning.{WordsMean}
+use Rattle.order_reading.proofs.Meanings.{check_checks, check_lrat_checks, accepted_by, verified_by}
 use Rattle.quorum_run.proofs.run.Goals as goal
 
 pub returns-in-Ok-clause-answered : goal.returns-in-Ok-clause-answered
@@ -18,41 +20,47 @@ returns-in-Ok-clause-answered g c = λ tell is.
 
 pub returns-in-Ok-clause-headline : goal.returns-in-Ok-clause-headline
 returns-in-Ok-clause-headline g c = λ tell is.
+    let words = words_of c.args.words.now in
     let old = g.D.Desk.state c.args.desk.now in
+    let middle = g.D.Desk.state c.ask_by_words.new.desk in
     let new = g.D.Desk.state c.answer.new.desk in
-    headline_of (words_of c.args.words.now) old new _ (prints_ok _ c.in-Ok.asked old (g.D.Desk.state c.ask_by_words.new.desk) new _ (c.in-Ok.ensures.gives tell) (c.in-Ok.ensures.reads tell) (c.answer.ensures.answered tell is))
-    (λ check yes. absurd (let k = c.in-Ok.ensures.told (check_is_told (order_of (words_of c.args.words.now)) check) in cc))
-    (λ check yes. absurd (let k = c.in-Ok.ensures.told (check_lrat_is_told (order_of (words_of c.args.words.now)) check) in cc))
+    let printed : PrintsAsked c.in-Ok.asked middle new c.answer.result = c.answer.ensures.answered tell is in
+    headline_of words old new c.answer.result (prints_ok _ c.in-Ok.asked old middle new c.answer.result (c.in-Ok.ensures.gives tell) (c.in-Ok.ensures.reads tell) printed)
+    (λ check yes. accepted_by words old.files check (said_yes (WordsMean words old.files) c.in-Ok.asked middle new c.answer.result (c.in-Ok.ensures.shows (check_checks (order_of words) check) tell) printed yes))
+    (λ check yes. verified_by words old.files check (said_yes (WordsMean words old.files) c.in-Ok.asked middle new c.answer.result (c.in-Ok.ensures.shows (check_lrat_checks (order_of words) check) tell) printed yes))
 
-pub returns-in-Err-Told-clause-headline : goal.returns-in-Err-Told-clause-headline
-returns-in-Err-Told-clause-headline g c = λ tell is.
+pub returns-in-Err-Refused-clause-headline : goal.returns-in-Err-Refused-clause-headline
+returns-in-Err-Refused-clause-headline g c = λ tell is.
     let old = g.D.Desk.state c.args.desk.now in
     let new = g.D.Desk.state c.print.new.desk in
     let words = words_of c.args.words.now in
     let asked : Result Asked Early = asked_of words old.files in
     let middle = g.D.Desk.state c.ask_by_words.new.desk in
-    let printed : PrintsAnswer c.in-Err-Told.reply middle new c.print.result = rw c.in-Err-Told.field-0-is at (c.print.ensures.printed tell is) in
-    let gives = subst (λ (e : Early). FailsReading old.plain e asked) c.in-Err-Told.field-0-is (c.in-Err-Told.ensures.gives tell) in
-    let shows = subst (λ (e : Early). YesMeans (WordsMean words old.files) e) c.in-Err-Told.field-0-is (c.in-Err-Told.ensures.shows tell) in
-    headline_of words old new c.print.result (prints_told asked c.in-Err-Told.reply old middle new c.print.result gives (c.in-Err-Told.ensures.reads tell) printed)
-    (λ check yes. accepted_by words old.files check (shows (sym printed.status_is ∙ yes)))
-    (λ check yes. verified_by words old.files check (shows (sym printed.status_is ∙ yes)))
+    let printed : PrintsAnswer c.in-Err-Refused.reply middle new c.print.result = rw c.in-Err-Refused.field-0-is at (c.print.ensures.printed tell is) in
+    let gives = subst (λ (e : Early). FailsReading old.plain e asked) c.in-Err-Refused.field-0-is (c.in-Err-Refused.ensures.gives tell) in
+    let refused : IsRefusal (Refused c.in-Err-Refused.reply) = subst IsRefusal c.in-Err-Refused.field-0-is c.in-Err-Refused.ensures.refused in
+    headline_of words old new c.print.result (prints_refused asked c.in-Err-Refused.reply old middle new c.print.result gives (c.in-Err-Refused.ensures.reads tell) printed)
+    (λ check yes. absurd (refused_yes c.in-Err-Refused.reply.status refused (sym printed.status_is ∙ yes)))
+    (λ check yes. absurd (refused_yes c.in-Err-Refused.reply.status refused (sym printed.status_is ∙ yes)))
 
 pub returns-in-Ok-clause-too_large : goal.returns-in-Ok-clause-too_large
 returns-in-Ok-clause-too_large g c = λ tell is.
     let old = g.D.Desk.state c.args.desk.now in
     let new = g.D.Desk.state c.answer.new.desk in
-    too_large_of (asked_of (words_of c.args.words.now) old.files) old new _ (prints_ok _ c.in-Ok.asked old (g.D.Desk.state c.ask_by_words.new.desk) new _ (c.in-Ok.ensures.gives tell) (c.in-Ok.ensures.reads tell) (c.answer.ensures.answered tell is))
+    let asked : Result Asked Early = asked_of (words_of c.args.words.now) old.files in
+    let gives : asked ≡ Ok c.in-Ok.asked = c.in-Ok.ensures.gives tell in
+    too_large_of asked old new c.answer.result (subst (λ (r : Result Asked Early). IfErr r IsRefusal) (sym gives) tt) (prints_ok asked c.in-Ok.asked old (g.D.Desk.state c.ask_by_words.new.desk) new c.answer.result gives (c.in-Ok.ensures.reads tell) (c.answer.ensures.answered tell is))
 
-pub returns-in-Err-Told-clause-too_large : goal.returns-in-Err-Told-clause-too_large
-returns-in-Err-Told-clause-too_large g c = λ tell is.
+pub returns-in-Err-Refused-clause-too_large : goal.returns-in-Err-Refused-clause-too_large
+returns-in-Err-Refused-clause-too_large g c = λ tell is.
     let old = g.D.Desk.state c.args.desk.now in
     let new = g.D.Desk.state c.print.new.desk in
     let middle = g.D.Desk.state c.ask_by_words.new.desk in
     let asked : Result Asked Early = asked_of (words_of c.args.words.now) old.files in
-    let printed : PrintsAnswer c.in-Err-Told.reply middle new c.print.result = rw c.in-Err-Told.field-0-is at (c.print.ensures.printed tell is) in
-    let gives = subst (λ (e : Early). FailsReading old.plain e asked) c.in-Err-Told.field-0-is (c.in-Err-Told.ensures.gives tell) in
-    too_large_of asked old new c.print.result (prints_told asked c.in-Err-Told.reply old middle new c.print.result gives (c.in-Err-Told.ensures.reads tell) printed)
+    let printed : PrintsAnswer c.in-Err-Refused.reply middle new c.print.result = rw c.in-Err-Refused.field-0-is at (c.print.ensures.printed tell is) in
+    let gives : asked ≡ Err (Refused c.in-Err-Refused.reply) = subst (λ (e : Early). FailsReading old.plain e asked) c.in-Err-Refused.field-0-is (c.in-Err-Refused.ensures.gives tell) in
+    let refused : IsRefusal (Refused c.in-Err-Refused.reply) = subst IsRefusal c.in-Err-Refused.field-0-is c.in-Err-Refused.ensures.refused in
+    too_large_of asked old new c.print.result (subst (λ (r : Result Asked Early). IfErr r IsRefusal) (sym gives) refused) (prints_refused asked c.in-Err-Refused.reply old middle new c.print.result gives (c.in-Err-Refused.ensures.reads tell) printed)
 
 pub returns-in-Ok-clause-part : goal.returns-in-Ok-clause-part
 returns-in-Ok-clause-part g c = λ tell failed.
