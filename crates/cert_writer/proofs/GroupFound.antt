@@ -28,7 +28,9 @@ use Rattle.group_lists.specs.declared.outcome.GroupOutcome.{GroupOutcome}
 use Rattle.group_lists.specs.declared.outcome.GroupOutcome.TheVariants.{Whole, Spent}
 use Rattle.quorum_questions.specs.declared.asking.TheConstants.{MOST_UNITS}
 use Rattle.certificate_file.specs.declared.given.GivenOrgs.{GivenOrgs}
-use Rattle.certificate_file.specs.declared.places.Conclusion.TheVariants.{OrgBlocking, PartialOrgBlocking}
+use Rattle.certificate_file.specs.declared.places.Conclusion.TheVariants.{Reached}
+use Rattle.reach_kinds.specs.declared.kinds.ReachKind.TheVariants.{Groups}
+use Rattle.reach_kinds.specs.declared.places.Reached.TheVariants.{OrgBlocking, Partial}
 use Rattle.cert_lines.specs.declared.lines.TheConstants.{MAX_LINES}
 use Rattle.cert_writer.specs.Promises.{IsHeader, AreOrgs, groups_in}
 use Rattle.cert_writer.specs.Finding.{Request, given_of, part, faulty}
@@ -60,7 +62,7 @@ module _ (s : Request) (is : IsSystem s.whole.names s.whole.sets) (sorted : IsSt
         cert_is = refl;
         accepted =
             groups_of_accepted s.whole (given_of s) s.header is sorted long bytes head given orgs are groups groups_are (part s) kind.Whole journal refl (record { new = whole.after; run = whole.run; numbers = r.numbers; few_words = r.few_words; few = few; ends = whole.ends })
-            ∙ ap (λ (xs : List Table). Ok (record { header = s.header; answer = OrgBlocking groups xs })) (group_list (part s).sets (faulty s) (tables_of groups) sets.items journal (same s is sorted long bytes head small listed.Blocking) holds.list whole);
+            ∙ ap (λ (xs : List Table). Ok (record { header = s.header; answer = Reached (OrgBlocking groups xs) })) (group_list (part s).sets (faulty s) (tables_of groups) sets.items journal (same s is sorted long bytes head small listed.Blocking) holds.list whole);
       }
   groups_found (Spent journal) orgs are groups_are r =
       let holds = r.holds.1 in
@@ -73,7 +75,7 @@ module _ (s : Request) (is : IsSystem s.whole.names s.whole.sets) (sorted : IsSt
         cert_is = refl;
         accepted =
             groups_of_accepted s.whole (given_of s) s.header is sorted long bytes head given orgs are groups groups_are (part s) kind.Partial journal refl (record { new = holds.after; run = one.run; numbers = r.numbers; few_words = r.few_words; few = few; ends = one.opens })
-            ∙ ap (λ (n : ℕ). Ok (record { header = s.header; answer = PartialOrgBlocking n })) holds.taken;
+            ∙ ap (λ (n : ℕ). Ok (record { header = s.header; answer = Reached (Partial Groups n) })) holds.taken;
       }
 
 -- ---- what can be written

@@ -34,7 +34,6 @@ use Rattle.group_journal.proofs.Touched.{length-touching}
 use Rattle.group_lists.specs.Search.{group_rules}
 use Rattle.blocking_lists.specs.Lines.{HasLineNumbers, HasFewWords}
 use Rattle.clause_encoder.specs.declared.limits.TheConstants.{MOST_VARS}
-use Rattle.clause_encoder.specs.declared.version.Version.TheVariants.{Two}
 use Rattle.cert_lines.specs.Limits.{unless}
 use Rattle.cert_lines.specs.Words.{orgs_digest_in}
 use Rattle.cert_lines.specs.declared.faults.CertError.TheVariants.{BadLine, OrgsDigest}
@@ -50,18 +49,22 @@ use Rattle.certificate_file.specs.declared.places.Header.{Header}
 use Rattle.certificate_file.specs.declared.places.Accepted.{Accepted}
 use Rattle.certificate_file.specs.declared.places.Subject.{Subject}
 use Rattle.certificate_file.specs.declared.places.Conclusion.{Conclusion}
-use Rattle.certificate_file.specs.declared.places.Conclusion.TheVariants.{OrgBlocking, PartialOrgBlocking}
+use Rattle.certificate_file.specs.declared.places.Conclusion.TheVariants.{Reached}
+use Rattle.reach_kinds.specs.Kinds.{kind_word}
+use Rattle.reach_kinds.specs.declared.kinds.ReachKind.TheVariants.{Groups}
+use Rattle.reach_kinds.specs.declared.places.Reached.TheVariants.{OrgBlocking, Partial}
 use Rattle.certificate_file.specs.declared.places.Place.TheVariants.{AtTitle, AtKind, AtOrgs, AtReach}
 use Rattle.certificate_file.specs.declared.places.State.{State}
 use Rattle.certificate_file.specs.declared.places.State.TheVariants.{Going, Done}
 use Rattle.certificate_file.proofs.WholeLaws.{part_is}
 use Rattle.reach_kinds.specs.declared.places.GroupPart.{GroupPart}
 use Rattle.reach_kinds.specs.declared.places.ReachPlace.TheVariants.{AtGroups}
-use Rattle.cert_writer.specs.Texts.{Text, letter, set_line, header_lines, group_kind_of, orgs_line, names_for, group_journal_line, group_text}
+use Rattle.cert_writer.specs.Texts.{Text, letter, set_line, header_lines, kind_line, orgs_line, names_for, group_journal_line, group_text}
 use Rattle.cert_writer.specs.Promises.{IsHeader, AreOrgs, subject, part_of, faulty_in, ListEndsAs, groups_in, group_rules_in, shown_by_groups, IsGroupJournalOf}
 use Rattle.cert_writer.proofs.Joined.{Takes, takes-append, IsLine, AreLines, are_lines-append, accepted_text}
 use Rattle.cert_writer.proofs.Words.{IsWord, is_plain, is_word, same_text, words_of-worded, plain-worded}
 use Rattle.cert_writer.proofs.Names.{AreNames, AreListable, are_keys, listable, names-kept}
+use Rattle.cert_writer.proofs.KindLines.{line_body, body_taken}
 use Rattle.cert_writer.proofs.Headers.{digits_word, takes_header, lines_header}
 use Rattle.cert_writer.proofs.Pairs.{part_is_restricted}
 use Rattle.cert_writer.proofs.LogLaws.{front_all}
@@ -72,16 +75,7 @@ use Rattle.cert_writer.proofs.GroupTexts.{groups_listable}
 use Rattle.cert_writer.proofs.GroupLines.{IsOver}
 use Rattle.cert_writer.proofs.GroupRuns.{takes_groups, groups_refuted, groups_part_end}
 
--- ---- the kind, and the digest of the organisations' file
-
-line_kind : (kind : ListKind) → IsLine (group_kind_of kind)
-line_kind Whole = record { plain = is_plain (codes "kind org-blocking") refl; short = omega arith }
-line_kind Part = record { plain = is_plain (codes "kind partial-org-blocking") refl; short = omega arith }
-
-kind_taken : (f : System) (given : Given) (s : Subject) (kind : ListKind) → s.version ≡ Two → take_line f given (AtKind s) 5 (group_kind_of kind) ≡ Ok (Going (AtOrgs kind s))
-unfolding take_line
-kind_taken f given s Whole two = rw two refl
-kind_taken f given s Part two = rw two refl
+-- ---- the digest of the organisations' file
 
 is_orgs : IsWord (codes "orgs")
 is_orgs = is_word (codes "orgs") refl
@@ -195,7 +189,7 @@ module _ (f : System) (given : Given) (h : Header) (is : IsSystem f.names f.sets
       let sets = sets_in listed.Blocking journal in
       let lines = map text journal in
       let taken = takes_groups f given s Part p (omega (arith, small)) l r.start new [] sets 0 (journal_units r journal) journal over fine on run refl (omega arith) in
-      takes-append f given l (l + length lines) (place Part r.start [] 0) (place Part new sets (journal_units r journal)) (Done (record { header = h; answer = PartialOrgBlocking (journal_units r journal) })) lines (codes "end" ∷ []) refl taken
+      takes-append f given l (l + length lines) (place Part r.start [] 0) (place Part new sets (journal_units r journal)) (Done (record { header = h; answer = Reached (Partial Groups (journal_units r journal)) })) lines (codes "end" ∷ []) refl taken
       (groups_part_end f given s p (l + length lines) r.vars new sets (journal_units r journal))
   takes_body Whole l new journal run fine ends =
       let s = subject f h in
@@ -208,12 +202,12 @@ module _ (f : System) (given : Given) (h : Header) (is : IsSystem f.names f.sets
       let lines = map text before in
       let taken = takes_groups f given s Whole p (omega (arith, small)) l r.start split.0 [] sets 0 (journal_units r before) before over each.0 on split.1 refl (omega arith) in
       let end = groups_refuted f given s p (omega (arith, small)) (l + length lines) split.0 new sets (journal_units r before) last each.1 ends.ends split.2 in
-      let whole = takes-append f given l (l + length lines) (place Whole r.start [] 0) (place Whole split.0 sets (journal_units r before)) (Done (record { header = h; answer = OrgBlocking p.groups (ordered sets) })) lines (text last ∷ codes "end" ∷ []) refl taken end in
+      let whole = takes-append f given l (l + length lines) (place Whole r.start [] 0) (place Whole split.0 sets (journal_units r before)) (Done (record { header = h; answer = Reached (OrgBlocking p.groups (ordered sets)) })) lines (text last ∷ codes "end" ∷ []) refl taken end in
       let texts : lines ++ text last ∷ codes "end" ∷ [] ≡ map text journal ++ codes "end" ∷ [] = sym (split_lines text before last (codes "end" ∷ [])) ∙ ap (λ (ls : List JournalLine). map text ls ++ codes "end" ∷ []) (sym ends.is) in
       let those : sets ≡ sets_in listed.Blocking journal =
       sym (append-nil sets) ∙ ap (λ (xs : List Table). sets ++ xs) (sym (no_set listed.Blocking last ends.ends)) ∙ sym (sets_append listed.Blocking before (last ∷ [])) ∙ ap (sets_in listed.Blocking) (sym ends.is) in
-      subst (λ (xs : List Table). Takes f given l (place Whole r.start [] 0) (map text journal ++ codes "end" ∷ []) (Done (record { header = h; answer = OrgBlocking p.groups (ordered xs) }))) those
-      (subst (λ (ls : List Text). Takes f given l (place Whole r.start [] 0) ls (Done (record { header = h; answer = OrgBlocking p.groups (ordered sets) }))) texts whole)
+      subst (λ (xs : List Table). Takes f given l (place Whole r.start [] 0) (map text journal ++ codes "end" ∷ []) (Done (record { header = h; answer = Reached (OrgBlocking p.groups (ordered xs)) }))) those
+      (subst (λ (ls : List Text). Takes f given l (place Whole r.start [] 0) ls (Done (record { header = h; answer = Reached (OrgBlocking p.groups (ordered sets)) }))) texts whole)
 
   journal_accepted : (kind : ListKind) (new : Database) (journal : List JournalLine) → JournalRun r kind r.start journal new → All HasLineNumbers journal → All (HasFewWords r.vars) journal → length journal + 7 ≤ MAX_LINES → ListEndsAs kind journal
       → checked f given (group_text f.names (kept nodes f.names) given.digest h (texts_of p.groups) orgs.digest kind journal) ≡ Ok (record { header = h; answer = shown_of kind journal })
@@ -222,15 +216,15 @@ module _ (f : System) (given : Given) (h : Header) (is : IsSystem f.names f.sets
       let s = subject f h in
       let head_lines = header_lines f.names given.digest h in
       let texts = map text journal in
-      let body = group_kind_of kind ∷ orgs_line orgs.digest ∷ (texts ++ codes "end" ∷ []) in
+      let body = kind_line (kind_word Groups kind) ∷ orgs_line orgs.digest ∷ (texts ++ codes "end" ∷ []) in
       let shown : Accepted = record { header = h; answer = shown_of kind journal } in
       let taken : Takes f given 5 (Going (AtKind s)) body (Done shown) =
-      (Going (AtOrgs kind s), kind_taken f given s kind refl, (place kind r.start [] 0, orgs_taken f given s kind orgs given_is are_orgs.long are_orgs.bytes, takes_body kind 7 new journal run fine ends)) in
+      (Going (AtOrgs kind s), body_taken f given s Groups kind refl, (place kind r.start [] 0, orgs_taken f given s kind orgs given_is are_orgs.long are_orgs.bytes, takes_body kind 7 new journal run fine ends)) in
       let whole = takes-append f given 1 5 (Going AtTitle) (Going (AtKind s)) (Done shown) head_lines body refl (takes_header f given h are size_is bytes head) taken in
       let last_line : IsLine (codes "end") = record { plain = is_plain (codes "end") refl; short = omega arith } in
       let of_set = line_of_set (kept nodes f.names) (texts_of p.groups) over.part_names over.texts (omega (arith, few_names)) few_texts in
       let of_journal : AreLines texts = lines_by r kind text r.start new journal of_set (λ step. refl) small run fine in
-      let lines : AreLines (head_lines ++ body) = are_lines-append head_lines body (lines_header f given.digest h are is.few size_is head) (line_kind kind, (line_orgs orgs.digest are_orgs.long, are_lines-append texts (codes "end" ∷ []) of_journal (last_line, tt))) in
+      let lines : AreLines (head_lines ++ body) = are_lines-append head_lines body (lines_header f given.digest h are is.few size_is head) (line_body Groups kind, (line_orgs orgs.digest are_orgs.long, are_lines-append texts (codes "end" ∷ []) of_journal (last_line, tt))) in
       let total : length (head_lines ++ body) ≤ MAX_LINES = omega (arith, length-append texts (codes "end" ∷ []), length-map journal text, few) in
       accepted_text f given (head_lines ++ body) shown lines total whole
 

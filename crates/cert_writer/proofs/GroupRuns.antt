@@ -33,7 +33,8 @@ use Rattle.reach_kinds.specs.Bodies.{and_then, listed_by, literal_in, asks_steps
 use Rattle.reach_kinds.specs.GroupBodies.{rules_over, group_listing_on, is_old_group_step, with_group_step, after_group_step, group_step_unless, group_step, group_end, group_text}
 use Rattle.certificate_file.specs.declared.given.Given.{Given}
 use Rattle.certificate_file.specs.declared.places.Subject.{Subject}
-use Rattle.certificate_file.specs.declared.places.Conclusion.TheVariants.{OrgBlocking, PartialOrgBlocking}
+use Rattle.certificate_file.specs.declared.places.Conclusion.TheVariants.{Reached}
+use Rattle.reach_kinds.specs.declared.kinds.ReachKind.TheVariants.{Groups}
 use Rattle.certificate_file.specs.declared.places.Place.TheVariants.{AtReach}
 use Rattle.certificate_file.specs.declared.places.State.TheVariants.{Going, Done}
 use Rattle.reach_kinds.specs.declared.places.GroupPart.{GroupPart}
@@ -42,8 +43,8 @@ use Rattle.reach_kinds.specs.declared.places.Reached.TheVariants as reached
 use Rattle.reach_kinds.specs.declared.places.ReachPlace.TheVariants.{AtGroups, AtEnd as Ended}
 use Rattle.cert_writer.specs.Texts.{Text, group_journal_line}
 use Rattle.cert_writer.proofs.Joined.{Takes}
-use Rattle.cert_writer.proofs.Runs.{IsRead, not_end, new_uncovered, going_long}
-use Rattle.cert_writer.proofs.ListRuns.{short_literals, lemma_lists_nothing, deletion_lists_nothing, literal_there, never_old}
+use Rattle.cert_writer.proofs.Runs.{IsRead, not_end, new_uncovered, going_long, never_old}
+use Rattle.cert_writer.proofs.ListRuns.{short_literals, lemma_lists_nothing, deletion_lists_nothing, literal_there}
 use Rattle.cert_writer.proofs.GroupLines.{IsOver, group_set_taken}
 
 -- ---- a step
@@ -139,7 +140,7 @@ module _ (f : System) (given : Given) (s : Subject) (kind : ListKind) (p : Group
 -- the last lines of a whole list: the empty lemma, and `end`
 pub groups_refuted : (f : System) (given : Given) (s : Subject) (p : GroupPart) (small : (rules_over p).vars < 2147483648) (l : ℕ) (old new : Database) (sets : List Table) (units : ℕ) (last : JournalLine)
     → HasLineNumbers last × HasFewWords (rules_over p).vars last → line_progress last ≡ Refuted → JournalRun (rules_over p) Whole old (last ∷ []) new
-    → Takes f given l (Going (AtReach s (AtGroups (group_listing_on Whole p (list_checking (rules_over p).vars old) sets units)))) (group_journal_line (kept s.nodes f.names) (texts_of p.groups) last ∷ codes "end" ∷ []) (Done (record { header = s.header; answer = OrgBlocking p.groups (ordered sets) }))
+    → Takes f given l (Going (AtReach s (AtGroups (group_listing_on Whole p (list_checking (rules_over p).vars old) sets units)))) (group_journal_line (kept s.nodes f.names) (texts_of p.groups) last ∷ codes "end" ∷ []) (Done (record { header = s.header; answer = Reached (reached.OrgBlocking p.groups (ordered sets)) }))
 unfolding take_line
 groups_refuted f given s p small l old new sets units (SetLine which id u) fine ends run = absurd cc
 groups_refuted f given s p small l old new sets units (StepLine (Deletion id ids)) fine ends run = absurd cc
@@ -147,10 +148,10 @@ groups_refuted f given s p small l old new sets units (StepLine (Addition id lit
   Going (AtReach s (Ended (reached.OrgBlocking p.groups (ordered sets)))),
   lemma_taken f given s Whole p small l id lits hints old sets units fine refl run.0 run.1
       ∙ ap (λ (x : Progress). Ok (in_reach s (after_group_step (group_listing_on Whole p (list_checking (rules_over p).vars (after_step old (Addition id lits hints))) sets (units + 1)) x))) ends,
-  (Done (record { header = s.header; answer = OrgBlocking p.groups (ordered sets) }), refl, refl),
+  (Done (record { header = s.header; answer = Reached (reached.OrgBlocking p.groups (ordered sets)) }), refl, refl),
 )
 
 -- the last line of a part of a list
-pub groups_part_end : (f : System) (given : Given) (s : Subject) (p : GroupPart) (l vars : ℕ) (database : Database) (sets : List Table) (units : ℕ) → Takes f given l (Going (AtReach s (AtGroups (group_listing_on Part p (list_checking vars database) sets units)))) (codes "end" ∷ []) (Done (record { header = s.header; answer = PartialOrgBlocking units }))
+pub groups_part_end : (f : System) (given : Given) (s : Subject) (p : GroupPart) (l vars : ℕ) (database : Database) (sets : List Table) (units : ℕ) → Takes f given l (Going (AtReach s (AtGroups (group_listing_on Part p (list_checking vars database) sets units)))) (codes "end" ∷ []) (Done (record { header = s.header; answer = Reached (reached.Partial Groups units) }))
 unfolding take_line
-groups_part_end f given s p l vars database sets units = (Done (record { header = s.header; answer = PartialOrgBlocking units }), refl, refl)
+groups_part_end f given s p l vars database sets units = (Done (record { header = s.header; answer = Reached (reached.Partial Groups units) }), refl, refl)

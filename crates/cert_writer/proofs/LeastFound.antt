@@ -19,7 +19,9 @@ use Rattle.least_quorum.specs.declared.outcome.LeastOutcome.TheVariants as found
 use Rattle.blocking_lists.specs.Lines.{HasLineNumbers, HasFewWords}
 use Rattle.quorum_questions.specs.declared.asking.TheConstants.{MOST_UNITS}
 use Rattle.certificate_file.specs.Acceptance.{checked}
-use Rattle.certificate_file.specs.declared.places.Conclusion.TheVariants.{Least, PartialLeast}
+use Rattle.certificate_file.specs.declared.places.Conclusion.TheVariants.{Reached}
+use Rattle.reach_kinds.specs.declared.kinds.ReachKind.TheVariants.{Nodes}
+use Rattle.reach_kinds.specs.declared.places.Reached.TheVariants.{Least, Partial}
 use Rattle.cert_lines.specs.declared.lines.TheConstants.{MAX_LINES}
 use Rattle.cert_writer.specs.Texts.{least_text}
 use Rattle.cert_writer.specs.Promises.{IsHeader, greatest_of_part}
@@ -40,11 +42,11 @@ module _ (s : Request) (is : IsSystem s.whole.names s.whole.sets) (sorted : IsSt
 
   -- a journal that ends, and what its certificate shows
   whole_accepted : (answer : Option Table) (left : ℕ) (journal : List JournalLine) → LeastHolds (part s).sets (faulty s) s.budget left answer journal → All HasLineNumbers journal → All (HasFewWords (counter_vars g)) journal → counter_vars g ≤ MOST_VARS
-      → checked s.whole (given_of s) (least_text s.whole.names (part s).names s.digest s.header (size (greatest_of_part s.whole s.header)) kind.Whole journal) ≡ Ok (record { header = s.header; answer = Least (raised_if_any s.whole s.header answer) })
+      → checked s.whole (given_of s) (least_text s.whole.names (part s).names s.digest s.header (size (greatest_of_part s.whole s.header)) kind.Whole journal) ≡ Ok (record { header = s.header; answer = Reached (Least (raised_if_any s.whole s.header answer)) })
   whole_accepted answer left journal holds numbers words counter =
       let few : length journal + 7 ≤ MAX_LINES = omega (arith, holds.few_steps.short, holds.taken, small, few_nodes g counter) in
       least_of_accepted s.whole (given_of s) s.header is sorted long bytes head (part s) kind.Whole journal refl (record { small = counter; new = holds.journal_is.whole.after; run = holds.journal_is.whole.run; falls = holds.journal_is.falling; numbers = numbers; few_words = words; few = few; ends = holds.journal_is.whole.ends })
-      ∙ ap (λ (o : Option Table). Ok (record { header = s.header; answer = Least (raised_if_any s.whole s.header o) })) holds.answer_is
+      ∙ ap (λ (o : Option Table). Ok (record { header = s.header; answer = Reached (Least (raised_if_any s.whole s.header o)) })) holds.answer_is
 
   pub least_found : (outcome : LeastOutcome) → LeastShows (part s).sets (faulty s) s.budget outcome → FindsLeast s outcome (least_cert_of s outcome)
   least_found (found.Least set journal) r = record { shows = r; cert_is = refl; accepted = whole_accepted (Some set) r.left journal r.holds r.numbers r.few_words r.small }
@@ -56,7 +58,7 @@ module _ (s : Request) (is : IsSystem s.whole.names s.whole.sets) (sorted : IsSt
         cert_is = refl;
         accepted =
             least_of_accepted s.whole (given_of s) s.header is sorted long bytes head (part s) kind.Partial journal refl (record { small = r.small; new = holds.after; run = holds.journal_is.part.run; falls = holds.journal_is.falling; numbers = r.numbers; few_words = r.few_words; few = few; ends = holds.journal_is.part.opens })
-            ∙ ap (λ (n : ℕ). Ok (record { header = s.header; answer = PartialLeast n })) holds.taken;
+            ∙ ap (λ (n : ℕ). Ok (record { header = s.header; answer = Reached (Partial (Nodes listed.Smaller) n) })) holds.taken;
       }
 
 -- ---- what can be written

@@ -7,6 +7,7 @@ pub mod Raised
 pub mod RaisedOrder
 pub mod Pairs
 pub mod StepLines
+pub mod KindLines
 pub mod Runs
 pub mod LogLaws
 pub mod SetLines

@@ -28,8 +28,10 @@ use Rattle.blocking_lists.specs.declared.outcome.ListOutcome.{ListOutcome}
 use Rattle.blocking_lists.specs.declared.outcome.ListOutcome.TheVariants.{Whole, Spent}
 use Rattle.certificate_file.specs.Known.{IsPart}
 use Rattle.certificate_file.specs.Meaning.{part_from}
-use Rattle.certificate_file.specs.Acceptance.{conclusion_of}
-use Rattle.reach_kinds.specs.Bodies.{whole_of, partial_of}
+use Rattle.certificate_file.specs.declared.places.Conclusion.TheVariants.{Reached}
+use Rattle.reach_kinds.specs.Bodies.{whole_of}
+use Rattle.reach_kinds.specs.declared.kinds.ReachKind.TheVariants.{Nodes}
+use Rattle.reach_kinds.specs.declared.places.Reached.TheVariants.{Partial}
 use Rattle.certificate_file.proofs.WholeLaws.{part_is}
 use Rattle.quorum_questions.specs.declared.asking.TheConstants.{MOST_UNITS}
 use Rattle.cert_lines.specs.declared.lines.TheConstants.{MAX_LINES}
@@ -87,7 +89,7 @@ module _ (s : Request) (is : IsSystem s.whole.names s.whole.sets) (sorted : IsSt
         cert_is = refl;
         accepted =
             list_of_accepted s.whole (given_of s) s.header is sorted long bytes head sought (part s) kind.Whole journal refl (record { lists = r.lists; new = whole.after; run = whole.run; numbers = r.numbers; few_words = r.few_words; few = few; ends = whole.ends })
-            ∙ ap (λ (xs : List Table). Ok (record { header = s.header; answer = conclusion_of (whole_of sought xs) })) (lists_ordered sought r.lists (map (raised_table nodes) (sets_in sought journal)) ∙ raised_list sought (part s).sets (faulty s) nodes sets.items journal same count holds.list whole);
+            ∙ ap (λ (xs : List Table). Ok (record { header = s.header; answer = Reached (whole_of sought xs) })) (lists_ordered sought r.lists (map (raised_table nodes) (sets_in sought journal)) ∙ raised_list sought (part s).sets (faulty s) nodes sets.items journal same count holds.list whole);
       }
   list_found (Spent journal) r =
       let holds = r.holds.1 in
@@ -97,7 +99,7 @@ module _ (s : Request) (is : IsSystem s.whole.names s.whole.sets) (sorted : IsSt
         cert_is = refl;
         accepted =
             list_of_accepted s.whole (given_of s) s.header is sorted long bytes head sought (part s) kind.Partial journal refl (record { lists = r.lists; new = holds.after; run = one.run; numbers = r.numbers; few_words = r.few_words; few = few; ends = one.opens })
-            ∙ ap (λ (n : ℕ). Ok (record { header = s.header; answer = conclusion_of (partial_of sought n) })) holds.taken;
+            ∙ ap (λ (n : ℕ). Ok (record { header = s.header; answer = Reached (Partial (Nodes sought) n) })) holds.taken;
       }
 
 -- ---- what can be written

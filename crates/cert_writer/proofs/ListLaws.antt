@@ -32,15 +32,14 @@ use Rattle.least_journal.specs.Least.{least_of, AreFalling, FallFrom, AreSmaller
 use Rattle.least_journal.proofs.Counts.{size_kept}
 use Rattle.clause_encoder.specs.NameCounter.{counter_vars}
 use Rattle.clause_encoder.specs.declared.limits.TheConstants.{MOST_VARS}
-use Rattle.clause_encoder.specs.declared.version.Version.TheVariants.{Two}
 use Rattle.clause_encoder.proofs.NameCounts.{variables as counter_size}
 use Rattle.cert_lines.specs.Saying.{counter_in}
 use Rattle.lrat_text.specs.Left.{spaced}
 use Rattle.lrat_text.specs.Texts.{line_of, IsId}
 use Rattle.blocking_lists.specs.Lines.{HasLineNumbers, HasFewWords}
 use Rattle.blocking_lists.specs.Outcomes.{rules}
-use Rattle.certificate_file.specs.Acceptance.{take_line, checked, conclusion_of}
-use Rattle.reach_kinds.specs.Bodies.{list_part, rules_of, listing_on, list_checking, counted_listing, body_begins, is_below, with_sought, in_shown_order, whole_of, partial_of}
+use Rattle.certificate_file.specs.Acceptance.{take_line, checked}
+use Rattle.reach_kinds.specs.Bodies.{list_part, rules_of, listing_on, list_checking, counted_listing, body_begins, is_below, with_sought, in_shown_order, whole_of}
 use Rattle.reach_kinds.specs.declared.places.ListPart.{ListPart}
 use Rattle.reach_kinds.proofs.Falling.{last_map}
 use Rattle.certificate_file.specs.Meaning.{part_from}
@@ -50,20 +49,24 @@ use Rattle.certificate_file.specs.declared.places.Header.{Header}
 use Rattle.certificate_file.specs.declared.places.Accepted.{Accepted}
 use Rattle.certificate_file.specs.declared.places.Subject.{Subject}
 use Rattle.certificate_file.specs.declared.places.Conclusion.{Conclusion}
-use Rattle.certificate_file.specs.declared.places.Conclusion.TheVariants.{Least, PartialLeast}
+use Rattle.certificate_file.specs.declared.places.Conclusion.TheVariants.{Reached}
+use Rattle.reach_kinds.specs.Kinds.{kind_word}
+use Rattle.reach_kinds.specs.declared.kinds.ReachKind.TheVariants.{Nodes}
+use Rattle.reach_kinds.specs.declared.places.Reached.TheVariants as reached
 use Rattle.certificate_file.specs.declared.places.Place.TheVariants.{AtTitle, AtKind, AtReach}
 use Rattle.reach_kinds.specs.declared.places.ReachPlace.TheVariants.{AtCounter, AtList}
 use Rattle.certificate_file.specs.declared.places.State.{State}
 use Rattle.certificate_file.specs.declared.places.State.TheVariants.{Going, Done}
 use Rattle.certificate_file.proofs.WholeLaws.{part_is}
 use Rattle.cert_lines.specs.declared.lines.TheConstants.{MAX_LINES}
-use Rattle.cert_writer.specs.Texts.{Text, joined, header_lines, list_kind_of, journal_line, list_text, counter_line, least_text, raised_table}
+use Rattle.cert_writer.specs.Texts.{Text, joined, header_lines, kind_line, journal_line, list_text, counter_line, least_text, raised_table}
 use Rattle.cert_writer.specs.Promises.{IsHeader, subject, part_of, faulty_in, raised_sets, ListEndsAs, rules_in, shown_by_list, IsJournalOf, greatest_of_part, least_rules, shown_by_least, IsLeastJournalOf}
 use Rattle.cert_writer.proofs.Joined.{Takes, takes-append, IsLine, AreLines, are_lines-append, accepted_text}
 use Rattle.cert_writer.proofs.Words.{IsWord, is_plain, is_word, words_of-worded, plain-worded}
 use Rattle.cert_writer.proofs.Names.{AreNames, are_keys, listable, names-kept}
 use Rattle.cert_writer.proofs.Raised.{spread, length-spread}
 use Rattle.cert_writer.proofs.RaisedOrder.{all_raised, kept_of_spread}
+use Rattle.cert_writer.proofs.KindLines.{line_body, body_taken}
 use Rattle.cert_writer.proofs.Headers.{takes_header, lines_header}
 use Rattle.cert_writer.proofs.Pairs.{part_is_restricted, out_spread}
 use Rattle.cert_writer.proofs.LogLaws.{literals_of, front_all, number_back}
@@ -72,14 +75,6 @@ use Rattle.cert_writer.proofs.StepLines.{decimal_word, line_addition, line_delet
 use Rattle.cert_writer.proofs.ListRuns.{short_literals, FallOn, takes_journal, takes_refuted, takes_part_end}
 
 -- ---- each is a line
-
-line_kind : (sought : Listed) (kind : ListKind) → IsLine (list_kind_of sought kind)
-line_kind listed.Blocking Whole = record { plain = is_plain (codes "kind blocking") refl; short = omega arith }
-line_kind listed.Blocking Part = record { plain = is_plain (codes "kind partial-blocking") refl; short = omega arith }
-line_kind listed.Quorum Whole = record { plain = is_plain (codes "kind quorums") refl; short = omega arith }
-line_kind listed.Quorum Part = record { plain = is_plain (codes "kind partial-quorums") refl; short = omega arith }
-line_kind listed.Smaller Whole = record { plain = is_plain (codes "kind least") refl; short = omega arith }
-line_kind listed.Smaller Part = record { plain = is_plain (codes "kind partial-least") refl; short = omega arith }
 
 -- of a journal, where each set's line is one
 pub lines_by : (r : Rules) (kind : ListKind) (text : JournalLine → Text) (old new : Database) (lines : List JournalLine) → ((which : Listed) (id : ℕ) (u : Table) → IsId id → IsLine (text (SetLine which id u))) → ((step : ProofStep) → text (StepLine step) ≡ line_of step) → r.vars ≤ MOST_VARS
@@ -224,7 +219,7 @@ module _ (f : System) (given : Given) (h : Header) (is : IsSystem f.names f.sets
       let sets = map (spread nodes) (sets_in sought journal) in
       let taken = takes_journal f given s sought Part are part_names (part.places ∙ is.places) same count (omega (arith, small)) l r.start new [] sets 0 (journal_units r journal) journal fine on run falls refl (omega arith) in
       let lines = map (journal_line (kept nodes f.names)) journal in
-      takes-append f given l (l + length lines) (first_place Part) (Going (AtReach s (AtList (listing_on sought Part whole_part (list_checking r.vars new) sets (journal_units r journal))))) (Done (record { header = h; answer = conclusion_of (partial_of sought (journal_units r journal)) })) lines (codes "end" ∷ []) refl taken
+      takes-append f given l (l + length lines) (first_place Part) (Going (AtReach s (AtList (listing_on sought Part whole_part (list_checking r.vars new) sets (journal_units r journal))))) (Done (record { header = h; answer = Reached (reached.Partial (Nodes sought) (journal_units r journal)) })) lines (codes "end" ∷ []) refl taken
       (takes_part_end f given s sought (l + length lines) r.vars new sets (journal_units r journal))
   takes_body Whole l new journal small run fine falls ends =
       let s = subject f h in
@@ -238,13 +233,13 @@ module _ (f : System) (given : Given) (h : Header) (is : IsSystem f.names f.sets
       let taken = takes_journal f given s sought Whole are part_names (part.places ∙ is.places) same count (omega (arith, small)) l r.start split.0 [] sets 0 (journal_units r before) before each.0 on split.1 front_falls refl (omega arith) in
       let lines = map (journal_line (kept nodes f.names)) before in
       let end = takes_refuted f given s are part_names (part.places ∙ is.places) same count sought (omega (arith, small)) (l + length lines) split.0 new sets (journal_units r before) last each.1 ends.ends split.2 in
-      let whole = takes-append f given l (l + length lines) (first_place Whole) (Going (AtReach s (AtList (listing_on sought Whole whole_part (list_checking r.vars split.0) sets (journal_units r before))))) (Done (record { header = h; answer = conclusion_of (whole_of sought (in_shown_order sought sets)) })) lines (journal_line (kept nodes f.names) last ∷ codes "end" ∷ []) refl taken end in
+      let whole = takes-append f given l (l + length lines) (first_place Whole) (Going (AtReach s (AtList (listing_on sought Whole whole_part (list_checking r.vars split.0) sets (journal_units r before))))) (Done (record { header = h; answer = Reached (whole_of sought (in_shown_order sought sets)) })) lines (journal_line (kept nodes f.names) last ∷ codes "end" ∷ []) refl taken end in
       let texts : lines ++ journal_line (kept nodes f.names) last ∷ codes "end" ∷ [] ≡ map (journal_line (kept nodes f.names)) journal ++ codes "end" ∷ [] =
       sym (split_lines (journal_line (kept nodes f.names)) before last (codes "end" ∷ [])) ∙ ap (λ (ls : List JournalLine). map (journal_line (kept nodes f.names)) ls ++ codes "end" ∷ []) (sym ends.is) in
       let those : sets_in sought before ≡ sets_in sought journal = sym (append-nil (sets_in sought before)) ∙ ap (λ (xs : List Table). sets_in sought before ++ xs) (sym (no_set sought last ends.ends)) ∙ sym (sets_append sought before (last ∷ [])) ∙ ap (sets_in sought) (sym ends.is) in
       let raised : sets ≡ raised_sets f h (sets_in sought journal) = all_raised nodes (sets_in sought before) ∙ ap (λ (xs : List Table). map (raised_table nodes) xs) those in
-      subst (λ (xs : List Table). Takes f given l (first_place Whole) (map (journal_line (kept nodes f.names)) journal ++ codes "end" ∷ []) (Done (record { header = h; answer = conclusion_of (whole_of sought (in_shown_order sought xs)) }))) raised
-      (subst (λ (ls : List Text). Takes f given l (first_place Whole) ls (Done (record { header = h; answer = conclusion_of (whole_of sought (in_shown_order sought sets)) }))) texts whole)
+      subst (λ (xs : List Table). Takes f given l (first_place Whole) (map (journal_line (kept nodes f.names)) journal ++ codes "end" ∷ []) (Done (record { header = h; answer = Reached (whole_of sought (in_shown_order sought xs)) }))) raised
+      (subst (λ (ls : List Text). Takes f given l (first_place Whole) ls (Done (record { header = h; answer = Reached (whole_of sought (in_shown_order sought sets)) }))) texts whole)
     where
       fall_front : (sets : List Table) (xs ys : List JournalLine) → FallOn sought nodes sets (xs ++ ys) → FallOn sought nodes sets xs
       fall_front sets [] ys falls = tt
@@ -302,15 +297,6 @@ counter_taken f given s kind p small =
 
 -- ---- a list
 
-kind_taken : (f : System) (given : Given) (s : Subject) (sought : Listed) (kind : ListKind) → s.version ≡ Two → take_line f given (AtKind s) 5 (list_kind_of sought kind) ≡ Ok (Going (AtReach s (body_begins f sought kind s.nodes s.header.faulty)))
-unfolding take_line
-kind_taken f given s listed.Blocking Whole two = rw two refl
-kind_taken f given s listed.Blocking Part two = rw two refl
-kind_taken f given s listed.Quorum Whole two = rw two refl
-kind_taken f given s listed.Quorum Part two = rw two refl
-kind_taken f given s listed.Smaller Whole two = rw two refl
-kind_taken f given s listed.Smaller Part two = rw two refl
-
 module _ (f : System) (given : Given) (h : Header) (is : IsSystem f.names f.sets) (sorted : IsStrictlySortedBy name_cmp f.names) (size_is : length given.digest ≡ 32) (bytes : IsBytes given.digest) (head : IsHeader f h) where
   abbrev gone : Table
   gone = faulty_in f h
@@ -325,12 +311,12 @@ module _ (f : System) (given : Given) (h : Header) (is : IsSystem f.names f.sets
 
   list_so : (sought : Listed) (kind : ListKind) (journal : List JournalLine) (new : Database) → HasLists sought → All HasLineNumbers journal → length journal + 6 ≤ MAX_LINES → ListEndsAs kind journal → ListSo sought kind journal new (restricted (part_from f h.from) f)
   list_so listed.Quorum kind journal new all numbers few ends run words =
-      journal_accepted f given h is sorted size_is bytes head listed.Quorum kind new journal (list_kind_of listed.Quorum kind ∷ []) (line_kind listed.Quorum kind, tt)
-      (Going (AtReach (subject f h) (body_begins f listed.Quorum kind (part_from f h.from) h.faulty)), kind_taken f given (subject f h) listed.Quorum kind refl, refl)
+      journal_accepted f given h is sorted size_is bytes head listed.Quorum kind new journal (kind_line (kind_word (Nodes listed.Quorum) kind) ∷ []) (line_body (Nodes listed.Quorum) kind, tt)
+      (Going (AtReach (subject f h) (body_begins f listed.Quorum kind (part_from f h.from) h.faulty)), body_taken f given (subject f h) (Nodes listed.Quorum) kind refl, refl)
       vars_few run (lists_fall listed.Quorum tt (part_from f h.from) [] journal) numbers words (omega (arith, few)) ends
   list_so listed.Blocking kind journal new all numbers few ends run words =
-      journal_accepted f given h is sorted size_is bytes head listed.Blocking kind new journal (list_kind_of listed.Blocking kind ∷ []) (line_kind listed.Blocking kind, tt)
-      (Going (AtReach (subject f h) (body_begins f listed.Blocking kind (part_from f h.from) h.faulty)), kind_taken f given (subject f h) listed.Blocking kind refl, refl)
+      journal_accepted f given h is sorted size_is bytes head listed.Blocking kind new journal (kind_line (kind_word (Nodes listed.Blocking) kind) ∷ []) (line_body (Nodes listed.Blocking) kind, tt)
+      (Going (AtReach (subject f h) (body_begins f listed.Blocking kind (part_from f h.from) h.faulty)), body_taken f given (subject f h) (Nodes listed.Blocking) kind refl, refl)
       vars_few run (lists_fall listed.Blocking tt (part_from f h.from) [] journal) numbers words (omega (arith, few)) ends
   list_so listed.Smaller kind journal new all numbers few ends run words = absurd all
 
@@ -353,13 +339,13 @@ module _ (f : System) (given : Given) (h : Header) (is : IsSystem f.names f.sets
       let p : ListPart = list_part f (part_from f h.from) h.faulty in
       let g : ℕ = size p.greatest in
       let place : State = Going (AtReach s (AtList (counted_listing kind p))) in
-      journal_accepted f given h is sorted size_is bytes head listed.Smaller kind new journal (list_kind_of listed.Smaller kind ∷ counter_line g ∷ []) (line_kind listed.Smaller kind, (line_counter g small, tt))
-      (Going (AtReach s (AtCounter kind p)), kind_taken f given s listed.Smaller kind refl, (place, counter_taken f given s kind p small, refl))
+      journal_accepted f given h is sorted size_is bytes head listed.Smaller kind new journal (kind_line (kind_word (Nodes listed.Smaller) kind) ∷ counter_line g ∷ []) (line_body (Nodes listed.Smaller) kind, (line_counter g small, tt))
+      (Going (AtReach s (AtCounter kind p)), body_taken f given s (Nodes listed.Smaller) kind refl, (place, counter_taken f given s kind p small, refl))
       small run (least_fall p (part_from f h.from) kind (rules_of listed.Smaller p).start new [] journal (count f given h is sorted size_is bytes head listed.Smaller) run falls) numbers words (omega (arith, few)) ends
 
   last_shown : (kind : ListKind) (journal : List JournalLine) (r : Rules) → r ≡ least_rules f h → shown_by_list listed.Smaller f h r kind journal ≡ shown_by_least f h kind journal
-  last_shown Whole journal r is_r = ap Least (last_map (raised_table (part_from f h.from)) None (sets_in listed.Smaller journal))
-  last_shown Part journal r is_r = ap (λ (x : Rules). PartialLeast (journal_units x journal)) is_r
+  last_shown Whole journal r is_r = ap (λ (o : Option Table). Reached (reached.Least o)) (last_map (raised_table (part_from f h.from)) None (sets_in listed.Smaller journal))
+  last_shown Part journal r is_r = ap (λ (x : Rules). Reached (reached.Partial (Nodes listed.Smaller) (journal_units x journal))) is_r
 
   pub least_of_accepted : (p : System) (kind : ListKind) (journal : List JournalLine) → p ≡ part_of f h.from → IsLeastJournalOf f h kind journal
       → checked f given (least_text f.names p.names given.digest h (size (greatest_of_part f h)) kind journal) ≡ Ok (record { header = h; answer = shown_by_least f h kind journal })

@@ -37,12 +37,15 @@ use Rattle.cert_lines.specs.Words.{Word, words_of}
 use Rattle.cert_lines.specs.declared.faults.CertError.{CertError}
 use Rattle.cert_lines.specs.declared.faults.CertError.TheVariants.{NotNew}
 use Rattle.certificate_file.specs.Acceptance.{take_line}
-use Rattle.reach_kinds.specs.Bodies.{and_then, listed_by, literal_in, asks_steps, is_old_step, in_shown_order, whole_of, partial_of, asks_smaller, is_below, rules_of, with_step, after_list_step, list_step, list_step_unless, list_end, list_text, list_part, listing_on, list_checking, is_covered, put_last, with_sought}
+use Rattle.reach_kinds.specs.Bodies.{and_then, listed_by, literal_in, asks_steps, is_old_step, in_shown_order, whole_of, asks_smaller, is_below, rules_of, with_step, after_list_step, list_step, list_step_unless, list_end, list_text, list_part, listing_on, list_checking, is_covered, put_last, with_sought}
 use Rattle.certificate_file.specs.declared.given.Given.{Given}
 use Rattle.certificate_file.specs.declared.places.Subject.{Subject}
 use Rattle.reach_kinds.specs.declared.places.Listing.{Listing}
 use Rattle.certificate_file.specs.declared.places.Place.TheVariants.{AtReach}
-use Rattle.certificate_file.specs.Acceptance.{in_reach, conclusion_of}
+use Rattle.certificate_file.specs.Acceptance.{in_reach}
+use Rattle.certificate_file.specs.declared.places.Conclusion.TheVariants.{Reached}
+use Rattle.reach_kinds.specs.declared.kinds.ReachKind.TheVariants.{Nodes}
+use Rattle.reach_kinds.specs.declared.places.Reached.TheVariants.{Partial}
 use Rattle.reach_kinds.specs.declared.places.ReachPlace.TheVariants.{AtList, AtEnd as Ended}
 use Rattle.certificate_file.specs.declared.places.State.TheVariants.{Going, Done}
 use Rattle.cert_writer.specs.Texts.{Text, journal_line}
@@ -50,7 +53,7 @@ use Rattle.cert_writer.proofs.Joined.{Takes}
 use Rattle.cert_writer.proofs.Words.{AreWords, words_of-worded}
 use Rattle.cert_writer.proofs.Names.{AreNames}
 use Rattle.cert_writer.proofs.Raised.{spread}
-use Rattle.cert_writer.proofs.Runs.{IsRead, not_end, new_uncovered, going_long}
+use Rattle.cert_writer.proofs.Runs.{IsRead, not_end, new_uncovered, never_old, going_long}
 use Rattle.cert_writer.proofs.SetLines.{set_line_taken}
 use Rattle.cert_writer.proofs.StepLines.{decimal_word, lemma_words, words_lemma, line_words, deletion_words, words_deletion, deletion_line_words}
 
@@ -94,11 +97,6 @@ literal_there Part l step on = rw on refl
 step_is_new : (kind : ListKind) (k : Listing) (id : ℕ) (lits : List Literal) (hints : List ℤ) → k.kind ≡ kind → IsNewStep kind k.checker.database.held (Addition id lits hints) → is_old_step k (Addition id lits hints) ≡ false
 step_is_new Whole k id lits hints same new = ap (λ (x : ListKind). asks_steps x && is_covered k.checker.database.held id lits) same
 step_is_new Part k id lits hints same new = ap (λ (x : ListKind). asks_steps x && is_covered k.checker.database.held id lits) same ∙ new_uncovered k.checker.database.held id lits new
-
--- a deletion adds nothing that could be old
-pub never_old : (kind : ListKind) → (asks_steps kind && false) ≡ false
-never_old Whole = refl
-never_old Part = refl
 
 -- a step, however it goes on
 step_taken : (f : System) (given : Given) (s : Subject) (k : Listing) (l : ℕ) (step : ProofStep) → IsRead step → listed_by k.sought (words_of (line_of step)) ≡ None → literal_in k.kind l step ≡ Ok step → step_fault_by k.checker.rule k.checker.vars k.checker.database step ≡ None → is_old_step k step ≡ false
@@ -195,7 +193,7 @@ pub takes_refuted : (f : System) (given : Given) (s : Subject) (are : AreNames f
     (same : length (list_part f s.nodes s.header.faulty).faulty ≡ length (list_part f s.nodes s.header.faulty).system.sets) (count : length (list_part f s.nodes s.header.faulty).system.sets ≡ size s.nodes) (sought : Listed) (small : (rules_of sought (list_part f s.nodes s.header.faulty)).vars < 2147483648)
     (l : ℕ) (old new : Database) (sets : List Table) (units : ℕ) (last : JournalLine) → HasLineNumbers last × HasFewWords (rules_of sought (list_part f s.nodes s.header.faulty)).vars last → line_progress last ≡ Refuted
     → JournalRun (rules_of sought (list_part f s.nodes s.header.faulty)) Whole old (last ∷ []) new
-    → Takes f given l (Going (AtReach s (AtList (listing_on sought Whole (list_part f s.nodes s.header.faulty) (list_checking (rules_of sought (list_part f s.nodes s.header.faulty)).vars old) sets units)))) (journal_line (kept s.nodes f.names) last ∷ codes "end" ∷ []) (Done (record { header = s.header; answer = conclusion_of (whole_of sought (in_shown_order sought sets)) }))
+    → Takes f given l (Going (AtReach s (AtList (listing_on sought Whole (list_part f s.nodes s.header.faulty) (list_checking (rules_of sought (list_part f s.nodes s.header.faulty)).vars old) sets units)))) (journal_line (kept s.nodes f.names) last ∷ codes "end" ∷ []) (Done (record { header = s.header; answer = Reached (whole_of sought (in_shown_order sought sets)) }))
 unfolding take_line
 takes_refuted f given s are part places same count sought small l old new sets units (SetLine which id u) fine ends run = absurd cc
 takes_refuted f given s are part places same count sought small l old new sets units (StepLine (Deletion id ids)) fine ends run = absurd cc
@@ -203,10 +201,10 @@ takes_refuted f given s are part places same count sought small l old new sets u
   Going (AtReach s (Ended (whole_of sought (in_shown_order sought sets)))),
   lemma_taken f given s sought Whole are part places same count small l id lits hints old sets units fine refl run.0 run.1
       ∙ ap (λ (p : Progress). Ok (in_reach s (after_list_step (listing_on sought Whole (list_part f s.nodes s.header.faulty) (list_checking (rules_of sought (list_part f s.nodes s.header.faulty)).vars (after_step old (Addition id lits hints))) sets (units + 1)) p))) ends,
-  (Done (record { header = s.header; answer = conclusion_of (whole_of sought (in_shown_order sought sets)) }), refl, refl),
+  (Done (record { header = s.header; answer = Reached (whole_of sought (in_shown_order sought sets)) }), refl, refl),
 )
 
 -- the last line of a part of a list
-pub takes_part_end : (f : System) (given : Given) (s : Subject) (sought : Listed) (l vars : ℕ) (database : Database) (sets : List Table) (units : ℕ) → Takes f given l (Going (AtReach s (AtList (listing_on sought Part (list_part f s.nodes s.header.faulty) (list_checking vars database) sets units)))) (codes "end" ∷ []) (Done (record { header = s.header; answer = conclusion_of (partial_of sought units) }))
+pub takes_part_end : (f : System) (given : Given) (s : Subject) (sought : Listed) (l vars : ℕ) (database : Database) (sets : List Table) (units : ℕ) → Takes f given l (Going (AtReach s (AtList (listing_on sought Part (list_part f s.nodes s.header.faulty) (list_checking vars database) sets units)))) (codes "end" ∷ []) (Done (record { header = s.header; answer = Reached (Partial (Nodes sought) units) }))
 unfolding take_line
-takes_part_end f given s sought l vars database sets units = (Done (record { header = s.header; answer = conclusion_of (partial_of sought units) }), refl, refl)
+takes_part_end f given s sought l vars database sets units = (Done (record { header = s.header; answer = Reached (Partial (Nodes sought) units) }), refl, refl)

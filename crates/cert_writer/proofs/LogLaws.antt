@@ -25,25 +25,24 @@ use Rattle.lrat_text.proofs.BackLaws.{step_back}
 use Rattle.cdcl_core.specs.Log.{AreLemmas, AreBounded, IsBoundedLog, live_after, units}
 use Rattle.certificate_file.specs.Formulas.{formula_of}
 use Rattle.cert_lines.specs.Saying.{number_in, counts_in}
-use Rattle.certificate_file.specs.Acceptance.{list_kind, kind_begins, group_kind, group_kind_line, take_line, checked, steps_from}
-use Rattle.clause_encoder.specs.declared.version.Version.{Version}
-use Rattle.clause_encoder.specs.declared.version.Version.TheVariants.{One, Two}
+use Rattle.certificate_file.specs.Acceptance.{take_line, checked, steps_from}
 use Rattle.certificate_file.specs.declared.given.Given.{Given}
 use Rattle.certificate_file.specs.declared.places.Aim.{Aim}
 use Rattle.certificate_file.specs.declared.places.Aim.TheVariants as aim
 use Rattle.certificate_file.specs.declared.places.Conclusion.TheVariants.{Refutation, Partial}
 use Rattle.certificate_file.specs.declared.places.Header.{Header}
 use Rattle.certificate_file.specs.declared.places.Subject.{Subject}
-use Rattle.certificate_file.specs.declared.places.Place.TheVariants.{AtTitle, AtKind, AtFormula, AtSteps, AtLemmas}
+use Rattle.certificate_file.specs.declared.places.Place.TheVariants.{AtTitle, AtKind, AtFormula, AtSteps}
 use Rattle.certificate_file.specs.declared.places.State.TheVariants.{Going, Done}
-use Rattle.cert_writer.specs.Texts.{Text, worded, header_lines, kind_of, log_lines, log_text}
+use Rattle.cert_writer.specs.Texts.{Text, worded, header_lines, log_lines, log_text}
 use Rattle.cert_writer.proofs.Joined.{Takes, takes-append, AreLines, are_lines-append, IsLine, accepted_text}
 use Rattle.cert_writer.proofs.Words.{IsWord, is_word, is_plain, words_of-worded, plain-worded}
 use Rattle.cert_writer.proofs.Names.{AreNames, are_keys}
 use Rattle.cert_writer.specs.Promises.{IsHeader, subject, EndsAs, shown_by, IsLogOf}
 use Rattle.cert_writer.proofs.Headers.{takes_header, lines_header}
 use Rattle.cert_writer.proofs.StepLines.{line_addition, line_deletion, few_literals, decimal_word}
-use Rattle.cert_writer.proofs.Runs.{IsRead, IsGoing, takes_steps, takes_last, run_split, taken_by_rat, takes_lemmas, takes_end}
+use Rattle.cert_writer.proofs.KindLines.{line_steps, steps_taken}
+use Rattle.cert_writer.proofs.Runs.{IsRead, IsGoing, units_after, takes_steps, units_of_log, takes_last, run_split, taken_by_rat, takes_end, lemmas_before}
 use Rattle.cert_lines.specs.declared.lines.TheConstants.{MAX_LINES}
 use Rattle.clause_encoder.specs.declared.limits.TheConstants.{MOST_VARS}
 
@@ -111,28 +110,6 @@ line_formula vars clauses small is =
       short = omega (arith, length-append (codes "formula") (spaced (decimal vars ∷ decimal clauses ∷ [])), length-append (decimal vars) (spaced (decimal clauses ∷ [])), length-append (decimal clauses) (spaced []));
     }
 
--- their kinds are no lists, in either version
-no_list : (version : Version) (to : Aim) → list_kind version (kind_of to) ≡ None
-no_list One aim.Refutation = refl
-no_list One aim.Partial = refl
-no_list Two aim.Refutation = refl
-no_list Two aim.Partial = refl
-
-no_groups : (version : Version) (to : Aim) → group_kind version (kind_of to) ≡ None
-no_groups One aim.Refutation = refl
-no_groups One aim.Partial = refl
-no_groups Two aim.Refutation = refl
-no_groups Two aim.Partial = refl
-
-kind_taken : (f : System) (given : Given) (s : Subject) (to : Aim) → take_line f given (AtKind s) 5 (kind_of to) ≡ Ok (Going (AtFormula to s))
-unfolding take_line
-kind_taken f given s aim.Refutation = ap (kind_begins f s 5 (kind_of aim.Refutation)) (no_list s.version aim.Refutation) ∙ ap (group_kind_line s 5 (kind_of aim.Refutation)) (no_groups s.version aim.Refutation)
-kind_taken f given s aim.Partial = ap (kind_begins f s 5 (kind_of aim.Partial)) (no_list s.version aim.Partial) ∙ ap (group_kind_line s 5 (kind_of aim.Partial)) (no_groups s.version aim.Partial)
-
-line_kind : (to : Aim) → IsLine (kind_of to)
-line_kind aim.Refutation = record { plain = is_plain (codes "kind refutation") refl; short = omega arith }
-line_kind aim.Partial = record { plain = is_plain (codes "kind partial") refl; short = omega arith }
-
 -- ---- the steps to the end
 
 lines-split : (xs : List ProofStep) (y : ProofStep) (zs : List Text) → map line_of (xs ++ y ∷ []) ++ zs ≡ map line_of xs ++ line_of y ∷ zs
@@ -147,22 +124,27 @@ takes_log : (f : System) (given : Given) (h : Header) (to : Aim) (vars : ℕ) (o
 takes_log f given h aim.Partial vars old new log all run lemmas ends =
     let on = recursion_from_All IsGoing log ends in
     let zero_more : 0 + units log ≡ units log = omega arith in
-    let steps = takes_lemmas f given h vars old new 0 7 log all on run lemmas in
-    let middle = Going (AtLemmas h (record { rule = Rat; vars = vars; database = new }) (0 + units log)) in
-    let end = takes_end f given h (record { rule = Rat; vars = vars; database = new }) (0 + units log) (7 + length (map line_of log)) in
-    let whole = takes-append f given 7 (7 + length (map line_of log)) (Going (AtLemmas h (record { rule = Rat; vars = vars; database = old }) 0)) middle (Done (record { header = h; answer = Partial (0 + units log) })) (map line_of log) (codes "end" ∷ []) refl steps end in
-    subst (λ (n : ℕ). Takes f given 7 (Going (AtLemmas h (record { rule = Rat; vars = vars; database = old }) 0)) (map line_of log ++ codes "end" ∷ []) (Done (record { header = h; answer = Partial n }))) zero_more whole
+    let n = units_after 0 log in
+    let c : Checking = record { rule = Rat; vars = vars; database = new } in
+    let begin = Going (AtSteps aim.Partial h (record { rule = Rat; vars = vars; database = old }) 0) in
+    let steps = takes_steps f given aim.Partial h vars old new 0 7 log all on run lemmas in
+    let end = takes_end f given h c n (7 + length (map line_of log)) in
+    let whole = takes-append f given 7 (7 + length (map line_of log)) begin (Going (AtSteps aim.Partial h c n)) (Done (record { header = h; answer = Partial n })) (map line_of log) (codes "end" ∷ []) refl steps end in
+    subst (λ (x : ℕ). Takes f given 7 begin (map line_of log ++ codes "end" ∷ []) (Done (record { header = h; answer = Partial x }))) (units_of_log 0 log on ∙ zero_more) whole
 takes_log f given h aim.Refutation vars old new log all run lemmas ends =
     let before = ends.0 in
     let last = ends.1 in
     let split = run_split vars old new before last (subst (λ (x : List ProofStep). Run vars old x new) ends.2 run) in
     let each = front_all IsRead before last (subst (AllByRecursion IsRead) ends.2 all) in
     let on = recursion_from_All IsGoing before ends.4 in
-    let steps = takes_steps f given h vars old split.0 7 before each.0 on split.1 in
-    let end = takes_last f given h (record { rule = Rat; vars = vars; database = split.0 }) (7 + length (map line_of before)) last each.1 (taken_by_rat vars split.0 last split.2) ends.3 in
-    let whole = takes-append f given 7 (7 + length (map line_of before)) (Going (AtSteps h (record { rule = Rat; vars = vars; database = old }))) (Going (AtSteps h (record { rule = Rat; vars = vars; database = split.0 }))) (Done (record { header = h; answer = Refutation })) (map line_of before) (line_of last ∷ codes "end" ∷ []) refl steps end in
+    let n = units_after 0 before in
+    let c : Checking = record { rule = Rat; vars = vars; database = split.0 } in
+    let begin = Going (AtSteps aim.Refutation h (record { rule = Rat; vars = vars; database = old }) 0) in
+    let steps = takes_steps f given aim.Refutation h vars old split.0 0 7 before each.0 on split.1 (lemmas_before vars old before last (subst (λ (x : List ProofStep). AreLemmas vars old x) ends.2 lemmas)) in
+    let end = takes_last f given h c n (7 + length (map line_of before)) last each.1 (taken_by_rat vars split.0 last split.2) ends.3 in
+    let whole = takes-append f given 7 (7 + length (map line_of before)) begin (Going (AtSteps aim.Refutation h c n)) (Done (record { header = h; answer = Refutation })) (map line_of before) (line_of last ∷ codes "end" ∷ []) refl steps end in
     let same : map line_of before ++ line_of last ∷ codes "end" ∷ [] ≡ map line_of log ++ codes "end" ∷ [] = sym (lines-split before last (codes "end" ∷ [])) ∙ ap (λ (x : List ProofStep). map line_of x ++ codes "end" ∷ []) (sym ends.2) in
-    subst (λ (ls : List Text). Takes f given 7 (Going (AtSteps h (record { rule = Rat; vars = vars; database = old }))) ls (Done (record { header = h; answer = Refutation }))) same whole
+    subst (λ (ls : List Text). Takes f given 7 begin ls (Done (record { header = h; answer = Refutation }))) same whole
 
 -- ---- a log that is written is accepted
 
@@ -184,11 +166,11 @@ log_accepted f given h to vars clauses log new is sorted size bytes head v k sma
     let of_vars : record { rule = Rat; vars = vars; database = c.database } ≡ c = ap (λ (n : ℕ). record { rule = Rat; vars = n; database = c.database }) v ∙ ap (λ (r : Rule). record { rule = r; vars = c.vars; database = c.database }) (rat_formula f s) in
     let steps = takes_log f given h to vars c.database new log all run lemmas ends in
     let from_formula = subst (λ (x : Checking). Takes f given 7 (Going (steps_from to h x)) (map line_of log ++ codes "end" ∷ []) (Done (record { header = h; answer = shown_by to log }))) of_vars steps in
-    let taken : Takes f given 5 (Going (AtKind s)) body (Done (record { header = h; answer = shown_by to log })) = (Going (AtFormula to s), kind_taken f given s to, (Going (steps_from to h c), formula_taken f given h to vars clauses c refl v k small id, from_formula)) in
+    let taken : Takes f given 5 (Going (AtKind s)) body (Done (record { header = h; answer = shown_by to log })) = (Going (AtFormula to s), steps_taken f given s to, (Going (steps_from to h c), formula_taken f given h to vars clauses c refl v k small id, from_formula)) in
     let whole = takes-append f given 1 5 (Going AtTitle) (Going (AtKind s)) (Done (record { header = h; answer = shown_by to log })) head_lines body refl (takes_header f given h are size bytes head) taken in
     let last_line : IsLine (codes "end") = record { plain = is_plain (codes "end") refl; short = omega arith } in
     let step_lines = lines_log vars c.database new [] 0 log small run lemmas bounded ns ls in
-    let lines : AreLines (head_lines ++ body) = are_lines-append head_lines body (lines_header f given.digest h are is.few size head) (line_kind to, (line_formula vars clauses small id, are_lines-append (map line_of log) (codes "end" ∷ []) step_lines (last_line, tt))) in
+    let lines : AreLines (head_lines ++ body) = are_lines-append head_lines body (lines_header f given.digest h are is.few size head) (line_steps to, (line_formula vars clauses small id, are_lines-append (map line_of log) (codes "end" ∷ []) step_lines (last_line, tt))) in
     let count : length (head_lines ++ body) ≤ MAX_LINES = omega (arith, length-append (map line_of log) (codes "end" ∷ []), length-map log line_of, few) in
     accepted_text f given (head_lines ++ body) (record { header = h; answer = shown_by to log }) lines count whole
 

@@ -18,6 +18,7 @@ use Rattle.lrat_text.specs.Left.{spaced}
 use Rattle.lrat_text.specs.Texts.{literal_text, line_of, IsId, IsHint, IsLiteral}
 use Rattle.lrat_text.proofs.BackLaws.{joined as joined_words}
 use Rattle.cdcl_core.specs.Log.{IsDistinct}
+use Rattle.clause_encoder.specs.declared.limits.TheConstants.{MOST_VARS}
 use Rattle.cert_writer.proofs.Joined.{IsLine}
 use Rattle.cert_writer.proofs.Words.{IsWordByte, IsWord, AreWords, is_word, plain-worded, length-spaced}
 use Rattle.cert_lines.specs.declared.lines.TheConstants.{MAX_LINE_BYTES}
@@ -93,7 +94,7 @@ pub line_words : (id : ℕ) (lits : List Literal) (hints : List ℤ) → line_of
 line_words id lits hints = joined_words (decimal id) (lemma_words lits hints)
 
 -- the line of a lemma with so few literals and hints
-pub line_addition : (id : ℕ) (lits : List Literal) (hints : List ℤ) → IsId id → AllByRecursion IsHint hints → AllByRecursion IsLiteral lits → length lits ≤ 4000001 → length hints ≤ 4000001 → IsLine (line_of (Addition id lits hints))
+pub line_addition : (id : ℕ) (lits : List Literal) (hints : List ℤ) → IsId id → AllByRecursion IsHint hints → AllByRecursion IsLiteral lits → length lits ≤ 1 + MOST_VARS → length hints ≤ 1 + MOST_VARS → IsLine (line_of (Addition id lits hints))
 line_addition id lits hints is hs ls few_lits few_hints =
     let ends : List Word = codes "0" ∷ [] in
     let tail : List Word = map signed_decimal hints ++ ends in

@@ -13,13 +13,16 @@ use Rattle.certificate_file.specs.declared.places.Header.{Header}
 use Rattle.std.specs.Fmt.{decimal}
 use Rattle.lrat_model.specs.Steps.{ProofStep}
 use Rattle.lrat_text.specs.Texts.{line_of}
+use Rattle.certificate_file.specs.Acceptance.{aim_word}
 use Rattle.certificate_file.specs.declared.places.Aim.{Aim}
+use Rattle.reach_kinds.specs.Kinds.{kind_word}
+use Rattle.reach_kinds.specs.declared.kinds.ReachKind.TheVariants.{Nodes, Groups}
 use Rattle.list_journal.specs.Journals.{JournalLine}
 use Rattle.list_journal.specs.declared.kinds.ListKind.{ListKind}
 use Rattle.list_journal.specs.declared.kinds.Listed.{Listed}
 use Rattle.list_journal.specs.declared.kinds.Listed.TheVariants.{Smaller}
 use Rattle.clause_encoder.specs.NameCounter.{counter_vars}
-use Rattle.cert_writer.specs.Texts.{Text, joined, name_if_any, header_lines, pair_front, kind_of, log_front, set_line, journal_line, list_kind_of, group_kind_of, group_journal_line, list_front, least_front, group_front}
+use Rattle.cert_writer.specs.Texts.{Text, joined, worded, name_if_any, header_lines, pair_front, kind_line, log_front, set_line, journal_line, group_journal_line, list_front, least_front, group_front}
 
 pub spaced-append : (xs ys : List Text) → spaced (xs ++ ys) ≡ spaced xs ++ spaced ys
 spaced-append [] ys = refl
@@ -63,8 +66,19 @@ lines_more {A = A} line xs i d low = sym (
     ∙ ap joined (map-append line (take i xs) (slice_index_or xs i d ∷ []))
     ∙ joined-append (map line (take i xs)) (line (slice_index_or xs i d) ∷ []))
 
-pub log_text : (to : Aim) (vars clauses : ℕ) (log : List ProofStep) → ((((kind_of to ++ codes "\nformula") ++ 32 ∷ decimal vars) ++ 32 ∷ decimal clauses) ++ codes "\n") ++ joined (map line_of log) ≡ joined (log_front to vars clauses log)
-log_text to vars clauses log = simp (append_assoc, append-nil)
+pub kind_text : (word : Text) → ((codes "kind" ++ 32 ∷ word) ++ codes "\n") ≡ kind_line word ++ 10 ∷ []
+kind_text word = simp (append_assoc, append-nil)
+
+-- a line, one of a word and a text, and those after it
+digits_text : (kind word digits rest : Text) → ((((kind ++ 10 ∷ []) ++ word) ++ 32 ∷ digits) ++ codes "\n") ++ rest ≡ kind ++ 10 ∷ (worded word (digits ∷ []) ++ 10 ∷ rest)
+digits_text kind word digits rest = simp (append_assoc, append-nil)
+
+-- the same with two texts
+numbers_text : (kind word first second rest : Text) → (((((kind ++ 10 ∷ []) ++ word) ++ 32 ∷ first) ++ 32 ∷ second) ++ codes "\n") ++ rest ≡ kind ++ 10 ∷ (worded word (first ∷ second ∷ []) ++ 10 ∷ rest)
+numbers_text kind word first second rest = simp (append_assoc, append-nil)
+
+pub log_text : (to : Aim) (vars clauses : ℕ) (log : List ProofStep) → (((((kind_line (aim_word to) ++ 10 ∷ []) ++ codes "formula") ++ 32 ∷ decimal vars) ++ 32 ∷ decimal clauses) ++ codes "\n") ++ joined (map line_of log) ≡ joined (log_front to vars clauses log)
+log_text to vars clauses log = numbers_text (kind_line (aim_word to)) (codes "formula") (decimal vars) (decimal clauses) (joined (map line_of log))
 
 pub both_texts : (xs ys : List Text) → joined xs ++ joined ys ≡ joined (xs ++ ys)
 both_texts xs ys = sym (joined-append xs ys)
@@ -87,11 +101,11 @@ lines_push line xs x = sym (ap joined (map-append line xs (x ∷ [])) ∙ joined
 pub lines_left : {A : Type 0} (line : A → Text) (xs ys zs : List A) → xs ++ ys ≡ zs → joined (map line xs) ++ joined (map line ys) ≡ joined (map line zs)
 lines_left {A = A} line xs ys zs is = sym (joined-append (map line xs) (map line ys)) ∙ ap joined (sym (map-append line xs ys)) ∙ ap (λ (all : List A). joined (map line all)) is
 
-pub list_text : (sought : Listed) (kind : ListKind) (names : List Name) (journal : List JournalLine) → (list_kind_of sought kind ++ codes "\n") ++ joined (map (journal_line names) journal) ≡ joined (list_front names sought kind journal)
-list_text sought kind names journal = simp (append_assoc, append-nil)
+pub list_text : (sought : Listed) (kind : ListKind) (names : List Name) (journal : List JournalLine) → (kind_line (kind_word (Nodes sought) kind) ++ 10 ∷ []) ++ joined (map (journal_line names) journal) ≡ joined (list_front names sought kind journal)
+list_text sought kind names journal = append_assoc (kind_line (kind_word (Nodes sought) kind)) (10 ∷ []) (joined (map (journal_line names) journal))
 
-pub least_text : (g : ℕ) (kind : ListKind) (names : List Name) (journal : List JournalLine) → ((((list_kind_of Smaller kind ++ codes "\ncounter") ++ 32 ∷ decimal (counter_vars g)) ++ 32 ∷ decimal (g * g)) ++ codes "\n") ++ joined (map (journal_line names) journal) ≡ joined (least_front names g kind journal)
-least_text g kind names journal = simp (append_assoc, append-nil)
+pub least_text : (g : ℕ) (kind : ListKind) (names : List Name) (journal : List JournalLine) → (((((kind_line (kind_word (Nodes Smaller) kind) ++ 10 ∷ []) ++ codes "counter") ++ 32 ∷ decimal (counter_vars g)) ++ 32 ∷ decimal (g * g)) ++ codes "\n") ++ joined (map (journal_line names) journal) ≡ joined (least_front names g kind journal)
+least_text g kind names journal = numbers_text (kind_line (kind_word (Nodes Smaller) kind)) (codes "counter") (decimal (counter_vars g)) (decimal (g * g)) (joined (map (journal_line names) journal))
 
-pub group_text : (names texts : List Name) (orgs : List ℕ) (kind : ListKind) (journal : List JournalLine) → (((group_kind_of kind ++ codes "\norgs") ++ 32 ∷ encode_lower orgs) ++ codes "\n") ++ joined (map (group_journal_line names texts) journal) ≡ joined (group_front names texts orgs kind journal)
-group_text names texts orgs kind journal = simp (append_assoc, append-nil)
+pub group_text : (names texts : List Name) (orgs : List ℕ) (kind : ListKind) (journal : List JournalLine) → ((((kind_line (kind_word Groups kind) ++ 10 ∷ []) ++ codes "orgs") ++ 32 ∷ encode_lower orgs) ++ codes "\n") ++ joined (map (group_journal_line names texts) journal) ≡ joined (group_front names texts orgs kind journal)
+group_text names texts orgs kind journal = digits_text (kind_line (kind_word Groups kind)) (codes "orgs") (encode_lower orgs) (joined (map (group_journal_line names texts) journal))

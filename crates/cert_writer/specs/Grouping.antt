@@ -20,7 +20,9 @@ use Rattle.certificate_file.specs.Acceptance.{checked}
 use Rattle.certificate_file.specs.declared.given.GivenOrgs.{GivenOrgs}
 use Rattle.certificate_file.specs.declared.places.Header.{Header}
 use Rattle.certificate_file.specs.declared.places.Conclusion.{Conclusion}
-use Rattle.certificate_file.specs.declared.places.Conclusion.TheVariants.{OrgBlocking, PartialOrgBlocking}
+use Rattle.certificate_file.specs.declared.places.Conclusion.TheVariants.{Reached}
+use Rattle.reach_kinds.specs.declared.kinds.ReachKind.TheVariants.{Groups}
+use Rattle.reach_kinds.specs.declared.places.Reached.TheVariants as reached
 use Rattle.cert_writer.specs.Texts.{Text, group_text}
 use Rattle.cert_writer.specs.Promises.{part_of, groups_in}
 use Rattle.cert_writer.specs.Finding.{Request, given_of, part, faulty}
@@ -39,8 +41,8 @@ group_cert_of s given groups outcome = group_cert_over s.whole s.digest s.header
 
 -- what the check says of it: the blocking sets of groups in order, or how many units were spent
 abbrev pub group_accepted_as : Request → List Group → GroupOutcome → Conclusion
-group_accepted_as s groups (Whole sets journal) = OrgBlocking groups sets.items
-group_accepted_as s groups (Spent journal) = PartialOrgBlocking s.budget
+group_accepted_as s groups (Whole sets journal) = Reached (reached.OrgBlocking groups sets.items)
+group_accepted_as s groups (Spent journal) = Reached (reached.Partial Groups s.budget)
 
 -- what a search of a system within a budget shows, once b is deleted
 pub record GroupsShow (f : Fbas) (b : Table) (groups : List Table) (budget : ℕ) (outcome : GroupOutcome) : Type 0 where

@@ -17,7 +17,10 @@ use Rattle.certificate_file.specs.Acceptance.{checked}
 use Rattle.certificate_file.specs.Meaning.{part_from}
 use Rattle.certificate_file.specs.declared.places.Header.{Header}
 use Rattle.certificate_file.specs.declared.places.Conclusion.{Conclusion}
-use Rattle.certificate_file.specs.declared.places.Conclusion.TheVariants.{Least, PartialLeast}
+use Rattle.certificate_file.specs.declared.places.Conclusion.TheVariants.{Reached}
+use Rattle.list_journal.specs.declared.kinds.Listed.TheVariants.{Smaller}
+use Rattle.reach_kinds.specs.declared.kinds.ReachKind.TheVariants.{Nodes}
+use Rattle.reach_kinds.specs.declared.places.Reached.TheVariants as reached
 use Rattle.cert_writer.specs.Texts.{Text, least_text, raised_table}
 use Rattle.cert_writer.specs.Promises.{part_of, greatest_of_part}
 use Rattle.cert_writer.specs.Finding.{Request, given_of, part, faulty}
@@ -45,9 +48,9 @@ raised_if_any f h answer = option_map (raised_table (part_from f h.from)) answer
 
 -- what the check says of it: the set, or that there is none, or how many units were spent
 abbrev pub least_accepted_as : Request → LeastOutcome → Conclusion
-least_accepted_as s (found.Least set journal) = Least (raised_if_any s.whole s.header (Some set))
-least_accepted_as s (found.NoQuorum journal) = Least (raised_if_any s.whole s.header None)
-least_accepted_as s (found.Spent journal) = PartialLeast s.budget
+least_accepted_as s (found.Least set journal) = Reached (reached.Least (raised_if_any s.whole s.header (Some set)))
+least_accepted_as s (found.NoQuorum journal) = Reached (reached.Least (raised_if_any s.whole s.header None))
+least_accepted_as s (found.Spent journal) = Reached (reached.Partial (Nodes Smaller) s.budget)
 
 -- what a search of a system within a budget shows, once b is deleted
 pub record LeastShows (f : Fbas) (b : Table) (budget : ℕ) (outcome : LeastOutcome) : Type 0 where

@@ -5,3 +5,4 @@ pub mod Finding
 pub mod Listing
 pub mod Least
 pub mod Grouping
+pub mod Content

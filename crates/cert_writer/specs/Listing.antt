@@ -13,10 +13,13 @@ use Rattle.blocking_lists.specs.Lines.{HasLineNumbers, HasFewWords}
 use Rattle.blocking_lists.specs.Outcomes.{OutcomeHolds, journal_in}
 use Rattle.blocking_lists.specs.declared.outcome.ListOutcome.{ListOutcome}
 use Rattle.blocking_lists.specs.declared.outcome.ListOutcome.TheVariants.{Whole, Spent}
-use Rattle.certificate_file.specs.Acceptance.{checked, conclusion_of}
-use Rattle.reach_kinds.specs.Bodies.{whole_of, partial_of}
+use Rattle.certificate_file.specs.Acceptance.{checked}
+use Rattle.reach_kinds.specs.Bodies.{whole_of}
+use Rattle.reach_kinds.specs.declared.kinds.ReachKind.TheVariants.{Nodes}
+use Rattle.reach_kinds.specs.declared.places.Reached.TheVariants as reached
 use Rattle.certificate_file.specs.declared.places.Header.{Header}
 use Rattle.certificate_file.specs.declared.places.Conclusion.{Conclusion}
+use Rattle.certificate_file.specs.declared.places.Conclusion.TheVariants.{Reached}
 use Rattle.cert_writer.specs.Texts.{Text, list_text}
 use Rattle.cert_writer.specs.Promises.{part_of, raised_sets}
 use Rattle.cert_writer.specs.Finding.{Request, given_of, part, faulty}
@@ -31,8 +34,8 @@ list_cert_of sought s outcome = list_cert_over sought s.whole s.digest s.header 
 
 -- what the check says of it: the sought sets in name order, or how many units were spent
 abbrev pub list_accepted_as : Listed → Request → ListOutcome → Conclusion
-list_accepted_as sought s (Whole sets journal) = conclusion_of (whole_of sought (raised_sets s.whole s.header sets.items))
-list_accepted_as sought s (Spent journal) = conclusion_of (partial_of sought s.budget)
+list_accepted_as sought s (Whole sets journal) = Reached (whole_of sought (raised_sets s.whole s.header sets.items))
+list_accepted_as sought s (Spent journal) = Reached (reached.Partial (Nodes sought) s.budget)
 
 -- what a search of a system within a budget shows, once b is deleted
 pub record ListShows (sought : Listed) (f : Fbas) (b : Table) (budget : ℕ) (outcome : ListOutcome) : Type 0 where

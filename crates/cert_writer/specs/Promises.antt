@@ -29,8 +29,9 @@ use Rattle.node_json.specs.Organisations.{Org, orgs_of}
 use Rattle.node_json.specs.Groups.{Group, groups_of, tables_of}
 use Rattle.group_journal.specs.Groups.{touching}
 use Rattle.group_lists.specs.Search.{group_rules}
-use Rattle.certificate_file.specs.Acceptance.{conclusion_of}
-use Rattle.reach_kinds.specs.Bodies.{in_shown_order, whole_of, partial_of}
+use Rattle.reach_kinds.specs.Bodies.{in_shown_order, whole_of}
+use Rattle.reach_kinds.specs.declared.kinds.ReachKind.TheVariants.{Nodes, Groups}
+use Rattle.reach_kinds.specs.declared.places.Reached.TheVariants as reached
 use Rattle.certificate_file.specs.Formulas.{formula_of}
 use Rattle.certificate_file.specs.Meaning.{part_from}
 use Rattle.certificate_file.specs.declared.given.GivenOrgs.{GivenOrgs}
@@ -39,7 +40,7 @@ use Rattle.certificate_file.specs.declared.places.Subject.{Subject}
 use Rattle.certificate_file.specs.declared.places.Aim.{Aim}
 use Rattle.certificate_file.specs.declared.places.Aim.TheVariants as aim
 use Rattle.certificate_file.specs.declared.places.Conclusion.{Conclusion}
-use Rattle.certificate_file.specs.declared.places.Conclusion.TheVariants.{Refutation, Partial, Least, PartialLeast, OrgBlocking, PartialOrgBlocking}
+use Rattle.certificate_file.specs.declared.places.Conclusion.TheVariants.{Refutation, Partial, Reached}
 use Rattle.cert_writer.specs.Texts.{raised_table}
 use Rattle.cert_lines.specs.declared.lines.TheConstants.{MAX_LINES}
 use Rattle.clause_encoder.specs.declared.limits.TheConstants.{MOST_VARS}
@@ -113,8 +114,8 @@ rules_in sought f h = rules sought (part_of f h.from).sets (faulty_in f h)
 
 -- what its certificate shows: the sought sets in the order in which they are shown, or the units of its lines
 abbrev pub shown_by_list : Listed → System → Header → Rules → ListKind → List JournalLine → Conclusion
-shown_by_list sought f h r kind.Whole journal = conclusion_of (whole_of sought (in_shown_order sought (raised_sets f h (sets_in sought journal))))
-shown_by_list sought f h r kind.Partial journal = conclusion_of (partial_of sought (journal_units r journal))
+shown_by_list sought f h r kind.Whole journal = Reached (whole_of sought (in_shown_order sought (raised_sets f h (sets_in sought journal))))
+shown_by_list sought f h r kind.Partial journal = Reached (reached.Partial (Nodes sought) (journal_units r journal))
 
 -- a journal of a list of the part, by the variables of the part's greatest quorum
 pub record IsJournalOf (sought : Listed) (f : System) (h : Header) (kind : ListKind) (journal : List JournalLine) : Type 0 where
@@ -135,8 +136,8 @@ least_rules f h = least_of (part_of f h.from).sets (members (faulty_in f h)) (gr
 
 -- what its certificate shows: the quorum that is listed last, if one is, or the units of its lines
 abbrev pub shown_by_least : System → Header → ListKind → List JournalLine → Conclusion
-shown_by_least f h kind.Whole journal = Least (option_map (raised_table (part_from f h.from)) (last_listed journal))
-shown_by_least f h kind.Partial journal = PartialLeast (journal_units (least_rules f h) journal)
+shown_by_least f h kind.Whole journal = Reached (reached.Least (option_map (raised_table (part_from f h.from)) (last_listed journal)))
+shown_by_least f h kind.Partial journal = Reached (reached.Partial (Nodes listed.Smaller) (journal_units (least_rules f h) journal))
 
 -- a journal of a search for a smallest quorum of the part, whose counter is not too large
 pub record IsLeastJournalOf (f : System) (h : Header) (kind : ListKind) (journal : List JournalLine) : Type 0 where
@@ -159,8 +160,8 @@ group_rules_in f h groups = group_rules (part_of f h.from).sets (faulty_in f h) 
 
 -- what its certificate shows: the sets of groups in order, or the units of its lines
 abbrev pub shown_by_groups : List Group → Rules → ListKind → List JournalLine → Conclusion
-shown_by_groups groups r kind.Whole journal = OrgBlocking groups (ordered (sets_in listed.Blocking journal))
-shown_by_groups groups r kind.Partial journal = PartialOrgBlocking (journal_units r journal)
+shown_by_groups groups r kind.Whole journal = Reached (reached.OrgBlocking groups (ordered (sets_in listed.Blocking journal)))
+shown_by_groups groups r kind.Partial journal = Reached (reached.Partial Groups (journal_units r journal))
 
 -- a journal of a list of the blocking sets of groups of the part, by the variables of the groups that have a member in its greatest quorum
 pub record IsGroupJournalOf (f : System) (h : Header) (groups : List Group) (kind : ListKind) (journal : List JournalLine) : Type 0 where

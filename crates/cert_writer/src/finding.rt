@@ -13,13 +13,14 @@ ghost use Rattle.cert_writer.specs.Finding.{Request, part, faulty, cert_over, ce
 ghost use Rattle.cert_writer.specs.Writing.{IsFresh};
 
 use crate::certified::Certified;
-use crate::whole::{write_log, write_pair};
+use crate::content::Content;
+use crate::whole::write_certificate;
 use crate::writer::CertWriter;
 use certificate_file::Aim;
 use desk_io::{Desk, WriteFailed};
 use quorum_questions::Answer;
 
-/// Writes the certificate of what a search found to the created file, as `write_pair` and `write_log` do.
+/// Writes the certificate of what a search found to the created file. `check` accepts it.
 pub fn write_found<D: Desk>(
     writer: &mut CertWriter,
     desk: &mut D,
@@ -33,24 +34,18 @@ pub fn write_found<D: Desk>(
         result (D.state desk.old) (D.faults desk.old) (D.state desk.new) (D.faults desk.new) }
 {
     match found {
-        Answer::Yes(log, size) => write_log(
+        Answer::Yes(log, size) => write_certificate(
             writer,
             desk,
             about,
-            Aim::Refutation,
-            log,
-            size.vars,
-            size.clauses,
+            Content::Steps(Aim::Refutation, log, size.vars, size.clauses),
         ),
-        Answer::No(pair) => write_pair(writer, desk, about, pair),
-        Answer::Spent(log, size) => write_log(
+        Answer::No(pair) => write_certificate(writer, desk, about, Content::Pair(pair)),
+        Answer::Spent(log, size) => write_certificate(
             writer,
             desk,
             about,
-            Aim::Partial,
-            log,
-            size.vars,
-            size.clauses,
+            Content::Steps(Aim::Partial, log, size.vars, size.clauses),
         ),
     }
 }

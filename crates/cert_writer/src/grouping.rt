@@ -16,7 +16,8 @@ ghost use Rattle.cert_writer.specs.Grouping.{kind_of, group_cert_over, group_cer
 ghost use Rattle.cert_writer.specs.Writing.{IsFresh};
 
 use crate::certified::Certified;
-use crate::whole::write_group_journal;
+use crate::content::Content;
+use crate::whole::write_certificate;
 use crate::writer::CertWriter;
 use desk_io::{Desk, WriteFailed};
 use group_lists::{GroupJournal, GroupOutcome};
@@ -62,15 +63,8 @@ pub fn write_groups<D: Desk>(
         orgs_digest.now groups.now outcome.now)
         result (D.state desk.old) (D.faults desk.old) (D.state desk.new) (D.faults desk.new) }
 {
-    write_group_journal(
-        writer,
-        desk,
-        about,
-        orgs_digest,
-        groups,
-        kind_of(outcome),
-        journal_of(outcome),
-    )
+    let content = Content::OrgBlocking(orgs_digest, groups, kind_of(outcome), journal_of(outcome));
+    write_certificate(writer, desk, about, content)
 }
 
 /// What a search for all minimal blocking sets of groups shows can be written, and its certificate is accepted.

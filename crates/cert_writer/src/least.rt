@@ -16,7 +16,8 @@ ghost use Rattle.cert_writer.specs.Least.{kind_of, least_cert_over, least_cert_o
 ghost use Rattle.cert_writer.specs.Writing.{IsFresh};
 
 use crate::certified::Certified;
-use crate::whole::write_least_journal;
+use crate::content::Content;
+use crate::whole::write_certificate;
 use crate::writer::CertWriter;
 use blocking_lists::Journal;
 use desk_io::{Desk, WriteFailed};
@@ -63,14 +64,8 @@ pub fn write_least<D: Desk>(
         (least_cert_over about.now.whole.now about.now.digest.now about.now.header.now outcome.now)
         result (D.state desk.old) (D.faults desk.old) (D.state desk.new) (D.faults desk.new) }
 {
-    write_least_journal(
-        writer,
-        desk,
-        about,
-        nodes,
-        kind_of(outcome),
-        journal_of(outcome),
-    )
+    let content = Content::Least(nodes, kind_of(outcome), journal_of(outcome));
+    write_certificate(writer, desk, about, content)
 }
 
 /// What a search for a smallest quorum shows can be written, and its certificate is accepted.

@@ -2,6 +2,7 @@
 #![tactic(auto)]
 
 mod certified;
+mod content;
 mod finding;
 mod grouping;
 mod least;
@@ -10,12 +11,10 @@ mod whole;
 mod writer;
 
 pub use certified::Certified;
+pub use content::Content;
 pub use finding::{what_is_shown_is_found, write_found};
 pub use grouping::{what_is_grouped_is_found, write_groups};
 pub use least::{what_is_least_is_found, write_least};
 pub use listing::{what_is_listed_is_found, write_list};
-pub use whole::{
-    a_written_certificate_is_accepted, write_group_journal, write_journal, write_least_journal,
-    write_log, write_pair,
-};
+pub use whole::{a_written_certificate_is_accepted, write_certificate};
 pub use writer::CertWriter;

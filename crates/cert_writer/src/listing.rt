@@ -14,7 +14,8 @@ ghost use Rattle.cert_writer.specs.Listing.{list_cert_over, list_cert_of, ListSh
 ghost use Rattle.cert_writer.specs.Writing.{IsFresh};
 
 use crate::certified::Certified;
-use crate::whole::write_journal;
+use crate::content::Content;
+use crate::whole::write_certificate;
 use crate::writer::CertWriter;
 use blocking_lists::ListOutcome;
 use desk_io::{Desk, WriteFailed};
@@ -38,21 +39,17 @@ pub fn write_list<D: Desk>(
         result (D.state desk.old) (D.faults desk.old) (D.state desk.new) (D.faults desk.new) }
 {
     match outcome {
-        ListOutcome::Whole(_, journal) => write_journal(
+        ListOutcome::Whole(_, journal) => write_certificate(
             writer,
             desk,
             about,
-            sought,
-            ListKind::Whole,
-            journal,
+            Content::Minimal(sought, ListKind::Whole, journal),
         ),
-        ListOutcome::Spent(journal) => write_journal(
+        ListOutcome::Spent(journal) => write_certificate(
             writer,
             desk,
             about,
-            sought,
-            ListKind::Partial,
-            journal,
+            Content::Minimal(sought, ListKind::Partial, journal),
         ),
     }
 }

@@ -11,16 +11,18 @@ ghost use Rattle.lrat_text.specs.Lent.{lent_step, lent_hints};
 ghost use Rattle.lrat_text.specs.Texts.{line_of, literal_text, HasNumbers};
 ghost use Rattle.blocking_lists.specs.Lines.{journal_line_of};
 ghost use Rattle.node_json.specs.Groups.{texts_of};
-ghost use Rattle.cert_writer.specs.Texts.{joined, name_if_any, header_lines, pair_front, kind_of, log_front, list_kind_of, group_kind_of, set_line, journal_line, group_journal_line, list_front, least_front, group_front};
+ghost use Rattle.cert_writer.specs.Texts.{joined, name_if_any, header_lines, pair_front, kind_line, log_front, set_line, journal_line, group_journal_line, list_front, least_front, group_front};
 ghost use Rattle.clause_encoder.specs.NameCounter.{counter_vars};
 ghost use Rattle.clause_encoder.specs.declared.limits.TheConstants.{MOST_VARS};
 ghost use Rattle.cert_writer.specs.Listing.{CanBeLine};
 ghost use Rattle.cert_writer.specs.Grouping.{CanBeGroupLine};
+ghost use Rattle.cert_writer.specs.Content.{content_front, CanBeContent};
 ghost use Rattle.cert_writer.specs.Writing.{Writes};
 
 use crate::certified::Certified;
+use crate::content::Content;
 use blocking_lists::{Journal, Line};
-use certificate_file::{Aim, Pair};
+use certificate_file::{Aim, Pair, aim_word};
 use clause_encoder::counter_vars;
 use desk_io::{Desk, To, WriteFailed, put_all};
 use digest_text::digits;
@@ -30,6 +32,7 @@ use list_journal::{ListKind, Listed};
 use lrat_text::{HintsRef, Lit, Log, StepRef};
 use name_set::{GROUP_WORDS, GroupSet, NODE_WORDS, Names, NodeWords};
 use node_json::Groups;
+use reach_kinds::{ReachKind, kind_word};
 use std::alloc::{AllocError, Global};
 use std::marker::Model;
 
@@ -260,6 +263,15 @@ impl CertWriter {
         self.text(desk, b"\n");
     }
 
+    /// Writes the line of the kind that has this word.
+    fn kind_line<D: Desk>(&mut self, desk: &mut D, word: &str)
+        ensures { Writes D.tells (kind_line word.now ++ 10 ∷ []) self.old (D.state desk.old) (D.faults desk.old) self.new (D.state desk.new) (D.faults desk.new) }
+    {
+        self.text(desk, b"kind");
+        self.word(desk, word.as_bytes());
+        self.text(desk, b"\n");
+    }
+
     /// Writes the lines of a pair of a part, whose names these are, up to the last.
     fn pair_lines<D: Desk>(&mut self, desk: &mut D, names: &Names, pair: &Pair)
         requires first { length pair.now.first ≡ length names.now }
@@ -331,8 +343,8 @@ impl CertWriter {
         requires { All HasNumbers log.now }
         ensures { Writes D.tells (joined (log_front to vars clauses log.now)) self.old (D.state desk.old) (D.faults desk.old) self.new (D.state desk.new) (D.faults desk.new) }
     {
-        self.text(desk, kind_of(to).as_bytes());
-        self.text(desk, b"\nformula");
+        self.kind_line(desk, aim_word(to));
+        self.text(desk, b"formula");
         self.number(desk, vars);
         self.number(desk, clauses);
         self.text(desk, b"\n");
@@ -396,8 +408,7 @@ impl CertWriter {
         requires { All (CanBeLine (length names.now)) journal.now }
         ensures { Writes D.tells (joined (list_front names.now sought kind journal.now)) self.old (D.state desk.old) (D.faults desk.old) self.new (D.state desk.new) (D.faults desk.new) }
     {
-        self.text(desk, list_kind_of(sought, kind).as_bytes());
-        self.text(desk, b"\n");
+        self.kind_line(desk, kind_word(ReachKind::Nodes(sought), kind));
         self.journal_lines(desk, names, journal);
     }
 
@@ -415,8 +426,8 @@ impl CertWriter {
         requires lines { All (CanBeLine (length names.now)) journal.now }
         ensures { Writes D.tells (joined (least_front names.now size kind journal.now)) self.old (D.state desk.old) (D.faults desk.old) self.new (D.state desk.new) (D.faults desk.new) }
     {
-        self.text(desk, list_kind_of(Listed::Smaller, kind).as_bytes());
-        self.text(desk, b"\ncounter");
+        self.kind_line(desk, kind_word(ReachKind::Nodes(Listed::Smaller), kind));
+        self.text(desk, b"counter");
         self.number(desk, counter_vars(size));
         self.number(desk, u64::from(size) * u64::from(size));
         self.text(desk, b"\n");
@@ -487,136 +498,51 @@ impl CertWriter {
         requires { All (CanBeGroupLine (length names.now) (length groups.now)) journal.now }
         ensures { Writes D.tells (joined (group_front names.now (texts_of groups.now) orgs_digest.now kind journal.now)) self.old (D.state desk.old) (D.faults desk.old) self.new (D.state desk.new) (D.faults desk.new) }
     {
-        self.text(desk, group_kind_of(kind).as_bytes());
-        self.text(desk, b"\norgs");
+        self.kind_line(desk, kind_word(ReachKind::Groups, kind));
+        self.text(desk, b"orgs");
         self.word(desk, &digits(orgs_digest));
         self.text(desk, b"\n");
         self.group_journal(desk, names, groups, journal);
     }
 
-    /// Writes the certificate of a pair, up to its last line.
-    ///
-    /// The pair has the numbers of the part.
-    pub fn pair<D: Desk>(
-        &mut self,
-        desk: &mut D,
-        about: &Certified<'_>,
-        pair: &Pair,
-    ) -> Result<(), WriteFailed>
-        requires from { IfSome about.now.header.now.from (λ v. v < length about.now.whole.now.names) }
-        requires faulty { length about.now.header.now.faulty ≡ length about.now.whole.now.names }
-        requires first { length pair.now.first ≡ length about.now.part.now.names }
-        requires second { length pair.now.second ≡ length about.now.part.now.names }
-        ensures writes { Writes D.tells
-            (joined (header_lines about.now.whole.now.names about.now.digest.now about.now.header.now
-            ++ pair_front about.now.part.now.names pair.now))
-            self.old (D.state desk.old) (D.faults desk.old) self.new (D.state desk.new) (D.faults desk.new) }
-        ensures failed { IsTrue self.new.failed ↔ IsErr result }
+    /// Writes the lines after the header, up to the last, of a part whose names these are.
+    fn content<D: Desk>(&mut self, desk: &mut D, names: &Names, content: Content<'_>)
+        requires { CanBeContent (length names.now) content }
+        ensures { Writes D.tells (joined (content_front names.now content.entry)) self.old (D.state desk.old) (D.faults desk.old) self.new (D.state desk.new) (D.faults desk.new) }
     {
-        self.header(desk, about);
-        self.pair_lines(desk, about.part.names(), pair);
-        self.outcome()
+        match content {
+            Content::Pair(pair) => self.pair_lines(desk, names, pair),
+            Content::Steps(to, log, vars, clauses) => self.log_lines(desk, to, log, vars, clauses),
+            Content::Minimal(sought, kind, journal) => {
+                self.list_lines(desk, sought, kind, names, journal)
+            }
+            Content::Least(size, kind, journal) => {
+                self.least_lines(desk, size, kind, names, journal)
+            }
+            Content::OrgBlocking(digest, groups, kind, journal) => {
+                self.group_lines(desk, digest, kind, names, groups, journal)
+            }
+        }
     }
 
-    /// Writes the certificate of a log, up to its last line: a refutation or a partial one, over a formula of this size.
-    pub fn log<D: Desk>(
+    /// Writes a certificate up to its last line.
+    pub fn certificate<D: Desk>(
         &mut self,
         desk: &mut D,
         about: &Certified<'_>,
-        to: Aim,
-        log: &Log,
-        vars: u64,
-        clauses: u64,
+        content: Content<'_>,
     ) -> Result<(), WriteFailed>
         requires from { IfSome about.now.header.now.from (λ v. v < length about.now.whole.now.names) }
         requires faulty { length about.now.header.now.faulty ≡ length about.now.whole.now.names }
-        requires numbers { All HasNumbers log.now }
+        requires content { CanBeContent (length about.now.part.now.names) content }
         ensures writes { Writes D.tells
             (joined (header_lines about.now.whole.now.names about.now.digest.now about.now.header.now
-            ++ log_front to vars clauses log.now))
+            ++ content_front about.now.part.now.names content.entry))
             self.old (D.state desk.old) (D.faults desk.old) self.new (D.state desk.new) (D.faults desk.new) }
         ensures failed { IsTrue self.new.failed ↔ IsErr result }
     {
         self.header(desk, about);
-        self.log_lines(desk, to, log, vars, clauses);
-        self.outcome()
-    }
-
-    /// Writes the certificate of a list up to its last line: all minimal sets of a kind, or a part of them.
-    ///
-    /// The journal has the numbers of the part.
-    pub fn list<D: Desk>(
-        &mut self,
-        desk: &mut D,
-        about: &Certified<'_>,
-        sought: Listed,
-        kind: ListKind,
-        journal: &Journal,
-    ) -> Result<(), WriteFailed>
-        requires from { IfSome about.now.header.now.from (λ v. v < length about.now.whole.now.names) }
-        requires faulty { length about.now.header.now.faulty ≡ length about.now.whole.now.names }
-        requires lines { All (CanBeLine (length about.now.part.now.names)) journal.now }
-        ensures writes { Writes D.tells
-            (joined (header_lines about.now.whole.now.names about.now.digest.now about.now.header.now
-            ++ list_front about.now.part.now.names sought kind journal.now))
-            self.old (D.state desk.old) (D.faults desk.old) self.new (D.state desk.new) (D.faults desk.new) }
-        ensures failed { IsTrue self.new.failed ↔ IsErr result }
-    {
-        self.header(desk, about);
-        self.list_lines(desk, sought, kind, about.part.names(), journal);
-        self.outcome()
-    }
-
-    /// Writes the certificate of a search for a smallest quorum up to its last line, where the greatest quorum has so many nodes.
-    ///
-    /// The journal has the numbers of the part.
-    pub fn least<D: Desk>(
-        &mut self,
-        desk: &mut D,
-        about: &Certified<'_>,
-        size: u32,
-        kind: ListKind,
-        journal: &Journal,
-    ) -> Result<(), WriteFailed>
-        requires from { IfSome about.now.header.now.from (λ v. v < length about.now.whole.now.names) }
-        requires faulty { length about.now.header.now.faulty ≡ length about.now.whole.now.names }
-        requires small { counter_vars size ≤ MOST_VARS }
-        requires lines { All (CanBeLine (length about.now.part.now.names)) journal.now }
-        ensures writes { Writes D.tells
-            (joined (header_lines about.now.whole.now.names about.now.digest.now about.now.header.now
-            ++ least_front about.now.part.now.names size kind journal.now))
-            self.old (D.state desk.old) (D.faults desk.old) self.new (D.state desk.new) (D.faults desk.new) }
-        ensures failed { IsTrue self.new.failed ↔ IsErr result }
-    {
-        self.header(desk, about);
-        self.least_lines(desk, size, kind, about.part.names(), journal);
-        self.outcome()
-    }
-
-    /// Writes the certificate of a list of blocking sets of groups up to its last line, where this is the digest of the
-    /// organisations' file.
-    ///
-    /// The journal has the numbers of the part and of its groups.
-    pub fn groups<D: Desk>(
-        &mut self,
-        desk: &mut D,
-        about: &Certified<'_>,
-        orgs_digest: &[u8; 32],
-        groups: &Groups,
-        kind: ListKind,
-        journal: &GroupJournal,
-    ) -> Result<(), WriteFailed>
-        requires from { IfSome about.now.header.now.from (λ v. v < length about.now.whole.now.names) }
-        requires faulty { length about.now.header.now.faulty ≡ length about.now.whole.now.names }
-        requires lines { All (CanBeGroupLine (length about.now.part.now.names) (length groups.now)) journal.now }
-        ensures writes { Writes D.tells
-            (joined (header_lines about.now.whole.now.names about.now.digest.now about.now.header.now
-            ++ group_front about.now.part.now.names (texts_of groups.now) orgs_digest.now kind journal.now))
-            self.old (D.state desk.old) (D.faults desk.old) self.new (D.state desk.new) (D.faults desk.new) }
-        ensures failed { IsTrue self.new.failed ↔ IsErr result }
-    {
-        self.header(desk, about);
-        self.group_lines(desk, orgs_digest, kind, about.part.names(), groups, journal);
+        self.content(desk, about.part.names(), content);
         self.outcome()
     }
 
@@ -640,39 +566,5 @@ impl CertWriter {
         } else {
             Ok(())
         }
-    }
-}
-
-/// The line of a kind of certificate with steps.
-fn kind_of(to: Aim) -> &'static str
-    ensures { result.now ≡ kind_of to }
-{
-    match to {
-        Aim::Refutation => "kind refutation",
-        Aim::Partial => "kind partial",
-    }
-}
-
-/// The line of a kind of list.
-fn list_kind_of(sought: Listed, kind: ListKind) -> &'static str
-    ensures { result.now ≡ list_kind_of sought kind }
-{
-    match (sought, kind) {
-        (Listed::Blocking, ListKind::Whole) => "kind blocking",
-        (Listed::Blocking, ListKind::Partial) => "kind partial-blocking",
-        (Listed::Quorum, ListKind::Whole) => "kind quorums",
-        (Listed::Quorum, ListKind::Partial) => "kind partial-quorums",
-        (Listed::Smaller, ListKind::Whole) => "kind least",
-        (Listed::Smaller, ListKind::Partial) => "kind partial-least",
-    }
-}
-
-/// The line of a kind of list of blocking sets of groups.
-fn group_kind_of(kind: ListKind) -> &'static str
-    ensures { result.now ≡ group_kind_of kind }
-{
-    match kind {
-        ListKind::Whole => "kind org-blocking",
-        ListKind::Partial => "kind partial-org-blocking",
     }
 }

@@ -21,4 +21,4 @@ returns g c =
     (ap (λ (p : System). group_text whole.names p.names digest header texts orgs c.kind_of.result c.journal_of.result.now) c.requires.part.part
     ∙ ap (λ (k : ListKind). group_text whole.names part.names digest header texts orgs k c.journal_of.result.now) c.kind_of.ensures
     ∙ ap (λ (js : List JournalLine). group_text whole.names part.names digest header texts orgs (kind_of c.args.outcome.now) js) c.journal_of.ensures)
-    c.write_group_journal.ensures
+    c.write_certificate.ensures

@@ -21,4 +21,4 @@ returns g c =
     ∙ ap (λ (n : ℕ). least_text whole.names part.names digest header n c.kind_of.result c.journal_of.result.now) c.requires.nodes
     ∙ ap (λ (k : ListKind). least_text whole.names part.names digest header nodes k c.journal_of.result.now) c.kind_of.ensures
     ∙ ap (λ (js : List JournalLine). least_text whole.names part.names digest header nodes (kind_of c.args.outcome.now) js) c.journal_of.ensures)
-    c.write_least_journal.ensures
+    c.write_certificate.ensures

@@ -12,11 +12,11 @@ returns-in-Whole g c =
     let about = c.args.about.now in
     let whole = about.whole.now in
     let of_part = ap (λ (p : System). list_text whole.names p.names about.digest.now about.header.now c.args.sought kind.Whole c.in-Whole.journal) c.requires.part.part in
-    puts_same _ _ _ _ _ _ _ _ (of_part ∙ ap (λ (x : ListOutcome). list_cert_over c.args.sought whole about.digest.now about.header.now x) (sym c.in-Whole.is)) c.write_journal.ensures
+    puts_same _ _ _ _ _ _ _ _ (of_part ∙ ap (λ (x : ListOutcome). list_cert_over c.args.sought whole about.digest.now about.header.now x) (sym c.in-Whole.is)) c.write_certificate.ensures
 
 pub returns-in-Spent : goal.returns-in-Spent
 returns-in-Spent g c =
     let about = c.args.about.now in
     let whole = about.whole.now in
     let of_part = ap (λ (p : System). list_text whole.names p.names about.digest.now about.header.now c.args.sought kind.Partial c.in-Spent.journal) c.requires.part.part in
-    puts_same _ _ _ _ _ _ _ _ (of_part ∙ ap (λ (x : ListOutcome). list_cert_over c.args.sought whole about.digest.now about.header.now x) (sym c.in-Spent.is)) c.write_journal-in-Spent.ensures
+    puts_same _ _ _ _ _ _ _ _ (of_part ∙ ap (λ (x : ListOutcome). list_cert_over c.args.sought whole about.digest.now about.header.now x) (sym c.in-Spent.is)) c.write_certificate-in-Spent.ensures

@@ -1,8 +1,0 @@
-use Rattle.cert_writer.specs.Texts.{header_lines, list_front}
-use Rattle.cert_writer.proofs.Ends.{ends_certificate}
-use Rattle.cert_writer.proofs.whole.write_journal.Goals as goal
-
-pub returns : goal.returns
-returns g c =
-    let about = c.args.about.now in
-    ends_certificate _ (header_lines about.whole.now.names about.digest.now about.header.now) (list_front about.part.now.names c.args.sought c.args.kind c.args.journal.now) _ _ _ _ _ _ _ _ _ _ c.requires.fresh c.list.ensures.writes c.finish.ensures.writes c.finish.ensures.failed c.finish.ensures.empty

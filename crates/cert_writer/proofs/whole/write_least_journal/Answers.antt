@@ -1,8 +1,0 @@
-use Rattle.cert_writer.specs.Texts.{header_lines, least_front}
-use Rattle.cert_writer.proofs.Ends.{ends_certificate}
-use Rattle.cert_writer.proofs.whole.write_least_journal.Goals as goal
-
-pub returns : goal.returns
-returns g c =
-    let about = c.args.about.now in
-    ends_certificate _ (header_lines about.whole.now.names about.digest.now about.header.now) (least_front about.part.now.names c.args.size c.args.kind c.args.journal.now) _ _ _ _ _ _ _ _ _ _ c.requires.fresh c.least.ensures.writes c.finish.ensures.writes c.finish.ensures.failed c.finish.ensures.empty
