@@ -27,7 +27,9 @@ use Rattle.certificate_file.specs.declared.given.GivenOrgs.{GivenOrgs}
 use Rattle.certificate_file.specs.declared.places.Header.{Header}
 use Rattle.certificate_file.specs.declared.places.Accepted.{Accepted}
 use Rattle.certificate_file.specs.declared.places.Conclusion.{Conclusion}
-use Rattle.certificate_file.specs.declared.places.Conclusion.TheVariants.{Partial, PartialBlocking, PartialQuorums, PartialLeast, PartialOrgBlocking}
+use Rattle.certificate_file.specs.declared.places.Conclusion.TheVariants.{Pair, Refutation, Partial, Reached}
+use Rattle.reach_kinds.specs.declared.places.Reached.{Reached as Body}
+use Rattle.reach_kinds.specs.declared.places.Reached.TheVariants as body
 use Rattle.cert_lines.specs.declared.faults.CertError.{CertError}
 use Rattle.cert_lines.specs.declared.faults.CertError.TheVariants.{TooLarge as TooManyVariables}
 use Rattle.report.specs.Lines.{Text, same_path, config_too_long, config_refused, orgs_too_long, orgs_refused, script_too_long, cert_refused, accepted, verified_lines}
@@ -113,14 +115,17 @@ abbrev pub cert_status : CertError → Status
 cert_status (TooManyVariables vars) = TooLarge
 cert_status fault = CertRefused
 
+-- how it ends where this body is accepted
+abbrev pub body_status : Body → Status
+body_status (body.Partial shows units) = Unknown
+body_status shown = Yes
+
 -- how it ends where a certificate is accepted: a partial one leaves the question open
 abbrev pub accepted_status : Conclusion → Status
+accepted_status (Pair p) = Yes
+accepted_status Refutation = Yes
 accepted_status (Partial units) = Unknown
-accepted_status (PartialBlocking units) = Unknown
-accepted_status (PartialQuorums units) = Unknown
-accepted_status (PartialLeast units) = Unknown
-accepted_status (PartialOrgBlocking units) = Unknown
-accepted_status shown = Yes
+accepted_status (Reached shown) = body_status shown
 
 -- the first fault of a certificate, or of a proof, is named
 abbrev pub refused_answer : List Name → CertError → Answer

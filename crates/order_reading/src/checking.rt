@@ -4,7 +4,7 @@ ghost use Rattle.desk_io.specs.State.{left_of};
 ghost use Rattle.cli_words.specs.Order.{order_view};
 ghost use Rattle.certificate_file.specs.Known.{FitsHeader};
 ghost use Rattle.certificate_file.specs.Meaning.{HasPlaces};
-ghost use Rattle.order_reading.specs.Answers.{claim_answer, claim_by as spec_claim_by, claim_in, checked_answer, refused_answer, verified_answer, FitsClaim, cert_status as spec_cert_status, accepted_status as spec_accepted_status};
+ghost use Rattle.order_reading.specs.Answers.{claim_answer, claim_by as spec_claim_by, claim_in, checked_answer, refused_answer, verified_answer, FitsClaim, cert_status as spec_cert_status, accepted_status as spec_accepted_status, body_status as spec_body_status};
 ghost use Rattle.order_reading.specs.Given.{AreOver, FitsOperands};
 ghost use Rattle.order_reading.specs.Meaning.{HasFile, ShowsClaim};
 ghost use Rattle.order_reading.specs.Names.{FitsNamed};
@@ -22,6 +22,7 @@ use cli_words::{Command, Order};
 use desk_io::{Desk, Which};
 use digest_text::digest;
 use fbas_core::System;
+use reach_kinds::Reached;
 use std::alloc::{AllocError, Global};
 
 /// What a file is checked as.
@@ -44,23 +45,26 @@ fn cert_status(fault: &CertError) -> Status
     }
 }
 
+// How the program ends where this body is accepted.
+fn body_status(shown: &Reached) -> Status
+    ensures value { result ≡ spec_body_status shown.now }
+    ensures answer { IsTrue (is_answer result) }
+{
+    match shown {
+        Reached::Minimal(..) | Reached::Least(_) | Reached::OrgBlocking(..) => Status::Yes,
+        Reached::Partial(..) => Status::Unknown,
+    }
+}
+
 // How the program ends where a certificate is accepted.
 fn accepted_status(answer: &Conclusion) -> Status
     ensures value { result ≡ spec_accepted_status answer.now }
     ensures answer { IsTrue (is_answer result) }
 {
     match answer {
-        Conclusion::Pair(_)
-        | Conclusion::Refutation
-        | Conclusion::Blocking(_)
-        | Conclusion::Quorums(_)
-        | Conclusion::Least(_)
-        | Conclusion::OrgBlocking(..) => Status::Yes,
-        Conclusion::Partial(_)
-        | Conclusion::PartialBlocking(_)
-        | Conclusion::PartialQuorums(_)
-        | Conclusion::PartialLeast(_)
-        | Conclusion::PartialOrgBlocking(_) => Status::Unknown,
+        Conclusion::Pair(_) | Conclusion::Refutation => Status::Yes,
+        Conclusion::Partial(_) => Status::Unknown,
+        Conclusion::Reached(shown) => body_status(shown),
     }
 }
 

@@ -5,7 +5,7 @@ use Rattle.desk_io.specs.State.{DeskState}
 use Rattle.order_reading.specs.declared.status.Status.{Status}
 use Rattle.order_reading.specs.declared.status.Status.TheVariants.{Yes, No, Unknown, Usage, ConfigRefused, CertRefused, ReadFault, WriteFault, Memory as MemoryWanting, TooLarge, ScriptRefused}
 use Rattle.order_reading.specs.declared.early.Early.{Early}
-use Rattle.order_reading.specs.declared.early.Early.TheVariants.{Told, Read, Memory}
+use Rattle.order_reading.specs.declared.early.Early.TheVariants.{Refused, Read, Memory}
 use Rattle.order_reading.specs.declared.reading.Asked.{Asked}
 use Rattle.order_reading.specs.declared.reading.Asked.TheVariants as asked
 use Rattle.order_reading.specs.Answers.{asked_of}
@@ -20,9 +20,10 @@ Grown old new = (text : List ℕ) × (new ≡ old ++ text)
 prints_grow : (what : Result Asked Early) (old new : DeskState) (status : Status) → Prints what old new status → Grown old.out new.out
 prints_grow (Ok (asked.Question f q)) old new status p = (p.answer.text, p.printed.out)
 prints_grow (Ok (asked.Search s)) old new status (inl found) = (found.reply.answer.text, found.put.out)
-prints_grow (Ok (asked.Search s)) old new status (inr large) = (large.answer.text, large.printed.out)
+prints_grow (Ok (asked.Search s)) old new status (inr large) = (_, large.printed.out)
 prints_grow (Ok (asked.Edits e)) old new status p = (_, p.out)
-prints_grow (Err (Told a)) old new status p = (_, p.out)
+prints_grow (Ok (asked.Checked a)) old new status p = (_, p.out)
+prints_grow (Err (Refused a)) old new status p = (_, p.out)
 prints_grow (Err Read) old new status p = absurd p
 prints_grow (Err Memory) old new status p = absurd p
 
@@ -36,10 +37,11 @@ came_grows path cert text old new (in_text n short files out why) = (take n text
 
 part_grows : (what : Result Asked Early) (old new : DeskState) → PrintsPart what old new → Grown old.out new.out
 part_grows (Ok (asked.Question f q)) old new p = (_, p.printed.out)
-part_grows (Ok (asked.Search s)) old new (inl found) = came_grows s.path found.reply.cert found.reply.answer.text old new found.came
+part_grows (Ok (asked.Search s)) old new (inl found) = came_grows s.path _ found.reply.answer.text old new found.came
 part_grows (Ok (asked.Search s)) old new (inr large) = (_, large.printed.out)
 part_grows (Ok (asked.Edits e)) old new p = (_, p.out)
-part_grows (Err (Told a)) old new p = (_, p.out)
+part_grows (Ok (asked.Checked a)) old new p = (_, p.out)
+part_grows (Err (Refused a)) old new p = (_, p.out)
 part_grows (Err Read) old new p = absurd p
 part_grows (Err Memory) old new p = absurd p
 

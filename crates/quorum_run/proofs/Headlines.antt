@@ -24,6 +24,7 @@ use Rattle.least_quorum.specs.declared.outcome.LeastOutcome.TheVariants as found
 use Rattle.desk_io.specs.State.{Files, DeskState, with_file}
 use Rattle.certificate_file.specs.declared.given.GivenOrgs.{GivenOrgs}
 use Rattle.certificate_file.specs.declared.places.Conclusion.TheVariants as shown
+use Rattle.reach_kinds.specs.declared.places.Reached.TheVariants as reached
 use Rattle.cert_writer.specs.Promises.{groups_in, raised_pair}
 use Rattle.cert_writer.specs.Finding.{cert_of as shared_cert_of}
 use Rattle.cert_writer.specs.Listing.{ListShows, list_cert_of, list_accepted_as}
@@ -227,7 +228,7 @@ list_means sought s old new status (part_of_list journal) a shows accepted is pu
 
 -- a smallest quorum, by a journal that ends, with its answer
 least_printed : (s : Search) (old new : DeskState) (status : Status) (answer : Option Table) (left : ℕ) (journal : List JournalLine) (a : Answer) → LeastHolds (part s).sets (deleted s) s.budget left answer journal
-    → IsAccepted s (least_cert_by s.whole s.digest s.header Whole journal) (shown.Least (raised_if_any s.whole s.header answer)) → a ≡ record { status = Yes; text = smallest_if_any (part s).names answer } → PutsBoth s.path (least_cert_by s.whole s.digest s.header Whole journal) a old new status
+    → IsAccepted s (least_cert_by s.whole s.digest s.header Whole journal) (shown.Reached (reached.Least (raised_if_any s.whole s.header answer))) → a ≡ record { status = Yes; text = smallest_if_any (part s).names answer } → PutsBoth s.path (least_cert_by s.whole s.digest s.header Whole journal) a old new status
     → Means finds_least s old new status
 least_printed s old new status answer left journal a holds accepted is put = says_yes finds_least s old new status (status_there s old new status _ a _ put is) (record {
   answer = answer;

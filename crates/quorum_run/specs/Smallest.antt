@@ -7,7 +7,10 @@ use Rattle.list_journal.specs.declared.kinds.ListKind.TheVariants.{Whole, Partia
 use Rattle.list_journal.specs.declared.kinds.Listed.TheVariants as listed
 use Rattle.least_journal.specs.Least.{IsLeastAnswer}
 use Rattle.least_quorum.specs.Outcomes.{LeastHolds, PartLeastHolds}
-use Rattle.certificate_file.specs.declared.places.Conclusion.TheVariants.{Least, PartialLeast}
+use Rattle.list_journal.specs.declared.kinds.Listed.TheVariants.{Smaller}
+use Rattle.reach_kinds.specs.declared.kinds.ReachKind.TheVariants.{Nodes}
+use Rattle.reach_kinds.specs.declared.places.Reached.TheVariants as reached
+use Rattle.certificate_file.specs.declared.places.Conclusion.TheVariants.{Reached}
 use Rattle.cert_writer.specs.Least.{least_cert_by, raised_if_any}
 use Rattle.report.specs.Lines.{smallest_if_any, counted}
 use Rattle.order_reading.specs.declared.searches.Search.{Search}
@@ -25,7 +28,7 @@ pub record PrintsLeast (s : Search) (old new : DeskState) : Type 0 where
   pub left : ℕ
   pub finds : LeastHolds (part s).sets (deleted s) s.budget left answer journal
   pub held : new.files s.path ≡ Some (least_cert_by s.whole s.digest s.header Whole journal)
-  pub accepted : IsAccepted s (least_cert_by s.whole s.digest s.header Whole journal) (Least (raised_if_any s.whole s.header answer))
+  pub accepted : IsAccepted s (least_cert_by s.whole s.digest s.header Whole journal) (Reached (reached.Least (raised_if_any s.whole s.header answer)))
 
 -- the budget is spent: so is it said, and the certificate has as many units, each useful when it was added, over clauses that do not
 -- close; and another was wanted
@@ -34,4 +37,4 @@ pub record PrintsPartOfLeast (s : Search) (old new : DeskState) : Type 0 where
   pub journal : List JournalLine
   pub finds : PartLeastHolds (part s).sets (deleted s) s.budget journal
   pub held : new.files s.path ≡ Some (least_cert_by s.whole s.digest s.header Partial journal)
-  pub accepted : IsAccepted s (least_cert_by s.whole s.digest s.header Partial journal) (PartialLeast s.budget)
+  pub accepted : IsAccepted s (least_cert_by s.whole s.digest s.header Partial journal) (Reached (reached.Partial (Nodes Smaller) s.budget))
