@@ -169,13 +169,7 @@ impl Checker {
         if id <= last {
             return Err(StepFault::IdOrder(last, id));
         }
-        let found = lemma_fault(
-            &self.clauses,
-            &mut self.assignment,
-            self.rule,
-            lits,
-            hints,
-        );
+        let found = lemma_fault(&self.clauses, &mut self.assignment, self.rule, lits, hints);
         self.assignment.clear();
         if let Some(fault) = found {
             return Err(fault);
