@@ -3,7 +3,7 @@
 
 usage: tools/plain_search.py FOLDER
 
-Writes `gate_search` and the crates below it to FOLDER/src, a few lines of Rust in place of the toolchain's `Vec` and of what
+Writes `expanded_search` and the crates below it to FOLDER/src, a few lines of Rust in place of the toolchain's `Vec` and of what
 the searches do not use, and builds FOLDER/search, which takes a formula in DIMACS form and a number of units:
 
     FOLDER/search FORMULA [UNITS]
@@ -11,7 +11,7 @@ the searches do not use, and builds FOLDER/search, which takes a formula in DIMA
     FOLDER/search --plan FORMULA [UNITS]
 
 It prints the verdict, the lemmas and the steps of the log, and the seconds: the same lemmas as by the proved program, in
-about the same time. With `--gates` the formula's gates are written out, and what is printed is what `gate_search` finds. With `--plan` the search
+about the same time. With `--gates` the formula's gates are written out, and what is printed is what `expanded_search` finds. With `--plan` the search
 follows the plan of `counter_pairs` from the first lemma on, where there is one. So what only guides the search can be tried in a minute, where a proof takes ten; what is found is
 then written into the crate and proved. Wants a `rustc` that knows the edition of 2024; nothing of the gate uses it.
 """
@@ -25,14 +25,14 @@ CRATES = [
     "lrat_model",
     "lrat_text",
     "clause_store",
-    "partial_assignment",
-    "search_guide",
-    "gate_counts",
+    "assignment_trail",
+    "search_heuristics",
+    "cardinality_counts",
     "cdcl_core",
     "rat_candidates",
     "lrat_checker",
-    "written_gates",
-    "gate_search",
+    "counter_expansion",
+    "expanded_search",
     "counter_pairs",
 ]
 # what of a crate the searches use, where that is not all
@@ -127,14 +127,14 @@ mod kit;
 mod lrat_model;
 mod lrat_text;
 mod clause_store;
-mod partial_assignment;
-mod search_guide;
-mod gate_counts;
+mod assignment_trail;
+mod search_heuristics;
+mod cardinality_counts;
 mod cdcl_core;
 mod rat_candidates;
 mod lrat_checker;
-mod written_gates;
-mod gate_search;
+mod counter_expansion;
+mod expanded_search;
 mod counter_pairs;
 use kit::*;
 
@@ -166,11 +166,11 @@ fn main() {
     }
     let since = std::time::Instant::now();
     if has_gates {
-        let found = gate_search::search(Global, &store, vars, units).unwrap();
+        let found = expanded_search::search(Global, &store, vars, units).unwrap();
         let told = match &found {
-            Some(gate_search::Found::Refuted(log)) => format!("refuted in {} steps", log.len()),
-            Some(gate_search::Found::Spent(log)) => format!("spent after {} steps", log.len()),
-            Some(gate_search::Found::Told(_)) => "told".to_string(),
+            Some(expanded_search::Found::Refuted(log)) => format!("refuted in {} steps", log.len()),
+            Some(expanded_search::Found::Spent(log)) => format!("spent after {} steps", log.len()),
+            Some(expanded_search::Found::Told(_)) => "told".to_string(),
             None => "nowhere".to_string(),
         };
         println!("{told} seconds {:.2}", since.elapsed().as_secs_f64());

@@ -9,8 +9,8 @@ use Rattle.lrat_model.specs.Steps.{ProofStep, Database}
 use Rattle.lrat_model.proofs.Runs.{clause_at-more}
 use Rattle.lrat_text.specs.Texts.{IsId}
 use Rattle.cdcl_core.specs.Solving.{Solving}
-use Rattle.list_journal.specs.Journals.{SetLine}
-use Rattle.list_journal.specs.declared.kinds.Listed.{Listed}
+use Rattle.enumeration_journal.specs.Journals.{SetLine}
+use Rattle.enumeration_journal.specs.declared.kinds.Listed.{Listed}
 use Rattle.blocking_lists.specs.Lines.{ListLine, merged, AreBetween}
 use Rattle.blocking_lists.specs.Search.{HoldsEmpty, IsListed, IsShortLog}
 use Rattle.blocking_lists.proofs.Merged.{between_push, merged_line}

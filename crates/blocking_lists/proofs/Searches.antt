@@ -16,26 +16,26 @@ use Rattle.lrat_model.specs.declared.step.Progress.TheVariants.{Going}
 use Rattle.lrat_model.proofs.Literals.{has-first, has-rest}
 use Rattle.cdcl_core.specs.Log.{AreLemmas, IsBoundedLog, live_in, units, HasNoEmptyLemma, EndsEmpty}
 use Rattle.cdcl_core.specs.Solving.{Solving, logged}
-use Rattle.list_journal.specs.Kinds.{is_sought, signed, asks_new, IsMinimal}
-use Rattle.list_journal.specs.Numbering.{variable_in, clause_for}
-use Rattle.list_journal.specs.Journals.{JournalLine, SetLine, Rules, list_of, RightFor, IsNewIf, nothing_held, JournalRun, line_progress, IsOpen, EndsRefuted, IsWholeJournal, journal_units, AreUseful}
-use Rattle.list_journal.specs.declared.kinds.ListKind.TheVariants.{Whole, Partial}
+use Rattle.enumeration_journal.specs.Kinds.{is_sought, signed, asks_new, IsMinimal}
+use Rattle.enumeration_journal.specs.Numbering.{variable_in, clause_for}
+use Rattle.enumeration_journal.specs.Journals.{JournalLine, SetLine, Rules, list_of, RightFor, IsNewIf, nothing_held, JournalRun, line_progress, IsOpen, EndsRefuted, IsWholeJournal, journal_units, AreUseful}
+use Rattle.enumeration_journal.specs.declared.kinds.ListKind.TheVariants.{Whole, Partial}
 use Rattle.blocking_lists.specs.Lines.{ListLine, step_lines, merged, AreBetween, AreForgetting}
-use Rattle.list_journal.specs.Lists.{IsMinimalSet}
+use Rattle.enumeration_journal.specs.Lists.{IsMinimalSet}
 use Rattle.blocking_lists.specs.Outcomes.{rules, HasFewSteps, PartHolds}
 use Rattle.blocking_lists.specs.Search.{HoldsEmpty, IsSearch, IsListing, IsListed, IsShortLog, IsWholeListing}
-use Rattle.list_journal.specs.declared.kinds.Listed.{Listed}
-use Rattle.list_journal.proofs.Greatest.{IsGreatest}
-use Rattle.list_journal.proofs.Duality.{is_of, minimal_within}
+use Rattle.enumeration_journal.specs.declared.kinds.Listed.{Listed}
+use Rattle.enumeration_journal.proofs.Greatest.{IsGreatest}
+use Rattle.enumeration_journal.proofs.Duality.{is_of, minimal_within}
 use Rattle.lrat_model.specs.Lemmas.{IsNew}
 use Rattle.blocking_lists.proofs.Models.{new_where_false, useful_where_false, empty_closes}
-use Rattle.list_journal.proofs.Runs.{AsksMore, lists_ask_more, run_append, whole_from_partial, useful_append, units_append, open_append}
+use Rattle.enumeration_journal.proofs.Runs.{AsksMore, lists_ask_more, run_append, whole_from_partial, useful_append, units_append, open_append}
 use Rattle.blocking_lists.proofs.Runs.{steps_partial, steps_whole, steps_useful, forgetting_append, steps_forgetting, units_steps, open_steps, ends_in_steps, ends_refuted}
-use Rattle.list_journal.proofs.Ids.{AreBelow, below_run, found_new}
+use Rattle.enumeration_journal.proofs.Ids.{AreBelow, below_run, found_new}
 use Rattle.blocking_lists.proofs.Listed.{database_then, still_empty, journal_more, places_more, each_more, ids_more, short_more}
 use Rattle.blocking_lists.proofs.Merged.{between_more, merged_steps}
 use Rattle.blocking_lists.proofs.Short.{short_log}
-use Rattle.list_journal.proofs.Places.{next_place, same_place}
+use Rattle.enumeration_journal.proofs.Places.{next_place, same_place}
 
 -- ---- steps
 

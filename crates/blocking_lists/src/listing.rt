@@ -12,9 +12,9 @@ use crate::outcome::ListOutcome;
 use crate::search::{Searched, run};
 use cdcl_core::{Budget, Log, Solver};
 use clause_store::Store;
+use enumeration_journal::{Listed, rising};
 use fbas_core::System;
 use greatest_quorum::greatest;
-use list_journal::{Listed, rising};
 use name_set::NodeSet;
 use std::alloc::{AllocError, Global};
 

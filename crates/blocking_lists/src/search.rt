@@ -5,15 +5,15 @@ ghost use Rattle.lrat_model.specs.Clauses.{Satisfies};
 ghost use Rattle.lrat_model.specs.Ranges.{IsInRange};
 ghost use Rattle.lrat_model.specs.Propagation.{Closes};
 ghost use Rattle.cdcl_core.specs.Solving.{assignment};
-ghost use Rattle.list_journal.specs.Numbering.{clause_for};
+ghost use Rattle.enumeration_journal.specs.Numbering.{clause_for};
 ghost use Rattle.blocking_lists.specs.Search.{IsReady, IsListed, IsListingIn, IsWholeListingIn};
 
 use crate::journal::{ListLine, ListedSet};
 use crate::model::model_set;
 use cdcl_core::{Budget, Solver, Verdict};
+use enumeration_journal::{Listed, clause_of};
 use fbas_core::System;
 use greatest_quorum::{blocks, minimal_block, minimal_quorum};
-use list_journal::{Listed, clause_of};
 use lrat_model::Lit;
 use name_set::{NodeSet, NodeWords};
 use std::alloc::{AllocError, Global};

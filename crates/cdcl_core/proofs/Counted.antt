@@ -4,10 +4,10 @@ use Rattle.std.specs.Global.{Vec}
 use Rattle.lrat_model.specs.Literal.{Literal, Plus, negated, has}
 use Rattle.lrat_model.specs.Clauses.{Held}
 use Rattle.lrat_model.specs.Propagation.{status}
-use Rattle.gate_counts.specs.Gates.{IsOpen, IsSet}
-use Rattle.gate_counts.specs.Counts.{IsCounting}
-use Rattle.gate_counts.specs.declared.gate.Gate.{Gate}
-use Rattle.gate_counts.specs.declared.gates.Gates.{Gates}
+use Rattle.cardinality_counts.specs.Gates.{IsOpen, IsSet}
+use Rattle.cardinality_counts.specs.Counts.{IsCounting}
+use Rattle.cardinality_counts.specs.declared.gate.Gate.{Gate}
+use Rattle.cardinality_counts.specs.declared.gates.Gates.{Gates}
 use Rattle.cdcl_core.specs.declared.search.Search.{Search}
 use Rattle.cdcl_core.specs.Fixpoint.{IsFixpoint, IsQuiet}
 use Rattle.cdcl_core.specs.Searching.{IsSearching}

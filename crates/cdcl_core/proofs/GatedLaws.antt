@@ -5,8 +5,8 @@ use Rattle.std.proofs.Math.Seq.{get_or-append_seam}
 use Rattle.std.proofs.lemmas.Bool.{cases_lt, false≢true}
 use Rattle.lrat_model.specs.Literal.{Literal, Plus}
 use Rattle.lrat_model.specs.Clauses.{Held, with_clause}
-use Rattle.gate_counts.specs.declared.gate.Gate.{Gate}
-use Rattle.gate_counts.specs.Gates.{IsSet}
+use Rattle.cardinality_counts.specs.declared.gate.Gate.{Gate}
+use Rattle.cardinality_counts.specs.Gates.{IsSet}
 use Rattle.cdcl_core.specs.Search.{IsState}
 use Rattle.cdcl_core.specs.declared.watches.Pair.{Pair}
 use Rattle.cdcl_core.specs.Watches.{lits_at, pair_at}

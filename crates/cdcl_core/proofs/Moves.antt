@@ -3,9 +3,9 @@ use Rattle.std.proofs.Common.{◌≡◌, ℕ, ◌<◌, ◌^◌, ◌++◌, ◌∷
 use Rattle.std.specs.Global.{Vec}
 use Rattle.lrat_model.specs.Literal.{Literal, has}
 use Rattle.lrat_model.specs.Clauses.{Held}
-use Rattle.partial_assignment.specs.Assigned.{Assigned}
-use Rattle.gate_counts.proofs.Countings.{counting_more}
-use Rattle.gate_counts.specs.Counts.{IsCounting}
+use Rattle.assignment_trail.specs.Assigned.{Assigned}
+use Rattle.cardinality_counts.proofs.Countings.{counting_more}
+use Rattle.cardinality_counts.specs.Counts.{IsCounting}
 use Rattle.cdcl_core.specs.declared.guide.Guide.{Guide}
 use Rattle.cdcl_core.specs.declared.search.Search.{Search}
 use Rattle.cdcl_core.specs.Guides.{IsGuide}

@@ -11,8 +11,8 @@ use Rattle.cdcl_core.specs.Log.{IsBoundedLog}
 use Rattle.cdcl_core.specs.Search.{IsState}
 use Rattle.cdcl_core.specs.Trail.{InRange}
 use Rattle.cdcl_core.specs.Watches.{lits_at, pair_at, IsWatched, IsQueued}
-use Rattle.gate_counts.specs.Gates.{IsSet}
-use Rattle.gate_counts.specs.Counts.{IsCounting}
+use Rattle.cardinality_counts.specs.Gates.{IsSet}
+use Rattle.cardinality_counts.specs.Counts.{IsCounting}
 
 -- the clauses held, with the last id
 abbrev pub database_in : Search → Database

@@ -4,7 +4,7 @@ ghost use Rattle.std.specs.List.Sorted.{IsNonDecreasingBy};
 ghost use Rattle.lrat_model.specs.Steps.{Deletion};
 ghost use Rattle.lrat_model.specs.Clauses.{has_id, without};
 ghost use Rattle.lrat_model.specs.Propagation.{Closes};
-ghost use Rattle.gate_counts.specs.Counts.{IsCounting};
+ghost use Rattle.cardinality_counts.specs.Counts.{IsCounting};
 ghost use Rattle.cdcl_core.specs.Going.{HasSpent, IsBackjump, IsFurther, IsNearer, HasRefuted, IsUnrefuted};
 ghost use Rattle.cdcl_core.specs.Guides.{IsGuide};
 ghost use Rattle.cdcl_core.specs.declared.memory.TheConstants.{FEWEST_DELETED};

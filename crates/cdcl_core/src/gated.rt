@@ -6,7 +6,7 @@ ghost use Rattle.lrat_model.specs.Propagation.{status};
 ghost use Rattle.cdcl_core.specs.Fixpoint.{IsConflict, IsFixpoint, IsQuiet};
 ghost use Rattle.cdcl_core.specs.Searching.{HasSame, IsHolding, IsSearching};
 ghost use Rattle.cdcl_core.specs.Watches.{AreKept, id_at, lits_at};
-ghost use Rattle.search_guide.specs.Open.{open_count};
+ghost use Rattle.search_heuristics.specs.Open.{open_count};
 
 use crate::growth::{Free, two_free};
 use crate::propagation::Propagated;

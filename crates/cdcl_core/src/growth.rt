@@ -5,7 +5,7 @@ ghost use Rattle.lrat_model.specs.Clauses.{Held, with_clause};
 ghost use Rattle.lrat_model.specs.Propagation.{status};
 ghost use Rattle.lrat_model.specs.Steps.{Addition};
 ghost use Rattle.lrat_model.specs.declared.step.ClauseStatus.TheVariants.{Falsified};
-ghost use Rattle.gate_counts.specs.Counts.{IsCounting};
+ghost use Rattle.cardinality_counts.specs.Counts.{IsCounting};
 ghost use Rattle.cdcl_core.specs.Guides.{IsGuide};
 ghost use Rattle.cdcl_core.specs.Search.{IsState};
 ghost use Rattle.cdcl_core.specs.Trail.{IsTrail, IsVariable};
@@ -14,10 +14,10 @@ ghost use Rattle.cdcl_core.specs.Watches.{index_of, IsShort, IsWatched, IsQueued
 use crate::clauses::Clauses;
 use crate::guide::Guide;
 use crate::watches::{Pair, Watch, WatchLists};
-use gate_counts::Gates;
+use assignment_trail::Assignment;
+use cardinality_counts::Gates;
 use lrat_model::Lit;
 use lrat_text::Log;
-use partial_assignment::Assignment;
 use std::alloc::AllocError;
 
 /// Lets the clause at a place, the next that has none, watch two of its literals, one where it has no two

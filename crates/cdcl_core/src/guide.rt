@@ -7,7 +7,7 @@ ghost use Rattle.cdcl_core.specs.Guides.{IsGuide};
 use crate::clauses::Clauses;
 use crate::marks::Marks;
 use lrat_model::Lit;
-use search_guide::{DecisionOrder, Restarts, entry_or};
+use search_heuristics::{DecisionOrder, Restarts, entry_or};
 use std::alloc::{AllocError, Global};
 
 const FEW_LEVELS: u32 = 3;

@@ -9,7 +9,7 @@ ghost use Rattle.cdcl_core.specs.declared.memory.TheConstants.{FEWEST_DELETED, M
 ghost use Rattle.cdcl_core.specs.Log.{least_live, most_live};
 ghost use Rattle.cdcl_core.specs.Remembering.{IsChosen};
 
-use search_guide::{Uses, entry_or};
+use search_heuristics::{Uses, entry_or};
 use std::alloc::{AllocError, Global};
 
 /// The fewest lemmas that a deletion takes.

@@ -2,8 +2,8 @@
 //! false, where a decision stands. A search that lists many models is so spared most of each descent.
 ghost use Rattle.std.specs.Prelude.{◌≡◌, ◌<◌, ◌≤◌, length, slice_index};
 
+use assignment_trail::Assignment;
 use lrat_model::Lit;
-use partial_assignment::Assignment;
 
 /// How many literals of the trail may stay so that two literals of a clause are not false. O(its literals).
 pub fn free_up_to(assignment: &Assignment, clause: &[Lit]) -> usize {

@@ -7,9 +7,9 @@ ghost use Rattle.cdcl_core.specs.Sights.{IsSeen};
 
 use crate::clauses::Clauses;
 use crate::watches::{Pair, Watch, WatchLists};
+use assignment_trail::Assignment;
 use clause_store::{ClauseView, LongRef};
 use lrat_model::Lit;
-use partial_assignment::Assignment;
 use std::alloc::AllocError;
 
 /// From this many literals on a clause is long.

@@ -5,7 +5,7 @@ use Rattle.std.proofs.lemmas.List.{append-nil}
 use Rattle.std.proofs.lemmas.List.Folds.{list_all-append}
 use Rattle.lrat_text.specs.Words.{is_blank, words_of}
 use Rattle.lrat_text.specs.Lines.{step_in, step_of_words}
-use Rattle.step_stream.proofs.PartLaws.{parted}
+use Rattle.lrat_stream.proofs.PartLaws.{parted}
 use Rattle.cert_lines.specs.Lines.{Lines}
 use Rattle.cert_lines.specs.Parts.{with_front}
 use Rattle.cert_lines.specs.Texts.{texts_in, next_text, IsTextPart}

@@ -5,11 +5,11 @@ use Rattle.lrat_model.specs.declared.step.Rule.{Rule}
 use Rattle.lrat_checker.specs.Adding.{Adding}
 use Rattle.lrat_text.specs.Words.{words_of}
 use Rattle.lrat_text.specs.Lines.{step_in}
-use Rattle.step_stream.specs.Outline.{outline_in}
-use Rattle.step_stream.specs.Ahead.{ahead, ahead_at}
-use Rattle.step_stream.specs.declared.words.Stage.{Stage}
-use Rattle.step_stream.specs.declared.words.Stage.TheVariants.{Start}
-use Rattle.step_stream.specs.declared.reader.StepReader.{StepReader}
+use Rattle.lrat_stream.specs.Outline.{outline_in}
+use Rattle.lrat_stream.specs.Ahead.{ahead, ahead_at}
+use Rattle.lrat_stream.specs.declared.words.Stage.{Stage}
+use Rattle.lrat_stream.specs.declared.words.Stage.TheVariants.{Start}
+use Rattle.lrat_stream.specs.declared.reader.StepReader.{StepReader}
 use Rattle.cert_lines.specs.Steps.{is_other}
 
 -- before the first word the line says what its words do

@@ -4,9 +4,9 @@ ghost use Rattle.desk_io.specs.State.{left_of, with_left};
 ghost use Rattle.desk_io.specs.Faults.{ReadFails};
 ghost use Rattle.lrat_text.specs.Words.{words_of};
 ghost use Rattle.lrat_text.specs.Lines.{step_in};
-ghost use Rattle.step_stream.specs.Outline.{outline_in};
-ghost use Rattle.step_stream.specs.Ahead.{ahead, Fits};
-ghost use Rattle.step_stream.specs.Solid.{IsSolid};
+ghost use Rattle.lrat_stream.specs.Outline.{outline_in};
+ghost use Rattle.lrat_stream.specs.Ahead.{ahead, Fits};
+ghost use Rattle.lrat_stream.specs.Solid.{IsSolid};
 ghost use Rattle.cert_lines.specs.Lines.{lines_of};
 ghost use Rattle.cert_lines.specs.Parts.{with_front};
 ghost use Rattle.cert_lines.specs.Texts.{texts_in, texts_of, next_text, IsTextPart};
@@ -16,7 +16,7 @@ use crate::faults::CertError;
 use crate::lines::{Lines, MAX_LINE_BYTES, MAX_LINES};
 use desk_io::{Desk, Which};
 use lrat_checker::Checker;
-use step_stream::StepReader;
+use lrat_stream::StepReader;
 
 /// What comes next in a proof.
 #[derive(Clone, Copy, Debug, PartialEq, Eq)]

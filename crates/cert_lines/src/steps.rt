@@ -4,9 +4,9 @@ ghost use Rattle.desk_io.specs.State.{left_of, with_left};
 ghost use Rattle.desk_io.specs.Faults.{ReadFails};
 ghost use Rattle.lrat_text.specs.Words.{words_of};
 ghost use Rattle.lrat_text.specs.Lines.{step_in};
-ghost use Rattle.step_stream.specs.Outline.{outline_in};
-ghost use Rattle.step_stream.specs.Ahead.{ahead, Fits};
-ghost use Rattle.step_stream.specs.Solid.{IsSolid};
+ghost use Rattle.lrat_stream.specs.Outline.{outline_in};
+ghost use Rattle.lrat_stream.specs.Ahead.{ahead, Fits};
+ghost use Rattle.lrat_stream.specs.Solid.{IsSolid};
 ghost use Rattle.cert_lines.specs.Lines.{lines_of};
 ghost use Rattle.cert_lines.specs.Limits.{next_line};
 ghost use Rattle.cert_lines.specs.Parts.{IsPart, with_front};
@@ -16,8 +16,8 @@ use crate::faults::CertError;
 use crate::lines::{Lines, MAX_LINES};
 use desk_io::{Desk, Which};
 use lrat_checker::Checker;
+use lrat_stream::StepReader;
 use std::alloc::Global;
-use step_stream::StepReader;
 
 /// Whether a line that begins so is none of a step: `end`, or one that lists a set.
 fn is_other(text: &[u8]) -> bool

@@ -11,14 +11,14 @@ use Rattle.fbas_model.specs.Fbas.{Fbas}
 use Rattle.fbas_model.specs.Systems.{System, IsSystem}
 use Rattle.greatest_quorum.specs.Greatest.{greatest_of}
 use Rattle.lrat_model.specs.Steps.{Database}
-use Rattle.list_journal.specs.Journals.{JournalLine, SetLine, StepLine, Rules, JournalRun, IsWholeJournal, after_line, nothing_held, sets_in}
-use Rattle.list_journal.specs.Order.{ordered}
-use Rattle.list_journal.specs.declared.kinds.ListKind.{ListKind}
-use Rattle.list_journal.specs.declared.kinds.ListKind.TheVariants as kind
-use Rattle.list_journal.specs.declared.kinds.Listed.{Listed}
-use Rattle.list_journal.specs.declared.kinds.Listed.TheVariants as listed
-use Rattle.list_journal.proofs.Greatest.{counted_greatest}
-use Rattle.list_journal.proofs.OrderLaws.{HavePlaces, is_ordered}
+use Rattle.enumeration_journal.specs.Journals.{JournalLine, SetLine, StepLine, Rules, JournalRun, IsWholeJournal, after_line, nothing_held, sets_in}
+use Rattle.enumeration_journal.specs.Order.{ordered}
+use Rattle.enumeration_journal.specs.declared.kinds.ListKind.{ListKind}
+use Rattle.enumeration_journal.specs.declared.kinds.ListKind.TheVariants as kind
+use Rattle.enumeration_journal.specs.declared.kinds.Listed.{Listed}
+use Rattle.enumeration_journal.specs.declared.kinds.Listed.TheVariants as listed
+use Rattle.enumeration_journal.proofs.Greatest.{counted_greatest}
+use Rattle.enumeration_journal.proofs.OrderLaws.{HavePlaces, is_ordered}
 use Rattle.blocking_lists.specs.Lines.{HasLineNumbers}
 use Rattle.node_json.specs.Groups.{Group, tables_of}
 use Rattle.group_journal.specs.Groups.{IsGroupList}

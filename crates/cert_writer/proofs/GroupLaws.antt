@@ -20,13 +20,13 @@ use Rattle.fbas_model.specs.declared.TheConstants.{MOST_NODES, MOST_ORGS}
 use Rattle.greatest_quorum.specs.Greatest.{greatest_of}
 use Rattle.lrat_model.specs.Steps.{Database}
 use Rattle.lrat_model.specs.declared.step.Progress.TheVariants.{Going as going}
-use Rattle.list_journal.specs.Journals.{JournalLine, Rules, JournalRun, line_progress, nothing_held, sets_in, journal_units}
-use Rattle.list_journal.specs.Order.{ordered}
-use Rattle.list_journal.specs.declared.kinds.ListKind.{ListKind}
-use Rattle.list_journal.specs.declared.kinds.ListKind.TheVariants.{Whole, Partial as Part}
-use Rattle.list_journal.specs.declared.kinds.Listed.{Listed}
-use Rattle.list_journal.specs.declared.kinds.Listed.TheVariants as listed
-use Rattle.list_journal.proofs.Runs.{sets_append}
+use Rattle.enumeration_journal.specs.Journals.{JournalLine, Rules, JournalRun, line_progress, nothing_held, sets_in, journal_units}
+use Rattle.enumeration_journal.specs.Order.{ordered}
+use Rattle.enumeration_journal.specs.declared.kinds.ListKind.{ListKind}
+use Rattle.enumeration_journal.specs.declared.kinds.ListKind.TheVariants.{Whole, Partial as Part}
+use Rattle.enumeration_journal.specs.declared.kinds.Listed.{Listed}
+use Rattle.enumeration_journal.specs.declared.kinds.Listed.TheVariants as listed
+use Rattle.enumeration_journal.proofs.Runs.{sets_append}
 use Rattle.node_json.specs.Groups.{Group, groups_of, tables_of, texts_of}
 use Rattle.node_json.proofs.GroupNodes.{groups_sized, few_groups}
 use Rattle.group_journal.specs.Groups.{touching}

@@ -11,10 +11,10 @@ use Rattle.fbas_model.specs.Systems.{System}
 use Rattle.fbas_model.specs.Restriction.{kept}
 use Rattle.lrat_model.specs.declared.step.StepFault.TheVariants.{IdOrder}
 use Rattle.lrat_text.specs.Texts.{IsId}
-use Rattle.list_journal.specs.Journals.{IsNewIf}
-use Rattle.list_journal.specs.declared.kinds.Listed.{Listed}
-use Rattle.list_journal.specs.declared.kinds.Listed.TheVariants as listed
-use Rattle.list_journal.proofs.TestLaws.{is_kind_from}
+use Rattle.enumeration_journal.specs.Journals.{IsNewIf}
+use Rattle.enumeration_journal.specs.declared.kinds.Listed.{Listed}
+use Rattle.enumeration_journal.specs.declared.kinds.Listed.TheVariants as listed
+use Rattle.enumeration_journal.proofs.TestLaws.{is_kind_from}
 use Rattle.node_json.specs.Groups.{Group, tables_of, texts_of}
 use Rattle.group_journal.specs.Groups.{touching}
 use Rattle.group_journal.specs.Tests.{is_least_block}

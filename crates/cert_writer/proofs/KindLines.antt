@@ -4,9 +4,9 @@ use Rattle.std.specs.List.{list_all}
 use Rattle.fbas_model.specs.Systems.{System}
 use Rattle.clause_encoder.specs.declared.version.Version.{Version}
 use Rattle.clause_encoder.specs.declared.version.Version.TheVariants.{One, Two}
-use Rattle.list_journal.specs.declared.kinds.ListKind.{ListKind}
-use Rattle.list_journal.specs.declared.kinds.ListKind.TheVariants.{Whole, Partial as Part}
-use Rattle.list_journal.specs.declared.kinds.Listed.TheVariants as listed
+use Rattle.enumeration_journal.specs.declared.kinds.ListKind.{ListKind}
+use Rattle.enumeration_journal.specs.declared.kinds.ListKind.TheVariants.{Whole, Partial as Part}
+use Rattle.enumeration_journal.specs.declared.kinds.Listed.TheVariants as listed
 use Rattle.reach_kinds.specs.Kinds.{kind_word}
 use Rattle.reach_kinds.specs.declared.kinds.ReachKind.{ReachKind}
 use Rattle.reach_kinds.specs.declared.kinds.ReachKind.TheVariants.{Nodes, Groups}

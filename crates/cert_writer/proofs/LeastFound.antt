@@ -10,9 +10,9 @@ use Rattle.fbas_model.specs.Systems.{System, IsSystem}
 use Rattle.greatest_quorum.specs.Greatest.{greatest_of}
 use Rattle.clause_encoder.specs.NameCounter.{counter_vars}
 use Rattle.clause_encoder.specs.declared.limits.TheConstants.{MOST_VARS}
-use Rattle.list_journal.specs.Journals.{JournalLine}
-use Rattle.list_journal.specs.declared.kinds.ListKind.TheVariants as kind
-use Rattle.list_journal.specs.declared.kinds.Listed.TheVariants as listed
+use Rattle.enumeration_journal.specs.Journals.{JournalLine}
+use Rattle.enumeration_journal.specs.declared.kinds.ListKind.TheVariants as kind
+use Rattle.enumeration_journal.specs.declared.kinds.Listed.TheVariants as listed
 use Rattle.least_quorum.specs.Outcomes.{LeastHolds, least_rules as least_rules_of}
 use Rattle.least_quorum.specs.declared.outcome.LeastOutcome.{LeastOutcome}
 use Rattle.least_quorum.specs.declared.outcome.LeastOutcome.TheVariants as found

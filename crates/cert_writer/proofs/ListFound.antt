@@ -13,15 +13,15 @@ use Rattle.fbas_model.proofs.Kept.{length-kept}
 use Rattle.fbas_model.proofs.Renumbered.{length-restricted_sets}
 use Rattle.greatest_quorum.specs.Greatest.{greatest_of}
 use Rattle.lrat_model.specs.Steps.{Database}
-use Rattle.list_journal.specs.Journals.{JournalLine, SetLine, StepLine, Rules, JournalRun, IsWholeJournal, after_line, nothing_held, sets_in}
-use Rattle.list_journal.specs.Lists.{IsListOf}
-use Rattle.list_journal.specs.declared.kinds.Listed.{Listed}
-use Rattle.list_journal.specs.Order.{ordered}
-use Rattle.list_journal.specs.declared.kinds.ListKind.{ListKind}
-use Rattle.list_journal.specs.declared.kinds.ListKind.TheVariants as kind
-use Rattle.list_journal.proofs.Greatest.{counted_greatest}
-use Rattle.list_journal.proofs.OrderLaws.{HavePlaces, is_ordered}
-use Rattle.list_journal.proofs.Whole.{whole_has_each}
+use Rattle.enumeration_journal.specs.Journals.{JournalLine, SetLine, StepLine, Rules, JournalRun, IsWholeJournal, after_line, nothing_held, sets_in}
+use Rattle.enumeration_journal.specs.Lists.{IsListOf}
+use Rattle.enumeration_journal.specs.declared.kinds.Listed.{Listed}
+use Rattle.enumeration_journal.specs.Order.{ordered}
+use Rattle.enumeration_journal.specs.declared.kinds.ListKind.{ListKind}
+use Rattle.enumeration_journal.specs.declared.kinds.ListKind.TheVariants as kind
+use Rattle.enumeration_journal.proofs.Greatest.{counted_greatest}
+use Rattle.enumeration_journal.proofs.OrderLaws.{HavePlaces, is_ordered}
+use Rattle.enumeration_journal.proofs.Whole.{whole_has_each}
 use Rattle.blocking_lists.specs.Lines.{HasLineNumbers}
 use Rattle.blocking_lists.specs.Outcomes.{rules}
 use Rattle.blocking_lists.specs.declared.outcome.ListOutcome.{ListOutcome}

@@ -20,14 +20,14 @@ use Rattle.greatest_quorum.specs.Greatest.{greatest_of}
 use Rattle.greatest_quorum.proofs.GreatestLaws.{length-greatest_of}
 use Rattle.lrat_model.specs.Steps.{ProofStep, Addition, Deletion, Database, after_step}
 use Rattle.lrat_model.specs.declared.step.Progress.TheVariants.{Going as going, Refuted}
-use Rattle.list_journal.specs.Journals.{JournalLine, SetLine, StepLine, Rules, JournalRun, after_line, line_progress, nothing_held, sets_in, journal_units}
-use Rattle.list_journal.specs.declared.kinds.ListKind.{ListKind}
-use Rattle.list_journal.specs.declared.kinds.ListKind.TheVariants.{Whole, Partial as Part}
-use Rattle.list_journal.specs.Kinds.{HasLists}
-use Rattle.list_journal.specs.declared.kinds.Listed.{Listed}
-use Rattle.list_journal.specs.declared.kinds.Listed.TheVariants as listed
-use Rattle.list_journal.specs.Order.{ordered}
-use Rattle.list_journal.proofs.Runs.{sets_append}
+use Rattle.enumeration_journal.specs.Journals.{JournalLine, SetLine, StepLine, Rules, JournalRun, after_line, line_progress, nothing_held, sets_in, journal_units}
+use Rattle.enumeration_journal.specs.declared.kinds.ListKind.{ListKind}
+use Rattle.enumeration_journal.specs.declared.kinds.ListKind.TheVariants.{Whole, Partial as Part}
+use Rattle.enumeration_journal.specs.Kinds.{HasLists}
+use Rattle.enumeration_journal.specs.declared.kinds.Listed.{Listed}
+use Rattle.enumeration_journal.specs.declared.kinds.Listed.TheVariants as listed
+use Rattle.enumeration_journal.specs.Order.{ordered}
+use Rattle.enumeration_journal.proofs.Runs.{sets_append}
 use Rattle.least_journal.specs.Least.{least_of, AreFalling, FallFrom, AreSmaller, last_of}
 use Rattle.least_journal.proofs.Counts.{size_kept}
 use Rattle.clause_encoder.specs.NameCounter.{counter_vars}

@@ -23,12 +23,12 @@ use Rattle.lrat_text.specs.Left.{spaced}
 use Rattle.lrat_text.proofs.BackLaws.{step_back}
 use Rattle.cdcl_core.specs.Trail.{IsVariable}
 use Rattle.lrat_model.specs.Rules.{step_fault_by}
-use Rattle.list_journal.specs.Kinds.{is_sought}
-use Rattle.list_journal.specs.Journals.{JournalLine, SetLine, StepLine, Rules, JournalRun, IsNewStep, after_line, line_progress, put_if, sets_in, journal_units}
-use Rattle.list_journal.specs.declared.kinds.ListKind.{ListKind}
-use Rattle.list_journal.specs.declared.kinds.ListKind.TheVariants.{Whole, Partial as Part}
-use Rattle.list_journal.specs.declared.kinds.Listed.{Listed}
-use Rattle.list_journal.specs.declared.kinds.Listed.TheVariants as listed
+use Rattle.enumeration_journal.specs.Kinds.{is_sought}
+use Rattle.enumeration_journal.specs.Journals.{JournalLine, SetLine, StepLine, Rules, JournalRun, IsNewStep, after_line, line_progress, put_if, sets_in, journal_units}
+use Rattle.enumeration_journal.specs.declared.kinds.ListKind.{ListKind}
+use Rattle.enumeration_journal.specs.declared.kinds.ListKind.TheVariants.{Whole, Partial as Part}
+use Rattle.enumeration_journal.specs.declared.kinds.Listed.{Listed}
+use Rattle.enumeration_journal.specs.declared.kinds.Listed.TheVariants as listed
 use Rattle.least_journal.specs.Least.{last_of}
 use Rattle.blocking_lists.specs.Lines.{HasLineNumbers, HasFewWords}
 use Rattle.cert_lines.specs.Limits.{unless}

@@ -8,9 +8,9 @@ use Rattle.fbas_model.specs.Nodes.{Table, size, listed_from, set_cmp}
 use Rattle.fbas_model.specs.Counting.{is_inhabited}
 use Rattle.fbas_model.specs.Restriction.{kept}
 use Rattle.fbas_model.proofs.Sizes.{size-cons}
-use Rattle.list_journal.specs.Order.{by_order, with_set, ordered}
-use Rattle.list_journal.proofs.Elements.{first_in, later_in}
-use Rattle.list_journal.proofs.OrderLaws.{HavePlaces, ordered_has}
+use Rattle.enumeration_journal.specs.Order.{by_order, with_set, ordered}
+use Rattle.enumeration_journal.proofs.Elements.{first_in, later_in}
+use Rattle.enumeration_journal.proofs.OrderLaws.{HavePlaces, ordered_has}
 use Rattle.cert_writer.specs.Texts.{raised_table}
 use Rattle.cert_writer.proofs.Raised.{spread, is_raised}
 

@@ -21,8 +21,8 @@ use Rattle.cdcl_core.specs.Log.{AreLemmas, units}
 use Rattle.fbas_model.specs.Systems.{System}
 use Rattle.certificate_file.specs.Acceptance.{extent, take_line}
 use Rattle.reach_kinds.specs.Bodies.{is_covered, adds_covered, asks_steps, counted}
-use Rattle.list_journal.specs.declared.kinds.ListKind.{ListKind}
-use Rattle.list_journal.specs.declared.kinds.ListKind.TheVariants.{Whole, Partial as Part}
+use Rattle.enumeration_journal.specs.declared.kinds.ListKind.{ListKind}
+use Rattle.enumeration_journal.specs.declared.kinds.ListKind.TheVariants.{Whole, Partial as Part}
 use Rattle.certificate_file.specs.declared.given.Given.{Given}
 use Rattle.certificate_file.specs.declared.places.Aim.{Aim}
 use Rattle.certificate_file.specs.declared.places.Aim.TheVariants as aim

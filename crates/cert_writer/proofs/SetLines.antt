@@ -18,15 +18,15 @@ use Rattle.lrat_text.specs.Left.{spaced}
 use Rattle.lrat_text.specs.Texts.{IsId}
 use Rattle.lrat_text.proofs.TextLaws.{id_back}
 use Rattle.greatest_quorum.specs.Greatest.{greatest_of}
-use Rattle.list_journal.specs.Kinds.{Is, is_sought}
-use Rattle.list_journal.specs.Journals.{RightFor, IsNewIf}
-use Rattle.list_journal.specs.Tests.{is_within, is_minimal}
-use Rattle.list_journal.proofs.Greatest.{counted_greatest}
+use Rattle.enumeration_journal.specs.Kinds.{Is, is_sought}
+use Rattle.enumeration_journal.specs.Journals.{RightFor, IsNewIf}
+use Rattle.enumeration_journal.specs.Tests.{is_within, is_minimal}
+use Rattle.enumeration_journal.proofs.Greatest.{counted_greatest}
 use Rattle.least_journal.specs.Least.{last_of}
-use Rattle.list_journal.specs.declared.kinds.Listed.{Listed}
-use Rattle.list_journal.specs.declared.kinds.Listed.TheVariants as listed
-use Rattle.list_journal.proofs.Duality.{is_of, minimal_of, quorum_within}
-use Rattle.list_journal.proofs.TestLaws.{within_from, is_kind_from, minimal_from}
+use Rattle.enumeration_journal.specs.declared.kinds.Listed.{Listed}
+use Rattle.enumeration_journal.specs.declared.kinds.Listed.TheVariants as listed
+use Rattle.enumeration_journal.proofs.Duality.{is_of, minimal_of, quorum_within}
+use Rattle.enumeration_journal.proofs.TestLaws.{within_from, is_kind_from, minimal_from}
 use Rattle.cert_lines.specs.Limits.{unless}
 use Rattle.cert_lines.specs.Words.{Word, words_of, names_in}
 use Rattle.cert_lines.specs.declared.faults.CertError.{CertError}

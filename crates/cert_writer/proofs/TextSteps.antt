@@ -17,10 +17,10 @@ use Rattle.certificate_file.specs.Acceptance.{aim_word}
 use Rattle.certificate_file.specs.declared.places.Aim.{Aim}
 use Rattle.reach_kinds.specs.Kinds.{kind_word}
 use Rattle.reach_kinds.specs.declared.kinds.ReachKind.TheVariants.{Nodes, Groups}
-use Rattle.list_journal.specs.Journals.{JournalLine}
-use Rattle.list_journal.specs.declared.kinds.ListKind.{ListKind}
-use Rattle.list_journal.specs.declared.kinds.Listed.{Listed}
-use Rattle.list_journal.specs.declared.kinds.Listed.TheVariants.{Smaller}
+use Rattle.enumeration_journal.specs.Journals.{JournalLine}
+use Rattle.enumeration_journal.specs.declared.kinds.ListKind.{ListKind}
+use Rattle.enumeration_journal.specs.declared.kinds.Listed.{Listed}
+use Rattle.enumeration_journal.specs.declared.kinds.Listed.TheVariants.{Smaller}
 use Rattle.clause_encoder.specs.NameCounter.{counter_vars}
 use Rattle.cert_writer.specs.Texts.{Text, joined, worded, name_if_any, header_lines, pair_front, kind_line, log_front, set_line, journal_line, group_journal_line, list_front, least_front, group_front}
 

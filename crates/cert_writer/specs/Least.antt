@@ -4,9 +4,9 @@ use Rattle.fbas_model.specs.Nodes.{Table, size}
 use Rattle.fbas_model.specs.Fbas.{Fbas}
 use Rattle.fbas_model.specs.Systems.{System}
 use Rattle.greatest_quorum.specs.Greatest.{greatest_of}
-use Rattle.list_journal.specs.Journals.{JournalLine}
-use Rattle.list_journal.specs.declared.kinds.ListKind.{ListKind}
-use Rattle.list_journal.specs.declared.kinds.ListKind.TheVariants as kind
+use Rattle.enumeration_journal.specs.Journals.{JournalLine}
+use Rattle.enumeration_journal.specs.declared.kinds.ListKind.{ListKind}
+use Rattle.enumeration_journal.specs.declared.kinds.ListKind.TheVariants as kind
 use Rattle.blocking_lists.specs.Lines.{HasLineNumbers, HasFewWords}
 use Rattle.clause_encoder.specs.NameCounter.{counter_vars}
 use Rattle.clause_encoder.specs.declared.limits.TheConstants.{MOST_VARS}
@@ -18,7 +18,7 @@ use Rattle.certificate_file.specs.Meaning.{part_from}
 use Rattle.certificate_file.specs.declared.places.Header.{Header}
 use Rattle.certificate_file.specs.declared.places.Conclusion.{Conclusion}
 use Rattle.certificate_file.specs.declared.places.Conclusion.TheVariants.{Reached}
-use Rattle.list_journal.specs.declared.kinds.Listed.TheVariants.{Smaller}
+use Rattle.enumeration_journal.specs.declared.kinds.Listed.TheVariants.{Smaller}
 use Rattle.reach_kinds.specs.declared.kinds.ReachKind.TheVariants.{Nodes}
 use Rattle.reach_kinds.specs.declared.places.Reached.TheVariants as reached
 use Rattle.cert_writer.specs.Texts.{Text, least_text, raised_table}

@@ -5,10 +5,10 @@ use Rattle.fbas_model.specs.Nodes.{Table, size}
 use Rattle.fbas_model.specs.Fbas.{Fbas}
 use Rattle.fbas_model.specs.Systems.{System}
 use Rattle.greatest_quorum.specs.Greatest.{greatest_of}
-use Rattle.list_journal.specs.Journals.{JournalLine, SetLine, StepLine}
-use Rattle.list_journal.specs.declared.kinds.ListKind.TheVariants as kind
-use Rattle.list_journal.specs.Kinds.{HasLists}
-use Rattle.list_journal.specs.declared.kinds.Listed.{Listed}
+use Rattle.enumeration_journal.specs.Journals.{JournalLine, SetLine, StepLine}
+use Rattle.enumeration_journal.specs.declared.kinds.ListKind.TheVariants as kind
+use Rattle.enumeration_journal.specs.Kinds.{HasLists}
+use Rattle.enumeration_journal.specs.declared.kinds.Listed.{Listed}
 use Rattle.blocking_lists.specs.Lines.{HasLineNumbers, HasFewWords}
 use Rattle.blocking_lists.specs.Outcomes.{OutcomeHolds, journal_in}
 use Rattle.blocking_lists.specs.declared.outcome.ListOutcome.{ListOutcome}

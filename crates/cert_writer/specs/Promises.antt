@@ -14,13 +14,13 @@ use Rattle.lrat_text.specs.Texts.{IsId, HasNumbers, HasLiterals}
 use Rattle.cdcl_core.specs.Log.{AreLemmas, EndsEmpty, HasNoEmptyLemma, IsBoundedLog, units}
 use Rattle.witness_pair.specs.Making.{shared}
 use Rattle.witness_pair.specs.declared.Pair.{Pair}
-use Rattle.list_journal.specs.Journals.{JournalLine, Rules, nothing_held, JournalRun, IsOpen, EndsRefuted, sets_in, journal_units}
-use Rattle.list_journal.specs.declared.kinds.ListKind.{ListKind}
-use Rattle.list_journal.specs.declared.kinds.ListKind.TheVariants as kind
-use Rattle.list_journal.specs.Kinds.{HasLists}
-use Rattle.list_journal.specs.Order.{ordered}
-use Rattle.list_journal.specs.declared.kinds.Listed.{Listed}
-use Rattle.list_journal.specs.declared.kinds.Listed.TheVariants as listed
+use Rattle.enumeration_journal.specs.Journals.{JournalLine, Rules, nothing_held, JournalRun, IsOpen, EndsRefuted, sets_in, journal_units}
+use Rattle.enumeration_journal.specs.declared.kinds.ListKind.{ListKind}
+use Rattle.enumeration_journal.specs.declared.kinds.ListKind.TheVariants as kind
+use Rattle.enumeration_journal.specs.Kinds.{HasLists}
+use Rattle.enumeration_journal.specs.Order.{ordered}
+use Rattle.enumeration_journal.specs.declared.kinds.Listed.{Listed}
+use Rattle.enumeration_journal.specs.declared.kinds.Listed.TheVariants as listed
 use Rattle.least_journal.specs.Least.{least_of, AreFalling, answer_of as last_listed}
 use Rattle.clause_encoder.specs.NameCounter.{counter_vars}
 use Rattle.blocking_lists.specs.Lines.{HasLineNumbers, HasFewWords}

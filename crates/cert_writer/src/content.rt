@@ -1,8 +1,8 @@
 //! What a certificate says after its header.
 use blocking_lists::Journal;
 use certificate_file::{Aim, Pair};
+use enumeration_journal::{ListKind, Listed};
 use group_lists::GroupJournal;
-use list_journal::{ListKind, Listed};
 use lrat_text::Log;
 use node_json::Groups;
 

@@ -20,8 +20,8 @@ use crate::content::Content;
 use crate::whole::write_certificate;
 use crate::writer::CertWriter;
 use desk_io::{Desk, WriteFailed};
+use enumeration_journal::ListKind;
 use group_lists::{GroupJournal, GroupOutcome};
-use list_journal::ListKind;
 use node_json::Groups;
 
 /// Whether the journal of an outcome is a whole one.

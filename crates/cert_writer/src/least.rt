@@ -21,8 +21,8 @@ use crate::whole::write_certificate;
 use crate::writer::CertWriter;
 use blocking_lists::Journal;
 use desk_io::{Desk, WriteFailed};
+use enumeration_journal::ListKind;
 use least_quorum::LeastOutcome;
-use list_journal::ListKind;
 
 /// Whether the journal of an outcome is a whole one.
 fn kind_of(outcome: &LeastOutcome) -> ListKind

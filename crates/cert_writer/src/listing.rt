@@ -5,7 +5,7 @@ ghost use Rattle.hex.specs.Hex.{IsBytes};
 ghost use Rattle.fbas_model.specs.Names.{name_cmp};
 ghost use Rattle.fbas_model.specs.Nodes.{Table};
 ghost use Rattle.fbas_model.specs.Systems.{System, IsSystem};
-ghost use Rattle.list_journal.specs.declared.kinds.Listed.{Listed};
+ghost use Rattle.enumeration_journal.specs.declared.kinds.Listed.{Listed};
 ghost use Rattle.blocking_lists.specs.declared.outcome.ListOutcome.{ListOutcome};
 ghost use Rattle.quorum_questions.specs.declared.asking.TheConstants.{MOST_UNITS};
 ghost use Rattle.cert_writer.specs.Promises.{IsHeader, HasPart, PutsCertificate};
@@ -19,7 +19,7 @@ use crate::whole::write_certificate;
 use crate::writer::CertWriter;
 use blocking_lists::ListOutcome;
 use desk_io::{Desk, WriteFailed};
-use list_journal::{ListKind, Listed};
+use enumeration_journal::{ListKind, Listed};
 
 /// Writes the certificate of a list, whole or in part, to the created file. `check` accepts it.
 ///

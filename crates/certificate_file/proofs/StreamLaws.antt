@@ -13,11 +13,11 @@ use Rattle.lrat_model.specs.declared.step.Progress.TheVariants.{Going as going, 
 use Rattle.lrat_checker.specs.Checking.{Checking, Stepping}
 use Rattle.lrat_text.specs.Lines.{step_in}
 use Rattle.lrat_text.specs.declared.faults.LineFault.{LineFault}
-use Rattle.step_stream.specs.Outline.{Adds, outline_in}
-use Rattle.step_stream.specs.Ahead.{ahead}
-use Rattle.step_stream.specs.declared.words.StepWords.{StepWords}
-use Rattle.list_journal.specs.declared.kinds.ListKind.{ListKind}
-use Rattle.list_journal.specs.declared.kinds.ListKind.TheVariants.{Whole, Partial as Part}
+use Rattle.lrat_stream.specs.Outline.{Adds, outline_in}
+use Rattle.lrat_stream.specs.Ahead.{ahead}
+use Rattle.lrat_stream.specs.declared.words.StepWords.{StepWords}
+use Rattle.enumeration_journal.specs.declared.kinds.ListKind.{ListKind}
+use Rattle.enumeration_journal.specs.declared.kinds.ListKind.TheVariants.{Whole, Partial as Part}
 use Rattle.cert_lines.specs.Steps.{is_other}
 use Rattle.cert_lines.specs.Words.{Word, words_of, onto_first}
 use Rattle.cert_lines.specs.Saying.{or_bad_line}
@@ -44,8 +44,8 @@ use Rattle.reach_kinds.specs.declared.places.Listing.{Listing}
 use Rattle.certificate_file.specs.declared.places.Place.TheVariants.{AtSteps, AtReach}
 use Rattle.reach_kinds.specs.declared.places.ReachPlace.TheVariants.{AtList, AtGroups}
 use Rattle.reach_kinds.specs.declared.places.ReachState.{ReachState}
-use Rattle.list_journal.specs.declared.kinds.Listed.{Listed}
-use Rattle.list_journal.specs.declared.kinds.Listed.TheVariants as listed
+use Rattle.enumeration_journal.specs.declared.kinds.Listed.{Listed}
+use Rattle.enumeration_journal.specs.declared.kinds.Listed.TheVariants as listed
 use Rattle.certificate_file.specs.declared.places.State.{State}
 
 not_end : (text : List ℕ) → is_other text ≡ false → bytes_eq text (codes "end") ≡ false

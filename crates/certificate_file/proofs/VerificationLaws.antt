@@ -12,9 +12,9 @@ use Rattle.lrat_model.specs.declared.step.Progress.TheVariants.{Going as going, 
 use Rattle.lrat_checker.specs.Checking.{Checking, Stepping}
 use Rattle.lrat_text.specs.Lines.{step_in}
 use Rattle.lrat_text.specs.declared.faults.LineFault.{LineFault}
-use Rattle.step_stream.specs.Outline.{Adds, outline_in}
-use Rattle.step_stream.specs.Ahead.{ahead}
-use Rattle.step_stream.specs.declared.words.StepWords.{StepWords}
+use Rattle.lrat_stream.specs.Outline.{Adds, outline_in}
+use Rattle.lrat_stream.specs.Ahead.{ahead}
+use Rattle.lrat_stream.specs.declared.words.StepWords.{StepWords}
 use Rattle.clause_encoder.specs.declared.limits.TheConstants.{MOST_VARS}
 use Rattle.clause_encoder.specs.declared.version.Version.TheVariants.{Two}
 use Rattle.cert_lines.specs.Limits.{unless, within_limits}

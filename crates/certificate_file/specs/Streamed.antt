@@ -7,8 +7,8 @@ use Rattle.lrat_model.specs.declared.step.StepFault.{StepFault}
 use Rattle.lrat_model.specs.declared.step.Progress.{Progress}
 use Rattle.lrat_model.specs.declared.step.Progress.TheVariants.{Going as going, Refuted}
 use Rattle.lrat_checker.specs.Checking.{Checking, Stepping}
-use Rattle.step_stream.specs.Outline.{StepOutline, Adds, Deletes}
-use Rattle.list_journal.specs.Order.{ordered}
+use Rattle.lrat_stream.specs.Outline.{StepOutline, Adds, Deletes}
+use Rattle.enumeration_journal.specs.Order.{ordered}
 use Rattle.cert_lines.specs.Limits.{unless}
 use Rattle.reach_kinds.specs.Bodies.{and_then, is_covered, asks_steps}
 use Rattle.certificate_file.specs.Acceptance.{extent}

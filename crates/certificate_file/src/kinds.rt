@@ -8,8 +8,8 @@ ghost use Rattle.certificate_file.specs.Known.{IsSubject};
 use crate::places::{Aim, Body, Place, State, Subject};
 use cert_lines::{CertError, Words};
 use clause_encoder::Version;
+use enumeration_journal::{ListKind, Listed};
 use fbas_core::System;
-use list_journal::{ListKind, Listed};
 use reach_kinds::{ReachKind, ReachTitle, Scope, body_begins, title_in};
 use std::alloc::{AllocError, Global};
 

@@ -8,7 +8,7 @@ ghost use Rattle.certificate_file.specs.declared.places.Header.{Header};
 
 use crate::places::{Accepted, Aim, Conclusion, Header, Place, State};
 use cert_lines::{CertError, step_in};
-use list_journal::ListKind;
+use enumeration_journal::ListKind;
 use lrat_checker::IdleChecker;
 use lrat_model::Progress;
 use reach_kinds::{literal_in, take_counted_step};

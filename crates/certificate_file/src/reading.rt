@@ -15,8 +15,8 @@ use crate::taking::take_line;
 use cert_lines::{CertError, Lines};
 use desk_io::{Desk, Which};
 use fbas_core::System;
+use lrat_stream::StepReader;
 use std::alloc::Global;
-use step_stream::StepReader;
 
 /// What is so after the next line. Where steps may stand, it is taken with the steps behind it, to the first line that begins as
 /// no step does or to the empty lemma.

@@ -22,9 +22,9 @@ use desk_io::{Desk, Which};
 use fbas_core::System;
 use lrat_checker::{Checker, IdleChecker};
 use lrat_model::Progress;
+use lrat_stream::StepReader;
 use reach_kinds::{GroupListing, Listing, ReachPlace, asks_steps, group_whole, whole_of};
 use std::alloc::Global;
-use step_stream::StepReader;
 
 /// A proof with its checker and its units.
 #[derive(Drop)]

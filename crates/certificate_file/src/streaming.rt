@@ -3,13 +3,13 @@ ghost use Rattle.std.specs.Prelude.{◌≡◌, ◌≢◌, ◌⊎◌, ◌≤◌, 
 ghost use Rattle.lrat_model.specs.Steps.{Database};
 ghost use Rattle.lrat_model.specs.declared.step.Rule.{Rule};
 ghost use Rattle.lrat_checker.specs.Adding.{Adding};
-ghost use Rattle.step_stream.specs.Ahead.{ahead, IsOpen, Fits};
+ghost use Rattle.lrat_stream.specs.Ahead.{ahead, IsOpen, Fits};
 ghost use Rattle.certificate_file.specs.Streamed.{finished, is_empty_lemma, covers_read, counted_read, read, checking_of};
 
 use cert_lines::CertError;
 use lrat_checker::Checker;
 use lrat_model::{Progress, StepFault};
-use step_stream::{Stage, StepWords};
+use lrat_stream::{Stage, StepWords};
 
 /// Ends the step, and gives where it led, or the fault: of the line's words first.
 pub fn finish(

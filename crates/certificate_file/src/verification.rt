@@ -21,9 +21,9 @@ use desk_io::{Desk, Which};
 use fbas_core::System;
 use lrat_checker::Checker;
 use lrat_model::Progress;
+use lrat_stream::StepReader;
 use name_set::NodeSet;
 use std::alloc::Global;
-use step_stream::StepReader;
 
 /// All nodes.
 fn everyone(system: &System) -> NodeSet

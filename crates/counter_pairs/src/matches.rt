@@ -6,7 +6,7 @@ use crate::rivals::{Rivals, count_of_pairs};
 use crate::sides::{Gate, Side};
 use crate::walks::Walker;
 use lrat_model::Lit;
-use search_guide::{Part, RowPair, Rows};
+use search_heuristics::{Part, RowPair, Rows};
 use std::alloc::{AllocError, Global};
 
 /// Two gates of this many inputs in all are gone through by pairs: these lemmas have two literals, and are never forgotten.

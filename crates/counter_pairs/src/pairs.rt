@@ -2,7 +2,7 @@
 
 use crate::sides::Gate;
 use lrat_model::Lit;
-use search_guide::RowPair;
+use search_heuristics::RowPair;
 use std::alloc::{AllocError, Global};
 
 /// A row of a gate's counter.

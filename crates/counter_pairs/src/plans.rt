@@ -5,9 +5,9 @@ use crate::matches::Matcher;
 use crate::rivals::has_own_rival;
 use crate::sides::{Side, range_of, read_side};
 use clause_store::Store;
-use search_guide::{CounterRows, Plan, PlannedGroups};
+use counter_expansion::has_gates;
+use search_heuristics::{CounterRows, Plan, PlannedGroups};
 use std::alloc::{AllocError, Global};
-use written_gates::has_gates;
 
 /// This many groups for each clause of the formula are looked at, and no more.
 const GROUPS_PER_CLAUSE: u64 = 16;

@@ -1,8 +1,8 @@
 //! The gates of one side of an intersection formula, read from its clauses.
 
 use clause_store::{Lit, Store};
+use counter_expansion::{Counter, read_counter};
 use std::alloc::{AllocError, Global};
-use written_gates::{Counter, read_counter};
 
 /// An input that is none of the side's places.
 const NO_PLACE: u32 = u32::MAX;

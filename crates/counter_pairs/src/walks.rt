@@ -2,7 +2,7 @@
 
 use crate::rivals::Rivals;
 use crate::sides::Gate;
-use search_guide::RowPair;
+use search_heuristics::RowPair;
 use std::alloc::{AllocError, Global};
 
 /// An input of each of two gates, from 1 on, which exclude each other.

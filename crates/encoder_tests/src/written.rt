@@ -6,13 +6,13 @@ ghost use Rattle.lrat_model.specs.Ranges.{AreInRange};
 use crate::shared::same;
 use clause_encoder::{Version, encode};
 use clause_store::Store;
+use counter_expansion::{Written, write_out};
+use expanded_search::{Found, search};
 use fbas_core::System;
-use gate_search::{Found, search};
 use greatest_quorum::greatest;
 use name_set::{NodeSet, read_names};
 use node_json::read_config;
 use std::alloc::{AllocError, Global};
-use written_gates::{Written, write_out};
 
 // each of four nodes wants three of them, and each of four two
 static THREE_OF_FOUR: &str =

@@ -9,9 +9,9 @@ use Rattle.fbas_model.specs.Restriction.{table_from}
 use Rattle.fbas_model.proofs.Tables.{length-table_from}
 use Rattle.greatest_quorum.specs.Greatest.{some_set}
 use Rattle.greatest_quorum.proofs.GreatestLaws.{table_of}
-use Rattle.list_journal.specs.Tests.{is_within, is_blocking}
-use Rattle.list_journal.proofs.Duality.{same_nodes}
-use Rattle.list_journal.proofs.TestLaws.{blocks_to, blocks_from, within_to, within_from, none_of, none_from, refutes}
+use Rattle.enumeration_journal.specs.Tests.{is_within, is_blocking}
+use Rattle.enumeration_journal.proofs.Duality.{same_nodes}
+use Rattle.enumeration_journal.proofs.TestLaws.{blocks_to, blocks_from, within_to, within_from, none_of, none_from, refutes}
 use Rattle.group_journal.specs.Groups.{joined, GroupsBlock, IsLeastBlock}
 use Rattle.group_journal.specs.Tests.{is_group_block, is_least_block}
 use Rattle.group_journal.proofs.Thinning.{blocks_where_meets, meets_where_blocks}

@@ -8,8 +8,8 @@ use Rattle.std.proofs.lemmas.List.Elements.{All-head, All-tail}
 use Rattle.fbas_model.specs.Nodes.{Nodes, Table, members, ◌∈◌, ◌⊆◌, ∅, only, ◌∪◌, Meets}
 use Rattle.fbas_model.proofs.Sizes.{member_lt}
 use Rattle.fbas_model.proofs.Tables.{table_ext}
-use Rattle.list_journal.specs.Tests.{is_meeting}
-use Rattle.list_journal.proofs.TestLaws.{meeting_to, meeting_from}
+use Rattle.enumeration_journal.specs.Tests.{is_meeting}
+use Rattle.enumeration_journal.proofs.TestLaws.{meeting_to, meeting_from}
 use Rattle.node_json.specs.Groups as spec
 use Rattle.node_json.specs.Groups.{tables_of}
 use Rattle.group_journal.specs.Groups.{joined, touching}

@@ -7,18 +7,18 @@ use Rattle.fbas_model.specs.Nodes.{Nodes, Table, members, ◌⊆◌}
 use Rattle.fbas_model.specs.Fbas.{Fbas}
 use Rattle.lrat_model.specs.Literal.{clause_true}
 use Rattle.lrat_model.specs.Steps.{Database, after_step}
-use Rattle.list_journal.specs.Kinds.{is_sought}
-use Rattle.list_journal.specs.Numbering.{assignment_of}
-use Rattle.list_journal.specs.Journals.{JournalLine, SetLine, StepLine, nothing_held, after_line, JournalRun, IsWholeJournal, sets_in}
-use Rattle.list_journal.specs.declared.kinds.ListKind.{ListKind}
-use Rattle.list_journal.specs.declared.kinds.ListKind.TheVariants.{Whole}
-use Rattle.list_journal.specs.declared.kinds.Listed.{Listed}
-use Rattle.list_journal.specs.declared.kinds.Listed.TheVariants.{Quorum, Blocking, Smaller}
-use Rattle.list_journal.proofs.Greatest.{IsGreatest}
-use Rattle.list_journal.proofs.Comparing.{within_or_not, contains_or_not}
-use Rattle.list_journal.proofs.Duality.{quorum_within, same_nodes}
-use Rattle.list_journal.proofs.ClauseTruth.{sought_clause_true, other_clause_true}
-use Rattle.list_journal.proofs.Refuting.{no_whole_journal, true_without}
+use Rattle.enumeration_journal.specs.Kinds.{is_sought}
+use Rattle.enumeration_journal.specs.Numbering.{assignment_of}
+use Rattle.enumeration_journal.specs.Journals.{JournalLine, SetLine, StepLine, nothing_held, after_line, JournalRun, IsWholeJournal, sets_in}
+use Rattle.enumeration_journal.specs.declared.kinds.ListKind.{ListKind}
+use Rattle.enumeration_journal.specs.declared.kinds.ListKind.TheVariants.{Whole}
+use Rattle.enumeration_journal.specs.declared.kinds.Listed.{Listed}
+use Rattle.enumeration_journal.specs.declared.kinds.Listed.TheVariants.{Quorum, Blocking, Smaller}
+use Rattle.enumeration_journal.proofs.Greatest.{IsGreatest}
+use Rattle.enumeration_journal.proofs.Comparing.{within_or_not, contains_or_not}
+use Rattle.enumeration_journal.proofs.Duality.{quorum_within, same_nodes}
+use Rattle.enumeration_journal.proofs.ClauseTruth.{sought_clause_true, other_clause_true}
+use Rattle.enumeration_journal.proofs.Refuting.{no_whole_journal, true_without}
 use Rattle.group_journal.specs.Groups.{joined, touching, GroupsBlockMinimally, AreMinimalGroupBlocks}
 use Rattle.group_journal.specs.Rules.{IsGroupLine, group_clause, group_list_of}
 use Rattle.group_journal.proofs.Touched.{length-touching, touches_more, touched_by}

@@ -3,7 +3,7 @@ use Rattle.std.specs.Prelude.{◌≡◌, ◌↔◌, List, [], ◌∷◌, true, f
 use Rattle.std.specs.List.Sorted.{IsStrictlySortedBy}
 use Rattle.fbas_model.specs.Nodes.{Nodes, Table, members, ◌⊆◌, ∅, ◌∪◌, ◌∖◌, set_cmp}
 use Rattle.fbas_model.specs.Fbas.{Fbas, Blocks}
-use Rattle.list_journal.specs.Tests.{is_meeting}
+use Rattle.enumeration_journal.specs.Tests.{is_meeting}
 
 -- the members of the marked groups
 abbrev pub joined : List Table → Table → Nodes

@@ -3,11 +3,11 @@ use Rattle.std.specs.Prelude.{◌≡◌, List, length}
 use Rattle.fbas_model.specs.Nodes.{Nodes, Table, members, size}
 use Rattle.fbas_model.specs.Fbas.{Fbas, Quorum as IsQuorum}
 use Rattle.lrat_model.specs.Literal.{Literal}
-use Rattle.list_journal.specs.Kinds.{asks_new}
-use Rattle.list_journal.specs.Numbering.{clause_for}
-use Rattle.list_journal.specs.Journals.{Rules, nothing_held}
-use Rattle.list_journal.specs.declared.kinds.Listed.{Listed}
-use Rattle.list_journal.specs.declared.kinds.Listed.TheVariants.{Quorum, Blocking, Smaller}
+use Rattle.enumeration_journal.specs.Kinds.{asks_new}
+use Rattle.enumeration_journal.specs.Numbering.{clause_for}
+use Rattle.enumeration_journal.specs.Journals.{Rules, nothing_held}
+use Rattle.enumeration_journal.specs.declared.kinds.Listed.{Listed}
+use Rattle.enumeration_journal.specs.declared.kinds.Listed.TheVariants.{Quorum, Blocking, Smaller}
 use Rattle.group_journal.specs.Groups.{touching, GroupsBlockMinimally}
 
 -- a listed quorum is any, a set of nodes; a listed blocking set is a minimal one, of groups

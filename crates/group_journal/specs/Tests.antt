@@ -4,7 +4,7 @@ use Rattle.fbas_model.specs.Nodes.{Table, members, ◌∖◌}
 use Rattle.fbas_model.specs.Fbas.{Fbas}
 use Rattle.fbas_model.specs.Restriction.{table_from}
 use Rattle.greatest_quorum.specs.Greatest.{some_set}
-use Rattle.list_journal.specs.Tests.{is_within, is_blocking}
+use Rattle.enumeration_journal.specs.Tests.{is_within, is_blocking}
 use Rattle.group_journal.specs.Groups.{joined}
 
 -- the members of the groups, without those of b, meet every quorum once b is deleted

@@ -2,12 +2,12 @@
 ghost use Rattle.std.specs.Prelude.{◌≡◌, ◌<◌, All, length, nat_lt, ◌&&◌, IfOk};
 ghost use Rattle.fbas_model.specs.Nodes.{members, ◌⊆◌, size};
 ghost use Rattle.lrat_model.specs.Ranges.{IsInRange};
-ghost use Rattle.list_journal.specs.declared.kinds.Listed.TheVariants.{Quorum, Blocking};
+ghost use Rattle.enumeration_journal.specs.declared.kinds.Listed.TheVariants.{Quorum, Blocking};
 ghost use Rattle.node_json.specs.Groups.{tables_of};
 ghost use Rattle.group_journal.specs.Groups.{touching};
 ghost use Rattle.group_journal.specs.Rules.{group_clause};
 
-use list_journal::{Listed, clause_of};
+use enumeration_journal::{Listed, clause_of};
 use lrat_model::Lit;
 use name_set::{GroupSet, NodeSet};
 use node_json::Groups;

@@ -10,8 +10,8 @@ ghost use Rattle.std.specs.Prelude.{◌≡◌, List, length};
 ghost use Rattle.fbas_model.specs.Nodes.{Table, members};
 ghost use Rattle.fbas_model.specs.Fbas.{Fbas};
 ghost use Rattle.greatest_quorum.specs.Greatest.{greatest_of};
-ghost use Rattle.list_journal.specs.Journals.{JournalLine, IsWholeJournal, sets_in};
-ghost use Rattle.list_journal.specs.declared.kinds.Listed.TheVariants.{Blocking};
+ghost use Rattle.enumeration_journal.specs.Journals.{JournalLine, IsWholeJournal, sets_in};
+ghost use Rattle.enumeration_journal.specs.declared.kinds.Listed.TheVariants.{Blocking};
 ghost use Rattle.group_journal.specs.Groups.{AreMinimalGroupBlocks};
 ghost use Rattle.group_journal.specs.Rules.{group_list_of};
 

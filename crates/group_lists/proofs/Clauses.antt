@@ -4,9 +4,9 @@ use Rattle.std.proofs.lemmas.Bool.{and_parts, false≢true}
 use Rattle.fbas_model.specs.Nodes.{Nodes, Table, members, ◌∈◌, ◌⊆◌, ◌∖◌}
 use Rattle.fbas_model.specs.Fbas.{Fbas, Quorum as IsQuorum, IsGreatestQuorum, all_nodes}
 use Rattle.lrat_model.specs.Literal.{clause_true}
-use Rattle.list_journal.specs.declared.kinds.Listed.TheVariants.{Quorum, Blocking}
-use Rattle.list_journal.proofs.Greatest.{IsGreatest}
-use Rattle.list_journal.proofs.Duality.{quorum_within}
+use Rattle.enumeration_journal.specs.declared.kinds.Listed.TheVariants.{Quorum, Blocking}
+use Rattle.enumeration_journal.proofs.Greatest.{IsGreatest}
+use Rattle.enumeration_journal.proofs.Duality.{quorum_within}
 use Rattle.blocking_lists.specs.Search.{IsModelSet}
 use Rattle.blocking_lists.proofs.Turns.{quorum_out, blocking_out}
 use Rattle.group_journal.specs.Groups.{joined, touching}

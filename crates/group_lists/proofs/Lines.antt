@@ -8,13 +8,13 @@ use Rattle.lrat_model.specs.Literal.{Literal, clause_true}
 use Rattle.lrat_model.specs.Clauses.{Held, Satisfies}
 use Rattle.lrat_model.specs.Steps.{Database}
 use Rattle.cdcl_core.specs.Solving.{Solving}
-use Rattle.list_journal.specs.Kinds.{signed}
-use Rattle.list_journal.specs.Numbering.{variable_in}
-use Rattle.list_journal.specs.Journals.{SetLine, nothing_held, AreUseful}
-use Rattle.list_journal.specs.declared.kinds.ListKind.TheVariants.{Partial}
-use Rattle.list_journal.specs.declared.kinds.Listed.{Listed}
-use Rattle.list_journal.specs.declared.kinds.Listed.TheVariants.{Blocking}
-use Rattle.list_journal.proofs.Ids.{AreBelow, below_run, found_new}
+use Rattle.enumeration_journal.specs.Kinds.{signed}
+use Rattle.enumeration_journal.specs.Numbering.{variable_in}
+use Rattle.enumeration_journal.specs.Journals.{SetLine, nothing_held, AreUseful}
+use Rattle.enumeration_journal.specs.declared.kinds.ListKind.TheVariants.{Partial}
+use Rattle.enumeration_journal.specs.declared.kinds.Listed.{Listed}
+use Rattle.enumeration_journal.specs.declared.kinds.Listed.TheVariants.{Blocking}
+use Rattle.enumeration_journal.proofs.Ids.{AreBelow, below_run, found_new}
 use Rattle.blocking_lists.specs.Lines.{ListLine, merged, AreBetween}
 use Rattle.blocking_lists.specs.Search.{HoldsEmpty, IsSearch, IsListed}
 use Rattle.blocking_lists.proofs.Listed.{database_then}

@@ -12,10 +12,10 @@ use Rattle.lrat_model.specs.declared.step.Progress.TheVariants.{Going}
 use Rattle.lrat_text.specs.Texts.{IsId}
 use Rattle.cdcl_core.specs.Log.{AreLemmas, IsBoundedLog, units, HasNoEmptyLemma, EndsEmpty}
 use Rattle.cdcl_core.specs.Solving.{Solving, logged}
-use Rattle.list_journal.specs.Journals.{JournalLine, nothing_held, JournalRun, line_progress, IsOpen, journal_units, AreUseful}
-use Rattle.list_journal.specs.declared.kinds.ListKind.TheVariants.{Partial}
-use Rattle.list_journal.specs.declared.kinds.Listed.{Listed}
-use Rattle.list_journal.proofs.Runs.{AsksMore}
+use Rattle.enumeration_journal.specs.Journals.{JournalLine, nothing_held, JournalRun, line_progress, IsOpen, journal_units, AreUseful}
+use Rattle.enumeration_journal.specs.declared.kinds.ListKind.TheVariants.{Partial}
+use Rattle.enumeration_journal.specs.declared.kinds.Listed.{Listed}
+use Rattle.enumeration_journal.proofs.Runs.{AsksMore}
 use Rattle.blocking_lists.specs.Lines.{ListLine, merged, AreForgetting}
 use Rattle.blocking_lists.specs.Search.{HoldsEmpty, IsListed}
 use Rattle.blocking_lists.proofs.Listed.{same_database, places_more, each_more, ids_more, short_more}

@@ -9,9 +9,9 @@ use Rattle.lrat_model.specs.Steps.{ProofStep, Addition, Deletion}
 use Rattle.lrat_model.specs.Propagation.{Closes}
 use Rattle.cdcl_core.specs.Log.{IsBoundedLog, units as units_of}
 use Rattle.cdcl_core.specs.Solving.{Solving}
-use Rattle.list_journal.specs.Journals.{JournalLine, SetLine, StepLine, journal_units, sets_in}
-use Rattle.list_journal.specs.declared.kinds.Listed.TheVariants.{Blocking}
-use Rattle.list_journal.proofs.Greatest.{counted_greatest}
+use Rattle.enumeration_journal.specs.Journals.{JournalLine, SetLine, StepLine, journal_units, sets_in}
+use Rattle.enumeration_journal.specs.declared.kinds.Listed.TheVariants.{Blocking}
+use Rattle.enumeration_journal.proofs.Greatest.{counted_greatest}
 use Rattle.blocking_lists.specs.Lines.{ListLine, merged, listed_in, steps_in, IsShortStep, HasFewWords}
 use Rattle.blocking_lists.specs.Outcomes.{HasFewSteps}
 use Rattle.blocking_lists.specs.Search.{IsShortLog}

@@ -5,7 +5,7 @@ use Rattle.fbas_model.specs.Fbas.{Fbas}
 use Rattle.greatest_quorum.specs.Greatest.{greatest_of}
 use Rattle.lrat_model.specs.Steps.{Database}
 use Rattle.lrat_model.specs.Propagation.{Closes}
-use Rattle.list_journal.specs.Journals.{JournalLine, IsWholeJournal, IsPartialJournal, journal_units, AreUseful}
+use Rattle.enumeration_journal.specs.Journals.{JournalLine, IsWholeJournal, IsPartialJournal, journal_units, AreUseful}
 use Rattle.blocking_lists.specs.Lines.{AreForgetting}
 use Rattle.blocking_lists.specs.Outcomes.{HasFewSteps}
 use Rattle.group_journal.specs.Groups.{IsGroupList}

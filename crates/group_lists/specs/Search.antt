@@ -6,7 +6,7 @@ use Rattle.greatest_quorum.specs.Greatest.{greatest_of}
 use Rattle.lrat_model.specs.Steps.{ProofStep}
 use Rattle.lrat_text.specs.Texts.{IsId}
 use Rattle.cdcl_core.specs.Solving.{Solving}
-use Rattle.list_journal.specs.Journals.{Rules, IsWholeJournal, journal_units}
+use Rattle.enumeration_journal.specs.Journals.{Rules, IsWholeJournal, journal_units}
 use Rattle.blocking_lists.specs.Lines.{ListLine, merged, AreBetween, AreForgetting}
 use Rattle.blocking_lists.specs.Search.{IsSearch, IsShortLog}
 use Rattle.node_json.specs.Groups.{Group, tables_of}

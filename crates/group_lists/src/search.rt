@@ -9,16 +9,16 @@ ghost use Rattle.node_json.specs.Groups.{tables_of};
 ghost use Rattle.blocking_lists.specs.Search.{IsListed};
 ghost use Rattle.group_journal.specs.Groups.{touching};
 ghost use Rattle.group_journal.specs.Rules.{group_clause};
-ghost use Rattle.list_journal.specs.declared.kinds.Listed.TheVariants as listing;
+ghost use Rattle.enumeration_journal.specs.declared.kinds.Listed.TheVariants as listing;
 ghost use Rattle.group_lists.specs.Search.{IsReady, IsGroupListingIn, IsWholeGroupListingIn};
 
 use blocking_lists::{ListedSet, list_set, tried_units};
 use cdcl_core::{Budget, Solver, Verdict};
+use enumeration_journal::Listed;
 use fbas_core::System;
 use fbas_model::MOST_NODES;
 use greatest_quorum::{blocks, minimal_quorum, shrink};
 use group_journal::{MarkedGroups, block_clause, minimal_groups, quorum_clause};
-use list_journal::Listed;
 use name_set::{GROUP_WORDS, GroupSet, NodeSet, resized};
 use node_json::Groups;
 use std::alloc::{AllocError, Global};

@@ -5,7 +5,7 @@ use Rattle.fbas_model.specs.Nodes.{Table, members, ◌⊆◌, size}
 use Rattle.fbas_model.specs.Restriction.{kept}
 use Rattle.fbas_model.proofs.Sizes.{size-cons}
 use Rattle.fbas_model.proofs.Kept.{length-kept}
-use Rattle.list_journal.specs.Numbering.{assignment_of}
+use Rattle.enumeration_journal.specs.Numbering.{assignment_of}
 use Rattle.clause_encoder.specs.NameCounter.{true_count}
 
 -- the first name counted before the others

@@ -2,9 +2,9 @@
 use Rattle.std.proofs.Common.{◌≡◌, [], ◌∷◌, refl, Some, pos}
 use Rattle.lrat_model.specs.Literal.{Minus}
 use Rattle.lrat_model.specs.Steps.{Addition}
-use Rattle.list_journal.specs.Journals.{SetLine, StepLine}
-use Rattle.list_journal.specs.declared.kinds.Listed.TheVariants.{Smaller, Blocking}
-use Rattle.list_journal.proofs.ListSamples.{ab, ac, bc, abc}
+use Rattle.enumeration_journal.specs.Journals.{SetLine, StepLine}
+use Rattle.enumeration_journal.specs.declared.kinds.Listed.TheVariants.{Smaller, Blocking}
+use Rattle.enumeration_journal.proofs.ListSamples.{ab, ac, bc, abc}
 use Rattle.least_journal.specs.Least.{clause_in, answer_of}
 
 -- fewer than two

@@ -13,16 +13,16 @@ use Rattle.lrat_model.specs.Literal.{Plus, literal_true, clause_true}
 use Rattle.lrat_model.specs.Steps.{Database, after_step}
 use Rattle.lrat_model.proofs.Runs.{Satisfies-numbered}
 use Rattle.greatest_quorum.proofs.GreatestLaws.{table_of}
-use Rattle.list_journal.specs.Numbering.{variable_in, assignment_of}
-use Rattle.list_journal.specs.Journals.{JournalLine, SetLine, StepLine, after_line, JournalRun, IsWholeJournal, sets_in}
-use Rattle.list_journal.specs.declared.kinds.ListKind.{ListKind}
-use Rattle.list_journal.specs.declared.kinds.ListKind.TheVariants.{Whole}
-use Rattle.list_journal.specs.declared.kinds.Listed.TheVariants as listed
-use Rattle.list_journal.proofs.Greatest.{IsGreatest}
-use Rattle.list_journal.proofs.Duality.{quorum_within}
-use Rattle.list_journal.proofs.ClauseTruth.{true_where, assigned}
-use Rattle.list_journal.proofs.Places.{from_zero}
-use Rattle.list_journal.proofs.Refuting.{AreTrue, no_whole_journal}
+use Rattle.enumeration_journal.specs.Numbering.{variable_in, assignment_of}
+use Rattle.enumeration_journal.specs.Journals.{JournalLine, SetLine, StepLine, after_line, JournalRun, IsWholeJournal, sets_in}
+use Rattle.enumeration_journal.specs.declared.kinds.ListKind.{ListKind}
+use Rattle.enumeration_journal.specs.declared.kinds.ListKind.TheVariants.{Whole}
+use Rattle.enumeration_journal.specs.declared.kinds.Listed.TheVariants as listed
+use Rattle.enumeration_journal.proofs.Greatest.{IsGreatest}
+use Rattle.enumeration_journal.proofs.Duality.{quorum_within}
+use Rattle.enumeration_journal.proofs.ClauseTruth.{true_where, assigned}
+use Rattle.enumeration_journal.proofs.Places.{from_zero}
+use Rattle.enumeration_journal.proofs.Refuting.{AreTrue, no_whole_journal}
 use Rattle.clause_encoder.specs.NameCounter.{counted, counter_of, true_count, extended}
 use Rattle.least_journal.specs.Least.{IsRightIn, clause_in, least_of, AreSmaller, FallFrom, IsWholeLeast, last_of, answer_of, IsLeastAnswer}
 use Rattle.clause_encoder.proofs.NameExtending.{extended_name, extended_cell, counter_holds}

@@ -4,13 +4,13 @@ use Rattle.fbas_model.specs.Nodes.{Nodes, Table, members, ◌⊆◌, size}
 use Rattle.fbas_model.specs.Fbas.{Fbas, Quorum, Blocks}
 use Rattle.lrat_model.specs.Literal.{Literal, Minus}
 use Rattle.lrat_model.specs.Runs.{formula_database}
-use Rattle.list_journal.specs.Numbering.{clause_for}
-use Rattle.list_journal.specs.Journals.{JournalLine, Rules, IsWholeJournal, IsPartialJournal, sets_in}
+use Rattle.enumeration_journal.specs.Numbering.{clause_for}
+use Rattle.enumeration_journal.specs.Journals.{JournalLine, Rules, IsWholeJournal, IsPartialJournal, sets_in}
 use Rattle.lrat_model.specs.Steps.{Database}
-use Rattle.list_journal.specs.declared.kinds.ListKind.{ListKind}
-use Rattle.list_journal.specs.declared.kinds.ListKind.TheVariants.{Whole, Partial}
-use Rattle.list_journal.specs.declared.kinds.Listed.{Listed}
-use Rattle.list_journal.specs.declared.kinds.Listed.TheVariants as listed
+use Rattle.enumeration_journal.specs.declared.kinds.ListKind.{ListKind}
+use Rattle.enumeration_journal.specs.declared.kinds.ListKind.TheVariants.{Whole, Partial}
+use Rattle.enumeration_journal.specs.declared.kinds.Listed.{Listed}
+use Rattle.enumeration_journal.specs.declared.kinds.Listed.TheVariants as listed
 use Rattle.clause_encoder.specs.NameCounter.{counted, counter_vars, counter_of}
 
 -- a listed set is a quorum that is smaller than those before it, or a blocking set among the nodes of the greatest quorum g; there are no other quorums

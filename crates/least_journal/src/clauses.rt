@@ -8,7 +8,7 @@ ghost use Rattle.clause_encoder.specs.NameCounter.{counted, counter_vars};
 ghost use Rattle.least_journal.specs.Least.{clause_in};
 
 use clause_encoder::{MOST_VARS, counter_vars};
-use list_journal::{Listed, clause_of};
+use enumeration_journal::{Listed, clause_of};
 use lrat_model::Lit;
 use name_set::NodeSet;
 use std::alloc::{AllocError, Global};

@@ -9,7 +9,7 @@ ghost use Rattle.std.specs.Prelude.{◌≡◌, List, length};
 ghost use Rattle.fbas_model.specs.Nodes.{Table, members};
 ghost use Rattle.fbas_model.specs.Fbas.{Fbas};
 ghost use Rattle.greatest_quorum.specs.Greatest.{greatest_of};
-ghost use Rattle.list_journal.specs.Journals.{JournalLine};
+ghost use Rattle.enumeration_journal.specs.Journals.{JournalLine};
 ghost use Rattle.least_journal.specs.Least.{IsWholeLeast, IsLeastAnswer, answer_of};
 
 mod clauses;

@@ -8,7 +8,7 @@ use Rattle.fbas_model.proofs.RestrictionLaw.{members-kept}
 use Rattle.lrat_model.specs.Literal.{clause_true, formula_true}
 use Rattle.lrat_model.specs.Clauses.{Satisfies}
 use Rattle.cdcl_core.specs.Solving.{Solving}
-use Rattle.list_journal.specs.Numbering.{variable_in, assignment_of}
+use Rattle.enumeration_journal.specs.Numbering.{variable_in, assignment_of}
 use Rattle.clause_encoder.specs.NameCounter.{counted, counter_of, true_count}
 use Rattle.clause_encoder.proofs.NameCounts.{few}
 use Rattle.clause_encoder.proofs.FormulaLaw.{true_numbered}

@@ -11,10 +11,10 @@ use Rattle.clause_encoder.specs.declared.limits.TheConstants.{MOST_VARS}
 use Rattle.clause_encoder.specs.NameCounter.{counter_vars}
 use Rattle.clause_encoder.proofs.NameCounts.{variables}
 use Rattle.cdcl_core.specs.Solving.{Solving}
-use Rattle.list_journal.specs.Numbering.{variable_in}
-use Rattle.list_journal.specs.Kinds.{signed}
-use Rattle.list_journal.specs.declared.kinds.Listed.TheVariants.{Quorum, Blocking}
-use Rattle.list_journal.proofs.Greatest.{IsGreatest}
+use Rattle.enumeration_journal.specs.Numbering.{variable_in}
+use Rattle.enumeration_journal.specs.Kinds.{signed}
+use Rattle.enumeration_journal.specs.declared.kinds.Listed.TheVariants.{Quorum, Blocking}
+use Rattle.enumeration_journal.proofs.Greatest.{IsGreatest}
 use Rattle.blocking_lists.specs.Search.{IsModelSet}
 use Rattle.blocking_lists.specs.Lines.{ListLine}
 use Rattle.blocking_lists.proofs.Models.{useful_where_false}

@@ -2,10 +2,10 @@
 use Rattle.std.proofs.Common.{◌≡◌, ℕ, ◌+◌, ◌<◌, List, [], ◌∷◌, ◌++◌, Option, Some, length, take, get_or, refl, ap, ◌∙◌}
 use Rattle.std.proofs.lemmas.List.{append-nil}
 use Rattle.fbas_model.specs.Nodes.{Table}
-use Rattle.list_journal.specs.Kinds.{is_sought}
-use Rattle.list_journal.specs.Journals.{put_if}
-use Rattle.list_journal.specs.declared.kinds.Listed.{Listed}
-use Rattle.list_journal.specs.declared.kinds.Listed.TheVariants.{Quorum, Blocking, Smaller}
+use Rattle.enumeration_journal.specs.Kinds.{is_sought}
+use Rattle.enumeration_journal.specs.Journals.{put_if}
+use Rattle.enumeration_journal.specs.declared.kinds.Listed.{Listed}
+use Rattle.enumeration_journal.specs.declared.kinds.Listed.TheVariants.{Quorum, Blocking, Smaller}
 use Rattle.blocking_lists.specs.Lines.{ListLine, listed_in}
 use Rattle.blocking_lists.proofs.Merged.{listed_more}
 use Rattle.least_journal.specs.Least.{last_of}

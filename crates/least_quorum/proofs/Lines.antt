@@ -7,13 +7,13 @@ use Rattle.lrat_model.specs.Literal.{Literal, clause_true}
 use Rattle.lrat_model.specs.Clauses.{Held, Satisfies}
 use Rattle.lrat_model.specs.Steps.{Database}
 use Rattle.cdcl_core.specs.Solving.{Solving}
-use Rattle.list_journal.specs.Kinds.{signed}
-use Rattle.list_journal.specs.Numbering.{variable_in}
-use Rattle.list_journal.specs.declared.kinds.ListKind.TheVariants.{Partial}
-use Rattle.list_journal.specs.declared.kinds.Listed.TheVariants as listed
-use Rattle.list_journal.proofs.Greatest.{IsGreatest}
-use Rattle.list_journal.proofs.Duality.{block_within}
-use Rattle.list_journal.proofs.Ids.{AreBelow, below_run, found_new}
+use Rattle.enumeration_journal.specs.Kinds.{signed}
+use Rattle.enumeration_journal.specs.Numbering.{variable_in}
+use Rattle.enumeration_journal.specs.declared.kinds.ListKind.TheVariants.{Partial}
+use Rattle.enumeration_journal.specs.declared.kinds.Listed.TheVariants as listed
+use Rattle.enumeration_journal.proofs.Greatest.{IsGreatest}
+use Rattle.enumeration_journal.proofs.Duality.{block_within}
+use Rattle.enumeration_journal.proofs.Ids.{AreBelow, below_run, found_new}
 use Rattle.blocking_lists.specs.Lines.{ListLine, merged, AreBetween}
 use Rattle.blocking_lists.specs.Search.{HoldsEmpty, IsSearch, IsListed}
 use Rattle.blocking_lists.proofs.Listed.{database_then}

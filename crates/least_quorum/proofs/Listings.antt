@@ -15,14 +15,14 @@ use Rattle.cdcl_core.specs.Log.{AreLemmas, IsBoundedLog, live_in, units, HasNoEm
 use Rattle.cdcl_core.specs.Solving.{Solving, logged}
 use Rattle.clause_encoder.specs.NameCounter.{counter_vars, counter_of}
 use Rattle.clause_encoder.proofs.NameCounts.{square}
-use Rattle.list_journal.specs.Kinds.{is_sought}
-use Rattle.list_journal.specs.Journals.{JournalLine, JournalRun, line_progress, IsOpen, journal_units, AreUseful, put_if}
-use Rattle.list_journal.specs.declared.kinds.ListKind.TheVariants.{Partial}
-use Rattle.list_journal.specs.declared.kinds.Listed.{Listed}
-use Rattle.list_journal.specs.declared.kinds.Listed.TheVariants.{Smaller, Blocking}
-use Rattle.list_journal.proofs.Greatest.{IsGreatest}
-use Rattle.list_journal.proofs.Ids.{AreBelow, below_run}
-use Rattle.list_journal.proofs.Runs.{AsksMore}
+use Rattle.enumeration_journal.specs.Kinds.{is_sought}
+use Rattle.enumeration_journal.specs.Journals.{JournalLine, JournalRun, line_progress, IsOpen, journal_units, AreUseful, put_if}
+use Rattle.enumeration_journal.specs.declared.kinds.ListKind.TheVariants.{Partial}
+use Rattle.enumeration_journal.specs.declared.kinds.Listed.{Listed}
+use Rattle.enumeration_journal.specs.declared.kinds.Listed.TheVariants.{Smaller, Blocking}
+use Rattle.enumeration_journal.proofs.Greatest.{IsGreatest}
+use Rattle.enumeration_journal.proofs.Ids.{AreBelow, below_run}
+use Rattle.enumeration_journal.proofs.Runs.{AsksMore}
 use Rattle.blocking_lists.specs.Lines.{ListLine, merged, AreForgetting, listed_in}
 use Rattle.blocking_lists.specs.Search.{IsListed}
 use Rattle.blocking_lists.proofs.Listed.{line_at, places_more, ids_more, short_more}

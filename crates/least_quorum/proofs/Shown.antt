@@ -10,9 +10,9 @@ use Rattle.lrat_model.specs.Propagation.{Closes}
 use Rattle.cdcl_core.specs.Log.{IsBoundedLog, units}
 use Rattle.cdcl_core.specs.Solving.{Solving}
 use Rattle.clause_encoder.specs.NameCounter.{counter_vars}
-use Rattle.list_journal.specs.Journals.{JournalLine, SetLine, StepLine, journal_units, sets_in}
-use Rattle.list_journal.specs.declared.kinds.Listed.TheVariants.{Quorum, Blocking, Smaller}
-use Rattle.list_journal.proofs.Greatest.{counted_greatest}
+use Rattle.enumeration_journal.specs.Journals.{JournalLine, SetLine, StepLine, journal_units, sets_in}
+use Rattle.enumeration_journal.specs.declared.kinds.Listed.TheVariants.{Quorum, Blocking, Smaller}
+use Rattle.enumeration_journal.proofs.Greatest.{counted_greatest}
 use Rattle.blocking_lists.specs.Lines.{ListLine, merged, listed_in, steps_in, IsShortStep, HasFewWords}
 use Rattle.blocking_lists.specs.Search.{IsShortLog}
 use Rattle.blocking_lists.proofs.Merged.{sets_merged, steps_merged, few_words_merged}

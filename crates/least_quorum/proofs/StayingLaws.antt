@@ -10,7 +10,7 @@ use Rattle.cdcl_core.specs.Log.{AreLemmas, live_from, live_in}
 use Rattle.cdcl_core.specs.Solving.{Solving, logged}
 use Rattle.cdcl_core.proofs.Lives.{live_from-append}
 use Rattle.lrat_model.proofs.Runs.{clause_at-more}
-use Rattle.list_journal.proofs.Ids.{AreBelow, found_new}
+use Rattle.enumeration_journal.proofs.Ids.{AreBelow, found_new}
 use Rattle.least_quorum.specs.Search.{AreLow}
 use Rattle.least_quorum.specs.Staying.{Stays, HoldsCounter}
 

@@ -8,8 +8,8 @@ use Rattle.lrat_model.specs.Steps.{Database}
 use Rattle.lrat_model.specs.Lemmas.{IsDue, IsUseful}
 use Rattle.lrat_model.specs.Propagation.{Closes}
 use Rattle.cdcl_core.specs.Log.{IsBoundedLog}
-use Rattle.list_journal.specs.Journals.{JournalLine, Rules, journal_units, AreUseful}
-use Rattle.list_journal.specs.declared.kinds.Listed.TheVariants.{Blocking}
+use Rattle.enumeration_journal.specs.Journals.{JournalLine, Rules, journal_units, AreUseful}
+use Rattle.enumeration_journal.specs.declared.kinds.Listed.TheVariants.{Blocking}
 use Rattle.blocking_lists.specs.Lines.{steps_in, AreForgetting}
 use Rattle.least_journal.specs.Least.{IsRightIn, clause_in, least_of, IsWholeLeast, IsPartialLeast, answer_of, IsLeastAnswer}
 use Rattle.least_quorum.specs.declared.outcome.LeastOutcome.{LeastOutcome}

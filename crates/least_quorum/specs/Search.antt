@@ -8,8 +8,8 @@ use Rattle.lrat_text.specs.Texts.{IsId}
 use Rattle.cdcl_core.specs.Log.{live_in}
 use Rattle.cdcl_core.specs.Solving.{Solving}
 use Rattle.clause_encoder.specs.NameCounter.{counter_vars}
-use Rattle.list_journal.specs.Journals.{IsWholeJournal, journal_units}
-use Rattle.list_journal.specs.declared.kinds.Listed.TheVariants.{Smaller}
+use Rattle.enumeration_journal.specs.Journals.{IsWholeJournal, journal_units}
+use Rattle.enumeration_journal.specs.declared.kinds.Listed.TheVariants.{Smaller}
 use Rattle.blocking_lists.specs.Lines.{ListLine, merged, AreBetween, AreForgetting, listed_in}
 use Rattle.blocking_lists.specs.Search.{IsSearch, IsShortLog}
 use Rattle.least_journal.specs.Least.{least_of, AreSmaller}

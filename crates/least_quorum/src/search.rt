@@ -15,11 +15,11 @@ ghost use Rattle.least_quorum.specs.Search.{best_in, IsLeastListing, IsWholeLeas
 
 use blocking_lists::{ListLine, list_set, model_set};
 use cdcl_core::{Budget, Solver, Verdict};
+use enumeration_journal::Listed;
 use fbas_core::System;
 use fbas_model::MOST_NODES;
 use greatest_quorum::{blocks, minimal_block, minimal_quorum};
 use least_journal::clause_in;
-use list_journal::Listed;
 use name_set::NodeSet;
 use std::alloc::{AllocError, Global};
 

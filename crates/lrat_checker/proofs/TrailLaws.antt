@@ -3,8 +3,8 @@ use Rattle.std.proofs.Common.{◌≡◌, ◌≢◌, ℕ, ◌<◌, true, List, le
 use Rattle.std.proofs.lemmas.List.{length-take-le, get_or-take, take-append-le, take_all}
 use Rattle.std.specs.Prelude.{slice_index}
 use Rattle.lrat_model.specs.Literal.{Literal, variable_of, has}
-use Rattle.partial_assignment.specs.Assigned.{Assigned}
-use Rattle.partial_assignment.specs.Values.{ArePlaces}
+use Rattle.assignment_trail.specs.Assigned.{Assigned}
+use Rattle.assignment_trail.specs.Values.{ArePlaces}
 use Rattle.lrat_checker.specs.Extends.{Extends}
 use Rattle.lrat_checker.proofs.SubsetLaws.{has-place}
 

@@ -12,9 +12,9 @@ ghost use Rattle.lrat_checker.specs.Extends.{Extends};
 
 use crate::rat::rat_fault;
 use crate::status::status;
+use assignment_trail::Assignment;
 use clause_store::Store;
 use lrat_model::{ClauseStatus, Lit, Rule, StepFault};
-use partial_assignment::Assignment;
 use rat_candidates::CountedStore;
 
 /// Where a hint leads, if it is no fault: on, or to a clause with all literals false.

@@ -12,9 +12,9 @@ ghost use Rattle.lrat_checker.specs.Courses.{led, adding_of, Suits, IsUnitHint, 
 
 use crate::hint::{Hinting, take_hint, undo_to};
 use crate::rat::open_group;
+use assignment_trail::Assignment;
 use clause_store::Store;
 use lrat_model::{Lit, Rule, StepFault};
-use partial_assignment::Assignment;
 use rat_candidates::CountedStore;
 
 /// Where the hints led so far.

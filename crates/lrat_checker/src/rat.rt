@@ -13,9 +13,9 @@ ghost use Rattle.lrat_checker.specs.Groups.{first_place, MadeFalse, Opens};
 
 use crate::hint::{Hinting, fault_of, force, propagate, undo_to};
 use crate::subsets::has;
+use assignment_trail::Assignment;
 use clause_store::Store;
 use lrat_model::{Lit, StepFault};
-use partial_assignment::Assignment;
 use rat_candidates::{CountedStore, group_id};
 
 /// How many hints come before the first RAT hint. O(these hints).

@@ -3,9 +3,9 @@ ghost use Rattle.std.specs.Prelude.{◌≡◌};
 ghost use Rattle.lrat_model.specs.Propagation.{status};
 ghost use Rattle.lrat_model.specs.Ranges.{IsInRange};
 
+use assignment_trail::Assignment;
 use clause_store::{ClauseRef, ClauseView, LongRef};
 use lrat_model::{ClauseStatus, Lit};
-use partial_assignment::Assignment;
 
 /// What a clause says where these literals are true. O(its literals).
 pub fn status(assignment: &Assignment, clause: &[Lit]) -> ClauseStatus

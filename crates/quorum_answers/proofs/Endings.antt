@@ -2,10 +2,10 @@
 use Rattle.std.proofs.Common.{◌≡◌, ℕ, ◌+◌, ◌<◌, ◌≤◌, true, false, IsTrue, List, [], ◌∷◌, ◌++◌, ◌∙◌, refl, sym, subst, length, ap, arith}
 use Rattle.desk_io.specs.State.{DeskState, Files}
 use Rattle.lent_desk.specs.LentDesk.{at_start}
-use Rattle.order_reading.specs.declared.status.Status.{Status}
-use Rattle.order_reading.specs.declared.status.Status.TheVariants.{ReadFault, WriteFault, Memory}
-use Rattle.order_reading.specs.Status.{is_answer, code_of}
-use Rattle.quorum_run.specs.Running.{Runs}
+use Rattle.request_reading.specs.declared.status.Status.{Status}
+use Rattle.request_reading.specs.declared.status.Status.TheVariants.{ReadFault, WriteFault, Memory}
+use Rattle.request_reading.specs.Status.{is_answer, code_of}
+use Rattle.command_run.specs.Running.{Runs}
 use Rattle.quorum_answers.specs.declared.answer.QuorumEnd.{QuorumEnd}
 use Rattle.quorum_answers.specs.Answering.{Answers, Holds, IsNothing}
 use Rattle.quorum_answers.proofs.Grows.{run_grows}

@@ -2,16 +2,16 @@
 use Rattle.std.proofs.Common.{◌≡◌, inl, inr, ℕ, ◌++◌, ◌∙◌, List, [], Result, Ok, Err, take, sym, refl}
 use Rattle.std.proofs.lemmas.List.{append-nil}
 use Rattle.desk_io.specs.State.{DeskState}
-use Rattle.order_reading.specs.declared.status.Status.{Status}
-use Rattle.order_reading.specs.declared.status.Status.TheVariants.{Yes, No, Unknown, Usage, ConfigRefused, CertRefused, ReadFault, WriteFault, Memory as MemoryWanting, TooLarge, ScriptRefused}
-use Rattle.order_reading.specs.declared.early.Early.{Early}
-use Rattle.order_reading.specs.declared.early.Early.TheVariants.{Refused, Read, Memory}
-use Rattle.order_reading.specs.declared.reading.Asked.{Asked}
-use Rattle.order_reading.specs.declared.reading.Asked.TheVariants as asked
-use Rattle.order_reading.specs.Answers.{asked_of}
-use Rattle.quorum_run.specs.Putting.{CameTo, uncreated, in_cert, in_text}
-use Rattle.quorum_run.specs.Printing.{Prints, PrintsPart}
-use Rattle.quorum_run.specs.Running.{Runs}
+use Rattle.request_reading.specs.declared.status.Status.{Status}
+use Rattle.request_reading.specs.declared.status.Status.TheVariants.{Yes, No, Unknown, Usage, ConfigRefused, CertRefused, ReadFault, WriteFault, Memory as MemoryWanting, TooLarge, ScriptRefused}
+use Rattle.request_reading.specs.declared.early.Early.{Early}
+use Rattle.request_reading.specs.declared.early.Early.TheVariants.{Refused, Read, Memory}
+use Rattle.request_reading.specs.declared.reading.Asked.{Asked}
+use Rattle.request_reading.specs.declared.reading.Asked.TheVariants as asked
+use Rattle.request_reading.specs.Answers.{asked_of}
+use Rattle.command_run.specs.Putting.{CameTo, uncreated, in_cert, in_text}
+use Rattle.command_run.specs.Printing.{Prints, PrintsPart}
+use Rattle.command_run.specs.Running.{Runs}
 
 -- the output has the old one at its front
 abbrev pub Grown : List ℕ → List ℕ → Type 0

@@ -3,10 +3,10 @@ use Rattle.std.specs.Prelude.{◌≡◌, ◌==◌, ◌+◌, ◌-◌, ◌<◌, �
 use Rattle.std.specs.List.{slice_split}
 use Rattle.desk_io.specs.State.{DeskState, Files}
 use Rattle.lent_desk.specs.LentDesk.{at_start, made_in}
-use Rattle.order_reading.specs.declared.status.Status.{Status}
-use Rattle.order_reading.specs.declared.status.Status.TheVariants.{WriteFault}
-use Rattle.order_reading.specs.Status.{is_answer, code_of}
-use Rattle.quorum_run.specs.Running.{Runs}
+use Rattle.request_reading.specs.declared.status.Status.{Status}
+use Rattle.request_reading.specs.declared.status.Status.TheVariants.{WriteFault}
+use Rattle.request_reading.specs.Status.{is_answer, code_of}
+use Rattle.command_run.specs.Running.{Runs}
 use Rattle.quorum_answers.specs.declared.answer.QuorumEnd.{QuorumEnd}
 
 -- the name of the program, which comes before its words

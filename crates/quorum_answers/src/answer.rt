@@ -1,15 +1,15 @@
 //! How a question is answered.
 ghost use Rattle.std.specs.Prelude.{All, IsTrue, false, ◌≡◌, ◌<◌, ◌≤◌, ◌+◌, ◌∷◌, [], length};
 ghost use Rattle.std.specs.Str.{IsUtf8};
-ghost use Rattle.order_reading.specs.Answers.{words_of};
-ghost use Rattle.order_reading.specs.Status.{code_of, is_answer};
+ghost use Rattle.request_reading.specs.Answers.{words_of};
+ghost use Rattle.request_reading.specs.Status.{code_of, is_answer};
 ghost use Rattle.lent_desk.specs.Files.{files_named};
 ghost use Rattle.lent_desk.specs.LentDesk.{room_in, mark_of, state_of, faults_of};
 ghost use Rattle.quorum_answers.specs.Answering.{Answers, Holds, IsNothing, words_in, program};
 
 use crate::reading::{Unread, words};
+use command_run::{Status, run};
 use lent_desk::{LentDesk, LentFiles};
-use quorum_run::{Status, run};
 use std::alloc::Global;
 
 /// How a question ended.

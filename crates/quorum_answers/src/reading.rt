@@ -2,7 +2,7 @@
 ghost use Rattle.std.specs.Prelude.{◌≡◌, ◌++◌, ◌∷◌, [], map, All, codes, string_bytes, IfOk, OnOk, Err};
 ghost use Rattle.std.specs.List.{slice_split};
 ghost use Rattle.std.specs.Str.{IsUtf8};
-ghost use Rattle.order_reading.specs.Answers.{words_of};
+ghost use Rattle.request_reading.specs.Answers.{words_of};
 ghost use Rattle.quorum_answers.specs.Answering.{words_in, program};
 
 use std::alloc::{AllocError, Global};

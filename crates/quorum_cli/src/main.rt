@@ -1,8 +1,8 @@
 //! `quorum_cli`, an analyser of federated Byzantine agreement systems.
 #![tactic(auto)]
 
+use command_run::end;
 use desk_io::RealDesk;
-use quorum_run::end;
 use std::env;
 use std::process::ExitCode;
 

@@ -4,7 +4,7 @@ use Rattle.fbas_model.specs.Nodes.{Table}
 use Rattle.fbas_model.specs.Fbas.{Fbas}
 use Rattle.lrat_model.specs.Steps.{ProofStep, Database}
 use Rattle.clause_encoder.specs.declared.limits.TheConstants.{MOST_VARS}
-use Rattle.gate_search.specs.Found.{IsLogOver, IsRefuting, IsSpending}
+use Rattle.expanded_search.specs.Found.{IsLogOver, IsRefuting, IsSpending}
 use Rattle.quorum_questions.specs.Evidence.{IsLog, IsRefutation, IsSpent}
 use Rattle.quorum_questions.specs.Searching.{IsFormula}
 use Rattle.quorum_questions.specs.declared.answers.Size.{Size}

@@ -6,7 +6,7 @@ ghost use Rattle.quorum_questions.specs.Searching.{IsAsked, IsFormulaFor, IsAnsw
 use crate::answers::Answer;
 use crate::searching::{Asked, Formula};
 use clause_encoder::VarMap;
-use gate_search::{Found, search};
+use expanded_search::{Found, search};
 use std::alloc::{AllocError, Global};
 use witness_pair::make_pair;
 

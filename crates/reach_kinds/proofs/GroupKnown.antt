@@ -23,15 +23,15 @@ use Rattle.lrat_model.specs.declared.step.StepFault.TheVariants.{IdOrder}
 use Rattle.lrat_model.specs.declared.step.Progress.{Progress}
 use Rattle.lrat_model.specs.declared.step.Progress.TheVariants.{Going as going, Refuted}
 use Rattle.lrat_text.specs.Lines.{step_in}
-use Rattle.list_journal.specs.Kinds.{is_sought}
-use Rattle.list_journal.specs.Journals.{JournalLine, SetLine, StepLine, Rules, JournalRun, line_progress, nothing_held, put_if, sets_in}
-use Rattle.list_journal.specs.declared.kinds.ListKind.{ListKind}
-use Rattle.list_journal.specs.declared.kinds.ListKind.TheVariants.{Whole, Partial as Part}
-use Rattle.list_journal.specs.declared.kinds.Listed.{Listed}
-use Rattle.list_journal.specs.declared.kinds.Listed.TheVariants as listed
-use Rattle.list_journal.proofs.Ids.{AreBelow, below_run}
-use Rattle.list_journal.proofs.Runs.{run_append, sets_append}
-use Rattle.list_journal.proofs.TestLaws.{is_kind_to}
+use Rattle.enumeration_journal.specs.Kinds.{is_sought}
+use Rattle.enumeration_journal.specs.Journals.{JournalLine, SetLine, StepLine, Rules, JournalRun, line_progress, nothing_held, put_if, sets_in}
+use Rattle.enumeration_journal.specs.declared.kinds.ListKind.{ListKind}
+use Rattle.enumeration_journal.specs.declared.kinds.ListKind.TheVariants.{Whole, Partial as Part}
+use Rattle.enumeration_journal.specs.declared.kinds.Listed.{Listed}
+use Rattle.enumeration_journal.specs.declared.kinds.Listed.TheVariants as listed
+use Rattle.enumeration_journal.proofs.Ids.{AreBelow, below_run}
+use Rattle.enumeration_journal.proofs.Runs.{run_append, sets_append}
+use Rattle.enumeration_journal.proofs.TestLaws.{is_kind_to}
 use Rattle.group_journal.specs.Groups.{GroupsBlockMinimally}
 use Rattle.group_journal.specs.Tests.{is_group_block, is_least_block}
 use Rattle.group_journal.proofs.Touched.{length-touching}

@@ -8,12 +8,12 @@ use Rattle.fbas_model.specs.Systems.{System}
 use Rattle.node_json.specs.Groups.{Group, tables_of}
 use Rattle.lrat_model.specs.Steps.{ProofStep, Database, progress_of}
 use Rattle.lrat_model.specs.declared.step.Progress.TheVariants.{Refuted}
-use Rattle.list_journal.specs.Journals.{JournalLine, StepLine, Rules, JournalRun, IsOpen, IsWholeJournal, nothing_held, sets_in}
-use Rattle.list_journal.specs.Order.{ordered}
-use Rattle.list_journal.specs.declared.kinds.ListKind.{ListKind}
-use Rattle.list_journal.specs.declared.kinds.Listed.TheVariants as listed
-use Rattle.list_journal.proofs.OrderLaws.{HavePlaces, ordered_rising, ordered_has}
-use Rattle.list_journal.proofs.Runs.{sets_append}
+use Rattle.enumeration_journal.specs.Journals.{JournalLine, StepLine, Rules, JournalRun, IsOpen, IsWholeJournal, nothing_held, sets_in}
+use Rattle.enumeration_journal.specs.Order.{ordered}
+use Rattle.enumeration_journal.specs.declared.kinds.ListKind.{ListKind}
+use Rattle.enumeration_journal.specs.declared.kinds.Listed.TheVariants as listed
+use Rattle.enumeration_journal.proofs.OrderLaws.{HavePlaces, ordered_rising, ordered_has}
+use Rattle.enumeration_journal.proofs.Runs.{sets_append}
 use Rattle.group_journal.specs.Groups.{AreMinimalGroupBlocks}
 use Rattle.group_journal.specs.Rules.{group_list_of}
 use Rattle.group_journal.proofs.Whole.{whole_has_groups}

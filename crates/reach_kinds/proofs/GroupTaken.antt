@@ -8,12 +8,12 @@ use Rattle.lrat_model.specs.Clauses.{with_clause}
 use Rattle.lrat_model.specs.Ranges.{IsInRange}
 use Rattle.lrat_checker.specs.Checking.{Checking}
 use Rattle.fbas_model.specs.Nodes.{size}
-use Rattle.list_journal.specs.Kinds.{asks_new}
-use Rattle.list_journal.specs.declared.kinds.ListKind.{ListKind}
-use Rattle.list_journal.specs.declared.kinds.Listed.{Listed}
-use Rattle.list_journal.specs.declared.kinds.Listed.TheVariants as listed
-use Rattle.list_journal.proofs.Greatest.{IsGreatest}
-use Rattle.list_journal.proofs.Duality.{quorum_within}
+use Rattle.enumeration_journal.specs.Kinds.{asks_new}
+use Rattle.enumeration_journal.specs.declared.kinds.ListKind.{ListKind}
+use Rattle.enumeration_journal.specs.declared.kinds.Listed.{Listed}
+use Rattle.enumeration_journal.specs.declared.kinds.Listed.TheVariants as listed
+use Rattle.enumeration_journal.proofs.Greatest.{IsGreatest}
+use Rattle.enumeration_journal.proofs.Duality.{quorum_within}
 use Rattle.group_journal.specs.Groups.{touching}
 use Rattle.group_journal.specs.Rules.{group_clause}
 use Rattle.group_journal.proofs.Touched.{touches_more}

@@ -24,18 +24,18 @@ use Rattle.lrat_model.specs.declared.step.StepFault.TheVariants.{IdOrder}
 use Rattle.lrat_model.specs.declared.step.Progress.{Progress}
 use Rattle.lrat_model.specs.declared.step.Progress.TheVariants.{Going as going, Refuted}
 use Rattle.lrat_text.specs.Lines.{step_in}
-use Rattle.list_journal.specs.Kinds.{is_sought}
-use Rattle.list_journal.specs.Journals.{JournalLine, SetLine, StepLine, Rules, IsNewIf, JournalRun, IsNewLine, IsOpen, line_progress, put_if, sets_in}
-use Rattle.list_journal.specs.Tests.{is_within, is_kind, is_minimal}
-use Rattle.list_journal.specs.declared.kinds.ListKind.{ListKind}
-use Rattle.list_journal.specs.declared.kinds.ListKind.TheVariants.{Whole, Partial as Part}
-use Rattle.list_journal.specs.declared.kinds.Listed.{Listed}
-use Rattle.list_journal.specs.declared.kinds.Listed.TheVariants as listed
-use Rattle.list_journal.proofs.Greatest.{IsGreatest}
-use Rattle.list_journal.proofs.Duality.{quorum_within, right_within as listed_within}
-use Rattle.list_journal.proofs.Ids.{AreBelow, below_run}
-use Rattle.list_journal.proofs.Runs.{run_append, open_append, sets_append}
-use Rattle.list_journal.proofs.TestLaws.{is_kind_to, minimal_to, within_to}
+use Rattle.enumeration_journal.specs.Kinds.{is_sought}
+use Rattle.enumeration_journal.specs.Journals.{JournalLine, SetLine, StepLine, Rules, IsNewIf, JournalRun, IsNewLine, IsOpen, line_progress, put_if, sets_in}
+use Rattle.enumeration_journal.specs.Tests.{is_within, is_kind, is_minimal}
+use Rattle.enumeration_journal.specs.declared.kinds.ListKind.{ListKind}
+use Rattle.enumeration_journal.specs.declared.kinds.ListKind.TheVariants.{Whole, Partial as Part}
+use Rattle.enumeration_journal.specs.declared.kinds.Listed.{Listed}
+use Rattle.enumeration_journal.specs.declared.kinds.Listed.TheVariants as listed
+use Rattle.enumeration_journal.proofs.Greatest.{IsGreatest}
+use Rattle.enumeration_journal.proofs.Duality.{quorum_within, right_within as listed_within}
+use Rattle.enumeration_journal.proofs.Ids.{AreBelow, below_run}
+use Rattle.enumeration_journal.proofs.Runs.{run_append, open_append, sets_append}
+use Rattle.enumeration_journal.proofs.TestLaws.{is_kind_to, minimal_to, within_to}
 use Rattle.cert_lines.specs.Limits.{unless}
 use Rattle.cert_lines.specs.Words.{words_of}
 use Rattle.cert_lines.specs.Saying.{counter_in, or_bad_line}

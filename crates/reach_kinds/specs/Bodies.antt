@@ -22,14 +22,14 @@ use Rattle.lrat_checker.specs.Checking.{Checking}
 use Rattle.lrat_text.specs.Lines.{step_in}
 use Rattle.lrat_text.specs.Numbers.{id_in}
 use Rattle.lrat_model.specs.Runs.{formula_database}
-use Rattle.list_journal.specs.Journals.{Rules, list_of, nothing_held}
-use Rattle.list_journal.specs.Kinds.{is_sought}
-use Rattle.list_journal.specs.Order.{ordered}
-use Rattle.list_journal.specs.Tests.{is_within, is_kind, is_minimal}
-use Rattle.list_journal.specs.declared.kinds.ListKind.{ListKind}
-use Rattle.list_journal.specs.declared.kinds.ListKind.TheVariants.{Whole, Partial as Part}
-use Rattle.list_journal.specs.declared.kinds.Listed.{Listed}
-use Rattle.list_journal.specs.declared.kinds.Listed.TheVariants as listed
+use Rattle.enumeration_journal.specs.Journals.{Rules, list_of, nothing_held}
+use Rattle.enumeration_journal.specs.Kinds.{is_sought}
+use Rattle.enumeration_journal.specs.Order.{ordered}
+use Rattle.enumeration_journal.specs.Tests.{is_within, is_kind, is_minimal}
+use Rattle.enumeration_journal.specs.declared.kinds.ListKind.{ListKind}
+use Rattle.enumeration_journal.specs.declared.kinds.ListKind.TheVariants.{Whole, Partial as Part}
+use Rattle.enumeration_journal.specs.declared.kinds.Listed.{Listed}
+use Rattle.enumeration_journal.specs.declared.kinds.Listed.TheVariants as listed
 use Rattle.clause_encoder.specs.declared.limits.TheConstants.{MOST_VARS}
 use Rattle.clause_encoder.specs.NameCounter.{counter_vars, counter_of}
 use Rattle.least_journal.specs.Least.{least_of, last_of}

@@ -17,12 +17,12 @@ use Rattle.lrat_model.specs.declared.step.Progress.{Progress}
 use Rattle.lrat_model.specs.declared.step.Progress.TheVariants.{Going as going, Refuted}
 use Rattle.lrat_checker.specs.Checking.{Checking}
 use Rattle.lrat_text.specs.Lines.{step_in}
-use Rattle.list_journal.specs.Journals.{Rules, nothing_held}
-use Rattle.list_journal.specs.Order.{ordered}
-use Rattle.list_journal.specs.declared.kinds.ListKind.{ListKind}
-use Rattle.list_journal.specs.declared.kinds.ListKind.TheVariants.{Whole, Partial as Part}
-use Rattle.list_journal.specs.declared.kinds.Listed.{Listed}
-use Rattle.list_journal.specs.declared.kinds.Listed.TheVariants as listed
+use Rattle.enumeration_journal.specs.Journals.{Rules, nothing_held}
+use Rattle.enumeration_journal.specs.Order.{ordered}
+use Rattle.enumeration_journal.specs.declared.kinds.ListKind.{ListKind}
+use Rattle.enumeration_journal.specs.declared.kinds.ListKind.TheVariants.{Whole, Partial as Part}
+use Rattle.enumeration_journal.specs.declared.kinds.Listed.{Listed}
+use Rattle.enumeration_journal.specs.declared.kinds.Listed.TheVariants as listed
 use Rattle.group_journal.specs.Groups.{touching}
 use Rattle.group_journal.specs.Rules.{group_list_of}
 use Rattle.group_journal.specs.Tests.{is_group_block, is_least_block}

@@ -2,9 +2,9 @@
 use Rattle.std.specs.Prelude.{List, [], ◌∷◌, Option, Some, None, codes, if◌then◌else◌}
 use Rattle.std.specs.Str.{bytes_eq}
 use Rattle.cert_lines.specs.Words.{Word}
-use Rattle.list_journal.specs.declared.kinds.ListKind.{ListKind}
-use Rattle.list_journal.specs.declared.kinds.ListKind.TheVariants.{Whole, Partial as Part}
-use Rattle.list_journal.specs.declared.kinds.Listed.TheVariants as listed
+use Rattle.enumeration_journal.specs.declared.kinds.ListKind.{ListKind}
+use Rattle.enumeration_journal.specs.declared.kinds.ListKind.TheVariants.{Whole, Partial as Part}
+use Rattle.enumeration_journal.specs.declared.kinds.Listed.TheVariants as listed
 use Rattle.reach_kinds.specs.declared.kinds.ReachKind.{ReachKind}
 use Rattle.reach_kinds.specs.declared.kinds.ReachKind.TheVariants.{Nodes, Groups}
 use Rattle.reach_kinds.specs.declared.kinds.ReachTitle.{ReachTitle}

@@ -9,7 +9,7 @@ ghost use Rattle.reach_kinds.specs.Bodies.{list_checking, counter_sized, counter
 use crate::places::{ListPart, Listing, ReachPlace, ReachState};
 use cert_lines::{CertError, Counts, counter_in};
 use clause_encoder::{EncodeError, counter_clauses, counter_vars};
-use list_journal::{ListKind, Listed, NodeSets};
+use enumeration_journal::{ListKind, Listed, NodeSets};
 use lrat_checker::IdleChecker;
 use lrat_model::Rule;
 use name_set::NodeSet;

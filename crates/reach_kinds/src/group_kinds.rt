@@ -1,7 +1,7 @@
 //! Lists of sets of groups: what is known before the first line of one.
 ghost use Rattle.std.specs.Prelude.{◌≡◌, ◌<◌, ◌^◌, [], All, length, IfOk};
 ghost use Rattle.fbas_model.specs.Nodes.{size};
-ghost use Rattle.list_journal.specs.Journals.{nothing_held};
+ghost use Rattle.enumeration_journal.specs.Journals.{nothing_held};
 ghost use Rattle.std.specs.List.Sorted.{IsStrictlySortedBy};
 ghost use Rattle.fbas_model.specs.Names.{name_cmp};
 ghost use Rattle.node_json.specs.Groups.{groups_of as spec_groups_of, texts_of};
@@ -11,9 +11,9 @@ ghost use Rattle.reach_kinds.specs.Known.{IsPartNodes, IsReachPlace};
 
 use crate::list_kinds::{list_checker, list_part};
 use crate::places::{GroupListing, GroupPart, GroupSets, ListPart, ReachPlace, Scope};
+use enumeration_journal::ListKind;
 use fbas_core::System;
 use group_journal::touching;
-use list_journal::ListKind;
 use node_json::{Orgs, groups_of};
 use std::alloc::{AllocError, Global};
 

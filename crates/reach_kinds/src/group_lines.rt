@@ -10,7 +10,7 @@ use crate::group_steps::{after_group_step, group_end, group_step};
 use crate::list_lines::{listed_by, numbered_in};
 use crate::places::{GroupListing, ReachPlace, ReachState, Scope};
 use cert_lines::{CertError, Words, step_in};
-use list_journal::Listed;
+use enumeration_journal::Listed;
 use lrat_model::{Progress, StepFault};
 use std::alloc::Global;
 

@@ -1,7 +1,7 @@
 //! The steps of lists over groups, and their end.
 ghost use Rattle.std.specs.Prelude.{◌≡◌, ◌⊎◌, ℕ, length, All, IfOk, IfErr, IsErrOf, Ok, Err};
 ghost use Rattle.lrat_model.specs.Steps.{step_of};
-ghost use Rattle.list_journal.specs.Order.{ordered};
+ghost use Rattle.enumeration_journal.specs.Order.{ordered};
 ghost use Rattle.reach_kinds.specs.Bodies.{and_then, literal_in};
 ghost use Rattle.reach_kinds.specs.GroupBodies.{after_group_step, group_step, group_end};
 ghost use Rattle.reach_kinds.specs.declared.places.Reached.TheVariants.{OrgBlocking};
@@ -11,7 +11,7 @@ use crate::list_steps::literal_in;
 use crate::places::{GroupListing, GroupPart, GroupSets, ReachPlace, ReachState, Reached};
 use crate::steps::take_counted_step;
 use cert_lines::CertError;
-use list_journal::ListKind;
+use enumeration_journal::ListKind;
 use lrat_model::{Progress, Step};
 
 /// A step of a list: where it led.

@@ -3,7 +3,7 @@ ghost use Rattle.std.specs.Prelude.{◌≡◌};
 ghost use Rattle.std.specs.Str.{bytes_eq};
 ghost use Rattle.reach_kinds.specs.Kinds.{kind_word, titles, title_in};
 
-use list_journal::{ListKind, Listed};
+use enumeration_journal::{ListKind, Listed};
 
 /// What a body shows.
 #[derive(Clone, Copy)]

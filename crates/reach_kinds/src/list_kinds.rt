@@ -1,14 +1,14 @@
 //! The kinds of lists: what is known before the first line of one.
 ghost use Rattle.std.specs.Prelude.{◌≡◌, ◌<◌, ◌^◌, [], IfOk};
 ghost use Rattle.fbas_model.specs.Nodes.{size};
-ghost use Rattle.list_journal.specs.Journals.{nothing_held};
+ghost use Rattle.enumeration_journal.specs.Journals.{nothing_held};
 ghost use Rattle.reach_kinds.specs.Bodies.{list_part, list_checking, listing_on, body_begins};
 ghost use Rattle.reach_kinds.specs.Known.{IsPartNodes};
 
 use crate::places::{ListPart, Listing, ReachPlace, Scope};
 use clause_store::Store;
+use enumeration_journal::{ListKind, Listed, NodeSets};
 use greatest_quorum::greatest;
-use list_journal::{ListKind, Listed, NodeSets};
 use lrat_checker::IdleChecker;
 use lrat_model::Rule;
 use std::alloc::{AllocError, Global};

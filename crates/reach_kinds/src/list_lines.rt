@@ -13,7 +13,7 @@ use crate::lists::nodes_of;
 use crate::parts::within;
 use crate::places::{Listing, ReachPlace, ReachState, Reached, Scope};
 use cert_lines::{CertError, Words, follows, is_name, step_in};
-use list_journal::Listed;
+use enumeration_journal::Listed;
 use lrat_model::{Progress, StepFault};
 use lrat_text::read_id;
 use std::alloc::Global;

@@ -3,8 +3,8 @@ ghost use Rattle.std.specs.Prelude.{◌≡◌, ◌⊎◌, ◌≤◌, ◌<◌, �
 ghost use Rattle.fbas_model.specs.Nodes.{members, ◌⊆◌, IsInhabited, size};
 ghost use Rattle.fbas_model.specs.Counting.{is_quorum};
 ghost use Rattle.lrat_model.specs.Ranges.{IsInRange};
-ghost use Rattle.list_journal.specs.Kinds.{Is, is_sought};
-ghost use Rattle.list_journal.specs.Tests.{is_within, is_minimal};
+ghost use Rattle.enumeration_journal.specs.Kinds.{Is, is_sought};
+ghost use Rattle.enumeration_journal.specs.Tests.{is_within, is_minimal};
 ghost use Rattle.least_journal.specs.Least.{last_of};
 ghost use Rattle.reach_kinds.specs.Bodies.{rules_of, asks_inside, is_listed_for, asks_minimal, asks_smaller, is_below, not_of, is_covered, right_set, new_set, list_set, with_sought};
 ghost use Rattle.reach_kinds.specs.Known.{IsList, IsPartSet, IsSmallIf};
@@ -13,8 +13,8 @@ ghost use Rattle.reach_kinds.specs.declared.places.ReachState.TheVariants.{Going
 
 use crate::places::{ListPart, Listing, Scope};
 use cert_lines::CertError;
+use enumeration_journal::{ListKind, Listed, NodeSets, clause_of, is_blocking, is_minimal};
 use least_journal::clause_in;
-use list_journal::{ListKind, Listed, NodeSets, clause_of, is_blocking, is_minimal};
 use lrat_checker::IdleChecker;
 use lrat_model::Lit;
 use name_set::NodeSet;

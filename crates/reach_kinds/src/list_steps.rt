@@ -8,7 +8,7 @@ use crate::kinds::ReachKind;
 use crate::places::{Listing, ReachPlace, ReachState, Reached};
 use crate::steps::{take_counted_step, with_literal};
 use cert_lines::CertError;
-use list_journal::{ListKind, Listed, NodeSets};
+use enumeration_journal::{ListKind, Listed, NodeSets};
 use lrat_model::{Progress, Step};
 use name_set::NodeSet;
 

@@ -1,7 +1,7 @@
 //! The places of the lines of a body, and what it comes to.
 use crate::kinds::ReachKind;
+use enumeration_journal::{ListKind, Listed, NodeSets, SetList};
 use fbas_core::System;
-use list_journal::{ListKind, Listed, NodeSets, SetList};
 use lrat_checker::IdleChecker;
 use name_set::{GROUP_WORDS, GroupSet, NodeSet};
 use node_json::Groups;

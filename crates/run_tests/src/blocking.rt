@@ -5,7 +5,7 @@ use crate::desks::{
     Files, Left, run_over, same, text_of, wants_checked, wants_left, wants_of_kind,
 };
 use crate::systems::{REPEATED, TWO_OF_THREE, TWO_PAIRS};
-use quorum_run::Status;
+use command_run::Status;
 use std::alloc::{AllocError, Global};
 use std::process::Abort;
 

@@ -1,7 +1,7 @@
 //! What `check-lrat` says of another solver's proof.
 use crate::desks::{Files, wants, wants_each};
 use crate::systems::{ORG, TWO_OF_TWO};
-use quorum_run::Status;
+use command_run::Status;
 
 // Proofs over two of two, and what is said of them: behind a comment, without the last line feed, behind lines without a word and
 // with one that is not looked at behind the empty lemma, of the formula's clauses without hints, an empty file, a proof that ends early, a

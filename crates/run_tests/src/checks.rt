@@ -7,7 +7,7 @@ use crate::certificates::{
 };
 use crate::desks::{CHECK, Files, said, same, told, wants_checked, wants_made, wants_of_kind};
 use crate::systems::{TWO_OF_THREE, TWO_OF_TWO, half_of_two_hundred};
-use quorum_run::Status;
+use command_run::Status;
 use std::alloc::{AllocError, Global};
 use std::process::Abort;
 

@@ -5,8 +5,8 @@
 ghost use Rattle.std.specs.Prelude.{◌<◌};
 
 use crate::certificates::of_kind;
+use command_run::{Status, run};
 use desk_io::{Call, MemDesk};
-use quorum_run::{Status, run};
 use std::alloc::{AllocError, Global};
 use std::process::Abort;
 use std::str::from_utf8;

@@ -2,8 +2,8 @@
 use crate::certificates::PAIR_OF_THREE;
 use crate::desks::{CHECK_BESIDE, Files, Left, run_over, same, wants};
 use crate::systems::{ORG, REPEATED, THREE_OF_FOUR, TRIAL_OF_ONE, TWO_OF_THREE};
+use command_run::Status;
 use desk_io::{Call, To, Which};
-use quorum_run::Status;
 use std::alloc::{AllocError, Global};
 use std::process::Abort;
 

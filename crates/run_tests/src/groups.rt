@@ -3,7 +3,7 @@
 use crate::certificates::{DIGEST_OF_THREE, certificate, shared_of_kind};
 use crate::desks::{CHECK_BESIDE, Files, Left, run_over, wants, wants_left};
 use crate::systems::{TWO_OF_THREE, TWO_PAIRS, organisations};
-use quorum_run::Status;
+use command_run::Status;
 use std::alloc::{AllocError, Global};
 use std::process::Abort;
 

@@ -2,7 +2,7 @@
 use crate::certificates::{DIGEST_OF_NONE, DIGEST_OF_THREE, shared_of_kind};
 use crate::desks::{Files, run_over, wants_left, wants_made, wants_of_kind};
 use crate::systems::{TWO_OF_THREE, each_alone};
-use quorum_run::Status;
+use command_run::Status;
 
 // A configuration and its digest, a kind, the lines behind it, and what is said of them.
 static SEARCHES: [(&str, &str, &str, &str, Status, &str); 12] = [

@@ -2,7 +2,7 @@
 use crate::certificates::{DIGEST_OF_THREE, DIGEST_OF_TWO, certificate, of_kind};
 use crate::desks::{CHECK, Files, said, same, told};
 use crate::systems::{TWO_OF_THREE, TWO_OF_TWO};
-use quorum_run::Status;
+use command_run::Status;
 use std::alloc::{AllocError, Global};
 use std::process::Abort;
 

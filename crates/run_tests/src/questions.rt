@@ -7,7 +7,7 @@ use crate::systems::{
     LARGE_THRESHOLD, ORG, REPEATED, TWO_OF_THREE, TWO_OF_TWO, TWO_PAIRS, UNDECLARED, ZERO_INSIDE,
     half_of_two_hundred, organisations, rotated_half_of_two_hundred,
 };
-use quorum_run::Status;
+use command_run::Status;
 use std::alloc::{AllocError, Global};
 use std::str::from_utf8;
 

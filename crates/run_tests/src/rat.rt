@@ -2,7 +2,7 @@
 use crate::certificates::{DIGEST_OF_THREE, DIGEST_OF_TWO};
 use crate::desks::wants_of_kind;
 use crate::systems::{TWO_OF_THREE, TWO_OF_TWO};
-use quorum_run::Status;
+use command_run::Status;
 
 // The body of a partial certificate of two of three, and what is said of it: a RAT step, a hint whose clause lacks the literal,
 // two groups, and a clause without one.

@@ -5,7 +5,7 @@ use crate::questions::USAGE;
 use crate::systems::{
     ORG, THREE_OF_FOUR, TWO_OF_THREE, TWO_PAIRS, UNDECLARED, rotated_half_of_two_hundred,
 };
-use quorum_run::Status;
+use command_run::Status;
 use std::alloc::{AllocError, Global};
 use std::process::Abort;
 

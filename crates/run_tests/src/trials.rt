@@ -2,7 +2,7 @@
 use crate::desks::{Files, run_over, wants_checked, wants_each, wants_left};
 use crate::questions::USAGE;
 use crate::systems::trial;
-use quorum_run::Status;
+use command_run::Status;
 use std::alloc::Global;
 use std::process::Abort;
 

@@ -2,7 +2,7 @@
 use crate::desks::{Files, said, same, told, wants, wants_each};
 use crate::questions::USAGE;
 use crate::systems::{REPEATED, TWO_OF_THREE, ZERO_INSIDE};
-use quorum_run::Status;
+use command_run::Status;
 use std::alloc::{AllocError, Global};
 
 // What is so of two of three, without c.

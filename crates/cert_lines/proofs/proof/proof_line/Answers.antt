@@ -1,7 +1,7 @@
 use Rattle.std.proofs.Common.{rules, ◌≡◌, ◌+◌, ◌++◌, [], length, false, Bool, if◌then◌else◌, Err, inl, inr, refl, ap, sym, ◌∙◌, subst}
 use Rattle.desk_io.specs.State.{left_of}
 use Rattle.desk_io.specs.declared.Which.TheVariants.{Cert}
-use Rattle.step_stream.specs.Outline.{outline_in}
+use Rattle.lrat_stream.specs.Outline.{outline_in}
 use Rattle.cert_lines.specs.Lines.{lines_of}
 use Rattle.cert_lines.specs.Texts.{IsTextPart}
 use Rattle.cert_lines.proofs.ProofStarts.{blank_step, fault_behind, whole_of_parts}

@@ -4,9 +4,9 @@ use Rattle.desk_io.specs.State.{left_of}
 use Rattle.desk_io.specs.declared.Which.TheVariants.{Cert}
 use Rattle.lrat_text.specs.Words.{words_of}
 use Rattle.lrat_text.specs.Lines.{step_in}
-use Rattle.step_stream.specs.Outline.{outline_in}
-use Rattle.step_stream.specs.Ahead.{ahead}
-use Rattle.step_stream.proofs.WordSteps.{moved}
+use Rattle.lrat_stream.specs.Outline.{outline_in}
+use Rattle.lrat_stream.specs.Ahead.{ahead}
+use Rattle.lrat_stream.proofs.WordSteps.{moved}
 use Rattle.cert_lines.specs.Lines.{lines_of}
 use Rattle.cert_lines.proofs.StepStarts.{at_start}
 use Rattle.cert_lines.proofs.ProofStarts.{done, goes_on}

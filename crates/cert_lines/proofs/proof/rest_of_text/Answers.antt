@@ -2,8 +2,8 @@ use Rattle.std.proofs.Common.{rules, ◌≡◌, ◌+◌, ◌++◌, [], ℕ, List
 use Rattle.desk_io.specs.State.{left_of}
 use Rattle.desk_io.specs.declared.Which.TheVariants.{Cert}
 use Rattle.lrat_text.specs.Words.{words_of}
-use Rattle.step_stream.specs.Ahead.{ahead}
-use Rattle.step_stream.proofs.WordSteps.{moved}
+use Rattle.lrat_stream.specs.Ahead.{ahead}
+use Rattle.lrat_stream.proofs.WordSteps.{moved}
 use Rattle.cert_lines.specs.Lines.{lines_of}
 use Rattle.cert_lines.proofs.PartRuns.{came_more}
 use Rattle.cert_lines.proofs.TextParts.{text_came, text_placed, text_fault}

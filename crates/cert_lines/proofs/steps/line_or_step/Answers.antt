@@ -7,9 +7,9 @@ use Rattle.cert_lines.proofs.Fronts.{with_front-nothing}
 use Rattle.cert_lines.proofs.PartRuns.{same_text, placed, first_fault, first_end, first_rest}
 use Rattle.lrat_text.specs.Words.{words_of}
 use Rattle.lrat_text.specs.Lines.{step_in}
-use Rattle.step_stream.specs.Outline.{outline_in}
-use Rattle.step_stream.specs.Ahead.{ahead}
-use Rattle.step_stream.proofs.WordSteps.{moved}
+use Rattle.lrat_stream.specs.Outline.{outline_in}
+use Rattle.lrat_stream.specs.Ahead.{ahead}
+use Rattle.lrat_stream.proofs.WordSteps.{moved}
 use Rattle.cert_lines.specs.Steps.{is_other}
 use Rattle.cert_lines.proofs.StepStarts.{at_start, other_front}
 use Rattle.cert_lines.proofs.steps.line_or_step.Goals as goal

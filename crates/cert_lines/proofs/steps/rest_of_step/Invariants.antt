@@ -2,8 +2,8 @@ use Rattle.std.proofs.Common.{◌≡◌, ◌+◌, ◌-◌, ◌++◌, List, ℕ, 
 use Rattle.desk_io.specs.State.{left_of, with_left}
 use Rattle.desk_io.specs.declared.Which.TheVariants.{Cert}
 use Rattle.lrat_text.specs.Words.{words_of}
-use Rattle.step_stream.specs.Ahead.{ahead, Fits}
-use Rattle.step_stream.specs.Solid.{IsSolid}
+use Rattle.lrat_stream.specs.Ahead.{ahead, Fits}
+use Rattle.lrat_stream.specs.Solid.{IsSolid}
 use Rattle.cert_lines.specs.Lines.{lines_of}
 use Rattle.cert_lines.specs.Parts.{with_front}
 use Rattle.cert_lines.specs.declared.lines.TheConstants.{MAX_LINE_BYTES}

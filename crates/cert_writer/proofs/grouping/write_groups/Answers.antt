@@ -1,7 +1,7 @@
 use Rattle.std.proofs.Common.{List, ◌∙◌, ap}
 use Rattle.fbas_model.specs.Systems.{System}
-use Rattle.list_journal.specs.Journals.{JournalLine}
-use Rattle.list_journal.specs.declared.kinds.ListKind.{ListKind}
+use Rattle.enumeration_journal.specs.Journals.{JournalLine}
+use Rattle.enumeration_journal.specs.declared.kinds.ListKind.{ListKind}
 use Rattle.node_json.specs.Groups.{texts_of}
 use Rattle.cert_writer.specs.Texts.{group_text}
 use Rattle.cert_writer.specs.Promises.{part_of}

@@ -1,8 +1,8 @@
 use Rattle.std.proofs.Common.{ℕ, List, ◌∙◌, ap}
 use Rattle.fbas_model.specs.Nodes.{size}
 use Rattle.fbas_model.specs.Systems.{System}
-use Rattle.list_journal.specs.Journals.{JournalLine}
-use Rattle.list_journal.specs.declared.kinds.ListKind.{ListKind}
+use Rattle.enumeration_journal.specs.Journals.{JournalLine}
+use Rattle.enumeration_journal.specs.declared.kinds.ListKind.{ListKind}
 use Rattle.cert_writer.specs.Texts.{least_text}
 use Rattle.cert_writer.specs.Promises.{part_of, greatest_of_part}
 use Rattle.cert_writer.specs.Least.{kind_of}

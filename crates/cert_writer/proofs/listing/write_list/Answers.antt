@@ -1,7 +1,7 @@
 use Rattle.std.proofs.Common.{sym, ◌∙◌, ap}
 use Rattle.fbas_model.specs.Systems.{System}
 use Rattle.blocking_lists.specs.declared.outcome.ListOutcome.{ListOutcome}
-use Rattle.list_journal.specs.declared.kinds.ListKind.TheVariants as kind
+use Rattle.enumeration_journal.specs.declared.kinds.ListKind.TheVariants as kind
 use Rattle.cert_writer.specs.Texts.{list_text}
 use Rattle.cert_writer.specs.Listing.{list_cert_over}
 use Rattle.cert_writer.proofs.Ends.{puts_same}

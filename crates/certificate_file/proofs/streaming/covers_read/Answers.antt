@@ -1,7 +1,7 @@
 use Rattle.std.proofs.Common.{List, [], sym, ◌∙◌, ap}
 use Rattle.lrat_model.specs.Literal.{Literal}
-use Rattle.step_stream.specs.Ahead.{ahead_at}
-use Rattle.step_stream.specs.declared.words.Stage.{Stage}
+use Rattle.lrat_stream.specs.Ahead.{ahead_at}
+use Rattle.lrat_stream.specs.declared.words.Stage.{Stage}
 use Rattle.reach_kinds.specs.Bodies.{is_covered}
 use Rattle.certificate_file.specs.Streamed.{covers_read}
 use Rattle.reach_kinds.proofs.CoverLaws.{is-covered}

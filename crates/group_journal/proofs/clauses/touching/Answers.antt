@@ -1,7 +1,7 @@
 use Rattle.std.proofs.Common.{◌≡◌, ◌+◌, ◌<◌, ◌≤◌, length, sym, ap, ◌∙◌, arith, subst, lit<}
 use Rattle.std.proofs.lemmas.List.{length-map}
 use Rattle.fbas_model.specs.Nodes.{Table}
-use Rattle.list_journal.specs.Tests.{is_meeting}
+use Rattle.enumeration_journal.specs.Tests.{is_meeting}
 use Rattle.node_json.specs.Groups as spec
 use Rattle.node_json.specs.Groups.{tables_of}
 use Rattle.group_journal.proofs.Touched.{AreFound, found_first, found_yes, found_no, found_whole, meeting_yes, meeting_no, sized_at}

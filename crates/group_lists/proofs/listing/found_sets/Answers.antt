@@ -1,7 +1,7 @@
 use Rattle.std.proofs.Common.{◌≡◌, ◌∙◌, ap, subst, ℕ, List, length, Ok}
 use Rattle.std.specs.Prelude.{All, Contains, ◌↔◌}
 use Rattle.fbas_model.specs.Nodes.{Table}
-use Rattle.list_journal.specs.declared.kinds.Listed.TheVariants.{Blocking}
+use Rattle.enumeration_journal.specs.declared.kinds.Listed.TheVariants.{Blocking}
 use Rattle.blocking_lists.specs.Lines.{listed_in}
 use Rattle.group_lists.proofs.listing.found_sets.Goals as goal
 

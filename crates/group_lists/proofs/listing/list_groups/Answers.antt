@@ -6,7 +6,7 @@ use Rattle.greatest_quorum.specs.Greatest.{greatest_of}
 use Rattle.lrat_model.specs.Steps.{ProofStep}
 use Rattle.blocking_lists.specs.Lines.{ListLine, merged, listed_in, HasLineNumbers, HasFewWords}
 use Rattle.blocking_lists.specs.Search.{AreInNameOrder}
-use Rattle.list_journal.specs.declared.kinds.Listed.TheVariants.{Blocking}
+use Rattle.enumeration_journal.specs.declared.kinds.Listed.TheVariants.{Blocking}
 use Rattle.node_json.specs.Groups.{tables_of}
 use Rattle.group_journal.specs.Groups.{touching}
 use Rattle.group_lists.specs.Outcomes.{GroupOutcomeHolds, group_journal_in}

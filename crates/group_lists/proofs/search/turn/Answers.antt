@@ -6,8 +6,8 @@ use Rattle.fbas_model.specs.Nodes.{Nodes, Table, members, ◌∈◌, ◌⊆◌}
 use Rattle.fbas_model.specs.Fbas.{Quorum, MeetsQuorums}
 use Rattle.greatest_quorum.specs.Greatest.{greatest_of}
 use Rattle.cdcl_core.specs.Solving.{assignment}
-use Rattle.list_journal.specs.declared.kinds.Listed.TheVariants as listed
-use Rattle.list_journal.proofs.Greatest.{counted_greatest}
+use Rattle.enumeration_journal.specs.declared.kinds.Listed.TheVariants as listed
+use Rattle.enumeration_journal.proofs.Greatest.{counted_greatest}
 use Rattle.node_json.specs.Groups as spec
 use Rattle.node_json.specs.Groups.{tables_of}
 use Rattle.blocking_lists.specs.Search.{IsListed, IsModelSet}

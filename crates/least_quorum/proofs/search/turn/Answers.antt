@@ -5,9 +5,9 @@ use Rattle.greatest_quorum.specs.Greatest.{greatest_of}
 use Rattle.greatest_quorum.proofs.GreatestLaws.{length-greatest_of}
 use Rattle.lrat_model.specs.Literal.{clause_true}
 use Rattle.cdcl_core.specs.Solving.{assignment}
-use Rattle.list_journal.specs.declared.kinds.Listed.TheVariants.{Quorum, Blocking}
-use Rattle.list_journal.proofs.Greatest.{IsGreatest, greatest_by_counting}
-use Rattle.list_journal.proofs.Duality.{quorum_within}
+use Rattle.enumeration_journal.specs.declared.kinds.Listed.TheVariants.{Quorum, Blocking}
+use Rattle.enumeration_journal.proofs.Greatest.{IsGreatest, greatest_by_counting}
+use Rattle.enumeration_journal.proofs.Duality.{quorum_within}
 use Rattle.blocking_lists.proofs.Turns.{blocking_out, apart_from_set, model_left}
 use Rattle.least_journal.specs.Least.{clause_in}
 use Rattle.least_quorum.specs.Search.{best_in, IsLeastListing}

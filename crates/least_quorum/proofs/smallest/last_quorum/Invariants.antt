@@ -1,5 +1,5 @@
 use Rattle.std.proofs.Common.{◌≡◌, None, take}
-use Rattle.list_journal.specs.declared.kinds.Listed.TheVariants.{Smaller}
+use Rattle.enumeration_journal.specs.declared.kinds.Listed.TheVariants.{Smaller}
 use Rattle.blocking_lists.specs.Lines.{listed_in}
 use Rattle.least_journal.specs.Least.{last_of}
 use Rattle.least_quorum.proofs.smallest.last_quorum.Given as goal

@@ -6,8 +6,8 @@ use Rattle.lrat_model.specs.Runs.{formula_database}
 use Rattle.lrat_model.specs.Steps.{ProofStep}
 use Rattle.clause_encoder.specs.declared.encoder.EncodeError.TheVariants.{Memory}
 use Rattle.clause_encoder.specs.NameCounter.{counter_vars, counter_of}
-use Rattle.list_journal.specs.Journals.{JournalLine}
-use Rattle.list_journal.specs.declared.kinds.Listed.TheVariants.{Smaller}
+use Rattle.enumeration_journal.specs.Journals.{JournalLine}
+use Rattle.enumeration_journal.specs.declared.kinds.Listed.TheVariants.{Smaller}
 use Rattle.blocking_lists.specs.Lines.{ListLine, merged, listed_in, HasLineNumbers, HasFewWords}
 use Rattle.blocking_lists.proofs.Merged.{numbers_merged}
 use Rattle.least_journal.specs.Least.{last_of}

@@ -5,7 +5,7 @@ use Rattle.lrat_model.specs.Steps.{outcome_fault}
 use Rattle.lrat_model.specs.Rat.{first_hints, take_group}
 use Rattle.lrat_model.specs.Alike.{Alike}
 use Rattle.lrat_model.specs.Literal.{Literal}
-use Rattle.partial_assignment.specs.Assigned.{Assigned}
+use Rattle.assignment_trail.specs.Assigned.{Assigned}
 use Rattle.rat_candidates.specs.Groups.{group_id}
 use Rattle.lrat_checker.proofs.GroupLaws.{rest_whole, groups_passed, group_stops, group_goes_on}
 use Rattle.lrat_checker.proofs.TrailLaws.{restored}

@@ -3,7 +3,7 @@ use Rattle.std.proofs.lemmas.List.{append-nil, drop_all}
 use Rattle.lrat_model.specs.Literal.{negated, same, has}
 use Rattle.lrat_model.specs.Alike.{Alike}
 use Rattle.lrat_model.specs.Rat.{made_false}
-use Rattle.partial_assignment.specs.Assigned.{Assigned}
+use Rattle.assignment_trail.specs.Assigned.{Assigned}
 use Rattle.lrat_checker.specs.Extends.{Extends}
 use Rattle.lrat_checker.proofs.HintLaws.{extends_more}
 use Rattle.lrat_checker.proofs.GroupLaws.{made_passed, made_none, made_more}

@@ -1,8 +1,8 @@
 use Rattle.std.proofs.Common.{rules, refl}
 use Rattle.lent_desk.specs.Files.{files_named}
 use Rattle.lent_desk.specs.LentDesk.{state_of, said_in}
-use Rattle.order_reading.specs.Answers.{words_of}
-use Rattle.quorum_run.specs.Running.{Runs}
+use Rattle.request_reading.specs.Answers.{words_of}
+use Rattle.command_run.specs.Running.{Runs}
 use Rattle.quorum_answers.proofs.Endings.{ended_as}
 use Rattle.quorum_answers.proofs.answer.ended.Goals as goal
 

@@ -2,7 +2,7 @@ use Rattle.std.proofs.Common.{◌≡◌, ◌∷◌, map}
 use Rattle.std.specs.Prelude.{All}
 use Rattle.std.specs.Str.{IsUtf8}
 use Rattle.quorum_answers.specs.Answering.{program}
-use Rattle.order_reading.specs.Answers.{words_of}
+use Rattle.request_reading.specs.Answers.{words_of}
 use Rattle.quorum_answers.proofs.reading.words.Given as goal
 
 abbrev pub invariant-loop-word : goal.invariant-loop-word

@@ -1,6 +1,6 @@
 use Rattle.std.proofs.Common.{arith, Option, IfSome, subst}
-use Rattle.gate_search.specs.Finding.{IsFound}
-use Rattle.gate_search.specs.declared.searching.Found.{Found}
+use Rattle.expanded_search.specs.Finding.{IsFound}
+use Rattle.expanded_search.specs.declared.searching.Found.{Found}
 use Rattle.quorum_questions.proofs.Over.{refutation_over, spent_over}
 use Rattle.quorum_questions.proofs.gates.by_gates.Goals as goal
 

@@ -1,5 +1,5 @@
 use Rattle.std.proofs.Common.{ℕ, ap, ◌∙◌}
-use Rattle.list_journal.specs.Journals.{nothing_held}
+use Rattle.enumeration_journal.specs.Journals.{nothing_held}
 use Rattle.reach_kinds.specs.Bodies.{list_checking}
 use Rattle.reach_kinds.proofs.GroupTaken.{no_group_listing_of}
 use Rattle.reach_kinds.proofs.group_kinds.no_group_listing.Goals as goal

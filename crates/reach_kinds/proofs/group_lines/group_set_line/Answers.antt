@@ -2,7 +2,7 @@ use Rattle.std.proofs.Common.{◌≡◌, ℕ, ◌<◌, Bool, nat_lt, Result, inl
 use Rattle.std.proofs.lemmas.Bool.{lt-ltb}
 use Rattle.std.proofs.lemmas.Result.{IfOk-weaker, IfErr-weaker}
 use Rattle.lrat_model.specs.declared.step.StepFault.TheVariants.{IdOrder}
-use Rattle.list_journal.specs.declared.kinds.Listed.TheVariants as listed
+use Rattle.enumeration_journal.specs.declared.kinds.Listed.TheVariants as listed
 use Rattle.cert_lines.specs.Limits.{unless}
 use Rattle.cert_lines.specs.declared.faults.CertError.{CertError}
 use Rattle.cert_lines.specs.declared.faults.CertError.TheVariants.{Step}

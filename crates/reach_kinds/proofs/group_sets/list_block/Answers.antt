@@ -1,6 +1,6 @@
 use Rattle.std.proofs.Common.{rules, ◌≡◌, List, [], ◌∷◌, ◌++◌, Result, Err, inl, inr, sym, ap, ◌∙◌}
 use Rattle.fbas_model.specs.Nodes.{Table}
-use Rattle.list_journal.specs.declared.kinds.Listed.TheVariants as listed
+use Rattle.enumeration_journal.specs.declared.kinds.Listed.TheVariants as listed
 use Rattle.cert_lines.specs.declared.faults.CertError.{CertError}
 use Rattle.reach_kinds.specs.Bodies.{and_then}
 use Rattle.reach_kinds.specs.GroupBodies.{group_listing_on, list_group_set}

@@ -3,7 +3,7 @@ use Rattle.std.specs.Prelude.{All, OnOk}
 use Rattle.std.proofs.lemmas.Result.{IfErr-weaker}
 use Rattle.fbas_model.specs.Nodes.{Table}
 use Rattle.node_json.specs.Groups.{Group}
-use Rattle.list_journal.specs.declared.kinds.Listed.TheVariants as listed
+use Rattle.enumeration_journal.specs.declared.kinds.Listed.TheVariants as listed
 use Rattle.cert_lines.specs.declared.faults.CertError.{CertError}
 use Rattle.reach_kinds.specs.Bodies.{and_then}
 use Rattle.reach_kinds.specs.GroupBodies.{list_group_set}

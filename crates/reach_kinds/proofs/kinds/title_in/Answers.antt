@@ -2,9 +2,9 @@ use Rattle.std.proofs.Common.{◌≡◌, ◌∙◌, ◌+◌, ◌∷◌, true, fa
 use Rattle.std.specs.Str.{bytes_eq}
 use Rattle.std.proofs.lemmas.List.{at_drop_more}
 use Rattle.cert_lines.specs.Words.{Word}
-use Rattle.list_journal.specs.declared.kinds.ListKind.TheVariants.{Whole}
+use Rattle.enumeration_journal.specs.declared.kinds.ListKind.TheVariants.{Whole}
 use Rattle.reach_kinds.specs.Kinds.{kind_word, title, titled_among}
-use Rattle.list_journal.specs.declared.kinds.Listed.TheVariants as listed
+use Rattle.enumeration_journal.specs.declared.kinds.Listed.TheVariants as listed
 use Rattle.reach_kinds.specs.declared.kinds.ReachKind.TheVariants.{Nodes}
 use Rattle.reach_kinds.specs.declared.kinds.ReachTitle.{ReachTitle}
 use Rattle.reach_kinds.proofs.kinds.title_in.Goals as goal

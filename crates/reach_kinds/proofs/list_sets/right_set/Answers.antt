@@ -1,5 +1,5 @@
 use Rattle.std.proofs.Common.{sym, ◌∙◌}
-use Rattle.list_journal.proofs.TestLaws.{is_kind_to}
+use Rattle.enumeration_journal.proofs.TestLaws.{is_kind_to}
 use Rattle.reach_kinds.proofs.ListKnown.{kind_where_minimal}
 use Rattle.reach_kinds.proofs.list_sets.right_set.Goals as goal
 

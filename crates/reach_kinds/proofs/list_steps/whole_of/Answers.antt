@@ -1,6 +1,6 @@
 use Rattle.std.proofs.Common.{List, ap, inl, inr}
 use Rattle.fbas_model.specs.Nodes.{Table}
-use Rattle.list_journal.specs.declared.kinds.Listed.TheVariants as listed
+use Rattle.enumeration_journal.specs.declared.kinds.Listed.TheVariants as listed
 use Rattle.reach_kinds.specs.declared.places.Reached.TheVariants.{Minimal}
 use Rattle.reach_kinds.proofs.list_steps.whole_of.Goals as goal
 

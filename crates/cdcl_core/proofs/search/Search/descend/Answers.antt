@@ -1,5 +1,5 @@
 use Rattle.std.proofs.Common.{◌≡◌, ◌∙◌, ◌+◌, ◌*◌, ◌-◌, ◌<◌, ℕ, suc, sym, ap, subst, arith, Ok}
-use Rattle.search_guide.specs.Open.{open_count}
+use Rattle.search_heuristics.specs.Open.{open_count}
 use Rattle.cdcl_core.proofs.OpenCounts.{less_cuts}
 use Rattle.cdcl_core.proofs.Same.{holding_same}
 use Rattle.cdcl_core.proofs.search.Search.descend.Goals as goal

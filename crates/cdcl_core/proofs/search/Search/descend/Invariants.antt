@@ -1,6 +1,6 @@
 use Rattle.std.proofs.Common.{suc, ◌+◌, ◌*◌}
 use Rattle.cdcl_core.specs.Searching.{HasSame, IsSearching}
-use Rattle.search_guide.specs.Open.{open_count}
+use Rattle.search_heuristics.specs.Open.{open_count}
 use Rattle.cdcl_core.proofs.search.Search.descend.Given as goal
 
 abbrev pub invariant-turns : goal.invariant-turns

@@ -1,6 +1,6 @@
 use Rattle.std.proofs.Common.{◌∙◌, Bool, List, ap, length, sym, subst}
 use Rattle.std.specs.Global.{Vec}
-use Rattle.gate_counts.specs.declared.gate.Gate.{Gate}
+use Rattle.cardinality_counts.specs.declared.gate.Gate.{Gate}
 use Rattle.cdcl_core.proofs.Fronts.{state_cut}
 use Rattle.cdcl_core.proofs.GatedLaws.{AreCovered}
 use Rattle.cdcl_core.proofs.Grows.{queued_back, variables_apart}

@@ -2,7 +2,7 @@ use Rattle.std.proofs.Common.{◌≡◌, ◌≤◌, ◌+◌, ◌∙◌, ◌∷�
 use Rattle.std.proofs.lemmas.Bool.{false≢true}
 use Rattle.lrat_model.specs.Literal.{Plus, variable_of}
 use Rattle.lrat_model.specs.Clauses.{Held}
-use Rattle.gate_counts.proofs.Countings.{counting_more}
+use Rattle.cardinality_counts.proofs.Countings.{counting_more}
 use Rattle.cdcl_core.specs.declared.watches.Watch.{Watch}
 use Rattle.cdcl_core.proofs.GatedLaws.{covered_with}
 use Rattle.cdcl_core.proofs.Lemmas.{first_open, lemma_state, lemma_queued, clause_at-last}

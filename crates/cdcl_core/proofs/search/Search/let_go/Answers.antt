@@ -1,7 +1,7 @@
 use Rattle.std.proofs.Common.{List, sym, subst, arith}
 use Rattle.std.proofs.lemmas.Grind.{common_steps}
 use Rattle.lrat_model.specs.Literal.{Literal}
-use Rattle.gate_counts.specs.Counts.{IsCounting}
+use Rattle.cardinality_counts.specs.Counts.{IsCounting}
 use Rattle.cdcl_core.proofs.search.Search.let_go.Goals as goal
 
 pub returns-clause-searching : goal.returns-clause-searching

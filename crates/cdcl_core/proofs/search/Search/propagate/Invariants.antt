@@ -1,6 +1,6 @@
 use Rattle.std.proofs.Common.{◌≤◌}
 use Rattle.cdcl_core.specs.Searching.{HasSame, IsSearching}
-use Rattle.search_guide.specs.Open.{open_count}
+use Rattle.search_heuristics.specs.Open.{open_count}
 use Rattle.cdcl_core.proofs.search.Search.propagate.Given as goal
 
 abbrev pub invariant-rounds : goal.invariant-rounds

@@ -1,7 +1,7 @@
 use Rattle.std.proofs.Common.{◌≡◌, ◌∙◌, List, refl, sym, subst}
 use Rattle.std.proofs.lemmas.Bool.{true≢false}
 use Rattle.lrat_model.specs.Literal.{Literal}
-use Rattle.gate_counts.specs.Counts.{IsCounting}
+use Rattle.cardinality_counts.specs.Counts.{IsCounting}
 use Rattle.cdcl_core.specs.declared.gated.Taken.TheVariants.{Nothing}
 use Rattle.cdcl_core.specs.Watches.{AreKept}
 use Rattle.cdcl_core.proofs.Counted.{gated_fixpoint, searching_gates}

@@ -1,5 +1,5 @@
 use Rattle.std.proofs.Common.{◌∙◌, refl, ap, arith, Ok}
-use Rattle.gate_counts.specs.declared.gates.Gates.{Gates}
+use Rattle.cardinality_counts.specs.declared.gates.Gates.{Gates}
 use Rattle.cdcl_core.proofs.Counted.{counting_guesses, searching_gates}
 use Rattle.cdcl_core.proofs.Same.{same_more}
 use Rattle.cdcl_core.proofs.search.Search.take_guessed.Goals.{then-place-len+in_ok-take_at+in-Nothing, then-place-len+in_ok-take_at+in-Forced, else-place-len}

@@ -1,7 +1,7 @@
 use Rattle.std.proofs.Common.{◌≡◌, ◌≢◌, ℕ, ◌<◌, ◌≤◌, ◌-◌, length}
 use Rattle.cdcl_core.specs.declared.gated.Taken.TheVariants.{Nothing, Forced, Conflict}
 use Rattle.cdcl_core.specs.Searching.{HasSame, IsSearching}
-use Rattle.search_guide.specs.Open.{open_count}
+use Rattle.search_heuristics.specs.Open.{open_count}
 use Rattle.cdcl_core.proofs.search.Search.take_guessed.Given as goal
 
 abbrev pub invariant-loop-next : goal.invariant-loop-next

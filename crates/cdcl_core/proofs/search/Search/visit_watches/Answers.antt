@@ -2,9 +2,9 @@ use Rattle.std.proofs.Common.{◌≡◌, ◌+◌, ◌*◌, ◌++◌, [], ◌∙�
 use Rattle.lrat_model.specs.Literal.{Literal, Plus}
 use Rattle.cdcl_core.specs.declared.watches.Pair.{Pair}
 use Rattle.cdcl_core.specs.Search.{IsState}
-use Rattle.gate_counts.specs.Counts.{IsCounting}
-use Rattle.gate_counts.proofs.Countings.{counting_more}
-use Rattle.search_guide.specs.Open.{open_count}
+use Rattle.cardinality_counts.specs.Counts.{IsCounting}
+use Rattle.cardinality_counts.proofs.Countings.{counting_more}
+use Rattle.search_heuristics.specs.Open.{open_count}
 use Rattle.cdcl_core.specs.Watches.{pair_at, AreKept, IsQueued, IsWatched}
 use Rattle.cdcl_core.proofs.OpenCounts.{open_count-append}
 use Rattle.cdcl_core.proofs.Runs.{written_back, each_id}

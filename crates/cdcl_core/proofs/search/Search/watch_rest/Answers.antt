@@ -8,9 +8,9 @@ use Rattle.cdcl_core.specs.Watches.{IsQueued, IsWatched, id_at, lits_at}
 use Rattle.std.proofs.lemmas.List.{take_all}
 use Rattle.std.specs.Prelude.{All}
 use Rattle.lrat_model.specs.Propagation.{status}
-use Rattle.gate_counts.specs.Gates.{IsSet}
-use Rattle.gate_counts.specs.Counts.{IsCounting}
-use Rattle.gate_counts.proofs.Countings.{counting_more}
+use Rattle.cardinality_counts.specs.Gates.{IsSet}
+use Rattle.cardinality_counts.specs.Counts.{IsCounting}
+use Rattle.cardinality_counts.proofs.Countings.{counting_more}
 use Rattle.cdcl_core.specs.declared.watches.Pair.{Pair}
 use Rattle.cdcl_core.proofs.GatedLaws.{AreCovered, covered_with}
 use Rattle.cdcl_core.proofs.Fronts.{clause_at-take, front_below, state_more, take_next}

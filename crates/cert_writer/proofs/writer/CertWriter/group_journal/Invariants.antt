@@ -1,5 +1,5 @@
 use Rattle.std.proofs.Common.{◌≡◌, ◌++◌, List, map, length}
-use Rattle.list_journal.specs.Journals.{JournalLine}
+use Rattle.enumeration_journal.specs.Journals.{JournalLine}
 use Rattle.node_json.specs.Groups.{texts_of}
 use Rattle.cert_writer.specs.Texts.{joined, group_journal_line}
 use Rattle.cert_writer.specs.Writing.{Writes}

@@ -1,7 +1,7 @@
 use Rattle.std.proofs.Common.{◌≡◌, ◌∙◌, [], ◌∷◌, ◌++◌, List, map, true, sym, ap, subst, append_assoc, Contains}
 use Rattle.std.proofs.lemmas.List.Elements.{All-contains, Contains-append_right}
-use Rattle.list_journal.specs.Journals.{JournalLine}
-use Rattle.list_journal.proofs.Elements.{first_in}
+use Rattle.enumeration_journal.specs.Journals.{JournalLine}
+use Rattle.enumeration_journal.proofs.Elements.{first_in}
 use Rattle.blocking_lists.specs.Lines.{journal_line_of}
 use Rattle.cert_writer.specs.Texts.{joined, journal_line}
 use Rattle.cert_writer.specs.Listing.{CanBeLine}

@@ -1,5 +1,5 @@
 use Rattle.std.proofs.Common.{◌≡◌, ◌++◌, List, map, length}
-use Rattle.list_journal.specs.Journals.{JournalLine}
+use Rattle.enumeration_journal.specs.Journals.{JournalLine}
 use Rattle.cert_writer.specs.Texts.{joined, journal_line}
 use Rattle.cert_writer.specs.Writing.{Writes}
 use Rattle.cert_writer.proofs.writer.CertWriter.journal_lines.Given as goal

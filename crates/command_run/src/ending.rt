@@ -1,0 +1,83 @@
+//! How the process ends, by the words that it was given.
+ghost use Rattle.std.specs.Prelude.{◌≡◌, false, [], IfErr, IfOk, IfSome, IsErr, IsOk, IsNone, IsSome, IsTrue, Some};
+ghost use Rattle.std.specs.IoError.{error_kind};
+ghost use Rattle.std.specs.Vec.Iter.{into_iter_items};
+ghost use Rattle.std.specs.Process.{exit_status};
+ghost use Rattle.request_reading.specs.Status.{code_of};
+ghost use Rattle.request_reading.specs.Answers.{words_of};
+ghost use Rattle.command_run.specs.Running.{Runs, RunsOnAny};
+ghost use Rattle.command_run.specs.Ending.{EndsAs, is_memory, words_given};
+
+use crate::run;
+use desk_io::Desk;
+use request_reading::Status;
+use std::alloc::{AllocError, Global};
+use std::env;
+use std::io::{self, ErrorKind};
+use std::process::ExitCode;
+
+/// The words where the command line could not be read: want of memory, or none where one of them is not UTF-8.
+fn unread_words(alloc: Global, kind: ErrorKind) -> Result<Vec<String>, AllocError>
+    ensures memory { IsTrue (is_memory kind) → IsErr result }
+    ensures other { is_memory kind ≡ false → IsOk result }
+    ensures none { IfOk result (λ words. words.items ≡ []) }
+{
+    match kind {
+        ErrorKind::OutOfMemory => Err(AllocError),
+        _ => Ok(Vec::new(alloc)),
+    }
+}
+
+/// All the arguments, in order.
+fn all(alloc: Global, args: env::Args) -> Result<Vec<String>, AllocError>
+    ensures { IfOk result (λ words. words.items ≡ into_iter_items args) }
+{
+    args.collect(alloc)
+}
+
+/// The words of the command line.
+fn words(alloc: Global, args: io::Result<env::Args>) -> Result<Vec<String>, AllocError>
+    ensures given { IfOk result (λ words. words_given args ≡ Some (words_of words.items)) }
+    ensures unread { IsErr args → IsSome (words_given args) → IsOk result }
+{
+    match args {
+        Ok(args) => all(alloc, args),
+        Err(error) => unread_words(alloc, error.kind()),
+    }
+}
+
+/// How a run of the words ends: for want of memory where there was none for them.
+fn run_words<D: Desk>(
+    alloc: Global,
+    words: &Result<Vec<String>, AllocError>,
+    desk: &mut D,
+) -> Status
+    ensures told { IsTrue D.tells → IfOk words.now (λ held. Runs (words_of held.items) (D.state desk.old) (D.state desk.new) result) }
+    ensures any { IfOk words.now (λ held. RunsOnAny (words_of held.items) (D.faults desk.old) (D.faults desk.new) result) }
+    ensures memory { IsErr words.now → result ≡ Status.Memory }
+    ensures untouched { IsErr words.now → IsTrue D.tells → D.state desk.new ≡ D.state desk.old }
+    ensures uncounted { IsErr words.now → D.faults desk.new ≡ D.faults desk.old }
+{
+    match words {
+        Ok(words) => run(alloc, words, desk),
+        Err(AllocError) => Status::Memory,
+    }
+}
+
+/// All that the process does, over its arguments and a desk: `run` of these words, whose status is the exit status. Where one of
+/// them is not UTF-8 it is a run of no words, which puts out the usage text.
+pub fn end<D: Desk>(alloc: Global, args: io::Result<env::Args>, desk: &mut D) -> ExitCode
+    ensures told { IsTrue D.tells → IfSome (words_given args) (λ words.
+        EndsAs (Runs words (D.state desk.old) (D.state desk.new)) (exit_status result)) }
+    // Whatever the desk tells, the machine's too.
+    ensures any { IfSome (words_given args) (λ words.
+        EndsAs (RunsOnAny words (D.faults desk.old) (D.faults desk.new)) (exit_status result)) }
+    // Where there was no memory for the arguments, nothing is done.
+    ensures memory { IsNone (words_given args) → exit_status result ≡ code_of Status.Memory }
+    ensures untouched { IsNone (words_given args) → IsTrue D.tells → D.state desk.new ≡ D.state desk.old }
+    ensures uncounted { IsNone (words_given args) → D.faults desk.new ≡ D.faults desk.old }
+{
+    let words = words(alloc, args);
+    let status = run_words(alloc, &words, desk);
+    ExitCode::from(status.code())
+}

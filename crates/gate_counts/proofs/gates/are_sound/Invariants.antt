@@ -1,6 +1,0 @@
-use Rattle.gate_counts.specs.Gates.{IsGate}
-use Rattle.gate_counts.proofs.Lists.{AllBefore}
-use Rattle.gate_counts.proofs.gates.are_sound.Given as goal
-
-abbrev pub invariant-loop-gate : goal.invariant-loop-gate
-invariant-loop-gate l = AllBefore (IsGate l.vars) l.gates l.gate-index

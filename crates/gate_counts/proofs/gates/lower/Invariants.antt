@@ -1,9 +1,0 @@
-use Rattle.std.proofs.Common.{◌≡◌, ℕ, ◌-◌, ◌<◌, length, take, slice_index}
-use Rattle.gate_counts.specs.Counts.{times}
-use Rattle.gate_counts.proofs.gates.lower.Given as goal
-
-abbrev pub invariant-loop-g : goal.invariant-loop-g
-invariant-loop-g l = record {
-  long : length l.counts ≡ length l.initial.counts;
-  lowered : (g : ℕ) → g < length l.initial.counts → slice_index l.counts g ≡ slice_index l.initial.counts g - times (take l.g-index l.list) g;
-}

@@ -1,5 +1,0 @@
-use Rattle.std.proofs.Common.{◌≡◌, []}
-use Rattle.gate_search.proofs.hints.Hints.begin.Given as goal
-
-abbrev pub invariant-loop-l : goal.invariant-loop-l
-invariant-loop-l l = l.self.ids.items ≡ []

@@ -1,4 +1,0 @@
-use Rattle.order_reading.proofs.searches.look.Goals as goal
-
-pub returns-clause-bytes : goal.returns-clause-bytes
-returns-clause-bytes c = λ i. c.fits-digest i

@@ -1,4 +1,0 @@
-use Rattle.search_guide.proofs.heap.rise.Given as goal
-
-abbrev pub decreases-loop-at : goal.decreases-loop-at
-decreases-loop-at l = l.at

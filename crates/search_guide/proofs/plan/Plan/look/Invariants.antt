@@ -1,4 +1,0 @@
-use Rattle.search_guide.proofs.plan.Plan.look.Given as goal
-
-abbrev pub decreases-loop-self : goal.decreases-loop-self
-decreases-loop-self l = l.self.left

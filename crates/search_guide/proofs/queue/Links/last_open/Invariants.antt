@@ -1,4 +1,0 @@
-use Rattle.search_guide.proofs.queue.Links.last_open.Given as goal
-
-abbrev pub decreases-loop-left : goal.decreases-loop-left
-decreases-loop-left l = l.left

@@ -1,0 +1,8 @@
+use Rattle.std.proofs.Common.{◌≡◌, ◌-◌, ◌+◌, ◌≤◌, length}
+use Rattle.search_heuristics.proofs.heap.Heap.new.Given as goal
+
+abbrev pub invariant-loop-x : goal.invariant-loop-x
+invariant-loop-x l = (l.x ≤ l.vars) × (length l.variables.items ≡ l.vars) × (length l.places.items ≡ l.vars + 1)
+
+abbrev pub decreases-loop-x : goal.decreases-loop-x
+decreases-loop-x l = l.vars - l.x

@@ -1,7 +1,0 @@
-use Rattle.std.proofs.Common.{◌≡◌}
-use Rattle.written_gates.specs.Counters.{cell_at}
-use Rattle.written_gates.proofs.Lists.{AllBefore}
-use Rattle.written_gates.proofs.cells.are_nowhere.Given as goal
-
-abbrev pub invariant-loop-variable : goal.invariant-loop-variable
-invariant-loop-variable l = AllBefore (λ v. (cell_at l.cells v).row ≡ 0) l.variables l.variable-index

@@ -1,6 +1,0 @@
-use Rattle.std.proofs.Common.{◌≡◌, ℕ, ◌+◌, ◌-◌, ◌≤◌}
-use Rattle.written_gates.specs.Counters.{cell_at}
-use Rattle.written_gates.proofs.cells.is_row_placed.Given as goal
-
-abbrev pub invariant-loop-before : goal.invariant-loop-before
-invariant-loop-before l = (j : ℕ) → 1 ≤ j → j ≤ l.before → cell_at l.cells (l.first + (j - 1)) ≡ record { gate = l.gate; row = l.row; column = j }

@@ -1,5 +1,0 @@
-use Rattle.std.proofs.Common.{◌-◌, length}
-use Rattle.written_gates.proofs.choices.+choose.Given as goal
-
-abbrev pub decreases-choose : goal.decreases-choose
-decreases-choose l = length l.inputs.now - l.from

@@ -1,5 +1,0 @@
-use Rattle.written_gates.proofs.WrittenLaws.{HeadsWritten}
-use Rattle.written_gates.proofs.writing.write_heads.Given as goal
-
-abbrev pub invariant-loop-place : goal.invariant-loop-place
-invariant-loop-place l = HeadsWritten l.counter l.initial.store.held l.store.held l.place
