@@ -1,4 +1,5 @@
 mod LimitSamples
+pub mod Ends
 pub mod Fronts
 pub mod PieceCuts
 pub mod PartRuns

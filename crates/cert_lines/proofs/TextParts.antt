@@ -151,11 +151,6 @@ first_too_many l n old bytes number is many some =
 pub part_placed : (ends : Bool) (l n : ℕ) (front part old bytes : List ℕ) (new : Lines) → l ≡ n → old ≡ bytes → IsPart ends l front part (lines_of bytes) new → IsTextPart ends n front part (lines_of old) new
 part_placed ends l n front part old bytes new number is came = as_text ends n front part (lines_of old) new (same_part ends l n front part old bytes new number is came)
 
--- what follows from a value, where there is one
-pub if_ok : {A E : Type 0} (P Q : A → Type 0) (r : Result A E) → ((a : A) → P a → Q a) → IfOk r P → IfOk r Q
-if_ok P Q (Ok a) f p = f a p
-if_ok P Q (Err e) f p = tt
-
 -- what follows from a fault, where there is one
 pub if_err : {A E : Type 0} (P Q : E → Type 0) (r : Result A E) → ((e : E) → P e → Q e) → IfErr r P → IfErr r Q
 if_err P Q (Ok a) f p = tt

@@ -5,3 +5,4 @@ pub mod Parts
 pub mod Steps
 pub mod Words
 pub mod Saying
+pub mod Ends

@@ -1,4 +1,4 @@
-//! Why a certificate is not accepted.
+//! Why a certificate is not accepted, or could not be read to its end.
 use lrat_model::StepFault;
 use std::alloc::AllocError;
 use std::fmt;
@@ -64,9 +64,6 @@ pub enum CertError {
     /// Something follows the line `end`.
     #[error("something follows the end")]
     Trailing,
-    /// A call of the desk failed.
-    #[error("a read failed")]
-    Read,
     /// No memory for a line or for what it says.
     #[error("out of memory")]
     Memory,
@@ -87,5 +84,46 @@ impl From<AllocError> for CertError {
 
     fn from(_: AllocError) -> CertError {
         CertError::Memory
+    }
+}
+
+/// Why the check of a certificate ends without its acceptance.
+#[derive(Drop, Error)]
+pub enum CheckError {
+    /// The certificate has this fault, or there is no memory for what it says.
+    #[error("{0}")]
+    Cert(CertError),
+    /// A call of the desk failed.
+    #[error("a read failed")]
+    Read,
+}
+
+/// The words that it displays: nothing shows the variants by their names.
+impl fmt::Debug for CheckError {
+    fn fmt<W: fmt::Write>(&self, f: &mut fmt::Formatter<W>) -> fmt::Result {
+        fmt::Display::fmt(self, f)
+    }
+}
+
+impl From<CertError> for CheckError {
+    ghost use Rattle.cert_lines.specs.declared.faults.CheckError.TheVariants.{Cert};
+    ghost use Rattle.std.specs.Prelude.{◌≡◌};
+
+    ghost from_gives = { λ fault e. e ≡ Cert fault };
+
+    fn from(fault: CertError) -> CheckError {
+        CheckError::Cert(fault)
+    }
+}
+
+impl From<AllocError> for CheckError {
+    ghost use Rattle.cert_lines.specs.declared.faults.CertError.TheVariants.{Memory};
+    ghost use Rattle.cert_lines.specs.declared.faults.CheckError.TheVariants.{Cert};
+    ghost use Rattle.std.specs.Prelude.{◌≡◌};
+
+    ghost from_gives = { λ _ e. e ≡ Cert Memory };
+
+    fn from(_: AllocError) -> CheckError {
+        CheckError::Cert(CertError::Memory)
     }
 }

@@ -10,7 +10,7 @@ mod saying;
 mod steps;
 mod words;
 
-pub use faults::CertError;
+pub use faults::{CertError, CheckError};
 pub use lines::{Lines, MAX_LINE_BYTES, MAX_LINES};
 pub use lrat_model::{Step, StepFault};
 pub use proof::{ProofLine, proof_line};

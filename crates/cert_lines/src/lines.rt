@@ -2,12 +2,13 @@
 ghost use Rattle.std.specs.Prelude.{◌≡◌, ◌≢◌, ℕ, List, [], ◌+◌, ◌++◌, ◌<◌, ◌≤◌, ◌⊎◌, length, true, false, None, IsTrue, IfSome, IfOk, IfErr, IsErrOf, OnOk, Ok, Err, if◌then◌else◌};
 ghost use Rattle.desk_io.specs.State.{left_of, with_left};
 ghost use Rattle.desk_io.specs.Faults.{ReadFails};
+ghost use Rattle.cert_lines.specs.Ends.{OnCert};
 ghost use Rattle.cert_lines.specs.Lines.{lines_of};
 ghost use Rattle.cert_lines.specs.Limits.{next_line};
 ghost use Rattle.cert_lines.specs.Parts.{with_front, IsPart};
 ghost use Rattle.cert_lines.specs.Texts.{texts_in, texts_of, next_text, IsTextPart, IsTooLong};
 
-use crate::faults::CertError;
+use crate::faults::{CertError, CheckError};
 use crate::pieces::Pieces;
 use desk_io::{Desk, Which};
 use std::alloc::{AllocError, Global};
@@ -55,18 +56,18 @@ impl Lines {
     }
 
     /// The next line without its line feed, or the first fault of its number, its length and its end.
-    pub fn line<D: Desk>(&mut self, alloc: Global, desk: &mut D) -> Result<Vec<u8>, CertError>
+    pub fn line<D: Desk>(&mut self, alloc: Global, desk: &mut D) -> Result<Vec<u8>, CheckError>
         requires { self.old.taken ≡ 0 }
         ensures line { IfOk result (λ text. IsTrue D.tells → next_line self.old.number (lines_of (self.old.unread ++ left_of Which.Cert (D.state desk.old)))
             ≡ Ok (record { text = text.items; more = lines_of (self.new.unread ++ left_of Which.Cert (D.state desk.new)) })) }
         ensures few { OnOk result (self.old.number ≤ MAX_LINES) }
         ensures number { OnOk result (self.new.number ≡ self.old.number + 1) }
         ensures taken { OnOk result (self.new.taken ≡ 0) }
-        ensures err { IfErr result (λ e. IsTrue D.tells → (e ≡ CertError.Memory) ⊎ (e ≡ CertError.Read)
-            ⊎ (next_line self.old.number (lines_of (self.old.unread ++ left_of Which.Cert (D.state desk.old))) ≡ Err e)) }
-        ensures plain { IsErrOf result CertError.Read → IsTrue D.tells → IsTrue (D.state desk.old).plain → ⊥ }
+        ensures err { IfErr result (λ e. IsTrue D.tells → OnCert e (λ fault. (fault ≡ CertError.Memory)
+            ⊎ (next_line self.old.number (lines_of (self.old.unread ++ left_of Which.Cert (D.state desk.old))) ≡ Err fault))) }
+        ensures plain { IsErrOf result CheckError.Read → IsTrue D.tells → IsTrue (D.state desk.old).plain → ⊥ }
         ensures rest { IsTrue D.tells → D.state desk.new ≡ with_left Which.Cert (left_of Which.Cert (D.state desk.new)) (D.state desk.old) }
-        ensures faults { ReadFails (D.faults desk.old) (D.faults desk.new) (IsErrOf result CertError.Read) }
+        ensures faults { ReadFails (D.faults desk.old) (D.faults desk.new) (IsErrOf result CheckError.Read) }
     {
         self.begin()?;
         let mut text = Vec::new(alloc);
@@ -91,17 +92,17 @@ impl Lines {
         &mut self,
         desk: &mut D,
         text: &mut Vec<u8>,
-    ) -> Result<(), CertError>
+    ) -> Result<(), CheckError>
         requires { self.old.number ≤ MAX_LINES }
         ensures line { OnOk result ((suffix : List ℕ) × (text.new.items ≡ text.old.items ++ suffix)
             × (IsTrue D.tells → (front : List ℕ) → length front ≡ self.old.taken → IsPart true self.old.number front suffix (lines_of (self.old.unread ++ left_of Which.Cert (D.state desk.old))) (lines_of (self.new.unread ++ left_of Which.Cert (D.state desk.new))))) }
         ensures number { OnOk result (self.new.number ≡ self.old.number + 1) }
         ensures taken { OnOk result (self.new.taken ≡ 0) }
-        ensures err { IfErr result (λ e. IsTrue D.tells → (e ≡ CertError.Memory) ⊎ (e ≡ CertError.Read)
-            ⊎ ((front : List ℕ) → length front ≡ self.old.taken → next_line self.old.number (with_front front (lines_of (self.old.unread ++ left_of Which.Cert (D.state desk.old)))) ≡ Err e)) }
-        ensures plain { IsErrOf result CertError.Read → IsTrue D.tells → IsTrue (D.state desk.old).plain → ⊥ }
+        ensures err { IfErr result (λ e. IsTrue D.tells → OnCert e (λ fault. (fault ≡ CertError.Memory)
+            ⊎ ((front : List ℕ) → length front ≡ self.old.taken → next_line self.old.number (with_front front (lines_of (self.old.unread ++ left_of Which.Cert (D.state desk.old)))) ≡ Err fault))) }
+        ensures plain { IsErrOf result CheckError.Read → IsTrue D.tells → IsTrue (D.state desk.old).plain → ⊥ }
         ensures rest { IsTrue D.tells → D.state desk.new ≡ with_left Which.Cert (left_of Which.Cert (D.state desk.new)) (D.state desk.old) }
-        ensures faults { ReadFails (D.faults desk.old) (D.faults desk.new) (IsErrOf result CertError.Read) }
+        ensures faults { ReadFails (D.faults desk.old) (D.faults desk.new) (IsErrOf result CheckError.Read) }
     {
         'parts: loop {
             let ends = self.next_part(desk)?;
@@ -113,27 +114,27 @@ impl Lines {
     }
 
     /// Takes the next part of the line: whether it ends the line.
-    pub fn next_part<D: Desk>(&mut self, desk: &mut D) -> Result<bool, CertError>
+    pub fn next_part<D: Desk>(&mut self, desk: &mut D) -> Result<bool, CheckError>
         requires few { self.old.number ≤ MAX_LINES }
         ensures part { IfOk result (λ ends. IsTrue D.tells → (front : List ℕ) → length front ≡ self.old.taken → IsPart ends self.old.number front self.new.part (lines_of (self.old.unread ++ left_of Which.Cert (D.state desk.old))) (lines_of (self.new.unread ++ left_of Which.Cert (D.state desk.new)))) }
         ensures number { IfOk result (λ ends. self.new.number ≡ (if ends then self.old.number + 1 else self.old.number)) }
         ensures taken { IfOk result (λ ends. self.new.taken ≡ (if ends then 0 else self.old.taken + length self.new.part)) }
         ensures short { OnOk result (self.old.taken + length self.new.part ≤ MAX_LINE_BYTES) }
         ensures grows { IfOk result (λ ends. ends ≡ false → 0 < length self.new.part) }
-        ensures err { IfErr result (λ e. IsTrue D.tells → (e ≡ CertError.Read) ⊎ ((front : List ℕ) → length front ≡ self.old.taken → next_line self.old.number (with_front front (lines_of (self.old.unread ++ left_of Which.Cert (D.state desk.old)))) ≡ Err e)) }
-        ensures plain { IsErrOf result CertError.Read → IsTrue D.tells → IsTrue (D.state desk.old).plain → ⊥ }
+        ensures err { IfErr result (λ e. IsTrue D.tells → OnCert e (λ fault. (front : List ℕ) → length front ≡ self.old.taken → next_line self.old.number (with_front front (lines_of (self.old.unread ++ left_of Which.Cert (D.state desk.old)))) ≡ Err fault)) }
+        ensures plain { IsErrOf result CheckError.Read → IsTrue D.tells → IsTrue (D.state desk.old).plain → ⊥ }
         ensures rest { IsTrue D.tells → D.state desk.new ≡ with_left Which.Cert (left_of Which.Cert (D.state desk.new)) (D.state desk.old) }
-        ensures faults { ReadFails (D.faults desk.old) (D.faults desk.new) (IsErrOf result CertError.Read) }
+        ensures faults { ReadFails (D.faults desk.old) (D.faults desk.new) (IsErrOf result CheckError.Read) }
     {
         if !self.bytes.fill(desk)? {
-            return Err(CertError::Truncated(self.number));
+            return Err(CheckError::Cert(CertError::Truncated(self.number)));
         }
-        self.cut_part()
+        Ok(self.cut_part()?)
     }
 
     /// Takes the first part of the next line of a text whose last line may lack its line feed: whether it ends the line, or None
     /// where no line is left.
-    pub fn first_part<D: Desk>(&mut self, desk: &mut D) -> Result<Option<bool>, CertError>
+    pub fn first_part<D: Desk>(&mut self, desk: &mut D) -> Result<Option<bool>, CheckError>
         requires { self.old.taken ≡ 0 }
         ensures none { result ≡ Ok None → IsTrue D.tells → next_text self.old.number (texts_of (self.old.unread ++ left_of Which.Cert (D.state desk.old))) ≡ Ok None }
         ensures part { IfOk result (λ o. IfSome o (λ ends. IsTrue D.tells → IsTextPart ends self.old.number [] self.new.part (lines_of (self.old.unread ++ left_of Which.Cert (D.state desk.old))) (lines_of (self.new.unread ++ left_of Which.Cert (D.state desk.new))))) }
@@ -141,10 +142,10 @@ impl Lines {
         ensures number { IfOk result (λ o. IfSome o (λ ends. self.new.number ≡ (if ends then self.old.number + 1 else self.old.number))) }
         ensures taken { IfOk result (λ o. IfSome o (λ ends. self.new.taken ≡ (if ends then 0 else length self.new.part))) }
         ensures grows { IfOk result (λ o. IfSome o (λ ends. ends ≡ false → 0 < length self.new.part)) }
-        ensures err { IfErr result (λ e. IsTrue D.tells → (e ≡ CertError.Read) ⊎ (next_text self.old.number (texts_of (self.old.unread ++ left_of Which.Cert (D.state desk.old))) ≡ Err e)) }
-        ensures plain { IsErrOf result CertError.Read → IsTrue D.tells → IsTrue (D.state desk.old).plain → ⊥ }
+        ensures err { IfErr result (λ e. IsTrue D.tells → OnCert e (λ fault. next_text self.old.number (texts_of (self.old.unread ++ left_of Which.Cert (D.state desk.old))) ≡ Err fault)) }
+        ensures plain { IsErrOf result CheckError.Read → IsTrue D.tells → IsTrue (D.state desk.old).plain → ⊥ }
         ensures rest { IsTrue D.tells → D.state desk.new ≡ with_left Which.Cert (left_of Which.Cert (D.state desk.new)) (D.state desk.old) }
-        ensures faults { ReadFails (D.faults desk.old) (D.faults desk.new) (IsErrOf result CertError.Read) }
+        ensures faults { ReadFails (D.faults desk.old) (D.faults desk.new) (IsErrOf result CheckError.Read) }
     {
         if !self.bytes.fill(desk)? {
             return Ok(None);
@@ -154,7 +155,7 @@ impl Lines {
     }
 
     /// Takes one more part of such a line: whether it ends the line. Where nothing is left, an empty part does.
-    pub fn more_part<D: Desk>(&mut self, desk: &mut D) -> Result<bool, CertError>
+    pub fn more_part<D: Desk>(&mut self, desk: &mut D) -> Result<bool, CheckError>
         requires few { self.old.number ≤ MAX_LINES }
         requires begun { 0 < self.old.taken }
         ensures part { IfOk result (λ ends. IsTrue D.tells → (front : List ℕ) → length front ≡ self.old.taken → IsTextPart ends self.old.number front self.new.part (lines_of (self.old.unread ++ left_of Which.Cert (D.state desk.old))) (lines_of (self.new.unread ++ left_of Which.Cert (D.state desk.new)))) }
@@ -162,17 +163,17 @@ impl Lines {
         ensures taken { IfOk result (λ ends. self.new.taken ≡ (if ends then 0 else self.old.taken + length self.new.part)) }
         ensures short { OnOk result (self.old.taken + length self.new.part ≤ MAX_LINE_BYTES) }
         ensures grows { IfOk result (λ ends. ends ≡ false → 0 < length self.new.part) }
-        ensures err { IfErr result (λ e. IsTrue D.tells → (e ≡ CertError.Read) ⊎ ((front : List ℕ) → length front ≡ self.old.taken → next_text self.old.number (texts_in (with_front front (lines_of (self.old.unread ++ left_of Which.Cert (D.state desk.old))))) ≡ Err e)) }
-        ensures plain { IsErrOf result CertError.Read → IsTrue D.tells → IsTrue (D.state desk.old).plain → ⊥ }
+        ensures err { IfErr result (λ e. IsTrue D.tells → OnCert e (λ fault. (front : List ℕ) → length front ≡ self.old.taken → next_text self.old.number (texts_in (with_front front (lines_of (self.old.unread ++ left_of Which.Cert (D.state desk.old))))) ≡ Err fault)) }
+        ensures plain { IsErrOf result CheckError.Read → IsTrue D.tells → IsTrue (D.state desk.old).plain → ⊥ }
         ensures rest { IsTrue D.tells → D.state desk.new ≡ with_left Which.Cert (left_of Which.Cert (D.state desk.new)) (D.state desk.old) }
-        ensures faults { ReadFails (D.faults desk.old) (D.faults desk.new) (IsErrOf result CertError.Read) }
+        ensures faults { ReadFails (D.faults desk.old) (D.faults desk.new) (IsErrOf result CheckError.Read) }
     {
         if !self.bytes.fill(desk)? {
             self.number += 1;
             self.taken = 0;
             return Ok(true);
         }
-        self.cut_part()
+        Ok(self.cut_part()?)
     }
 
     /// Cuts the next part of the line off what is unread: whether it ends the line.
@@ -184,7 +185,6 @@ impl Lines {
         ensures taken { IfOk result (λ ends. self.new.taken ≡ (if ends then 0 else self.old.taken + length self.new.part)) }
         ensures short { OnOk result (self.old.taken + length self.new.part ≤ MAX_LINE_BYTES) }
         ensures grows { IfOk result (λ ends. ends ≡ false → 0 < length self.new.part) }
-        ensures unread { IsErrOf result CertError.Read → ⊥ }
         ensures long { IfErr result (λ e. (left front : List ℕ) → length front ≡ self.old.taken → IsTooLong self.old.number (with_front front (lines_of (self.old.unread ++ left))) e) }
     {
         let ends = self.bytes.cut();
@@ -216,16 +216,16 @@ impl Lines {
     }
 
     /// Ends the reading after the last line: `Trailing` where something follows it.
-    pub fn close<D: Desk>(mut self, desk: &mut D) -> Result<(), CertError>
+    pub fn close<D: Desk>(mut self, desk: &mut D) -> Result<(), CheckError>
         ensures ok { OnOk result (IsTrue D.tells → self.unread ++ left_of Which.Cert (D.state desk.old) ≡ []) }
-        ensures err { IfErr result (λ e. IsTrue D.tells → (e ≡ CertError.Read)
-            ⊎ ((e ≡ CertError.Trailing) × (self.unread ++ left_of Which.Cert (D.state desk.old) ≢ []))) }
-        ensures plain { IsErrOf result CertError.Read → IsTrue D.tells → IsTrue (D.state desk.old).plain → ⊥ }
+        ensures err { IfErr result (λ e. IsTrue D.tells → OnCert e (λ fault. (fault ≡ CertError.Trailing)
+            × (self.unread ++ left_of Which.Cert (D.state desk.old) ≢ []))) }
+        ensures plain { IsErrOf result CheckError.Read → IsTrue D.tells → IsTrue (D.state desk.old).plain → ⊥ }
         ensures rest { IsTrue D.tells → D.state desk.new ≡ with_left Which.Cert (left_of Which.Cert (D.state desk.new)) (D.state desk.old) }
-        ensures faults { ReadFails (D.faults desk.old) (D.faults desk.new) (IsErrOf result CertError.Read) }
+        ensures faults { ReadFails (D.faults desk.old) (D.faults desk.new) (IsErrOf result CheckError.Read) }
     {
         if self.bytes.fill(desk)? {
-            return Err(CertError::Trailing);
+            return Err(CheckError::Cert(CertError::Trailing));
         }
         Ok(())
     }

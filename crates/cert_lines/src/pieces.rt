@@ -4,7 +4,7 @@ ghost use Rattle.desk_io.specs.State.{left_of, with_left};
 ghost use Rattle.desk_io.specs.Faults.{ReadFails};
 ghost use Rattle.cert_lines.specs.Parts.{IsFeedless};
 
-use crate::faults::CertError;
+use crate::faults::CheckError;
 use desk_io::{Desk, Which};
 use memchr::memchr;
 use std::alloc::{AllocError, Global};
@@ -49,17 +49,17 @@ impl Pieces {
     }
 
     /// Takes the next piece in the place of the last one.
-    fn refill<D: Desk>(&mut self, desk: &mut D) -> Result<(), CertError>
+    fn refill<D: Desk>(&mut self, desk: &mut D) -> Result<(), CheckError>
         ensures all { OnOk result (IsTrue D.tells → left_of Which.Cert (D.state desk.old) ≡ self.new.unread ++ left_of Which.Cert (D.state desk.new)) }
         ensures end { OnOk result (IsTrue D.tells → self.new.unread ≡ [] → left_of Which.Cert (D.state desk.old) ≡ []) }
         ensures part { OnOk result (self.new.part ≡ []) }
-        ensures err { IfErr result (λ e. e ≡ CertError.Read) }
+        ensures err { IfErr result (λ e. e ≡ CheckError.Read) }
         ensures plain { OnErr result (IsTrue D.tells → IsTrue (D.state desk.old).plain → ⊥) }
         ensures rest { IsTrue D.tells → D.state desk.new ≡ with_left Which.Cert (left_of Which.Cert (D.state desk.new)) (D.state desk.old) }
         ensures faults { ReadFails (D.faults desk.old) (D.faults desk.new) (IsErr result) }
     {
         let Ok(count) = desk.next(Which::Cert, self.piece.as_mut_slice()) else {
-            return Err(CertError::Read);
+            return Err(CheckError::Read);
         };
         self.start = 0;
         self.stop = 0;
@@ -69,13 +69,13 @@ impl Pieces {
     }
 
     /// Takes the next piece, where nothing is unread: whether something is unread then.
-    pub fn fill<D: Desk>(&mut self, desk: &mut D) -> Result<bool, CertError>
+    pub fn fill<D: Desk>(&mut self, desk: &mut D) -> Result<bool, CheckError>
         ensures all { OnOk result (IsTrue D.tells → self.old.unread ++ left_of Which.Cert (D.state desk.old) ≡ self.new.unread ++ left_of Which.Cert (D.state desk.new)) }
         ensures some { IfOk result (λ more. more ≡ true → 0 < length self.new.unread) }
         ensures left { IfOk result (λ more. more ≡ true → IsTrue D.tells → 0 < length (self.old.unread ++ left_of Which.Cert (D.state desk.old))) }
         ensures none { IfOk result (λ more. more ≡ false → IsTrue D.tells → self.old.unread ++ left_of Which.Cert (D.state desk.old) ≡ []) }
         ensures part { IfOk result (λ more. more ≡ false → self.new.part ≡ []) }
-        ensures err { IfErr result (λ e. e ≡ CertError.Read) }
+        ensures err { IfErr result (λ e. e ≡ CheckError.Read) }
         ensures plain { OnErr result (IsTrue D.tells → IsTrue (D.state desk.old).plain → ⊥) }
         ensures rest { IsTrue D.tells → D.state desk.new ≡ with_left Which.Cert (left_of Which.Cert (D.state desk.new)) (D.state desk.old) }
         ensures faults { ReadFails (D.faults desk.old) (D.faults desk.new) (IsErr result) }

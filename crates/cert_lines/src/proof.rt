@@ -7,12 +7,13 @@ ghost use Rattle.lrat_text.specs.Lines.{step_in};
 ghost use Rattle.lrat_stream.specs.Outline.{outline_in};
 ghost use Rattle.lrat_stream.specs.Ahead.{ahead, Fits};
 ghost use Rattle.lrat_stream.specs.Solid.{IsSolid};
+ghost use Rattle.cert_lines.specs.Ends.{OnCert};
 ghost use Rattle.cert_lines.specs.Lines.{lines_of};
 ghost use Rattle.cert_lines.specs.Parts.{with_front};
 ghost use Rattle.cert_lines.specs.Texts.{texts_in, texts_of, next_text, IsTextPart};
 ghost use Rattle.cert_lines.specs.Steps.{is_comment, is_wordless, is_passed_over};
 
-use crate::faults::CertError;
+use crate::faults::{CertError, CheckError};
 use crate::lines::{Lines, MAX_LINE_BYTES, MAX_LINES};
 use desk_io::{Desk, Which};
 use lrat_checker::Checker;
@@ -63,7 +64,7 @@ pub fn proof_line<D: Desk>(
     desk: &mut D,
     checker: &mut Checker,
     reader: &mut StepReader,
-) -> Result<ProofLine, CertError>
+) -> Result<ProofLine, CheckError>
     requires fresh { lines.old.taken ≡ 0 }
     requires closed { checker.old.open_addition ≡ None }
     ensures end { result ≡ Ok ProofLine.End → IsTrue D.tells → next_text lines.old.number (texts_of (lines.old.unread ++ left_of Which.Cert (D.state desk.old))) ≡ Ok None }
@@ -82,11 +83,11 @@ pub fn proof_line<D: Desk>(
     ensures few { IfOk result (λ p. p ≢ ProofLine.End → lines.old.number ≤ MAX_LINES) }
     ensures number { IfOk result (λ p. p ≢ ProofLine.End → lines.new.number ≡ lines.old.number + 1) }
     ensures taken { IfOk result (λ p. p ≢ ProofLine.End → lines.new.taken ≡ 0) }
-    ensures err { IfErr result (λ e. IsTrue D.tells → (e ≡ CertError.Memory) ⊎ (e ≡ CertError.Read)
-        ⊎ (next_text lines.old.number (texts_of (lines.old.unread ++ left_of Which.Cert (D.state desk.old))) ≡ Err e)) }
-    ensures plain { IsErrOf result CertError.Read → IsTrue D.tells → IsTrue (D.state desk.old).plain → ⊥ }
+    ensures err { IfErr result (λ e. IsTrue D.tells → OnCert e (λ fault. (fault ≡ CertError.Memory)
+        ⊎ (next_text lines.old.number (texts_of (lines.old.unread ++ left_of Which.Cert (D.state desk.old))) ≡ Err fault))) }
+    ensures plain { IsErrOf result CheckError.Read → IsTrue D.tells → IsTrue (D.state desk.old).plain → ⊥ }
     ensures rest { IsTrue D.tells → D.state desk.new ≡ with_left Which.Cert (left_of Which.Cert (D.state desk.new)) (D.state desk.old) }
-    ensures faults { ReadFails (D.faults desk.old) (D.faults desk.new) (IsErrOf result CertError.Read) }
+    ensures faults { ReadFails (D.faults desk.old) (D.faults desk.new) (IsErrOf result CheckError.Read) }
 {
     match begin_line(lines, desk)? {
         Begun::End => Ok(ProofLine::End),
@@ -109,7 +110,7 @@ enum Begun {
 }
 
 /// Takes the next line up to the first part with a word, or to its end where it is passed over.
-fn begin_line<D: Desk>(lines: &mut Lines, desk: &mut D) -> Result<Begun, CertError>
+fn begin_line<D: Desk>(lines: &mut Lines, desk: &mut D) -> Result<Begun, CheckError>
     requires { lines.old.taken ≡ 0 }
     ensures end { result ≡ Ok Begun.End → IsTrue D.tells → next_text lines.old.number (texts_of (lines.old.unread ++ left_of Which.Cert (D.state desk.old))) ≡ Ok None }
     ensures passed { result ≡ Ok Begun.Passed → (text : List ℕ) × (is_passed_over text ≡ true)
@@ -123,10 +124,10 @@ fn begin_line<D: Desk>(lines: &mut Lines, desk: &mut D) -> Result<Begun, CertErr
     ensures number { result ≡ Ok Begun.Passed → lines.new.number ≡ lines.old.number + 1 }
     ensures place { (ends : Bool) → result ≡ Ok (Begun.Word ends) → lines.new.number ≡ (if ends then lines.old.number + 1 else lines.old.number) }
     ensures taken { result ≡ Ok Begun.Passed → lines.new.taken ≡ 0 }
-    ensures err { IfErr result (λ e. IsTrue D.tells → (e ≡ CertError.Read) ⊎ (next_text lines.old.number (texts_of (lines.old.unread ++ left_of Which.Cert (D.state desk.old))) ≡ Err e)) }
-    ensures plain { IsErrOf result CertError.Read → IsTrue D.tells → IsTrue (D.state desk.old).plain → ⊥ }
+    ensures err { IfErr result (λ e. IsTrue D.tells → OnCert e (λ fault. next_text lines.old.number (texts_of (lines.old.unread ++ left_of Which.Cert (D.state desk.old))) ≡ Err fault)) }
+    ensures plain { IsErrOf result CheckError.Read → IsTrue D.tells → IsTrue (D.state desk.old).plain → ⊥ }
     ensures rest { IsTrue D.tells → D.state desk.new ≡ with_left Which.Cert (left_of Which.Cert (D.state desk.new)) (D.state desk.old) }
-    ensures faults { ReadFails (D.faults desk.old) (D.faults desk.new) (IsErrOf result CertError.Read) }
+    ensures faults { ReadFails (D.faults desk.old) (D.faults desk.new) (IsErrOf result CheckError.Read) }
 {
     let Some(ends) = lines.first_part(desk)? else {
         return Ok(Begun::End);
@@ -142,7 +143,11 @@ fn begin_line<D: Desk>(lines: &mut Lines, desk: &mut D) -> Result<Begun, CertErr
 }
 
 /// Takes the parts of a line behind the first, up to the first with a word. Of a comment all are passed over.
-fn pass_over<D: Desk>(lines: &mut Lines, desk: &mut D, is_comment: bool) -> Result<Begun, CertError>
+fn pass_over<D: Desk>(
+    lines: &mut Lines,
+    desk: &mut D,
+    is_comment: bool,
+) -> Result<Begun, CheckError>
     requires few { lines.old.number ≤ MAX_LINES }
     requires begun { 0 < lines.old.taken }
     ensures some { result ≡ Ok Begun.End → ⊥ }
@@ -155,10 +160,10 @@ fn pass_over<D: Desk>(lines: &mut Lines, desk: &mut D, is_comment: bool) -> Resu
     ensures number { result ≡ Ok Begun.Passed → lines.new.number ≡ lines.old.number + 1 }
     ensures place { (ends : Bool) → result ≡ Ok (Begun.Word ends) → lines.new.number ≡ (if ends then lines.old.number + 1 else lines.old.number) }
     ensures taken { result ≡ Ok Begun.Passed → lines.new.taken ≡ 0 }
-    ensures err { IfErr result (λ e. IsTrue D.tells → (e ≡ CertError.Read) ⊎ ((front : List ℕ) → length front ≡ lines.old.taken → next_text lines.old.number (texts_in (with_front front (lines_of (lines.old.unread ++ left_of Which.Cert (D.state desk.old))))) ≡ Err e)) }
-    ensures plain { IsErrOf result CertError.Read → IsTrue D.tells → IsTrue (D.state desk.old).plain → ⊥ }
+    ensures err { IfErr result (λ e. IsTrue D.tells → OnCert e (λ fault. (front : List ℕ) → length front ≡ lines.old.taken → next_text lines.old.number (texts_in (with_front front (lines_of (lines.old.unread ++ left_of Which.Cert (D.state desk.old))))) ≡ Err fault)) }
+    ensures plain { IsErrOf result CheckError.Read → IsTrue D.tells → IsTrue (D.state desk.old).plain → ⊥ }
     ensures rest { IsTrue D.tells → D.state desk.new ≡ with_left Which.Cert (left_of Which.Cert (D.state desk.new)) (D.state desk.old) }
-    ensures faults { ReadFails (D.faults desk.old) (D.faults desk.new) (IsErrOf result CertError.Read) }
+    ensures faults { ReadFails (D.faults desk.old) (D.faults desk.new) (IsErrOf result CheckError.Read) }
 {
     'parts: loop {
         let ends = lines.more_part(desk)?;
@@ -178,7 +183,7 @@ fn read_line<D: Desk>(
     checker: &mut Checker,
     reader: &mut StepReader,
     ends: bool,
-) -> Result<(), CertError>
+) -> Result<(), CheckError>
     requires closed { checker.old.open_addition ≡ None }
     requires done { ends ≡ true → lines.old.taken ≡ 0 }
     requires few { ends ≡ false → lines.old.number ≤ MAX_LINES }
@@ -193,11 +198,11 @@ fn read_line<D: Desk>(
     ensures vars { checker.new.vars ≡ checker.old.vars }
     ensures number { OnOk result (lines.new.number ≡ (if ends then lines.old.number else lines.old.number + 1)) }
     ensures taken { OnOk result (lines.new.taken ≡ 0) }
-    ensures err { IfErr result (λ e. IsTrue D.tells → (e ≡ CertError.Memory) ⊎ (e ≡ CertError.Read)
-        ⊎ ((ends ≡ false) × ((front : List ℕ) → length front ≡ lines.old.taken → next_text lines.old.number (texts_in (with_front front (lines_of (lines.old.unread ++ left_of Which.Cert (D.state desk.old))))) ≡ Err e))) }
-    ensures plain { IsErrOf result CertError.Read → IsTrue D.tells → IsTrue (D.state desk.old).plain → ⊥ }
+    ensures err { IfErr result (λ e. IsTrue D.tells → OnCert e (λ fault. (fault ≡ CertError.Memory)
+        ⊎ ((ends ≡ false) × ((front : List ℕ) → length front ≡ lines.old.taken → next_text lines.old.number (texts_in (with_front front (lines_of (lines.old.unread ++ left_of Which.Cert (D.state desk.old))))) ≡ Err fault)))) }
+    ensures plain { IsErrOf result CheckError.Read → IsTrue D.tells → IsTrue (D.state desk.old).plain → ⊥ }
     ensures rest { IsTrue D.tells → D.state desk.new ≡ with_left Which.Cert (left_of Which.Cert (D.state desk.new)) (D.state desk.old) }
-    ensures faults { ReadFails (D.faults desk.old) (D.faults desk.new) (IsErrOf result CertError.Read) }
+    ensures faults { ReadFails (D.faults desk.old) (D.faults desk.new) (IsErrOf result CheckError.Read) }
 {
     reader.restart();
     if ends {
@@ -215,7 +220,7 @@ fn rest_of_text<D: Desk>(
     desk: &mut D,
     checker: &mut Checker,
     reader: &mut StepReader,
-) -> Result<(), CertError>
+) -> Result<(), CheckError>
     requires few { lines.old.number ≤ MAX_LINES }
     requires begun { 0 < lines.old.taken }
     requires fits { Fits reader.old.words checker.old.open_addition }
@@ -229,11 +234,11 @@ fn rest_of_text<D: Desk>(
     ensures vars { checker.new.vars ≡ checker.old.vars }
     ensures number { OnOk result (lines.new.number ≡ lines.old.number + 1) }
     ensures taken { OnOk result (lines.new.taken ≡ 0) }
-    ensures err { IfErr result (λ e. IsTrue D.tells → (e ≡ CertError.Memory) ⊎ (e ≡ CertError.Read)
-        ⊎ ((front : List ℕ) → length front ≡ lines.old.taken → next_text lines.old.number (texts_in (with_front front (lines_of (lines.old.unread ++ left_of Which.Cert (D.state desk.old))))) ≡ Err e)) }
-    ensures plain { IsErrOf result CertError.Read → IsTrue D.tells → IsTrue (D.state desk.old).plain → ⊥ }
+    ensures err { IfErr result (λ e. IsTrue D.tells → OnCert e (λ fault. (fault ≡ CertError.Memory)
+        ⊎ ((front : List ℕ) → length front ≡ lines.old.taken → next_text lines.old.number (texts_in (with_front front (lines_of (lines.old.unread ++ left_of Which.Cert (D.state desk.old))))) ≡ Err fault))) }
+    ensures plain { IsErrOf result CheckError.Read → IsTrue D.tells → IsTrue (D.state desk.old).plain → ⊥ }
     ensures rest { IsTrue D.tells → D.state desk.new ≡ with_left Which.Cert (left_of Which.Cert (D.state desk.new)) (D.state desk.old) }
-    ensures faults { ReadFails (D.faults desk.old) (D.faults desk.new) (IsErrOf result CertError.Read) }
+    ensures faults { ReadFails (D.faults desk.old) (D.faults desk.new) (IsErrOf result CheckError.Read) }
 {
     'parts: loop {
         if lines.more_part(desk)? {

@@ -1,5 +1,5 @@
 //! What the words of a line say: a digest, the size of a formula or of a counter, or a step.
-ghost use Rattle.std.specs.Prelude.{◌≡◌, ◌⊎◌, None, IfOk, IfErr, IfSome, IsErrOf, Ok, Err};
+ghost use Rattle.std.specs.Prelude.{◌≡◌, ◌⊎◌, None, IfOk, IfErr, IfSome, Ok, Err};
 ghost use Rattle.digest_text.specs.Digits.{digest_of};
 ghost use Rattle.lrat_model.specs.Steps.{step_of};
 ghost use Rattle.lrat_text.specs.Lines.{step_in};
@@ -91,7 +91,6 @@ pub fn counter_in(text: &[u8]) -> Option<Counts>
 
 /// The step that this line says, whatever its fault as a step line `BadLine`.
 pub fn step_in(alloc: Global, line: u64, text: &[u8]) -> Result<Step, CertError>
-    ensures unread { IsErrOf result CertError.Read → ⊥ }
     ensures ok { IfOk result (λ step. or_bad_line line (step_in text.now) ≡ Ok (step_of step)) }
     ensures err { IfErr result (λ e. (e ≡ CertError.Memory) ⊎ (or_bad_line line (step_in text.now) ≡ Err e)) }
 {

@@ -7,12 +7,13 @@ ghost use Rattle.lrat_text.specs.Lines.{step_in};
 ghost use Rattle.lrat_stream.specs.Outline.{outline_in};
 ghost use Rattle.lrat_stream.specs.Ahead.{ahead, Fits};
 ghost use Rattle.lrat_stream.specs.Solid.{IsSolid};
+ghost use Rattle.cert_lines.specs.Ends.{OnCert};
 ghost use Rattle.cert_lines.specs.Lines.{lines_of};
 ghost use Rattle.cert_lines.specs.Limits.{next_line};
 ghost use Rattle.cert_lines.specs.Parts.{IsPart, with_front};
 ghost use Rattle.cert_lines.specs.Steps.{is_other};
 
-use crate::faults::CertError;
+use crate::faults::{CertError, CheckError};
 use crate::lines::{Lines, MAX_LINES};
 use desk_io::{Desk, Which};
 use lrat_checker::Checker;
@@ -40,7 +41,7 @@ pub fn line_or_step<D: Desk>(
     desk: &mut D,
     checker: &mut Checker,
     reader: &mut StepReader,
-) -> Result<Option<Vec<u8>>, CertError>
+) -> Result<Option<Vec<u8>>, CheckError>
     requires fresh { lines.old.taken ≡ 0 }
     requires closed { checker.old.open_addition ≡ None }
     ensures text { IfOk result (λ o. IfSome o (λ text. IsTrue D.tells → next_line lines.old.number (lines_of (lines.old.unread ++ left_of Which.Cert (D.state desk.old)))
@@ -57,11 +58,11 @@ pub fn line_or_step<D: Desk>(
     ensures few { OnOk result (lines.old.number ≤ MAX_LINES) }
     ensures number { OnOk result (lines.new.number ≡ lines.old.number + 1) }
     ensures taken { OnOk result (lines.new.taken ≡ 0) }
-    ensures err { IfErr result (λ e. IsTrue D.tells → (e ≡ CertError.Memory) ⊎ (e ≡ CertError.Read)
-        ⊎ (next_line lines.old.number (lines_of (lines.old.unread ++ left_of Which.Cert (D.state desk.old))) ≡ Err e)) }
-    ensures plain { IsErrOf result CertError.Read → IsTrue D.tells → IsTrue (D.state desk.old).plain → ⊥ }
+    ensures err { IfErr result (λ e. IsTrue D.tells → OnCert e (λ fault. (fault ≡ CertError.Memory)
+        ⊎ (next_line lines.old.number (lines_of (lines.old.unread ++ left_of Which.Cert (D.state desk.old))) ≡ Err fault))) }
+    ensures plain { IsErrOf result CheckError.Read → IsTrue D.tells → IsTrue (D.state desk.old).plain → ⊥ }
     ensures rest { IsTrue D.tells → D.state desk.new ≡ with_left Which.Cert (left_of Which.Cert (D.state desk.new)) (D.state desk.old) }
-    ensures faults { ReadFails (D.faults desk.old) (D.faults desk.new) (IsErrOf result CertError.Read) }
+    ensures faults { ReadFails (D.faults desk.old) (D.faults desk.new) (IsErrOf result CheckError.Read) }
 {
     lines.begin()?;
     let ends = lines.next_part(desk)?;
@@ -89,7 +90,7 @@ fn rest_of_step<D: Desk>(
     desk: &mut D,
     checker: &mut Checker,
     reader: &mut StepReader,
-) -> Result<(), CertError>
+) -> Result<(), CheckError>
     requires few { lines.old.number ≤ MAX_LINES }
     requires fits { Fits reader.old.words checker.old.open_addition }
     requires solid { IsSolid reader.old.begun.items }
@@ -102,11 +103,11 @@ fn rest_of_step<D: Desk>(
     ensures vars { checker.new.vars ≡ checker.old.vars }
     ensures number { OnOk result (lines.new.number ≡ lines.old.number + 1) }
     ensures taken { OnOk result (lines.new.taken ≡ 0) }
-    ensures err { IfErr result (λ e. IsTrue D.tells → (e ≡ CertError.Memory) ⊎ (e ≡ CertError.Read)
-        ⊎ ((front : List ℕ) → length front ≡ lines.old.taken → next_line lines.old.number (with_front front (lines_of (lines.old.unread ++ left_of Which.Cert (D.state desk.old)))) ≡ Err e)) }
-    ensures plain { IsErrOf result CertError.Read → IsTrue D.tells → IsTrue (D.state desk.old).plain → ⊥ }
+    ensures err { IfErr result (λ e. IsTrue D.tells → OnCert e (λ fault. (fault ≡ CertError.Memory)
+        ⊎ ((front : List ℕ) → length front ≡ lines.old.taken → next_line lines.old.number (with_front front (lines_of (lines.old.unread ++ left_of Which.Cert (D.state desk.old)))) ≡ Err fault))) }
+    ensures plain { IsErrOf result CheckError.Read → IsTrue D.tells → IsTrue (D.state desk.old).plain → ⊥ }
     ensures rest { IsTrue D.tells → D.state desk.new ≡ with_left Which.Cert (left_of Which.Cert (D.state desk.new)) (D.state desk.old) }
-    ensures faults { ReadFails (D.faults desk.old) (D.faults desk.new) (IsErrOf result CertError.Read) }
+    ensures faults { ReadFails (D.faults desk.old) (D.faults desk.new) (IsErrOf result CheckError.Read) }
 {
     'parts: loop {
         if lines.next_part(desk)? {

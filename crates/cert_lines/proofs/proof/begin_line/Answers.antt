@@ -1,13 +1,14 @@
-use Rattle.std.proofs.Common.{◌≡◌, ◌≢◌, ◌+◌, ◌<◌, ◌≤◌, ◌++◌, ◌⊎◌, [], ℕ, List, length, true, false, Bool, IsTrue, if◌then◌else◌, Err, inl, inr, refl, ap, sym, ◌∙◌, subst}
+use Rattle.std.proofs.Common.{◌≡◌, ◌≢◌, ◌+◌, ◌<◌, ◌≤◌, ◌++◌, [], ℕ, List, length, true, false, Bool, IsTrue, if◌then◌else◌, Err, refl, ap, sym, ◌∙◌, subst}
 use Rattle.desk_io.specs.State.{left_of}
 use Rattle.desk_io.specs.declared.Which.TheVariants.{Cert}
+use Rattle.cert_lines.specs.Ends.{OnCert}
 use Rattle.cert_lines.specs.Lines.{lines_of}
 use Rattle.cert_lines.specs.Parts.{with_front}
 use Rattle.cert_lines.specs.Texts.{texts_in, texts_of, next_text, IsTextPart}
 use Rattle.cert_lines.specs.Steps.{is_comment}
-use Rattle.cert_lines.specs.declared.faults.CertError.TheVariants.{Read}
 use Rattle.cert_lines.specs.declared.proof.Begun.TheVariants.{End}
 use Rattle.cert_lines.specs.declared.lines.TheConstants.{MAX_LINES}
+use Rattle.cert_lines.proofs.Ends.{on_cert}
 use Rattle.cert_lines.proofs.TextParts.{if_err, ok_always}
 use Rattle.cert_lines.proofs.ProofStarts.{told_passed, blank_part, wordless_more, word_first, word_later, passed_more, behind_first, behind_blanks, fault_behind, taken_behind}
 use Rattle.cert_lines.proofs.proof.begin_line.Goals as goal
@@ -100,13 +101,12 @@ returns-clause-err g c =
     let size : now.taken ≡ length part = (rw c.in-Some.is at c.in_ok-ends.ensures.taken) ∙ ap (λ (b : Bool). if b then 0 else length part) c.if-ends.false in
     let number : now.number ≡ n = (rw c.in-Some.is at c.in_ok-ends.ensures.number) ∙ ap (λ (b : Bool). if b then n + 1 else n) c.if-ends.false in
     let first : IsTrue g.D.Desk.tells → IsTextPart c.in-Some.ends n [] part (lines_of old) now_lines = rw c.in-Some.is at c.in_ok-ends.ensures.part in
-    if_err (λ e. IsTrue g.D.Desk.tells → (e ≡ Read) ⊎ ((front : List ℕ) → length front ≡ now.taken → next_text now.number (texts_in (with_front front now_lines)) ≡ Err e))
-    (λ e. IsTrue g.D.Desk.tells → (e ≡ Read) ⊎ (next_text n (texts_of old) ≡ Err e))
+    if_err (λ e. IsTrue g.D.Desk.tells → OnCert e (λ fault. (front : List ℕ) → length front ≡ now.taken → next_text now.number (texts_in (with_front front now_lines)) ≡ Err fault))
+    (λ e. IsTrue g.D.Desk.tells → OnCert e (λ fault. next_text n (texts_of old) ≡ Err fault))
     c.pass_over.result
-    (λ e fault tells. elim (fault tells) [
-      | inl read ↦ inl read
-      | inr bad ↦ inr (fault_behind n now.number now.taken part (lines_of old) now_lines e size number (subst (λ (b : Bool). IsTextPart b n [] part (lines_of old) now_lines) c.if-ends.false (first tells)) bad)
-    ])
+    (λ e told tells. on_cert e
+    (λ fault. fault_behind n now.number now.taken part (lines_of old) now_lines fault size number (subst (λ (b : Bool). IsTextPart b n [] part (lines_of old) now_lines) c.if-ends.false (first tells)))
+    (told tells))
     c.pass_over.ensures.err
 
 pub returns-clause-few : goal.returns-clause-few

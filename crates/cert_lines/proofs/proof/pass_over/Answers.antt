@@ -1,9 +1,10 @@
-use Rattle.std.proofs.Common.{rules, ◌≡◌, ◌+◌, ◌++◌, ◌||◌, ℕ, List, length, true, false, Bool, if◌then◌else◌, ap, sym, ◌∙◌, arith, length-append, Err, inl, inr}
+use Rattle.std.proofs.Common.{rules, ◌≡◌, ◌+◌, ◌++◌, ◌||◌, ℕ, List, length, true, false, Bool, if◌then◌else◌, ap, sym, ◌∙◌, arith, length-append, Err}
 use Rattle.std.proofs.lemmas.Bool.{or_parts}
 use Rattle.desk_io.specs.State.{left_of}
 use Rattle.desk_io.specs.declared.Which.TheVariants.{Cert}
 use Rattle.cert_lines.specs.Lines.{lines_of}
 use Rattle.cert_lines.specs.Steps.{is_wordless}
+use Rattle.cert_lines.proofs.Ends.{on_cert}
 use Rattle.cert_lines.proofs.PartRuns.{came_more}
 use Rattle.cert_lines.proofs.TextParts.{text_came, text_placed, text_fault}
 use Rattle.cert_lines.proofs.ProofStarts.{blank_part, wordless_more, taken_more}
@@ -86,7 +87,4 @@ returns-in_err-ends-clause-err g c =
     let now_lines = lines_of (now.unread ++ left_of Cert (g.D.Desk.state c.parts.desk)) in
     let e = c.in_err-ends.field-0.0 in
     let r : c.from_residual.result ≡ Err e = search rules in
-    rw r (λ tells. elim (c.in_err-ends.ensures.err tells) [
-      | inl read ↦ inl read
-      | inr fault ↦ inr (text_fault now.number before.number before.taken now.taken suffix.0 old_lines now_lines e c.parts.invariant.number suffix.2 (suffix.3 tells) fault)
-    ])
+    rw r (λ tells. on_cert e (λ fault. text_fault now.number before.number before.taken now.taken suffix.0 old_lines now_lines fault c.parts.invariant.number suffix.2 (suffix.3 tells)) (c.in_err-ends.ensures.err tells))

@@ -1,9 +1,10 @@
-use Rattle.std.proofs.Common.{rules, ◌≡◌, ◌+◌, ◌++◌, [], length, false, Bool, if◌then◌else◌, Err, inl, inr, refl, ap, sym, ◌∙◌, subst}
+use Rattle.std.proofs.Common.{rules, ◌≡◌, ◌+◌, ◌++◌, [], length, false, Bool, if◌then◌else◌, Err, refl, ap, sym, ◌∙◌, subst}
 use Rattle.desk_io.specs.State.{left_of}
 use Rattle.desk_io.specs.declared.Which.TheVariants.{Cert}
 use Rattle.lrat_stream.specs.Outline.{outline_in}
 use Rattle.cert_lines.specs.Lines.{lines_of}
 use Rattle.cert_lines.specs.Texts.{IsTextPart}
+use Rattle.cert_lines.proofs.Ends.{cert_or_memory}
 use Rattle.cert_lines.proofs.ProofStarts.{blank_step, fault_behind, whole_of_parts}
 use Rattle.cert_lines.proofs.proof.proof_line.Goals as goal
 
@@ -46,14 +47,10 @@ returns-in_err-read_line-in-Word-clause-err g c =
     let came = told.0 ++ now.part in
     let e = c.in_err-read_line-in-Word.field-0.0 in
     let r : c.from_residual-in_err-read_line-in-Word.result ≡ Err e = search rules in
-    rw r (λ tells. elim (c.in_err-read_line-in-Word.ensures.err tells) [
-      | inl memory ↦ inl memory
-      | inr other ↦ elim other [
-        | inl read ↦ inr (inl read)
-        | inr fault ↦ inr (inr (fault_behind n now.number now.taken came old_lines now_lines e
-            (told.3 ∙ ap (λ (b : Bool). if b then 0 else length came) fault.0)
-            (place ∙ ap (λ (b : Bool). if b then n + 1 else n) fault.0)
-            (subst (λ (b : Bool). IsTextPart b n [] came old_lines now_lines) fault.0 (told.4 tells))
-            fault.1))
-      ]
-    ])
+    rw r (λ tells. cert_or_memory e
+    (λ fault so. fault_behind n now.number now.taken came old_lines now_lines fault
+    (told.3 ∙ ap (λ (b : Bool). if b then 0 else length came) so.0)
+    (place ∙ ap (λ (b : Bool). if b then n + 1 else n) so.0)
+    (subst (λ (b : Bool). IsTextPart b n [] came old_lines now_lines) so.0 (told.4 tells))
+    so.1)
+    (c.in_err-read_line-in-Word.ensures.err tells))

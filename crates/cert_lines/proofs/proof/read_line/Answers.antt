@@ -1,4 +1,4 @@
-use Rattle.std.proofs.Common.{rules, ◌≡◌, ◌++◌, [], ℕ, List, Err, inl, inr, refl, ap, sym, ◌∙◌}
+use Rattle.std.proofs.Common.{rules, ◌≡◌, ◌++◌, [], ℕ, List, Err, refl, ap, sym, ◌∙◌}
 use Rattle.std.proofs.lemmas.List.{append-nil}
 use Rattle.desk_io.specs.State.{left_of}
 use Rattle.desk_io.specs.declared.Which.TheVariants.{Cert}
@@ -8,6 +8,7 @@ use Rattle.lrat_stream.specs.Outline.{outline_in}
 use Rattle.lrat_stream.specs.Ahead.{ahead}
 use Rattle.lrat_stream.proofs.WordSteps.{moved}
 use Rattle.cert_lines.specs.Lines.{lines_of}
+use Rattle.cert_lines.proofs.Ends.{cert_or_memory}
 use Rattle.cert_lines.proofs.StepStarts.{at_start}
 use Rattle.cert_lines.proofs.ProofStarts.{done, goes_on}
 use Rattle.cert_lines.proofs.proof.read_line.Goals as goal
@@ -17,10 +18,7 @@ pub returns-in_err-rest_of_text-clause-err : goal.returns-in_err-rest_of_text-cl
 returns-in_err-rest_of_text-clause-err g c =
     let e = c.in_err-rest_of_text.field-0.0 in
     let r : c.from_residual-in_err-rest_of_text.result ≡ Err e = search rules in
-    rw r (λ tells. elim (c.in_err-rest_of_text.ensures.err tells) [
-      | inl memory ↦ inl memory
-      | inr other ↦ elim other [ inl read ↦ inr (inl read) | inr fault ↦ inr (inr (c.if-ends.false, fault)) ]
-    ])
+    rw r (λ tells. cert_or_memory e (λ _ told. (c.if-ends.false, told)) (c.in_err-rest_of_text.ensures.err tells))
 
 pub returns-clause-line : goal.returns-clause-line
 returns-clause-line g c =

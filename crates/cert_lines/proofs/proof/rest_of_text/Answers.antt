@@ -1,10 +1,11 @@
-use Rattle.std.proofs.Common.{rules, ◌≡◌, ◌+◌, ◌++◌, [], ℕ, List, length, true, false, Bool, if◌then◌else◌, ap, sym, ◌∙◌, arith, append_assoc, length-append, Err, inl, inr}
+use Rattle.std.proofs.Common.{rules, ◌≡◌, ◌+◌, ◌++◌, [], ℕ, List, length, true, false, Bool, if◌then◌else◌, ap, sym, ◌∙◌, arith, append_assoc, length-append, Err, inr}
 use Rattle.desk_io.specs.State.{left_of}
 use Rattle.desk_io.specs.declared.Which.TheVariants.{Cert}
 use Rattle.lrat_text.specs.Words.{words_of}
 use Rattle.lrat_stream.specs.Ahead.{ahead}
 use Rattle.lrat_stream.proofs.WordSteps.{moved}
 use Rattle.cert_lines.specs.Lines.{lines_of}
+use Rattle.cert_lines.proofs.Ends.{on_cert}
 use Rattle.cert_lines.proofs.PartRuns.{came_more}
 use Rattle.cert_lines.proofs.TextParts.{text_came, text_placed, text_fault}
 use Rattle.cert_lines.proofs.proof.rest_of_text.Goals as goal
@@ -81,7 +82,4 @@ returns-in_err-more_part-clause-err g c =
     let now_lines = lines_of (now.unread ++ left_of Cert (g.D.Desk.state c.parts.desk)) in
     let e = c.in_err-more_part.field-0.0 in
     let r : c.from_residual.result ≡ Err e = search rules in
-    rw r (λ tells. elim (c.in_err-more_part.ensures.err tells) [
-      | inl read ↦ inr (inl read)
-      | inr fault ↦ inr (inr (text_fault now.number before.number before.taken now.taken suffix.0 old_lines now_lines e c.parts.invariant.number suffix.1 (suffix.2 tells) fault))
-    ])
+    rw r (λ tells. on_cert e (λ fault told. inr (text_fault now.number before.number before.taken now.taken suffix.0 old_lines now_lines fault c.parts.invariant.number suffix.1 (suffix.2 tells) told)) (c.in_err-more_part.ensures.err tells))

@@ -1,8 +1,9 @@
-use Rattle.std.proofs.Common.{rules, ◌≡◌, ◌+◌, ◌++◌, [], ℕ, List, length, true, false, Bool, if◌then◌else◌, Err, inl, inr, refl, ap, sym, ◌∙◌}
+use Rattle.std.proofs.Common.{rules, ◌≡◌, ◌+◌, ◌++◌, [], ℕ, List, length, true, false, Bool, if◌then◌else◌, Err, inr, refl, ap, sym, ◌∙◌}
 use Rattle.desk_io.specs.State.{left_of}
 use Rattle.desk_io.specs.declared.Which.TheVariants.{Cert}
 use Rattle.cert_lines.specs.Lines.{lines_of}
 use Rattle.cert_lines.specs.Limits.{next_line}
+use Rattle.cert_lines.proofs.Ends.{on_cert, cert_or_memory}
 use Rattle.cert_lines.proofs.Fronts.{with_front-nothing}
 use Rattle.cert_lines.proofs.PartRuns.{same_text, placed, first_fault, first_end, first_rest}
 use Rattle.lrat_text.specs.Words.{words_of}
@@ -21,10 +22,7 @@ returns-in_err-ends-clause-err g c =
     let old_lines = lines_of (lines.unread ++ left_of Cert (g.D.Desk.state c.args.desk.now)) in
     let e = c.in_err-ends.field-0.0 in
     let r : c.from_residual-in_err-ends.result ≡ Err e = search rules in
-    rw r (λ tells. elim (c.in_err-ends.ensures.err tells) [
-      | inl read ↦ inr (inl read)
-      | inr fault ↦ inr (inr (ap (next_line lines.number) (sym (with_front-nothing old_lines)) ∙ fault [] (sym c.requires.fresh)))
-    ])
+    rw r (λ tells. on_cert e (λ _ told. inr (ap (next_line lines.number) (sym (with_front-nothing old_lines)) ∙ told [] (sym c.requires.fresh))) (c.in_err-ends.ensures.err tells))
 
 pub returns-in_err-rest_of_step-clause-err : goal.returns-in_err-rest_of_step-clause-err
 returns-in_err-rest_of_step-clause-err g c =
@@ -36,15 +34,10 @@ returns-in_err-rest_of_step-clause-err g c =
     let r : c.from_residual-in_err-rest_of_step.result ≡ Err e = search rules in
     let taken : now.taken ≡ lines.taken + length now.part = c.in_ok-ends.ensures.taken ∙ ap (λ (b : Bool). if b then 0 else (lines.taken + length now.part)) c.if-ends.false in
     let number : now.number ≡ lines.number = c.in_ok-ends.ensures.number ∙ ap (λ (b : Bool). if b then lines.number + 1 else lines.number) c.if-ends.false in
-    rw r (λ tells. elim (c.in_err-rest_of_step.ensures.err tells) [
-      | inl memory ↦ inl memory
-      | inr other ↦ elim other [
-        | inl read ↦ inr (inl read)
-        | inr fault ↦
-            let came = placed false c.in_ok-ends.ends lines.number lines.number lines.taken now.part old_lines now_lines c.if-ends.false refl (c.in_ok-ends.ensures.part tells) in
-            inr (inr (first_fault lines.number now.number lines.taken now.taken now.part old_lines now_lines e c.requires.fresh taken number came fault))
-      ]
-    ])
+    rw r (λ tells. cert_or_memory e
+    (λ fault. first_fault lines.number now.number lines.taken now.taken now.part old_lines now_lines fault c.requires.fresh taken number
+    (placed false c.in_ok-ends.ends lines.number lines.number lines.taken now.part old_lines now_lines c.if-ends.false refl (c.in_ok-ends.ensures.part tells)))
+    (c.in_err-rest_of_step.ensures.err tells))
 
 pub returns-clause-step : goal.returns-clause-step
 returns-clause-step g c = λ _.
@@ -96,15 +89,10 @@ returns-in_err-rest_of_line-clause-err g c =
     let r : c.from_residual-in_err-rest_of_line.result ≡ Err e = search rules in
     let taken : now.taken ≡ lines.taken + length now.part = c.in_ok-ends.ensures.taken ∙ ap (λ (b : Bool). if b then 0 else (lines.taken + length now.part)) c.if-not-ends.true in
     let number : now.number ≡ lines.number = c.in_ok-ends.ensures.number ∙ ap (λ (b : Bool). if b then lines.number + 1 else lines.number) c.if-not-ends.true in
-    rw r (λ tells. elim (c.in_err-rest_of_line.ensures.err tells) [
-      | inl memory ↦ inl memory
-      | inr other ↦ elim other [
-        | inl read ↦ inr (inl read)
-        | inr fault ↦
-            let came = placed false c.in_ok-ends.ends lines.number lines.number lines.taken now.part old_lines now_lines c.if-not-ends.true refl (c.in_ok-ends.ensures.part tells) in
-            inr (inr (first_fault lines.number now.number lines.taken now.taken now.part old_lines now_lines e c.requires.fresh taken number came fault))
-      ]
-    ])
+    rw r (λ tells. cert_or_memory e
+    (λ fault. first_fault lines.number now.number lines.taken now.taken now.part old_lines now_lines fault c.requires.fresh taken number
+    (placed false c.in_ok-ends.ends lines.number lines.number lines.taken now.part old_lines now_lines c.if-not-ends.true refl (c.in_ok-ends.ensures.part tells)))
+    (c.in_err-rest_of_line.ensures.err tells))
 
 pub returns-then-is_other-clause-text : goal.returns-then-is_other-clause-text
 returns-then-is_other-clause-text g c = λ tells.

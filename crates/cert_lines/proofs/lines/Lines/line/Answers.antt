@@ -1,8 +1,9 @@
-use Rattle.std.proofs.Common.{rules, ◌≡◌, ◌++◌, [], ℕ, List, Err, inl, inr, ap, sym, ◌∙◌}
+use Rattle.std.proofs.Common.{rules, ◌≡◌, ◌++◌, [], ℕ, List, Err, ap, sym, ◌∙◌}
 use Rattle.desk_io.specs.State.{left_of}
 use Rattle.desk_io.specs.declared.Which.TheVariants.{Cert}
 use Rattle.cert_lines.specs.Lines.{lines_of}
 use Rattle.cert_lines.specs.Limits.{next_line}
+use Rattle.cert_lines.proofs.Ends.{cert_or_memory}
 use Rattle.cert_lines.proofs.Fronts.{with_front-nothing}
 use Rattle.cert_lines.proofs.PartRuns.{same_text}
 use Rattle.cert_lines.proofs.lines.Lines.line.Goals as goal
@@ -22,10 +23,4 @@ returns-in_err-rest_of_line-clause-err g c =
     let old_lines = lines_of (lines.unread ++ left_of Cert (g.D.Desk.state c.args.desk.now)) in
     let e = c.in_err-rest_of_line.field-0.0 in
     let r : c.from_residual-in_err-rest_of_line.result ≡ Err e = search rules in
-    rw r (λ tells. elim (c.in_err-rest_of_line.ensures.err tells) [
-      | inl memory ↦ inl memory
-      | inr other ↦ elim other [
-        | inl read ↦ inr (inl read)
-        | inr fault ↦ inr (inr (ap (next_line lines.number) (sym (with_front-nothing old_lines)) ∙ fault [] (sym c.requires)))
-      ]
-    ])
+    rw r (λ tells. cert_or_memory e (λ _ told. ap (next_line lines.number) (sym (with_front-nothing old_lines)) ∙ told [] (sym c.requires)) (c.in_err-rest_of_line.ensures.err tells))

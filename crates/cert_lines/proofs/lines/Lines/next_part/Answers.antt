@@ -1,52 +1,43 @@
-use Rattle.std.proofs.Common.{◌≡◌, ◌⊎◌, ◌≤◌, ℕ, ◌++◌, [], List, length, Err, arith, IsTrue, inr, ap, sym, ◌∙◌}
+use Rattle.std.proofs.Common.{◌≡◌, ◌≤◌, ℕ, ◌++◌, [], List, length, Err, arith, ap, sym, ◌∙◌}
 use Rattle.desk_io.specs.State.{left_of}
 use Rattle.desk_io.specs.declared.Which.TheVariants.{Cert}
 use Rattle.cert_lines.specs.Limits.{Unread, next_line}
 use Rattle.cert_lines.specs.Lines.{lines_of}
-use Rattle.cert_lines.specs.Parts.{with_front, IsPart}
-use Rattle.cert_lines.specs.Texts.{IsTooLong}
-use Rattle.cert_lines.specs.declared.faults.CertError.TheVariants.{Read, Truncated}
+use Rattle.cert_lines.specs.Parts.{with_front}
+use Rattle.cert_lines.specs.declared.faults.CertError.TheVariants.{Truncated}
 use Rattle.cert_lines.specs.declared.lines.TheConstants.{MAX_LINE_BYTES}
+use Rattle.cert_lines.proofs.Ends.{passed_on}
 use Rattle.cert_lines.proofs.Fronts.{cut_line}
-use Rattle.cert_lines.proofs.TextParts.{same_part, same_too_long, if_ok, if_err}
+use Rattle.cert_lines.proofs.TextParts.{same_part, same_too_long}
 use Rattle.cert_lines.proofs.lines.Lines.next_part.Goals as goal
 
 pub returns-clause-part : goal.returns-clause-part
-returns-clause-part g c =
+returns-clause-part g c = λ tells front size.
     let inside = c.self.inside in
     let now = c.args.self.now in
     let left = left_of Cert (g.D.Desk.state c.args.desk.now) in
     let later = left_of Cert (g.D.Desk.state c.fill.new.desk) in
-    let part = c.cut_part.new.self.part in
-    let new_lines = lines_of (c.cut_part.new.self.unread ++ later) in
     let number : inside.number ≡ now.number = ap (λ (u : Unread). u.number) c.self.view_is in
     let taken : inside.taken ≡ now.taken = ap (λ (u : Unread). u.taken) c.self.view_is in
-    if_ok (λ ends. (left front : List ℕ) → length front ≡ inside.taken → IsPart ends inside.number front part (lines_of (c.fill.new.self.unread ++ left)) (lines_of (c.cut_part.new.self.unread ++ left)))
-    (λ ends. IsTrue g.D.Desk.tells → (front : List ℕ) → length front ≡ now.taken → IsPart ends now.number front part (lines_of (now.unread ++ left)) new_lines)
-    c.cut_part.result
-    (λ ends told tells front size.
-    same_part ends inside.number now.number front part (now.unread ++ left) (c.fill.new.self.unread ++ later) new_lines number
-    (sym (ap (λ (u : Unread). u.unread ++ left) c.self.view_is) ∙ c.in_ok-fill.ensures.all tells) (told later front (size ∙ sym taken)))
-    c.cut_part.ensures.part
+    same_part c.in_ok-cut_part.field-0 inside.number now.number front c.cut_part.new.self.part (now.unread ++ left) (c.fill.new.self.unread ++ later) (lines_of (c.cut_part.new.self.unread ++ later)) number
+    (sym (ap (λ (u : Unread). u.unread ++ left) c.self.view_is) ∙ c.in_ok-fill.ensures.all tells) (c.in_ok-cut_part.ensures.part later front (size ∙ sym taken))
 
-pub returns-clause-err : goal.returns-clause-err
-returns-clause-err g c =
+pub returns-in_err-cut_part-clause-err : goal.returns-in_err-cut_part-clause-err
+returns-in_err-cut_part-clause-err g c =
     let inside = c.self.inside in
     let now = c.args.self.now in
     let left = left_of Cert (g.D.Desk.state c.args.desk.now) in
     let later = left_of Cert (g.D.Desk.state c.fill.new.desk) in
+    let e = c.in_err-cut_part.field-0.0 in
+    let r = passed_on c.from_residual-in_err-cut_part.result e c.from_residual-in_err-cut_part.ensures.1 in
     let number : inside.number ≡ now.number = ap (λ (u : Unread). u.number) c.self.view_is in
     let taken : inside.taken ≡ now.taken = ap (λ (u : Unread). u.taken) c.self.view_is in
-    if_err (λ e. (left front : List ℕ) → length front ≡ inside.taken → IsTooLong inside.number (with_front front (lines_of (c.fill.new.self.unread ++ left))) e)
-    (λ e. IsTrue g.D.Desk.tells → (e ≡ Read) ⊎ ((front : List ℕ) → length front ≡ now.taken → next_line now.number (with_front front (lines_of (now.unread ++ left))) ≡ Err e))
-    c.cut_part.result
-    (λ e long tells. inr (λ front size.
+    rw r (λ tells front size.
     (same_too_long inside.number now.number front (now.unread ++ left) (c.fill.new.self.unread ++ later) e number
-    (sym (ap (λ (u : Unread). u.unread ++ left) c.self.view_is) ∙ c.in_ok-fill.ensures.all tells) (long later front (size ∙ sym taken))).line))
-    c.cut_part.ensures.long
+    (sym (ap (λ (u : Unread). u.unread ++ left) c.self.view_is) ∙ c.in_ok-fill.ensures.all tells) (c.in_err-cut_part.ensures.long later front (size ∙ sym taken))).line)
 
 pub returns-then-not-branch-clause-err : goal.returns-then-not-branch-clause-err
-returns-then-not-branch-clause-err g c = λ tells. inr (λ front size.
+returns-then-not-branch-clause-err g c = λ tells front size.
     let now = c.args.self.now in
     let left = left_of Cert (g.D.Desk.state c.args.desk.now) in
     let number : c.self.inside.number ≡ now.number = ap (λ (u : Unread). u.number) c.self.view_is in
@@ -56,4 +47,3 @@ returns-then-not-branch-clause-err g c = λ tells. inr (λ front size.
     ap (λ (xs : List ℕ). next_line now.number (with_front front (lines_of xs))) none
     ∙ cut_line now.number front c.requires.few short
     ∙ ap (λ (k : ℕ). Err (Truncated k)) (sym number)
-    )
