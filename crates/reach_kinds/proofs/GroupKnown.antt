@@ -1,8 +1,8 @@
 -- What is known of a list over groups from line to line.
-use Rattle.std.proofs.Common.{◌≡◌, ℕ, ◌<◌, List, [], ◌∷◌, ◌++◌, length, Bool, true, false, not, nat_lt, Option, Some, None, ok_or, Result, Ok, refl, sym, ap, ◌∙◌, subst, inl, inr, codes}
+use Rattle.std.proofs.Common.{◌≡◌, ℕ, ◌<◌, List, [], ◌∷◌, ◌++◌, length, Bool, true, false, not, Option, Some, None, ok_or, Result, Ok, refl, sym, ap, ◌∙◌, subst, inl, inr, codes}
 use Rattle.std.specs.Prelude.{All}
 use Rattle.std.specs.Str.{bytes_eq}
-use Rattle.std.proofs.lemmas.Bool.{cases_Bool, ltb-true, not-true}
+use Rattle.std.proofs.lemmas.Bool.{cases_Bool, not-true}
 use Rattle.std.proofs.lemmas.List.{append-nil, length-map}
 use Rattle.std.proofs.lemmas.List.Elements.{All-nil, All-map}
 use Rattle.fbas_model.specs.Nodes.{Table, members, ◌⊆◌, size}
@@ -15,11 +15,6 @@ use Rattle.witness_pair.proofs.PairLaws.{none_of_both}
 use Rattle.node_json.specs.Groups.{Group, tables_of, texts_of}
 use Rattle.lrat_model.specs.Steps.{ProofStep, Database, step_fault, after_step, progress_of}
 use Rattle.lrat_model.specs.Rules.{step_fault_by}
-use Rattle.lrat_model.proofs.RatRuns.{rup_is_the_first_rule}
-use Rattle.lrat_model.specs.declared.step.Rule.{Rule}
-use Rattle.lrat_model.specs.declared.step.Rule.TheVariants.{Rup}
-use Rattle.lrat_model.specs.declared.step.StepFault.{StepFault}
-use Rattle.lrat_model.specs.declared.step.StepFault.TheVariants.{IdOrder}
 use Rattle.lrat_model.specs.declared.step.Progress.{Progress}
 use Rattle.lrat_model.specs.declared.step.Progress.TheVariants.{Going as going, Refuted}
 use Rattle.lrat_text.specs.Lines.{step_in}
@@ -40,9 +35,9 @@ use Rattle.cert_lines.specs.Limits.{unless}
 use Rattle.cert_lines.specs.Words.{words_of}
 use Rattle.cert_lines.specs.Saying.{or_bad_line}
 use Rattle.cert_lines.specs.declared.faults.CertError.{CertError}
-use Rattle.cert_lines.specs.declared.faults.CertError.TheVariants.{BadLine, UnknownNode, NotQuorum, NotBlocking, NotMinimal, NotNew, Step}
+use Rattle.cert_lines.specs.declared.faults.CertError.TheVariants.{BadLine, UnknownNode, NotQuorum, NotBlocking, NotMinimal, NotNew}
 use Rattle.reach_kinds.specs.Bodies.{and_then, all_among, nodes_of, others, within, listed_by, Numbered, numbered_in, put_last, with_sought, literal_in}
-use Rattle.reach_kinds.specs.GroupBodies.{rules_over, no_group_listing, quorum_in, block_in, groups_by_text, listed_set, is_old_group_set, with_group_set, list_group_set, group_set_line, is_old_group_step, with_group_step, after_group_step, group_step_unless, group_step, group_end, group_text, group_line}
+use Rattle.reach_kinds.specs.GroupBodies.{rules_over, no_group_listing, quorum_in, block_in, groups_by_text, listed_set, is_old_group_set, with_group_set, list_group_set, group_set_line, is_old_group_step, with_group_step, after_group_step, group_step, group_end, group_text, group_line}
 use Rattle.reach_kinds.specs.Known.{IsPartNodes, IsGroupedPart, IsListOver, IsReachState}
 use Rattle.reach_kinds.specs.declared.kinds.ReachKind.TheVariants.{Groups}
 use Rattle.reach_kinds.specs.declared.places.Reached.TheVariants.{Partial}
@@ -53,10 +48,11 @@ use Rattle.reach_kinds.specs.declared.places.ReachPlace.TheVariants.{AtGroups}
 use Rattle.reach_kinds.specs.declared.places.ReachState.{ReachState}
 use Rattle.reach_kinds.specs.declared.places.ReachState.TheVariants.{Going, Done}
 use Rattle.reach_kinds.proofs.ListShown.{part_faulty_size, cut_size}
-use Rattle.reach_kinds.proofs.ListKnown.{new_clause, new_step, open_more, sets_more, part_set}
+use Rattle.reach_kinds.proofs.ListKnown.{new_clause, new_step, open_more, sets_more, part_set, taken_by_rup}
 use Rattle.reach_kinds.proofs.GroupShown.{groups_shown}
 use Rattle.reach_kinds.proofs.Inside.{inside}
-use Rattle.reach_kinds.proofs.Results.{got, passed, within_part}
+use Rattle.reach_kinds.proofs.Refused.{taken_so}
+use Rattle.reach_kinds.proofs.Results.{got, passed, under_id, within_part}
 
 -- before the first line
 pub over_starts : (f : System) (nodes gone : Table) (kind : ListKind) (p : GroupPart) → IsPartNodes f nodes gone → IsGroupedPart f nodes gone p → IsListOver f nodes gone (no_group_listing kind p)
@@ -174,11 +170,8 @@ set_known f nodes gone k l which id s state is above right e =
 
 numbered_over : (f : System) (nodes gone : Table) (k : GroupListing) (l : ℕ) (which : Listed) (n : Numbered) (state : ReachState) → IsListOver f nodes gone k → group_set_line f nodes k l which n ≡ Ok state → IsReachState f nodes gone state
 numbered_over f nodes gone k l which n state is e =
-    let last : ℕ = k.checker.database.last in
-    let sets : Result Table CertError = listed_set f nodes k.over l which n.names in
-    let p = passed (Step l (IdOrder last n.id)) (nat_lt last n.id) (and_then (list_group_set k l which n.id) sets) state e in
-    let g = got sets (list_group_set k l which n.id) state p.1 in
-    set_known f nodes gone k l which n.id g.0 state is (ltb-true last n.id p.0) (right_over f nodes gone k.over is.subject is.over l which n.names g.0 g.1) g.2
+    let g = under_id l k.checker.database.last n.id (list_group_set k l which n.id) (listed_set f nodes k.over l which n.names) state e in
+    set_known f nodes gone k l which n.id g.0 state is g.1 (right_over f nodes gone k.over is.subject is.over l which n.names g.0 g.2) g.3
 
 -- ---- a step more
 
@@ -189,10 +182,7 @@ step_goes f nodes gone k step p is none off progress = by_progress p progress
     r = rules_over k.over
 
     taken : step_fault r.vars k.checker.database step ≡ None
-    taken =
-        sym (rup_is_the_first_rule r.vars k.checker.database step)
-        ∙ subst (λ (n : ℕ). step_fault_by Rup n k.checker.database step ≡ None) is.vars
-        (subst (λ (rule : Rule). step_fault_by rule k.checker.vars k.checker.database step ≡ None) is.rule none)
+    taken = taken_by_rup k.checker r.vars step is.rule is.vars none
 
     run : JournalRun r k.kind nothing_held (is.journal ++ StepLine step ∷ []) (after_step k.checker.database step)
     run = run_append r k.kind nothing_held is.journal (StepLine step ∷ []) k.checker.database (after_step k.checker.database step) is.run
@@ -215,13 +205,10 @@ step_goes f nodes gone k step p is none off progress = by_progress p progress
         (subst (λ (p : ListPart). JournalRun (rules_over (record { part = p; groups = k.over.groups; touched = k.over.touched })) k.kind nothing_held (is.journal ++ StepLine step ∷ []) (after_step k.checker.database step)) is.over.part run)
         is.listed is.sets
 
-step_over : (f : System) (nodes gone : Table) (k : GroupListing) (l : ℕ) (step : ProofStep) (o : Option StepFault) (state : ReachState) → IsListOver f nodes gone k → step_fault_by k.checker.rule k.checker.vars k.checker.database step ≡ o → group_step_unless l k step o ≡ Ok state → IsReachState f nodes gone state
-step_over f nodes gone k l step (Some fault) state is at e = absurd cc
-step_over f nodes gone k l step None state is at e =
-    let next : ReachState = after_group_step (with_group_step k step) (progress_of step) in
-    let p = passed (NotNew l) (not (is_old_group_step k step)) (Ok next) state e in
-    let same : next ≡ state = (let q = p.1 in cc) in
-    subst (IsReachState f nodes gone) same (step_goes f nodes gone k step (progress_of step) is at (not-true (is_old_group_step k step) p.0) refl)
+step_over : (f : System) (nodes gone : Table) (k : GroupListing) (l : ℕ) (step : ProofStep) (state : ReachState) → IsListOver f nodes gone k → group_step k l step ≡ Ok state → IsReachState f nodes gone state
+step_over f nodes gone k l step state is e =
+    let t = taken_so l (is_old_group_step k step) (step_fault_by k.checker.rule k.checker.vars k.checker.database step) (after_group_step (with_group_step k step) (progress_of step)) state e in
+    subst (IsReachState f nodes gone) t.2 (step_goes f nodes gone k step (progress_of step) is t.0 t.1 refl)
 
 -- ---- lines
 
@@ -237,7 +224,7 @@ text_over f nodes gone k l text (Some which) state is e =
     numbered_over f nodes gone k l which g.0 state is g.2
 text_over f nodes gone k l text None state is e =
     let g = got (and_then (literal_in k.kind l) (or_bad_line l (step_in text))) (group_step k l) state e in
-    step_over f nodes gone k l g.0 (step_fault_by k.checker.rule k.checker.vars k.checker.database g.0) state is refl g.2
+    step_over f nodes gone k l g.0 state is g.2
 
 pub known_over : (f : System) (nodes gone : Table) (k : GroupListing) (l : ℕ) (text : List ℕ) → IsListOver f nodes gone k → (state : ReachState) → group_line f nodes k l text ≡ Ok state → IsReachState f nodes gone state
 known_over f nodes gone k l text is state e = elim (cases_Bool (bytes_eq text (codes "end"))) [

@@ -1,8 +1,8 @@
 -- What is known of a list from line to line.
-use Rattle.std.proofs.Common.{◌≡◌, ℕ, ◌<◌, ◌≤◌, ◌+◌, ◌*◌, ◌==◌, Bool, List, [], ◌∷◌, ◌++◌, map, length, true, false, not, ◌&&◌, ◌||◌, nat_lt, nat_le, Option, Some, None, ok_or, Result, Ok, IfOk, refl, sym, ap, ◌∙◌, subst, arith, inl, inr, codes}
+use Rattle.std.proofs.Common.{◌≡◌, ℕ, ◌<◌, ◌≤◌, ◌+◌, ◌*◌, ◌==◌, Bool, List, [], ◌∷◌, ◌++◌, map, length, true, false, not, ◌&&◌, ◌||◌, nat_le, Option, Some, None, ok_or, Result, Ok, IfOk, refl, sym, ap, ◌∙◌, subst, arith, inl, inr, codes}
 use Rattle.std.specs.Prelude.{All}
 use Rattle.std.specs.Str.{bytes_eq}
-use Rattle.std.proofs.lemmas.Bool.{cases_Bool, cases_lt, both_ways, ltb-true, leb-true, leb-false, ne_eqb, not-true}
+use Rattle.std.proofs.lemmas.Bool.{cases_Bool, cases_lt, both_ways, leb-true, leb-false, ne_eqb, not-true}
 use Rattle.std.proofs.lemmas.List.{append-nil, map-append}
 use Rattle.std.proofs.lemmas.List.Elements.{All-nil, All-cons, All-append}
 use Rattle.fbas_model.specs.Nodes.{Table, members, ◌⊆◌, IsInhabited, size}
@@ -19,10 +19,9 @@ use Rattle.lrat_model.specs.Rules.{step_fault_by}
 use Rattle.lrat_model.proofs.RatRuns.{rup_is_the_first_rule}
 use Rattle.lrat_model.specs.declared.step.Rule.{Rule}
 use Rattle.lrat_model.specs.declared.step.Rule.TheVariants.{Rup}
-use Rattle.lrat_model.specs.declared.step.StepFault.{StepFault}
-use Rattle.lrat_model.specs.declared.step.StepFault.TheVariants.{IdOrder}
 use Rattle.lrat_model.specs.declared.step.Progress.{Progress}
 use Rattle.lrat_model.specs.declared.step.Progress.TheVariants.{Going as going, Refuted}
+use Rattle.lrat_checker.specs.Checking.{Checking}
 use Rattle.lrat_text.specs.Lines.{step_in}
 use Rattle.enumeration_journal.specs.Kinds.{is_sought}
 use Rattle.enumeration_journal.specs.Journals.{JournalLine, SetLine, StepLine, Rules, IsNewIf, JournalRun, IsNewLine, IsOpen, line_progress, put_if, sets_in}
@@ -40,11 +39,11 @@ use Rattle.cert_lines.specs.Limits.{unless}
 use Rattle.cert_lines.specs.Words.{words_of}
 use Rattle.cert_lines.specs.Saying.{counter_in, or_bad_line}
 use Rattle.cert_lines.specs.declared.faults.CertError.{CertError}
-use Rattle.cert_lines.specs.declared.faults.CertError.TheVariants.{BadLine, UnknownNode, NotMinimal, NotSmaller, NotNew, TooLarge, Formula, Step}
+use Rattle.cert_lines.specs.declared.faults.CertError.TheVariants.{BadLine, UnknownNode, NotMinimal, NotSmaller, NotNew, TooLarge, Formula}
 use Rattle.clause_encoder.specs.NameCounter.{counter_vars, counter_of}
 use Rattle.clause_encoder.specs.declared.limits.TheConstants.{MOST_VARS}
 use Rattle.least_journal.specs.Least.{FallFrom, last_of}
-use Rattle.reach_kinds.specs.Bodies.{and_then, all_among, nodes_of, others, within, adds_covered, is_covered, rules_of, list_part, list_checking, listing_on, counted_listing, counter_sized, counter_line, body_begins, asks_inside, is_listed_for, asks_minimal, asks_smaller, is_below, not_of, asks_steps, listed_by, Numbered, numbered_in, right_set, is_old, new_set, put_last, with_sought, with_listed, list_set, set_line, literal_in, is_old_step, with_step, after_list_step, list_step_unless, list_step, list_end, list_text, list_line}
+use Rattle.reach_kinds.specs.Bodies.{and_then, all_among, nodes_of, others, within, adds_covered, is_covered, rules_of, list_part, list_checking, listing_on, counted_listing, counter_sized, counter_line, body_begins, asks_inside, is_listed_for, asks_minimal, asks_smaller, is_below, not_of, asks_steps, listed_by, Numbered, numbered_in, right_set, is_old, new_set, put_last, with_sought, with_listed, list_set, set_line, literal_in, is_old_step, with_step, after_list_step, list_step, list_end, list_text, list_line}
 use Rattle.reach_kinds.specs.Shown.{IsReached}
 use Rattle.reach_kinds.specs.declared.kinds.ReachKind.TheVariants.{Nodes}
 use Rattle.reach_kinds.specs.declared.places.Reached.{Reached}
@@ -59,7 +58,8 @@ use Rattle.reach_kinds.proofs.CoverLaws.{covered-from}
 use Rattle.reach_kinds.proofs.ListShown.{part_faulty_size, cut_size, part_greatest, list_shown}
 use Rattle.reach_kinds.proofs.Falling.{falls_more, below_in_part}
 use Rattle.reach_kinds.proofs.Inside.{inside}
-use Rattle.reach_kinds.proofs.Results.{got, passed, within_part}
+use Rattle.reach_kinds.proofs.Refused.{taken_so}
+use Rattle.reach_kinds.proofs.Results.{got, passed, under_id, within_part}
 
 -- before the first line
 list_starts : (f : System) (sought : Listed) (kind : ListKind) (nodes gone : Table) → IsPartNodes f nodes gone → IsSmallIf sought (size (list_part f nodes gone).greatest) → FallsIf sought []
@@ -84,17 +84,20 @@ body_starts f listed.Blocking kind nodes gone is = list_starts f listed.Blocking
 body_starts f listed.Smaller kind nodes gone is = (is, refl)
 
 -- behind the counter
-counter_known : (f : System) (nodes gone : Table) (kind : ListKind) (l : ℕ) (text : List ℕ) (state : ReachState) → IsPartNodes f nodes gone → counter_line kind (list_part f nodes gone) l text ≡ Ok state → IsReachState f nodes gone state
-counter_known f nodes gone kind l text state is e =
-    let p : ListPart = list_part f nodes gone in
+pub counter_gave : (kind : ListKind) (p : ListPart) (l : ℕ) (text : List ℕ) (state : ReachState) → counter_line kind p l text ≡ Ok state → (counter_vars (size p.greatest) ≤ MOST_VARS) × (Going (AtList (counted_listing kind p)) ≡ state)
+counter_gave kind p l text state e =
     let vars : ℕ = counter_vars (size p.greatest) in
     let next : Result ReachState CertError = Ok (Going (AtList (counted_listing kind p))) in
     let g = got (ok_or (counter_in text) (BadLine l)) (counter_sized l kind p) state e in
     let same : Bool = (g.0.vars == vars) && (g.0.clauses == size p.greatest * size p.greatest) in
     let one = passed (TooLarge vars) (nat_le vars MOST_VARS) (unless (Formula l) same next) state g.2 in
     let two = passed (Formula l) same next state one.1 in
-    let there : Going (AtList (counted_listing kind p)) ≡ state = (let q = two.1 in cc) in
-    subst (IsReachState f nodes gone) there (list_starts f listed.Smaller kind nodes gone is (leb-true vars MOST_VARS one.0) tt)
+    (leb-true vars MOST_VARS one.0, let q = two.1 in cc)
+
+counter_known : (f : System) (nodes gone : Table) (kind : ListKind) (l : ℕ) (text : List ℕ) (state : ReachState) → IsPartNodes f nodes gone → counter_line kind (list_part f nodes gone) l text ≡ Ok state → IsReachState f nodes gone state
+counter_known f nodes gone kind l text state is e =
+    let g = counter_gave kind (list_part f nodes gone) l text state e in
+    subst (IsReachState f nodes gone) g.1 (list_starts f listed.Smaller kind nodes gone is g.0 tt)
 
 -- ---- new clauses
 
@@ -290,13 +293,15 @@ part_set f nodes gone l names u is e =
 
 numbered_known : (f : System) (nodes gone : Table) (k : Listing) (l : ℕ) (which : Listed) (n : Numbered) (state : ReachState) → IsList f nodes gone k → set_line f nodes k l which n ≡ Ok state → IsReachState f nodes gone state
 numbered_known f nodes gone k l which n state is e =
-    let last : ℕ = k.checker.database.last in
-    let sets : Result Table CertError = and_then (within nodes l) (nodes_of f.names l n.names) in
-    let p = passed (Step l (IdOrder last n.id)) (nat_lt last n.id) (and_then (list_set nodes k l which n.id) sets) state e in
-    let g = got sets (list_set nodes k l which n.id) state p.1 in
-    set_known f nodes gone k l which n.id g.0 state is (ltb-true last n.id p.0) (part_set f nodes gone l n.names g.0 is.subject g.1) g.2
+    let g = under_id l k.checker.database.last n.id (list_set nodes k l which n.id) (and_then (within nodes l) (nodes_of f.names l n.names)) state e in
+    set_known f nodes gone k l which n.id g.0 state is g.1 (part_set f nodes gone l n.names g.0 is.subject g.2) g.3
 
 -- ---- a step more
+
+pub taken_by_rup : (c : Checking) (vars : ℕ) (step : ProofStep) → c.rule ≡ Rup → c.vars ≡ vars → step_fault_by c.rule c.vars c.database step ≡ None → step_fault vars c.database step ≡ None
+taken_by_rup c vars step rule same none =
+    sym (rup_is_the_first_rule vars c.database step)
+    ∙ subst (λ (n : ℕ). step_fault_by Rup n c.database step ≡ None) same (subst (λ (r : Rule). step_fault_by r c.vars c.database step ≡ None) rule none)
 
 step_goes : (f : System) (nodes gone : Table) (k : Listing) (step : ProofStep) (p : Progress) → IsList f nodes gone k → step_fault_by k.checker.rule k.checker.vars k.checker.database step ≡ None → is_old_step k step ≡ false → progress_of step ≡ p → IsReachState f nodes gone (after_list_step (with_step k step) p)
 step_goes f nodes gone k step p is none off progress = by_progress p progress
@@ -305,10 +310,7 @@ step_goes f nodes gone k step p is none off progress = by_progress p progress
     r = rules_of k.sought k.part
 
     taken : step_fault r.vars k.checker.database step ≡ None
-    taken =
-        sym (rup_is_the_first_rule r.vars k.checker.database step)
-        ∙ subst (λ (n : ℕ). step_fault_by Rup n k.checker.database step ≡ None) is.vars
-        (subst (λ (rule : Rule). step_fault_by rule k.checker.vars k.checker.database step ≡ None) is.rule none)
+    taken = taken_by_rup k.checker r.vars step is.rule is.vars none
 
     run : JournalRun r k.kind r.start (is.journal ++ StepLine step ∷ []) (after_step k.checker.database step)
     run = run_append r k.kind r.start is.journal (StepLine step ∷ []) k.checker.database (after_step k.checker.database step) is.run
@@ -333,13 +335,10 @@ step_goes f nodes gone k step p is none off progress = by_progress p progress
         (subst (λ (p : ListPart). JournalRun (rules_of k.sought p) k.kind (rules_of k.sought p).start (is.journal ++ StepLine step ∷ []) (after_step k.checker.database step)) is.part run)
         is.listed is.falls is.sets
 
-step_in_list : (f : System) (nodes gone : Table) (k : Listing) (l : ℕ) (step : ProofStep) (o : Option StepFault) (state : ReachState) → IsList f nodes gone k → step_fault_by k.checker.rule k.checker.vars k.checker.database step ≡ o → list_step_unless l k step o ≡ Ok state → IsReachState f nodes gone state
-step_in_list f nodes gone k l step (Some fault) state is at e = absurd cc
-step_in_list f nodes gone k l step None state is at e =
-    let next : ReachState = after_list_step (with_step k step) (progress_of step) in
-    let p = passed (NotNew l) (not (is_old_step k step)) (Ok next) state e in
-    let same : next ≡ state = (let q = p.1 in cc) in
-    subst (IsReachState f nodes gone) same (step_goes f nodes gone k step (progress_of step) is at (not-true (is_old_step k step) p.0) refl)
+step_in_list : (f : System) (nodes gone : Table) (k : Listing) (l : ℕ) (step : ProofStep) (state : ReachState) → IsList f nodes gone k → list_step k l step ≡ Ok state → IsReachState f nodes gone state
+step_in_list f nodes gone k l step state is e =
+    let t = taken_so l (is_old_step k step) (step_fault_by k.checker.rule k.checker.vars k.checker.database step) (after_list_step (with_step k step) (progress_of step)) state e in
+    subst (IsReachState f nodes gone) t.2 (step_goes f nodes gone k step (progress_of step) is t.0 t.1 refl)
 
 -- ---- lines
 
@@ -355,7 +354,7 @@ text_known f nodes gone k l text (Some which) state is e =
     numbered_known f nodes gone k l which g.0 state is g.2
 text_known f nodes gone k l text None state is e =
     let g = got (and_then (literal_in k.kind l) (or_bad_line l (step_in text))) (list_step k l) state e in
-    step_in_list f nodes gone k l g.0 (step_fault_by k.checker.rule k.checker.vars k.checker.database g.0) state is refl g.2
+    step_in_list f nodes gone k l g.0 state is g.2
 
 pub known_list : (f : System) (nodes gone : Table) (k : Listing) (l : ℕ) (text : List ℕ) → IsList f nodes gone k → (state : ReachState) → list_line f nodes k l text ≡ Ok state → IsReachState f nodes gone state
 known_list f nodes gone k l text is state e = elim (cases_Bool (bytes_eq text (codes "end"))) [

@@ -1,15 +1,13 @@
 -- The groups of a place are those of the place after its line.
-use Rattle.std.proofs.Common.{◌≡◌, ℕ, ◌*◌, ◌==◌, List, Bool, not, ◌&&◌, nat_lt, nat_le, Option, Some, None, ok_or, Result, Ok, subst, codes, inl, inr}
+use Rattle.std.proofs.Common.{◌≡◌, ℕ, List, not, Option, Some, None, ok_or, Ok, subst, codes, inl, inr}
 use Rattle.std.specs.Str.{bytes_eq}
 use Rattle.std.proofs.lemmas.Bool.{cases_Bool}
-use Rattle.fbas_model.specs.Nodes.{Table, size}
+use Rattle.fbas_model.specs.Nodes.{Table}
 use Rattle.fbas_model.specs.Systems.{System}
 use Rattle.fbas_model.specs.Restriction.{kept}
 use Rattle.node_json.specs.Groups.{Group}
 use Rattle.lrat_model.specs.Steps.{ProofStep, progress_of}
 use Rattle.lrat_model.specs.Rules.{step_fault_by}
-use Rattle.lrat_model.specs.declared.step.StepFault.{StepFault}
-use Rattle.lrat_model.specs.declared.step.StepFault.TheVariants.{IdOrder}
 use Rattle.lrat_model.specs.declared.step.Progress.{Progress}
 use Rattle.lrat_model.specs.declared.step.Progress.TheVariants.{Going as going, Refuted}
 use Rattle.lrat_text.specs.Lines.{step_in}
@@ -17,15 +15,11 @@ use Rattle.enumeration_journal.specs.declared.kinds.ListKind.{ListKind}
 use Rattle.enumeration_journal.specs.declared.kinds.ListKind.TheVariants.{Whole, Partial as Part}
 use Rattle.enumeration_journal.specs.declared.kinds.Listed.{Listed}
 use Rattle.enumeration_journal.specs.declared.kinds.Listed.TheVariants as listed
-use Rattle.clause_encoder.specs.NameCounter.{counter_vars}
-use Rattle.clause_encoder.specs.declared.limits.TheConstants.{MOST_VARS}
-use Rattle.cert_lines.specs.Limits.{unless}
 use Rattle.cert_lines.specs.Words.{words_of}
-use Rattle.cert_lines.specs.Saying.{counter_in, or_bad_line}
-use Rattle.cert_lines.specs.declared.faults.CertError.{CertError}
-use Rattle.cert_lines.specs.declared.faults.CertError.TheVariants.{BadLine, NotNew, Step, TooLarge, Formula}
-use Rattle.reach_kinds.specs.Bodies.{and_then, nodes_of, within, counted_listing, counter_sized, counter_line, listed_by, Numbered, numbered_in, right_set, new_set, with_listed, list_set, set_line, literal_in, is_old_step, with_step, in_shown_order, whole_of, after_list_step, list_step_unless, list_step, list_end, list_text, list_line}
-use Rattle.reach_kinds.specs.GroupBodies.{listed_set, is_old_group_set, with_group_set, list_group_set, group_set_line, is_old_group_step, with_group_step, after_group_step, group_step_unless, group_step, group_end, group_text, group_line}
+use Rattle.cert_lines.specs.Saying.{or_bad_line}
+use Rattle.cert_lines.specs.declared.faults.CertError.TheVariants.{BadLine, NotNew}
+use Rattle.reach_kinds.specs.Bodies.{and_then, nodes_of, within, counter_line, listed_by, Numbered, numbered_in, right_set, new_set, with_listed, list_set, set_line, literal_in, is_old_step, with_step, in_shown_order, whole_of, after_list_step, list_step, list_end, list_text, list_line}
+use Rattle.reach_kinds.specs.GroupBodies.{listed_set, is_old_group_set, with_group_set, list_group_set, group_set_line, is_old_group_step, with_group_step, after_group_step, group_step, group_end, group_text, group_line}
 use Rattle.reach_kinds.specs.PlaceLines.{reach_line}
 use Rattle.reach_kinds.specs.Known.{IsShownOver, IsPlaceOver, IsStateOver}
 use Rattle.reach_kinds.specs.declared.kinds.ReachKind.TheVariants.{Nodes, Groups}
@@ -37,21 +31,15 @@ use Rattle.reach_kinds.specs.declared.places.ReachPlace.{ReachPlace}
 use Rattle.reach_kinds.specs.declared.places.ReachPlace.TheVariants.{AtCounter, AtList, AtGroups, AtEnd}
 use Rattle.reach_kinds.specs.declared.places.ReachState.{ReachState}
 use Rattle.reach_kinds.specs.declared.places.ReachState.TheVariants.{Going, Done}
-use Rattle.reach_kinds.proofs.Results.{got, passed}
+use Rattle.reach_kinds.proofs.ListKnown.{counter_gave}
+use Rattle.reach_kinds.proofs.Refused.{taken_so}
+use Rattle.reach_kinds.proofs.Results.{got, passed, under_id}
 
 module _ (o : Option (List Group)) where
   -- ---- lists of sets of nodes have none
 
   counter_none : (kind : ListKind) (p : ListPart) (l : ℕ) (text : List ℕ) (state : ReachState) → counter_line kind p l text ≡ Ok state → IsStateOver o state
-  counter_none kind p l text state e =
-      let vars : ℕ = counter_vars (size p.greatest) in
-      let next : Result ReachState CertError = Ok (Going (AtList (counted_listing kind p))) in
-      let g = got (ok_or (counter_in text) (BadLine l)) (counter_sized l kind p) state e in
-      let same : Bool = (g.0.vars == vars) && (g.0.clauses == size p.greatest * size p.greatest) in
-      let one = passed (TooLarge vars) (nat_le vars MOST_VARS) (unless (Formula l) same next) state g.2 in
-      let two = passed (Formula l) same next state one.1 in
-      let there : Going (AtList (counted_listing kind p)) ≡ state = (let q = two.1 in cc) in
-      subst (IsStateOver o) there tt
+  counter_none kind p l text state e = subst (IsStateOver o) (counter_gave kind p l text state e).1 tt
 
   whole_none : (sought : Listed) (sets : List Table) → IsShownOver o (whole_of sought sets)
   whole_none listed.Quorum sets = tt
@@ -62,21 +50,15 @@ module _ (o : Option (List Group)) where
   after_none k going = tt
   after_none k Refuted = whole_none k.sought (in_shown_order k.sought k.sets)
 
-  step_none : (k : Listing) (l : ℕ) (step : ProofStep) (fault : Option StepFault) (state : ReachState) → list_step_unless l k step fault ≡ Ok state → IsStateOver o state
-  step_none k l step (Some fault) state e = absurd cc
-  step_none k l step None state e =
-      let next : ReachState = after_list_step (with_step k step) (progress_of step) in
-      let p = passed (NotNew l) (not (is_old_step k step)) (Ok next) state e in
-      let same : next ≡ state = (let q = p.1 in cc) in
-      subst (IsStateOver o) same (after_none (with_step k step) (progress_of step))
+  step_none : (k : Listing) (l : ℕ) (step : ProofStep) (state : ReachState) → list_step k l step ≡ Ok state → IsStateOver o state
+  step_none k l step state e =
+      let t = taken_so l (is_old_step k step) (step_fault_by k.checker.rule k.checker.vars k.checker.database step) (after_list_step (with_step k step) (progress_of step)) state e in
+      subst (IsStateOver o) t.2 (after_none (with_step k step) (progress_of step))
 
   set_none : (f : System) (nodes : Table) (k : Listing) (l : ℕ) (which : Listed) (n : Numbered) (state : ReachState) → set_line f nodes k l which n ≡ Ok state → IsStateOver o state
   set_none f nodes k l which n state e =
-      let last : ℕ = k.checker.database.last in
-      let sets : Result Table CertError = and_then (within nodes l) (nodes_of f.names l n.names) in
-      let p = passed (Step l (IdOrder last n.id)) (nat_lt last n.id) (and_then (list_set nodes k l which n.id) sets) state e in
-      let g = got sets (list_set nodes k l which n.id) state p.1 in
-      let h = got (and_then (new_set k l which n.id) (right_set k l which (kept nodes g.0))) (λ w. Ok (Going (AtList (with_listed k which n.id g.0 w)))) state g.2 in
+      let g = under_id l k.checker.database.last n.id (list_set nodes k l which n.id) (and_then (within nodes l) (nodes_of f.names l n.names)) state e in
+      let h = got (and_then (new_set k l which n.id) (right_set k l which (kept nodes g.0))) (λ w. Ok (Going (AtList (with_listed k which n.id g.0 w)))) state g.3 in
       let there : Going (AtList (with_listed k which n.id g.0 h.0)) ≡ state = (let q = h.2 in cc) in
       subst (IsStateOver o) there tt
 
@@ -86,7 +68,7 @@ module _ (o : Option (List Group)) where
       set_none f nodes k l which g.0 state g.2
   text_none f nodes k l text None state e =
       let g = got (and_then (literal_in k.kind l) (or_bad_line l (step_in text))) (list_step k l) state e in
-      step_none k l g.0 (step_fault_by k.checker.rule k.checker.vars k.checker.database g.0) state g.2
+      step_none k l g.0 state g.2
 
   end_none : (k : Listing) (l : ℕ) (kind : ListKind) (state : ReachState) → list_end kind k l ≡ Ok state → IsStateOver o state
   end_none k l Whole state e = absurd cc
@@ -106,21 +88,15 @@ module _ (o : Option (List Group)) where
   after_same k going is = is
   after_same k Refuted is = is
 
-  step_same : (k : GroupListing) (l : ℕ) (step : ProofStep) (fault : Option StepFault) (state : ReachState) → o ≡ Some k.over.groups → group_step_unless l k step fault ≡ Ok state → IsStateOver o state
-  step_same k l step (Some fault) state is e = absurd cc
-  step_same k l step None state is e =
-      let next : ReachState = after_group_step (with_group_step k step) (progress_of step) in
-      let p = passed (NotNew l) (not (is_old_group_step k step)) (Ok next) state e in
-      let same : next ≡ state = (let q = p.1 in cc) in
-      subst (IsStateOver o) same (after_same (with_group_step k step) (progress_of step) is)
+  step_same : (k : GroupListing) (l : ℕ) (step : ProofStep) (state : ReachState) → o ≡ Some k.over.groups → group_step k l step ≡ Ok state → IsStateOver o state
+  step_same k l step state is e =
+      let t = taken_so l (is_old_group_step k step) (step_fault_by k.checker.rule k.checker.vars k.checker.database step) (after_group_step (with_group_step k step) (progress_of step)) state e in
+      subst (IsStateOver o) t.2 (after_same (with_group_step k step) (progress_of step) is)
 
   set_same : (f : System) (nodes : Table) (k : GroupListing) (l : ℕ) (which : Listed) (n : Numbered) (state : ReachState) → o ≡ Some k.over.groups → group_set_line f nodes k l which n ≡ Ok state → IsStateOver o state
   set_same f nodes k l which n state is e =
-      let last : ℕ = k.checker.database.last in
-      let sets : Result Table CertError = listed_set f nodes k.over l which n.names in
-      let p = passed (Step l (IdOrder last n.id)) (nat_lt last n.id) (and_then (list_group_set k l which n.id) sets) state e in
-      let g = got sets (list_group_set k l which n.id) state p.1 in
-      let h = passed (NotNew l) (not (is_old_group_set k which n.id g.0)) (Ok (Going (AtGroups (with_group_set k which n.id g.0)))) state g.2 in
+      let g = under_id l k.checker.database.last n.id (list_group_set k l which n.id) (listed_set f nodes k.over l which n.names) state e in
+      let h = passed (NotNew l) (not (is_old_group_set k which n.id g.0)) (Ok (Going (AtGroups (with_group_set k which n.id g.0)))) state g.3 in
       let there : Going (AtGroups (with_group_set k which n.id g.0)) ≡ state = (let q = h.1 in cc) in
       subst (IsStateOver o) there is
 
@@ -130,7 +106,7 @@ module _ (o : Option (List Group)) where
       set_same f nodes k l which g.0 state is g.2
   text_same f nodes k l text None state is e =
       let g = got (and_then (literal_in k.kind l) (or_bad_line l (step_in text))) (group_step k l) state e in
-      step_same k l g.0 (step_fault_by k.checker.rule k.checker.vars k.checker.database g.0) state is g.2
+      step_same k l g.0 state is g.2
 
   end_same : (k : GroupListing) (l : ℕ) (kind : ListKind) (state : ReachState) → group_end kind k l ≡ Ok state → IsStateOver o state
   end_same k l Whole state e = absurd cc

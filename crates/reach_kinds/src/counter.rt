@@ -1,5 +1,5 @@
 //! The line that gives the size of the counter.
-ghost use Rattle.std.specs.Prelude.{◌≡◌, ◌⊎◌, ◌≤◌, ◌<◌, ◌*◌, IfOk, IfErr, IsErrOf, Ok, Err};
+ghost use Rattle.std.specs.Prelude.{◌≡◌, ◌⊎◌, ◌≤◌, ◌<◌, ◌*◌, IfOk, IfErr, Ok, Err};
 ghost use Rattle.fbas_model.specs.Nodes.{size};
 ghost use Rattle.clause_encoder.specs.NameCounter.{counter_vars, counter_of};
 ghost use Rattle.clause_encoder.specs.declared.limits.TheConstants.{MOST_VARS};
@@ -17,7 +17,6 @@ use std::alloc::Global;
 
 /// A checker that holds the counter of the nodes of the greatest quorum.
 fn counting_checker(alloc: Global, greatest: &NodeSet) -> Result<IdleChecker, CertError>
-    ensures unread { IsErrOf result CertError.Read → ⊥ }
     ensures ok { IfOk result (λ checker. checker ≡ list_checking (counter_vars (size greatest.now)) (formula_database (counter_of (size greatest.now)))) }
     ensures last { IfOk result (λ checker. checker.database.last ≡ size greatest.now * size greatest.now) }
     ensures small { IfOk result (λ _. counter_vars (size greatest.now) ≤ MOST_VARS) }
@@ -47,7 +46,6 @@ fn counter_sized(
     requires checker { checker ≡ list_checking (counter_vars (size part.greatest)) (formula_database (counter_of (size part.greatest))) }
     requires last { checker.database.last ≡ size part.greatest * size part.greatest }
     requires small { counter_vars (size part.greatest) ≤ MOST_VARS }
-    ensures unread { IsErrOf result CertError.Read → ⊥ }
     ensures value { result ≡ counter_sized line kind part counts }
 {
     if counts.vars != counter_vars(part.greatest.count()) || counts.clauses != checker.last() {
@@ -74,7 +72,6 @@ pub fn counter_line(
     line: u64,
     text: &[u8],
 ) -> Result<ReachState, CertError>
-    ensures unread { IsErrOf result CertError.Read → ⊥ }
     ensures ok { IfOk result (λ s. counter_line kind part line text.now ≡ Ok s) }
     ensures err { IfErr result (λ e. (e ≡ CertError.Memory) ⊎ (counter_line kind part line text.now ≡ Err e)) }
 {

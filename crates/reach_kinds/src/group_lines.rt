@@ -1,5 +1,5 @@
 //! The lines of lists over groups.
-ghost use Rattle.std.specs.Prelude.{◌≡◌, ◌⊎◌, Some, IfOk, IfErr, IsErrOf, OnOk, Ok, Err};
+ghost use Rattle.std.specs.Prelude.{◌≡◌, ◌⊎◌, Some, IfOk, IfErr, OnOk, Ok, Err};
 ghost use Rattle.cert_lines.specs.Words.{words_of, names_in};
 ghost use Rattle.reach_kinds.specs.Bodies.{listed_by};
 ghost use Rattle.reach_kinds.specs.GroupBodies.{group_set_line, after_group_step, group_text, group_line};
@@ -26,7 +26,6 @@ fn group_set_line(
 ) -> Result<(), CertError>
     requires known { IsListOver scope.now.system.now scope.now.nodes.now scope.now.faulty.now listing.old }
     requires names { names_in names.old ≡ Some names.old }
-    ensures unread { IsErrOf result CertError.Read → ⊥ }
     ensures ok { OnOk result (group_set_line scope.now.system.now scope.now.nodes.now listing.old line which (record { id = id; names = names.old }) ≡ Ok (ReachState.Going (ReachPlace.AtGroups listing.new))) }
     ensures err { IfErr result (λ e. (e ≡ CertError.Memory) ⊎ (group_set_line scope.now.system.now scope.now.nodes.now listing.old line which (record { id = id; names = names.old }) ≡ Err e)) }
 {
@@ -50,7 +49,6 @@ fn group_text(
     text: &[u8],
 ) -> Result<Progress, CertError>
     requires { IsListOver scope.now.system.now scope.now.nodes.now scope.now.faulty.now listing.old }
-    ensures unread { IsErrOf result CertError.Read → ⊥ }
     ensures sets { result ≡ Ok Progress.Refuted → listing.new.sets ≡ listing.old.sets }
     ensures ok { IfOk result (λ p. group_text scope.now.system.now scope.now.nodes.now listing.old line text.now (listed_by Listed.Blocking (words_of text.now)) ≡ Ok (after_group_step listing.new p)) }
     ensures err { IfErr result (λ e. (e ≡ CertError.Memory) ⊎ (group_text scope.now.system.now scope.now.nodes.now listing.old line text.now (listed_by Listed.Blocking (words_of text.now)) ≡ Err e)) }
@@ -75,7 +73,6 @@ pub fn group_line(
     text: &[u8],
 ) -> Result<ReachState, CertError>
     requires { IsListOver scope.now.system.now scope.now.nodes.now scope.now.faulty.now listing }
-    ensures unread { IsErrOf result CertError.Read → ⊥ }
     ensures ok { IfOk result (λ s. group_line scope.now.system.now scope.now.nodes.now listing line text.now ≡ Ok s) }
     ensures err { IfErr result (λ e. (e ≡ CertError.Memory) ⊎ (group_line scope.now.system.now scope.now.nodes.now listing line text.now ≡ Err e)) }
 {

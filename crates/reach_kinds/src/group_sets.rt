@@ -1,5 +1,5 @@
 //! Listed sets over groups: quorums of nodes, and minimal blocking sets of groups.
-ghost use Rattle.std.specs.Prelude.{◌≡◌, ◌⊎◌, ◌+◌, ◌<◌, ◌&&◌, true, false, All, length, Some, IfOk, IfErr, IsErrOf, OnOk, Ok, Err};
+ghost use Rattle.std.specs.Prelude.{◌≡◌, ◌⊎◌, ◌+◌, ◌<◌, ◌&&◌, true, false, All, length, Some, IfOk, IfErr, OnOk, Ok, Err};
 ghost use Rattle.std.specs.List.Sorted.{IsStrictlySortedBy};
 ghost use Rattle.fbas_model.specs.Names.{name_cmp};
 ghost use Rattle.fbas_model.specs.Nodes.{members, ◌⊆◌};
@@ -36,7 +36,6 @@ fn named_quorum(
     requires part { IsPartNodes scope.now.system.now scope.now.nodes.now scope.now.faulty.now }
     requires over { IsGroupedPart scope.now.system.now scope.now.nodes.now scope.now.faulty.now over.now }
     requires names { names_in names.old ≡ Some names.old }
-    ensures unread { IsErrOf result CertError.Read → ⊥ }
     ensures value { result ≡ listed_set scope.now.system.now scope.now.nodes.now over.now line Listed.Quorum names.old }
 {
     let named = nodes_of(scope.system, line, names)?;
@@ -54,7 +53,6 @@ fn block_in(alloc: Global, over: &GroupPart, line: u64, set: &GroupSet) -> Resul
     requires sized { All (λ group. length group.members ≡ length over.now.part.system.sets) over.now.groups }
     requires places { length set.now ≡ length over.now.groups }
     requires same_faulty { length over.now.part.faulty ≡ length over.now.part.system.sets }
-    ensures unread { IsErrOf result CertError.Read → ⊥ }
     ensures ok { OnOk result (block_in over.now line set.now ≡ Ok set.now) }
     ensures err { IfErr result (λ e. (e ≡ CertError.Memory) ⊎ (block_in over.now line set.now ≡ Err e)) }
 {
@@ -90,7 +88,6 @@ fn named_block(
     requires sized { All (λ group. length group.members ≡ length over.now.part.system.sets) over.now.groups }
     requires places { length over.now.touched ≡ length over.now.groups }
     requires same_faulty { length over.now.part.faulty ≡ length over.now.part.system.sets }
-    ensures unread { IsErrOf result CertError.Read → ⊥ }
     ensures size { IfOk result (λ s. length s ≡ length over.now.groups) }
     ensures ok { IfOk result (λ s. and_then (block_in over.now line) (groups_by_text over.now line texts.old) ≡ Ok s) }
     ensures inside { IfOk result (λ s. members s ⊆ members over.now.touched) }
@@ -121,7 +118,6 @@ fn add_clause(
 ) -> Result<(), CertError>
     requires above { listing.old.checker.database.last < id }
     requires range { IsInRange listing.old.checker.vars clause.now }
-    ensures unread { IsErrOf result CertError.Read → ⊥ }
     ensures new { OnOk result ((asks_new Listed.Blocking listing.old.kind which && is_covered listing.old.checker.database.held id clause.now) ≡ false) }
     ensures listing { OnOk result (listing.new ≡ group_listing_on listing.old.kind listing.old.over (holding listing.old.checker (record { held = with_clause listing.old.checker.database.held id clause.now; last = id })) listing.old.sets (listing.old.units + 1)) }
     ensures err { IfErr result (λ e. (e ≡ CertError.Memory) ⊎ ((e ≡ CertError.NotNew line) × ((asks_new Listed.Blocking listing.old.kind which && is_covered listing.old.checker.database.held id clause.now) ≡ true))) }
@@ -149,7 +145,6 @@ pub fn list_quorum(
     requires known { IsListOver scope.now.system.now scope.now.nodes.now scope.now.faulty.now listing.old }
     requires above { listing.old.checker.database.last < id }
     requires names { names_in names.old ≡ Some names.old }
-    ensures unread { IsErrOf result CertError.Read → ⊥ }
     ensures ok { OnOk result (and_then (list_group_set listing.old line Listed.Quorum id) (listed_set scope.now.system.now scope.now.nodes.now listing.old.over line Listed.Quorum names.old) ≡ Ok (Going (AtGroups listing.new))) }
     ensures err { IfErr result (λ e. (e ≡ CertError.Memory) ⊎ (and_then (list_group_set listing.old line Listed.Quorum id) (listed_set scope.now.system.now scope.now.nodes.now listing.old.over line Listed.Quorum names.old) ≡ Err e)) }
 {
@@ -169,7 +164,6 @@ pub fn list_block(
 ) -> Result<(), CertError>
     requires known { IsListOver scope.now.system.now scope.now.nodes.now scope.now.faulty.now listing.old }
     requires above { listing.old.checker.database.last < id }
-    ensures unread { IsErrOf result CertError.Read → ⊥ }
     ensures ok { OnOk result (and_then (list_group_set listing.old line Listed.Blocking id) (listed_set scope.now.system.now scope.now.nodes.now listing.old.over line Listed.Blocking texts.old) ≡ Ok (Going (AtGroups listing.new))) }
     ensures err { IfErr result (λ e. (e ≡ CertError.Memory) ⊎ (and_then (list_group_set listing.old line Listed.Blocking id) (listed_set scope.now.system.now scope.now.nodes.now listing.old.over line Listed.Blocking texts.old) ≡ Err e)) }
 {

@@ -1,5 +1,5 @@
 //! The steps of lists over groups, and their end.
-ghost use Rattle.std.specs.Prelude.{◌≡◌, ◌⊎◌, ℕ, length, All, IfOk, IfErr, IsErrOf, Ok, Err};
+ghost use Rattle.std.specs.Prelude.{◌≡◌, ◌⊎◌, ℕ, length, All, IfOk, IfErr, Ok, Err};
 ghost use Rattle.lrat_model.specs.Steps.{step_of};
 ghost use Rattle.enumeration_journal.specs.Order.{ordered};
 ghost use Rattle.reach_kinds.specs.Bodies.{and_then, literal_in};
@@ -16,7 +16,6 @@ use lrat_model::{Progress, Step};
 
 /// A step of a list: where it led.
 pub fn group_step(listing: &mut GroupListing, line: u64, step: Step) -> Result<Progress, CertError>
-    ensures unread { IsErrOf result CertError.Read → ⊥ }
     ensures over { listing.new.over ≡ listing.old.over }
     ensures sets { listing.new.sets ≡ listing.old.sets }
     ensures ok { IfOk result (λ p. and_then (group_step listing.old line) (literal_in listing.old.kind line (step_of step)) ≡ Ok (after_group_step listing.new p)) }
@@ -69,7 +68,6 @@ pub fn after_group_step(listing: GroupListing, progress: Progress) -> ReachPlace
 
 /// The end of a list: a whole one has come to the empty lemma before.
 pub fn group_end(listing: GroupListing, line: u64) -> Result<ReachState, CertError>
-    ensures unread { IsErrOf result CertError.Read → ⊥ }
     ensures value { result ≡ group_end listing.kind listing line }
 {
     let kind = listing.kind;

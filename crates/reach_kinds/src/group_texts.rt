@@ -1,5 +1,5 @@
 //! Groups by their texts.
-ghost use Rattle.std.specs.Prelude.{◌≡◌, ◌<◌, ℕ, length, MatchOption, IfSome, IfOk, IsErrOf, Contains, slice_get, Some};
+ghost use Rattle.std.specs.Prelude.{◌≡◌, ◌<◌, ℕ, length, MatchOption, IfSome, IfOk, Contains, slice_get, Some};
 ghost use Rattle.std.specs.List.Sorted.{IsStrictlySortedBy};
 ghost use Rattle.fbas_model.specs.Names.{name_cmp};
 ghost use Rattle.node_json.specs.Groups.{texts_of};
@@ -35,7 +35,6 @@ fn find_group(groups: &Groups, text: &[u8]) -> Option<u32>
 /// The groups of the texts that are left, which stand on this line.
 fn groups_of_texts(groups: &Groups, line: u64, texts: &mut Words<'_>) -> Result<GroupSet, CertError>
     requires { IsStrictlySortedBy name_cmp (texts_of groups.now) }
-    ensures unread { IsErrOf result CertError.Read → ⊥ }
     ensures size { IfOk result (λ s. length s ≡ length groups.now) }
     ensures value { result ≡ nodes_of (texts_of groups.now) line texts.old }
 {
@@ -57,7 +56,6 @@ pub fn groups_by_text(
 ) -> Result<GroupSet, CertError>
     requires rising { IsStrictlySortedBy name_cmp (texts_of over.now.groups) }
     requires places { length over.now.touched ≡ length over.now.groups }
-    ensures unread { IsErrOf result CertError.Read → ⊥ }
     ensures size { IfOk result (λ s. length s ≡ length over.now.groups) }
     ensures value { result ≡ groups_by_text over.now line texts.old }
 {

@@ -1,5 +1,5 @@
 //! The lines of lists.
-ghost use Rattle.std.specs.Prelude.{◌≡◌, ◌⊎◌, Some, None, is_some, IfSome, IfOk, IfErr, IsErrOf, OnOk, Ok, Err, codes};
+ghost use Rattle.std.specs.Prelude.{◌≡◌, ◌⊎◌, Some, None, is_some, IfSome, IfOk, IfErr, OnOk, Ok, Err, codes};
 ghost use Rattle.cert_lines.specs.Words.{words_of, names_in};
 ghost use Rattle.reach_kinds.specs.Bodies.{quorum_as, quorum_letter, listed_by, numbered_in, set_line, after_list_step, list_text, list_line, expected};
 ghost use Rattle.reach_kinds.specs.PlaceLines.{reach_line};
@@ -9,10 +9,10 @@ use crate::counter::counter_line;
 use crate::group_lines::group_line;
 use crate::list_sets::list_set;
 use crate::list_steps::{after_list_step, list_end, list_step};
-use crate::lists::nodes_of;
+use crate::lists::{is_next_name, nodes_of};
 use crate::parts::within;
 use crate::places::{Listing, ReachPlace, ReachState, Reached, Scope};
-use cert_lines::{CertError, Words, follows, is_name, step_in};
+use cert_lines::{CertError, Words, step_in};
 use enumeration_journal::Listed;
 use lrat_model::{Progress, StepFault};
 use lrat_text::read_id;
@@ -59,7 +59,7 @@ fn are_names(names: &mut Words<'_>) -> bool
 {
     let mut before = None;
     while let Some(name) = names.next() {
-        if !is_name(name) || !follows(before, name) {
+        if !is_next_name(before, name) {
             return false;
         }
         before = Some(name);
@@ -96,7 +96,6 @@ fn set_line(
 ) -> Result<(), CertError>
     requires known { IsList scope.now.system.now scope.now.nodes.now scope.now.faulty.now listing.old }
     requires names { names_in names.old ≡ Some names.old }
-    ensures unread { IsErrOf result CertError.Read → ⊥ }
     ensures ok { OnOk result (set_line scope.now.system.now scope.now.nodes.now listing.old line which (record { id = id; names = names.old }) ≡ Ok (ReachState.Going (ReachPlace.AtList listing.new))) }
     ensures err { IfErr result (λ e. (e ≡ CertError.Memory) ⊎ (set_line scope.now.system.now scope.now.nodes.now listing.old line which (record { id = id; names = names.old }) ≡ Err e)) }
 {
@@ -118,7 +117,6 @@ fn list_text(
     text: &[u8],
 ) -> Result<Progress, CertError>
     requires { IsList scope.now.system.now scope.now.nodes.now scope.now.faulty.now listing.old }
-    ensures unread { IsErrOf result CertError.Read → ⊥ }
     ensures sets { result ≡ Ok Progress.Refuted → listing.new.sets ≡ listing.old.sets }
     ensures ok { IfOk result (λ p. list_text scope.now.system.now scope.now.nodes.now listing.old line text.now (listed_by listing.old.sought (words_of text.now)) ≡ Ok (after_list_step listing.new p)) }
     ensures err { IfErr result (λ e. (e ≡ CertError.Memory) ⊎ (list_text scope.now.system.now scope.now.nodes.now listing.old line text.now (listed_by listing.old.sought (words_of text.now)) ≡ Err e)) }
@@ -143,7 +141,6 @@ fn list_line(
     text: &[u8],
 ) -> Result<ReachState, CertError>
     requires { IsList scope.now.system.now scope.now.nodes.now scope.now.faulty.now listing }
-    ensures unread { IsErrOf result CertError.Read → ⊥ }
     ensures ok { IfOk result (λ s. list_line scope.now.system.now scope.now.nodes.now listing line text.now ≡ Ok s) }
     ensures err { IfErr result (λ e. (e ≡ CertError.Memory) ⊎ (list_line scope.now.system.now scope.now.nodes.now listing line text.now ≡ Err e)) }
 {
@@ -161,7 +158,6 @@ fn list_line(
 
 /// The line `end`, behind what is shown.
 fn end_line(line: u64, text: &[u8], reached: Reached) -> Result<ReachState, CertError>
-    ensures unread { IsErrOf result CertError.Read → ⊥ }
     ensures value { result ≡ expected line text.now (codes "end") (Ok (ReachState.Done reached)) }
 {
     if text == b"end".as_slice() {
@@ -179,7 +175,6 @@ pub fn reach_line(
     text: &[u8],
 ) -> Result<ReachState, CertError>
     requires { IsReachPlace scope.now.system.now scope.now.nodes.now scope.now.faulty.now place }
-    ensures unread { IsErrOf result CertError.Read → ⊥ }
     ensures ok { IfOk result (λ s. reach_line scope.now.system.now scope.now.nodes.now place line text.now ≡ Ok s) }
     ensures err { IfErr result (λ e. (e ≡ CertError.Memory) ⊎ (reach_line scope.now.system.now scope.now.nodes.now place line text.now ≡ Err e)) }
     ensures known { IfOk result (IsReachState scope.now.system.now scope.now.nodes.now scope.now.faulty.now) }

@@ -1,5 +1,5 @@
 //! Listed sets: quorums, ever smaller ones among them, and blocking sets.
-ghost use Rattle.std.specs.Prelude.{◌≡◌, ◌⊎◌, ◌≤◌, ◌<◌, ◌&&◌, ◌||◌, true, not, length, None, IfOk, IfErr, IsErrOf, OnOk, Ok, Err};
+ghost use Rattle.std.specs.Prelude.{◌≡◌, ◌⊎◌, ◌≤◌, ◌<◌, ◌&&◌, ◌||◌, true, not, length, None, IfOk, IfErr, OnOk, Ok, Err};
 ghost use Rattle.fbas_model.specs.Nodes.{members, ◌⊆◌, IsInhabited, size};
 ghost use Rattle.fbas_model.specs.Counting.{is_quorum};
 ghost use Rattle.lrat_model.specs.Ranges.{IsInRange};
@@ -153,7 +153,6 @@ fn right_set(listing: &Listing, line: u64, which: Listed, set: &NodeSet) -> Resu
     requires places { length listing.now.part.greatest ≡ length listing.now.part.system.sets }
     requires same_n { length set.now ≡ length listing.now.part.system.sets }
     requires same_faulty { length listing.now.part.faulty ≡ length listing.now.part.system.sets }
-    ensures unread { IsErrOf result CertError.Read → ⊥ }
     ensures ok { OnOk result (right_set listing.now line which set.now ≡ Ok set.now) }
     ensures err { IfErr result (λ e. right_set listing.now line which set.now ≡ Err e) }
 {
@@ -249,7 +248,6 @@ fn new_clause(
     requires within { members set.now ⊆ members listing.now.part.greatest }
     requires some { which ≡ Listed.Smaller → IsInhabited (members set.now) }
     requires small { IsSmallIf listing.now.sought (size listing.now.part.greatest) }
-    ensures unread { IsErrOf result CertError.Read → ⊥ }
     ensures clause { IfOk result (λ clause. clause.items ≡ (rules_of listing.now.sought listing.now.part).clause which set.now) }
     ensures range { IfOk result (λ clause. IsInRange (rules_of listing.now.sought listing.now.part).vars clause.items) }
     ensures ok { IfOk result (λ _. new_set listing.now line which id set.now ≡ Ok set.now) }
@@ -290,7 +288,6 @@ pub fn list_set(
     requires known { IsList scope.now.system.now scope.now.nodes.now scope.now.faulty.now listing.old }
     requires above { listing.old.checker.database.last < id }
     requires set { IsPartSet scope.now.system.now scope.now.nodes.now set }
-    ensures unread { IsErrOf result CertError.Read → ⊥ }
     ensures ok { OnOk result (list_set scope.now.nodes.now listing.old line which id set ≡ Ok (Going (AtList listing.new))) }
     ensures err { IfErr result (λ e. (e ≡ CertError.Memory) ⊎ (list_set scope.now.nodes.now listing.old line which id set ≡ Err e)) }
 {

@@ -1,5 +1,5 @@
 //! The steps of lists, and their end.
-ghost use Rattle.std.specs.Prelude.{◌≡◌, ◌⊎◌, ◌&&◌, ℕ, length, All, None, IfOk, IfErr, IsErrOf, Ok, Err};
+ghost use Rattle.std.specs.Prelude.{◌≡◌, ◌⊎◌, ◌&&◌, ℕ, length, All, None, IfOk, IfErr, Ok, Err};
 ghost use Rattle.lrat_model.specs.Steps.{step_of};
 ghost use Rattle.least_journal.specs.Least.{last_of};
 ghost use Rattle.reach_kinds.specs.Bodies.{and_then, literal_in, in_shown_order, whole_of, after_list_step, list_step, list_end};
@@ -14,7 +14,6 @@ use name_set::NodeSet;
 
 /// The step, which is not the empty lemma in a part of a list.
 pub fn literal_in(kind: ListKind, line: u64, step: Step) -> Result<Step, CertError>
-    ensures unread { IsErrOf result CertError.Read → ⊥ }
     ensures ok { IfOk result (λ s. literal_in kind line (step_of step) ≡ Ok (step_of s)) }
     ensures err { IfErr result (λ e. literal_in kind line (step_of step) ≡ Err e) }
 {
@@ -26,7 +25,6 @@ pub fn literal_in(kind: ListKind, line: u64, step: Step) -> Result<Step, CertErr
 
 /// A step of a list: where it led.
 pub fn list_step(listing: &mut Listing, line: u64, step: Step) -> Result<Progress, CertError>
-    ensures unread { IsErrOf result CertError.Read → ⊥ }
     ensures sets { listing.new.sets ≡ listing.old.sets }
     ensures ok { IfOk result (λ p. and_then (list_step listing.old line) (literal_in listing.old.kind line (step_of step)) ≡ Ok (after_list_step listing.new p)) }
     ensures err { IfErr result (λ e. (e ≡ CertError.Memory) ⊎ (and_then (list_step listing.old line) (literal_in listing.old.kind line (step_of step)) ≡ Err e)) }
@@ -87,7 +85,6 @@ pub fn after_list_step(listing: Listing, progress: Progress) -> ReachPlace
 
 /// The end of a list: a whole one has come to the empty lemma before.
 pub fn list_end(listing: Listing, line: u64) -> Result<ReachState, CertError>
-    ensures unread { IsErrOf result CertError.Read → ⊥ }
     ensures value { result ≡ list_end listing.kind listing line }
 {
     let sought = listing.sought;

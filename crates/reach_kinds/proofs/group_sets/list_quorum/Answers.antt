@@ -28,23 +28,17 @@ on_both : {T E A B C : Type 0} (r : Result T E) → OnOk r A → OnOk r B → (A
 on_both (Ok x) a b then = then a b
 on_both (Err e) a b then = tt
 
-pub returns-clause-ok : goal.returns-clause-ok
-returns-clause-ok c =
+pub returns : goal.returns
+returns c =
     let k = c.args.listing.now in
-    let u = c.in_ok-quorum.quorum in
     let clause_is = c.deref.ensures.value ∙ c.in_ok-clause.ensures.clause in
-    on_both c.add_clause.result c.add_clause.ensures.new c.add_clause.ensures.listing (λ off new_is.
-    ap (λ (r : Result Table CertError). and_then (list_group_set k c.args.line listed.Quorum c.args.id) r) (sym c.in_ok-quorum.ensures.value)
-    ∙ listed_new c.args.scope.now.system.now c.args.scope.now.nodes.now c.args.scope.now.faulty.now k c.requires.known c.args.line listed.Quorum c.args.id u c.deref.result.now clause_is c.add_clause.new.listing off new_is)
-
-pub returns-clause-err : goal.returns-clause-err
-returns-clause-err c =
-    let k = c.args.listing.now in
-    let u = c.in_ok-quorum.quorum in
-    let clause_is = c.deref.ensures.value ∙ c.in_ok-clause.ensures.clause in
-    IfErr-weaker c.add_clause.result _ _ (λ e came. elim came [
-      | inl memory ↦ inl memory
-      | inr old ↦ inr (
-          ap (λ (r : Result Table CertError). and_then (list_group_set k c.args.line listed.Quorum c.args.id) r) (sym c.in_ok-quorum.ensures.value)
-          ∙ (listed_old c.args.scope.now.system.now c.args.scope.now.nodes.now c.args.scope.now.faulty.now k c.requires.known c.args.line listed.Quorum c.args.id u c.deref.result.now clause_is old.1 ∙ ap (λ (x : CertError). Err x) (sym old.0)))
-    ]) c.add_clause.ensures.err
+    let named = ap (λ (r : Result Table CertError). and_then (list_group_set k c.args.line listed.Quorum c.args.id) r) (sym c.in_ok-quorum.ensures.value) in record {
+      ok = on_both c.add_clause.result c.add_clause.ensures.new c.add_clause.ensures.listing (λ off new_is.
+          named ∙ listed_new c.args.scope.now.system.now c.args.scope.now.nodes.now c.args.scope.now.faulty.now k c.requires.known c.args.line listed.Quorum c.args.id c.in_ok-quorum.quorum c.deref.result.now clause_is c.add_clause.new.listing off new_is);
+      err = IfErr-weaker c.add_clause.result _ _ (λ e came. elim came [
+        | inl memory ↦ inl memory
+        | inr old ↦ inr (
+            named
+            ∙ (listed_old c.args.scope.now.system.now c.args.scope.now.nodes.now c.args.scope.now.faulty.now k c.requires.known c.args.line listed.Quorum c.args.id c.in_ok-quorum.quorum c.deref.result.now clause_is old.1 ∙ ap (λ (x : CertError). Err x) (sym old.0)))
+      ]) c.add_clause.ensures.err;
+    }
