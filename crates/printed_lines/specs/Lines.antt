@@ -19,7 +19,7 @@ use Rattle.lrat_model.specs.Literal.{Literal, Plus, Minus}
 use Rattle.lrat_model.specs.declared.step.StepFault.{StepFault}
 use Rattle.lrat_model.specs.declared.step.StepFault.TheVariants.{IdOrder, BadLiteral, Tautology, NoSuchClause, NotUnit, NoConflict, RatStep, RatMissing, Memory as NoStep}
 use Rattle.cert_lines.specs.declared.faults.CertError.{CertError}
-use Rattle.cert_lines.specs.declared.faults.CertError.TheVariants.{BadLine, LineTooLong, TooManyLines, Digest, NoOrgs, OrgsDigest, UnknownNode, NotQuorum, NotBlocking, NotMinimal, NotSmaller, Overlap, Formula, Step, NotNew, NotRefuted, TooLarge, Truncated, Trailing, Read, Memory as NoMemory}
+use Rattle.cert_lines.specs.declared.faults.CertError.TheVariants.{BadLine, LineTooLong, TooManyLines, Digest, NoOrgs, OrgsDigest, UnknownNode, NotQuorum, NotBlocking, NotMinimal, NotSmaller, Overlap, Formula, Step, NotNew, NotRefuted, TooLarge, Truncated, Trailing, Memory as NoMemory}
 use Rattle.certificate_file.specs.declared.places.Accepted.{Accepted}
 use Rattle.certificate_file.specs.declared.places.Header.{Header}
 use Rattle.witness_pair.specs.declared.Pair.{Pair}
@@ -150,7 +150,7 @@ step_fault (RatStep place) = numbered (codes "rat-step") place
 step_fault (RatMissing id) = numbered (codes "rat-missing") id
 step_fault NoStep = []
 
--- a failed read and a want of memory are no refusals of the bytes, and are not printed
+-- a want of memory is no refusal of the bytes, and is not printed
 abbrev pub cert_fault : List Name → CertError → Text
 cert_fault names (BadLine l) = numbered (codes "refused bad-line") l
 cert_fault names (LineTooLong l) = numbered (codes "refused line-too-long") l
@@ -171,7 +171,6 @@ cert_fault names (NotRefuted l) = numbered (codes "refused not-refuted") l
 cert_fault names (TooLarge vars) = numbered (codes "too-large") vars
 cert_fault names (Truncated l) = numbered (codes "refused truncated") l
 cert_fault names Trailing = codes "refused trailing"
-cert_fault names Read = []
 cert_fault names NoMemory = []
 
 abbrev pub cert_refused : List Name → CertError → Text

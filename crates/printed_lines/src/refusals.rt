@@ -190,7 +190,7 @@ fn cert_words(alloc: Global, names: &Names, fault: &CertError) -> Result<Vec<u8>
         CertError::TooLarge(vars) => numbered_word(alloc, "too-large", *vars),
         CertError::Truncated(l) => numbered_word(alloc, "refused truncated", *l),
         CertError::Trailing => Vec::from_slice(alloc, b"refused trailing"),
-        CertError::Read | CertError::Memory => Ok(Vec::new(alloc)),
+        CertError::Memory => Ok(Vec::new(alloc)),
     }
 }
 

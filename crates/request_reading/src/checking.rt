@@ -1,5 +1,5 @@
 //! The check of a certificate, or of another solver's proof.
-ghost use Rattle.std.specs.Prelude.{◌≡◌, ◌⊎◌, ◌↔◌, Ok, IsTrue, IfOk, IfErr, IsOk, IsErrOf, length};
+ghost use Rattle.std.specs.Prelude.{◌≡◌, ◌⊎◌, Ok, IsTrue, IfOk, IfErr, IsOk, IsErrOf, length};
 ghost use Rattle.desk_io.specs.State.{left_of};
 ghost use Rattle.cli_words.specs.Order.{order_view};
 ghost use Rattle.certificate_file.specs.Known.{FitsHeader};
@@ -17,7 +17,7 @@ use crate::operands::Operands;
 use crate::reply::Reply;
 use crate::searches::header_of;
 use crate::status::Status;
-use certificate_file::{Accepted, CertError, Conclusion, Given, GivenOrgs, Header};
+use certificate_file::{Accepted, CertError, CheckError, Conclusion, Given, GivenOrgs, Header};
 use cli_words::{Command, Order};
 use desk_io::{Desk, Which};
 use digest_text::digest;
@@ -87,17 +87,14 @@ fn verified(alloc: Global, system: &System, header: &Header) -> Result<Reply, Al
     Ok(Reply::new(Status::Yes, text))
 }
 
-// The answer to a certificate, or to a proof, that is refused, or the failing that kept it from being read.
-fn refuse(alloc: Global, system: &System, fault: CertError) -> Result<Reply, Early>
+// The answer to a certificate, or to a proof, that is refused.
+fn refuse(alloc: Global, system: &System, fault: CertError) -> Result<Reply, AllocError>
     ensures ok { IfOk result (λ a. a ≡ refused_answer system.now.names fault) }
     ensures refused { IfOk result (λ a. (a.status ≡ Status.TooLarge) ⊎ (a.status ≡ Status.CertRefused)) }
-    ensures fault { IsOk result → (fault ≡ CertError.Read → ⊥) × (fault ≡ CertError.Memory → ⊥) }
-    ensures failing { IfErr result (λ e. (e ≡ Early.Read) ⊎ (e ≡ Early.Memory)) }
-    ensures read { IsErrOf result Early.Read ↔ (fault ≡ CertError.Read) }
+    ensures fault { IsOk result → fault ≡ CertError.Memory → ⊥ }
 {
     match fault {
-        CertError::Read => Err(Early::Read),
-        CertError::Memory => Err(Early::Memory),
+        CertError::Memory => Err(AllocError),
         fault => {
             let text = printed_lines::cert_refused(alloc, system.names(), &fault)?;
             Ok(Reply::new(cert_status(&fault), text))
@@ -129,11 +126,13 @@ fn check_begun<D: Desk>(
                 drop(accepted);
                 Ok(reply?)
             }
-            Err(fault) => refuse(alloc, system, fault),
+            Err(CheckError::Cert(fault)) => Ok(refuse(alloc, system, fault)?),
+            Err(CheckError::Read) => Err(Early::Read),
         },
         Claim::Proof(header) => match certificate_file::check_lrat(alloc, system, header, desk) {
             Ok(()) => Ok(verified(alloc, system, header)?),
-            Err(fault) => refuse(alloc, system, fault),
+            Err(CheckError::Cert(fault)) => Ok(refuse(alloc, system, fault)?),
+            Err(CheckError::Read) => Err(Early::Read),
         },
     }
 }
