@@ -6,6 +6,7 @@ use Rattle.cli_words.specs.Order.{Ordered}
 use Rattle.cli_words.specs.Words.{order_of}
 use Rattle.cli_words.specs.Table.{row_of}
 use Rattle.cli_words.specs.Usage.{usage}
+use Rattle.cli_words.specs.declared.budget.TheConstants.{USUAL_BUDGET}
 use Rattle.cli_words.specs.declared.orders.Command.{Command}
 use Rattle.cli_words.specs.declared.orders.Command.TheVariants.{Query, Search, Check, CheckLrat, Whatif}
 use Rattle.cli_words.specs.declared.orders.Goal.{Goal}
@@ -85,26 +86,26 @@ commands_read : AreRead (
     (codes "export f --from a", Ok (record (nothing_for (Query Export)) { config = codes "f"; from = Some (codes "a") })) ∷
     (codes "check-lrat f p", Ok (record (nothing_for CheckLrat) { config = codes "f"; cert = codes "p" })) ∷
     (codes "check-lrat f p --from a --faulty b --orgs o --faulty-orgs c,d", Ok (record (nothing_for CheckLrat) { config = codes "f"; cert = codes "p"; orgs = Some (codes "o"); from = Some (codes "a"); faulty = Some (codes "b"); faulty_orgs = Some (codes "c,d") })) ∷
-    (codes "intersect f c", Ok (search_of Intersect 1000000)) ∷
+    (codes "intersect f c", Ok (search_of Intersect USUAL_BUDGET)) ∷
     (codes "intersect f c --faulty a --budget 0", Ok (record (search_of Intersect 0) { faulty = Some (codes "a") })) ∷
     (codes "dset f c --set a --from b --budget 4000000000", Ok (record (search_of Dset 4000000000) { from = Some (codes "b"); set = Some (codes "a") })) ∷
     (codes "splits f c --set a --orgs o --budget=10", Ok (record (search_of Splits 10) { orgs = Some (codes "o"); set = Some (codes "a") })) ∷
     (codes "blocking f c --from b --budget 0", Ok (record (search_of Blocking 0) { from = Some (codes "b") })) ∷
     (codes "quorums f c --from b --budget 0", Ok (record (search_of Quorums 0) { from = Some (codes "b") })) ∷
     (codes "least f c --from b --budget 0", Ok (record (search_of Least 0) { from = Some (codes "b") })) ∷
-    (codes "org-blocking f c --orgs o", Ok (record (search_of OrgBlocking 1000000) { orgs = Some (codes "o") })) ∷
+    (codes "org-blocking f c --orgs o", Ok (record (search_of OrgBlocking USUAL_BUDGET) { orgs = Some (codes "o") })) ∷
     (codes "org-blocking f c --orgs=o --from a --faulty b --faulty-orgs c,d --budget 0", Ok (record (search_of OrgBlocking 0) { orgs = Some (codes "o"); from = Some (codes "a"); faulty = Some (codes "b"); faulty_orgs = Some (codes "c,d") })) ∷
     (codes "org-blocking f c --orgs c", Err SamePath) ∷
     -- one path may stand for both files that are read
-    (codes "org-blocking f c --orgs f", Ok (record (search_of OrgBlocking 1000000) { orgs = Some (codes "f") })) ∷
+    (codes "org-blocking f c --orgs f", Ok (record (search_of OrgBlocking USUAL_BUDGET) { orgs = Some (codes "f") })) ∷
     (codes "check f c --orgs o", Ok (record (nothing_for Check) { config = codes "f"; cert = codes "c"; orgs = Some (codes "o") })) ∷
     (codes "check f c --orgs c", Err SamePath) ∷
     (codes "whatif f s --set a,b", Ok (record (nothing_for Whatif) { config = codes "f"; script = codes "s"; set = Some (codes "a,b") })) ∷
     -- one path may stand for both: nothing is written
     (codes "whatif f f --set=", Ok (record (nothing_for Whatif) { config = codes "f"; script = codes "f"; set = Some [] })) ∷
-    (codes "trial 100 c", Ok (record (nothing_for (Search Trial)) { cert = codes "c"; budget = 1000000; trial = 100 })) ∷
+    (codes "trial 100 c", Ok (record (nothing_for (Search Trial)) { cert = codes "c"; budget = USUAL_BUDGET; trial = 100 })) ∷
     (codes "trial --budget=0 1 c", Ok (record (nothing_for (Search Trial)) { cert = codes "c"; budget = 0; trial = 1 })) ∷
-    (codes "trial 4 ", Ok (record (nothing_for (Search Trial)) { budget = 1000000; trial = 4 })) ∷
+    (codes "trial 4 ", Ok (record (nothing_for (Search Trial)) { budget = USUAL_BUDGET; trial = 4 })) ∷
     (codes "intersect f c --orgs c", Err SamePath) ∷
     []
     )
