@@ -12,11 +12,12 @@ mod systems;
 
 use crate::systems::{SystemCall, read_system, run_system, system_call_of};
 use anyhow::{Context, Result, bail};
+use fbas_model::MOST_NODES;
 use name_set::NodeSet;
 use std::env;
 
 /// How many nodes the sets are of.
-const NODES: u32 = 16_384;
+const NODES: u32 = MOST_NODES as u32;
 
 /// What is timed.
 #[derive(Clone, Copy)]
