@@ -1,10 +1,11 @@
 -- What calls that read one after another do to a desk.
-use Rattle.std.proofs.Common.{◌≡◌, ℕ, ◌≤◌, ◌∙◌, sym, ap, subst, Result, Ok, Err, OnOk, IsTrue}
+use Rattle.std.proofs.Common.{◌≡◌, ℕ, ◌≤◌, ◌∙◌, sym, ap, subst, Result, Ok, Err, IsTrue}
 use Rattle.desk_io.specs.State.{DeskState, left_of, with_left}
 use Rattle.desk_io.specs.Faults.{Faults, Rose, ReadFails}
 use Rattle.desk_io.specs.declared.Which.TheVariants.{Cert}
 use Rattle.cert_lines.specs.declared.faults.CertError.{CertError}
-use Rattle.cert_lines.specs.declared.faults.CertError.TheVariants.{Read}
+use Rattle.cert_lines.specs.declared.faults.CheckError.{CheckError}
+use Rattle.cert_lines.specs.declared.faults.CheckError.TheVariants.{Cert as Faulty, Read}
 
 -- two calls change nothing but what is left of the certificate
 pub rest_then : (a b c : DeskState) → b ≡ with_left Cert (left_of Cert b) a → c ≡ with_left Cert (left_of Cert c) b → c ≡ with_left Cert (left_of Cert c) a
@@ -32,26 +33,25 @@ fails_as a b P Q to from fails = record {
   none = λ unless. fails.none (λ p. unless (to p));
 }
 
--- a success is no fault
-pub not_read : {T : Type 0} {x : T} → ◌≡◌ {A = Result T CertError} (Ok x) (Err Read) → ⊥
+-- a success is no failed read
+pub not_read : {T : Type 0} {x : T} → ◌≡◌ {A = Result T CheckError} (Ok x) (Err Read) → ⊥
 not_read e = absurd cc
 
--- what is so anyhow is so of a success
-pub anyhow : {T : Type 0} {P : Type 0} (r : Result T CertError) → P → OnOk r P
-anyhow (Ok x) p = p
-anyhow (Err e) p = tt
+-- nor is a fault of the certificate
+pub not_faulty : {T : Type 0} (fault : CertError) → ◌≡◌ {A = Result T CheckError} (Err (Faulty fault)) (Err Read) → ⊥
+not_faulty fault e = absurd cc
 
 -- the fault of a result is the fault of one with another value
-pub same_fault : {T U : Type 0} (e : CertError) → ◌≡◌ {A = Result T CertError} (Err e) (Err Read) → ◌≡◌ {A = Result U CertError} (Err e) (Err Read)
-same_fault e is = let same : e ≡ Read = cc in ap (λ (x : CertError). Err x) same
+pub same_fault : {T U : Type 0} (e : CheckError) → ◌≡◌ {A = Result T CheckError} (Err e) (Err Read) → ◌≡◌ {A = Result U CheckError} (Err e) (Err Read)
+same_fault e is = let same : e ≡ Read = cc in ap (λ (x : CheckError). Err x) same
 
 -- calls that counted no fault, and then one that failed, whose fault is handed on
-pub fails_on : {T U : Type 0} (a b c : Faults) (e : CertError) → b.writes ≡ a.writes → b.reads ≡ a.reads → ReadFails b c (◌≡◌ {A = Result T CertError} (Err e) (Err Read)) → ReadFails a c (◌≡◌ {A = Result U CertError} (Err e) (Err Read))
+pub fails_on : {T U : Type 0} (a b c : Faults) (e : CheckError) → b.writes ≡ a.writes → b.reads ≡ a.reads → ReadFails b c (◌≡◌ {A = Result T CheckError} (Err e) (Err Read)) → ReadFails a c (◌≡◌ {A = Result U CheckError} (Err e) (Err Read))
 fails_on {T} {U} a b c e writes reads fails =
-    fails_then a b c (◌≡◌ {A = Result T CertError} (Err e) (Err Read)) (◌≡◌ {A = Result U CertError} (Err e) (Err Read)) writes reads (same_fault e) (same_fault e) fails
+    fails_then a b c (◌≡◌ {A = Result T CheckError} (Err e) (Err Read)) (◌≡◌ {A = Result U CheckError} (Err e) (Err Read)) writes reads (same_fault e) (same_fault e) fails
 
--- calls that counted no fault, and then a failure that is no read fault
-pub fails_unread : {T U V : Type 0} (a b c : Faults) (x : T) (e : CertError) → b.writes ≡ a.writes → b.reads ≡ a.reads → ReadFails b c (◌≡◌ {A = Result T CertError} (Ok x) (Err Read)) → (◌≡◌ {A = Result V CertError} (Err e) (Err Read) → ⊥)
-    → ReadFails a c (◌≡◌ {A = Result U CertError} (Err e) (Err Read))
-fails_unread {T} {U} {V} a b c x e writes reads fails unread =
-    fails_then a b c (◌≡◌ {A = Result T CertError} (Ok x) (Err Read)) (◌≡◌ {A = Result U CertError} (Err e) (Err Read)) writes reads (λ is. absurd (not_read is)) (λ is. absurd (unread (same_fault e is))) fails
+-- calls that counted no fault, and then a fault of what was read
+pub fails_faulty : {T U : Type 0} (a b c : Faults) (x : T) (fault : CertError) → b.writes ≡ a.writes → b.reads ≡ a.reads → ReadFails b c (◌≡◌ {A = Result T CheckError} (Ok x) (Err Read))
+    → ReadFails a c (◌≡◌ {A = Result U CheckError} (Err (Faulty fault)) (Err Read))
+fails_faulty {T} {U} a b c x fault writes reads fails =
+    fails_then a b c (◌≡◌ {A = Result T CheckError} (Ok x) (Err Read)) (◌≡◌ {A = Result U CheckError} (Err (Faulty fault)) (Err Read)) writes reads (λ is. absurd (not_read is)) (λ is. absurd (not_faulty fault is)) fails

@@ -1,5 +1,7 @@
 -- What a step line comes to that is read as a stream, by the outline of its step.
 use Rattle.std.specs.Prelude.{◌≡◌, ℕ, ◌+◌, List, [], ◌∷◌, length, All, Bool, true, false, not, ◌&&◌, Option, None, Some, Result, Ok, Err, if◌then◌else◌}
+use Rattle.std.specs.Global.{Vec}
+use Rattle.fbas_model.specs.Systems.{System}
 use Rattle.lrat_model.specs.Clauses.{Held, with_clause, without}
 use Rattle.lrat_model.specs.Steps.{Database, deletion_fault, progress_at}
 use Rattle.lrat_model.specs.declared.step.Rule.{Rule}
@@ -11,7 +13,8 @@ use Rattle.lrat_stream.specs.Outline.{StepOutline, Adds, Deletes}
 use Rattle.enumeration_journal.specs.Order.{ordered}
 use Rattle.cert_lines.specs.Limits.{unless}
 use Rattle.reach_kinds.specs.Bodies.{and_then, is_covered, asks_steps}
-use Rattle.certificate_file.specs.Acceptance.{extent}
+use Rattle.certificate_file.specs.Acceptance.{extent, take_line}
+use Rattle.certificate_file.specs.declared.given.Given.{Given}
 use Rattle.certificate_file.specs.declared.places.Conclusion.TheVariants.{Refutation}
 use Rattle.reach_kinds.specs.declared.places.ReachPlace.TheVariants.{AtList, AtGroups, AtEnd as Ended}
 use Rattle.reach_kinds.specs.declared.places.Reached.TheVariants as reached
@@ -94,6 +97,16 @@ end_of (proof.Groups s kind over sets) = AtReach s (Ended (reached.OrgBlocking o
 abbrev pub after_step_of : Proof → Checking → ℕ → Progress → State
 after_step_of p c n going = Going (place_of p c n)
 after_step_of p c n Refuted = Going (end_of p)
+
+-- the place that is awaited after steps: that of the line that was read after them, or, if none was, the one after the empty lemma
+abbrev pub next_place : Proof → Checking → ℕ → Option (ℕ × Vec ℕ) → Place
+next_place p c n (Some t) = place_of p c n
+next_place p c n None = end_of p
+
+-- what is so once that line is taken as well
+abbrev pub next_taken : System → Given → Proof → Checking → ℕ → Option (ℕ × Vec ℕ) → Result State CertError
+next_taken f given p c n (Some t) = take_line f given (place_of p c n) t.0 t.1.items
+next_taken f given p c n None = Ok (Going (end_of p))
 
 -- the sets of a list have places for one number of nodes
 abbrev pub HasSizedSets : Proof → Type 0

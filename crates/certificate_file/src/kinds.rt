@@ -1,5 +1,5 @@
 //! The kind line: which body follows.
-ghost use Rattle.std.specs.Prelude.{◌≡◌, ◌⊎◌, None, IfOk, IfErr, IfSome, IsErrOf, Ok, Err};
+ghost use Rattle.std.specs.Prelude.{◌≡◌, ◌⊎◌, None, IfOk, IfErr, IfSome, Ok, Err};
 ghost use Rattle.cert_lines.specs.Words.{words_of};
 ghost use Rattle.reach_kinds.specs.Bodies.{body_begins};
 ghost use Rattle.certificate_file.specs.Acceptance.{aim_word, body_named, body_in, is_of_one, is_allowed, body_place, kind_line};
@@ -135,7 +135,6 @@ pub fn kind_line(
     subject: Subject,
 ) -> Result<State, CertError>
     requires { IsSubject system.now subject }
-    ensures unread { IsErrOf result CertError.Read → ⊥ }
     ensures ok { IfOk result (λ s. kind_line system.now subject line text.now ≡ Ok s) }
     ensures err { IfErr result (λ e. (e ≡ CertError.Memory) ⊎ (kind_line system.now subject line text.now ≡ Err e)) }
 {

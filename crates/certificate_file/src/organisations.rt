@@ -1,5 +1,5 @@
 //! The line of the digest of the organisations that a list is over.
-ghost use Rattle.std.specs.Prelude.{◌≡◌, ◌⊎◌, All, IfOk, IfErr, IsErrOf, length, ok_or, Ok, Err};
+ghost use Rattle.std.specs.Prelude.{◌≡◌, ◌⊎◌, All, IfOk, IfErr, length, ok_or, Ok, Err};
 ghost use Rattle.cert_lines.specs.Words.{orgs_digest_in};
 ghost use Rattle.reach_kinds.specs.Known.{IsReachPlace};
 ghost use Rattle.reach_kinds.specs.GroupBodies.{groups_begin};
@@ -42,8 +42,7 @@ fn list_over(
 
 /// The digest that line 6 names.
 fn orgs_digest(line: u64, text: &[u8]) -> Result<[u8; 32], CertError>
-    ensures unread { IsErrOf result CertError.Read → ⊥ }
-    ensures value { result ≡ ok_or (orgs_digest_in text.now) (CertError.BadLine line) }
+    ensures { result ≡ ok_or (orgs_digest_in text.now) (CertError.BadLine line) }
 {
     let Some(digits) = orgs_digits_in(text) else {
         return Err(CertError::BadLine(line));
@@ -66,7 +65,6 @@ pub fn orgs_line(
 ) -> Result<State, CertError>
     requires subject { IsSubject system.now subject }
     requires fits { FitsGiven system.now given.now }
-    ensures unread { IsErrOf result CertError.Read → ⊥ }
     ensures ok { IfOk result (λ s. orgs_line system.now given.now kind subject line text.now ≡ Ok s) }
     ensures known { IfOk result (IsKnownState system.now given.now) }
     ensures err { IfErr result (λ e. (e ≡ CertError.Memory) ⊎ (orgs_line system.now given.now kind subject line text.now ≡ Err e)) }

@@ -1,5 +1,5 @@
 //! The step lines of a certificate over the formula: all steps to the empty lemma, or a part of them.
-ghost use Rattle.std.specs.Prelude.{◌≡◌, ◌⊎◌, IfOk, IfErr, IsErrOf, Ok, Err};
+ghost use Rattle.std.specs.Prelude.{◌≡◌, ◌⊎◌, IfOk, IfErr, Ok, Err};
 ghost use Rattle.lrat_text.specs.Lines.{step_in};
 ghost use Rattle.cert_lines.specs.Saying.{or_bad_line};
 ghost use Rattle.reach_kinds.specs.Bodies.{and_then, literal_in};
@@ -33,7 +33,6 @@ fn add_step(
     line: u64,
     text: &[u8],
 ) -> Result<Progress, CertError>
-    ensures unread { IsErrOf result CertError.Read → ⊥ }
     ensures ok { IfOk result (λ p. (h : Header) → and_then (take_step line to h checker.old units.old) (and_then (literal_in (extent to) line) (or_bad_line line (step_in text.now))) ≡ Ok (after_progress to h checker.new units.new p)) }
     ensures err { IfErr result (λ e. (e ≡ CertError.Memory) ⊎ ((h : Header) → and_then (take_step line to h checker.old units.old) (and_then (literal_in (extent to) line) (or_bad_line line (step_in text.now))) ≡ Err e)) }
 {
@@ -45,8 +44,7 @@ fn add_step(
 
 /// The end, which all steps of a proof do not come to before the empty lemma.
 fn steps_end(to: Aim, header: Header, units: u64, line: u64) -> Result<State, CertError>
-    ensures unread { IsErrOf result CertError.Read → ⊥ }
-    ensures value { result ≡ steps_end to header units line }
+    ensures { result ≡ steps_end to header units line }
 {
     match to {
         Aim::Refutation => Err(CertError::NotRefuted(line)),
@@ -68,7 +66,6 @@ pub fn step_line(
     line: u64,
     text: &[u8],
 ) -> Result<State, CertError>
-    ensures unread { IsErrOf result CertError.Read → ⊥ }
     ensures ok { IfOk result (λ s. step_line to header checker units line text.now ≡ Ok s) }
     ensures err { IfErr result (λ e. (e ≡ CertError.Memory) ⊎ (step_line to header checker units line text.now ≡ Err e)) }
 {

@@ -1,23 +1,24 @@
 //! Proofs by steps, whose steps are taken one after another while their state stays in its place.
-ghost use Rattle.std.specs.Prelude.{◌≡◌, ℕ, List, ◌+◌, ◌++◌, ◌<◌, ◌≤◌, ◌⊎◌, None, length, IsTrue, IfOk, IfErr, IfSome, IsErrOf, OnOk, Ok, Err};
+ghost use Rattle.std.specs.Prelude.{◌≡◌, ◌+◌, ◌++◌, ◌<◌, ◌≤◌, ◌⊎◌, None, IsTrue, IfOk, IfErr, IsErrOf, OnOk, Ok, Err};
 ghost use Rattle.desk_io.specs.State.{left_of, with_left};
 ghost use Rattle.desk_io.specs.Faults.{ReadFails};
 ghost use Rattle.fbas_model.specs.Systems.{System};
+ghost use Rattle.cert_lines.specs.Ends.{OnCert};
 ghost use Rattle.cert_lines.specs.Lines.{lines_of};
 ghost use Rattle.cert_lines.specs.declared.lines.TheConstants.{MAX_LINES};
-ghost use Rattle.certificate_file.specs.Acceptance.{take_line, check_lines};
+ghost use Rattle.certificate_file.specs.Acceptance.{check_lines};
 ghost use Rattle.reach_kinds.specs.Bodies.{and_then};
 ghost use Rattle.certificate_file.specs.Organisations.{FitsGiven};
 ghost use Rattle.certificate_file.specs.declared.given.Given.{Given};
 ghost use Rattle.certificate_file.specs.Known.{IsKnown, IsKnownState};
-ghost use Rattle.certificate_file.specs.Streamed.{is_part, place_of, end_of, checking_of, HasSizedSets};
+ghost use Rattle.certificate_file.specs.Streamed.{is_part, place_of, end_of, checking_of, next_place, next_taken, HasSizedSets};
 
 use crate::given::Given;
 use crate::places::{Accepted, Conclusion, Place, Proof, State};
 use crate::proving::extent;
 use crate::streaming::take_read;
 use crate::taking::take_line;
-use cert_lines::{CertError, Lines, line_or_step};
+use cert_lines::{CertError, CheckError, Lines, line_or_step};
 use desk_io::{Desk, Which};
 use fbas_core::System;
 use lrat_checker::{Checker, IdleChecker};
@@ -158,24 +159,21 @@ fn take_steps<D: Desk>(
     proof: &Proof,
     checker: &mut Checker,
     units: &mut u64,
-) -> Result<Option<(u64, Vec<u8>)>, CertError>
+) -> Result<Option<(u64, Vec<u8>)>, CheckError>
     requires fresh { lines.old.taken ≡ 0 }
     requires closed { checker.old.open_addition ≡ None }
     ensures closed { OnOk result (checker.new.open_addition ≡ None) }
-    ensures known { IfOk result (λ o. IfSome o (λ _. (f : System) (given : Given) → IsKnown f given (place_of proof.now (checking_of checker.old) units.old) → IsKnown f given (place_of proof.now (checking_of checker.new) units.new))) }
-    ensures shown { result ≡ Ok None → (f : System) (given : Given) → IsKnown f given (place_of proof.now (checking_of checker.old) units.old) → IsKnown f given (end_of proof.now) }
-    ensures text { IfOk result (λ o. IfSome o (λ t. IsTrue D.tells → (f : System) (given : Given) → check_lines f given lines.old.number (State.Going (place_of proof.now (checking_of checker.old) units.old)) (lines_of (lines.old.unread ++ left_of Which.Cert (D.state desk.old)))
-        ≡ and_then (λ s. check_lines f given lines.new.number s (lines_of (lines.new.unread ++ left_of Which.Cert (D.state desk.new)))) (take_line f given (place_of proof.now (checking_of checker.new) units.new) t.0 t.1.items))) }
-    ensures end { result ≡ Ok None → IsTrue D.tells → (f : System) (given : Given) → check_lines f given lines.old.number (State.Going (place_of proof.now (checking_of checker.old) units.old)) (lines_of (lines.old.unread ++ left_of Which.Cert (D.state desk.old)))
-        ≡ check_lines f given lines.new.number (State.Going (end_of proof.now)) (lines_of (lines.new.unread ++ left_of Which.Cert (D.state desk.new))) }
+    ensures known { IfOk result (λ o. (f : System) (given : Given) → IsKnown f given (place_of proof.now (checking_of checker.old) units.old) → IsKnown f given (next_place proof.now (checking_of checker.new) units.new o)) }
+    ensures ok { IfOk result (λ o. IsTrue D.tells → (f : System) (given : Given) → check_lines f given lines.old.number (State.Going (place_of proof.now (checking_of checker.old) units.old)) (lines_of (lines.old.unread ++ left_of Which.Cert (D.state desk.old)))
+        ≡ and_then (λ s. check_lines f given lines.new.number s (lines_of (lines.new.unread ++ left_of Which.Cert (D.state desk.new)))) (next_taken f given proof.now (checking_of checker.new) units.new o)) }
     ensures few { OnOk result (lines.new.number ≤ MAX_LINES + 1) }
     ensures number { OnOk result (lines.old.number < lines.new.number) }
     ensures taken { OnOk result (lines.new.taken ≡ 0) }
-    ensures err { IfErr result (λ e. IsTrue D.tells → (e ≡ CertError.Memory) ⊎ (e ≡ CertError.Read)
-        ⊎ ((f : System) (given : Given) → check_lines f given lines.old.number (State.Going (place_of proof.now (checking_of checker.old) units.old)) (lines_of (lines.old.unread ++ left_of Which.Cert (D.state desk.old))) ≡ Err e)) }
-    ensures plain { IsErrOf result CertError.Read → IsTrue D.tells → IsTrue (D.state desk.old).plain → ⊥ }
+    ensures err { IfErr result (λ e. IsTrue D.tells → OnCert e (λ fault. (fault ≡ CertError.Memory)
+        ⊎ ((f : System) (given : Given) → check_lines f given lines.old.number (State.Going (place_of proof.now (checking_of checker.old) units.old)) (lines_of (lines.old.unread ++ left_of Which.Cert (D.state desk.old))) ≡ Err fault))) }
+    ensures plain { IsErrOf result CheckError.Read → IsTrue D.tells → IsTrue (D.state desk.old).plain → ⊥ }
     ensures rest { IsTrue D.tells → D.state desk.new ≡ with_left Which.Cert (left_of Which.Cert (D.state desk.new)) (D.state desk.old) }
-    ensures faults { ReadFails (D.faults desk.old) (D.faults desk.new) (IsErrOf result CertError.Read) }
+    ensures faults { ReadFails (D.faults desk.old) (D.faults desk.new) (IsErrOf result CheckError.Read) }
 {
     let is_part = proof.is_part();
     'steps: loop {
@@ -199,7 +197,7 @@ pub fn next_steps<D: Desk>(
     system: &System,
     given: &Given,
     steps: Steps,
-) -> Result<State, CertError>
+) -> Result<State, CheckError>
     requires fresh { lines.old.taken ≡ 0 }
     requires fits { FitsGiven system.now given.now }
     requires known { IsKnown system.now given.now (place_of steps.proof steps.checker steps.units) }
@@ -209,11 +207,11 @@ pub fn next_steps<D: Desk>(
     ensures taken { OnOk result (lines.new.taken ≡ 0) }
     ensures ok { IfOk result (λ s. IsTrue D.tells → check_lines system.now given.now lines.old.number (State.Going (place_of steps.proof steps.checker steps.units)) (lines_of (lines.old.unread ++ left_of Which.Cert (D.state desk.old)))
         ≡ check_lines system.now given.now lines.new.number s (lines_of (lines.new.unread ++ left_of Which.Cert (D.state desk.new)))) }
-    ensures err { IfErr result (λ e. IsTrue D.tells → (e ≡ CertError.Memory) ⊎ (e ≡ CertError.Read)
-        ⊎ (check_lines system.now given.now lines.old.number (State.Going (place_of steps.proof steps.checker steps.units)) (lines_of (lines.old.unread ++ left_of Which.Cert (D.state desk.old))) ≡ Err e)) }
-    ensures plain { IsErrOf result CertError.Read → IsTrue D.tells → IsTrue (D.state desk.old).plain → ⊥ }
+    ensures err { IfErr result (λ e. IsTrue D.tells → OnCert e (λ fault. (fault ≡ CertError.Memory)
+        ⊎ (check_lines system.now given.now lines.old.number (State.Going (place_of steps.proof steps.checker steps.units)) (lines_of (lines.old.unread ++ left_of Which.Cert (D.state desk.old))) ≡ Err fault))) }
+    ensures plain { IsErrOf result CheckError.Read → IsTrue D.tells → IsTrue (D.state desk.old).plain → ⊥ }
     ensures rest { IsTrue D.tells → D.state desk.new ≡ with_left Which.Cert (left_of Which.Cert (D.state desk.new)) (D.state desk.old) }
-    ensures faults { ReadFails (D.faults desk.old) (D.faults desk.new) (IsErrOf result CertError.Read) }
+    ensures faults { ReadFails (D.faults desk.old) (D.faults desk.new) (IsErrOf result CheckError.Read) }
 {
     let Steps {
         proof,
@@ -224,7 +222,7 @@ pub fn next_steps<D: Desk>(
     match take_steps(alloc, lines, desk, reader, &proof, &mut checker, &mut units) {
         Ok(Some((line, text))) => {
             let place = proof.place(IdleChecker::closing(checker), units);
-            take_line(alloc, system, given, place, line, &text)
+            Ok(take_line(alloc, system, given, place, line, &text)?)
         }
         Ok(None) => {
             drop(checker);

@@ -1,5 +1,5 @@
 //! One step that was read as a stream.
-ghost use Rattle.std.specs.Prelude.{◌≡◌, ◌≢◌, ◌⊎◌, ◌≤◌, ◌^◌, [], ℕ, Option, None, IfOk, IfErr, IfSome, IsErrOf, OnOk, Ok, Err};
+ghost use Rattle.std.specs.Prelude.{◌≡◌, ◌≢◌, ◌⊎◌, ◌≤◌, ◌^◌, [], ℕ, Option, None, IfOk, IfErr, IfSome, OnOk, Ok, Err};
 ghost use Rattle.lrat_model.specs.Steps.{Database};
 ghost use Rattle.lrat_model.specs.declared.step.Rule.{Rule};
 ghost use Rattle.lrat_checker.specs.Adding.{Adding};
@@ -19,7 +19,6 @@ pub fn finish(
 ) -> Result<Progress, CertError>
     requires { Fits words.old checker.old.open_addition }
     ensures closed { OnOk result (checker.new.open_addition ≡ None) }
-    ensures unread { IsErrOf result CertError.Read → ⊥ }
     ensures ok { IfOk result (λ p. finished line checker.old.rule checker.old.vars checker.old.database (ahead checker.old.rule checker.old.vars checker.old.database words.old checker.old.open_addition []) ≡ Ok (checking_of checker.new, p)) }
     ensures err { IfErr result (λ e. (e ≡ CertError.Memory) ⊎ (finished line checker.old.rule checker.old.vars checker.old.database (ahead checker.old.rule checker.old.vars checker.old.database words.old checker.old.open_addition []) ≡ Err e)) }
 {
@@ -38,7 +37,6 @@ fn finish_addition(
 ) -> Result<Progress, CertError>
     requires { (id : ℕ) × (words.old.stage ≡ Stage.Added id) × IsOpen id words.old.lits.items words.old.fault checker.old.open_addition }
     ensures closed { OnOk result (checker.new.open_addition ≡ None) }
-    ensures unread { IsErrOf result CertError.Read → ⊥ }
     ensures ok { IfOk result (λ p. finished line checker.old.rule checker.old.vars checker.old.database (ahead checker.old.rule checker.old.vars checker.old.database words.old checker.old.open_addition []) ≡ Ok (checking_of checker.new, p)) }
     ensures err { IfErr result (λ e. (e ≡ CertError.Memory) ⊎ (finished line checker.old.rule checker.old.vars checker.old.database (ahead checker.old.rule checker.old.vars checker.old.database words.old checker.old.open_addition []) ≡ Err e)) }
 {
@@ -60,7 +58,6 @@ fn finish_deletion(
 ) -> Result<Progress, CertError>
     requires { (id : ℕ) × (words.old.stage ≡ Stage.Deleted id) × (checker.old.open_addition ≡ None) }
     ensures closed { OnOk result (checker.new.open_addition ≡ None) }
-    ensures unread { IsErrOf result CertError.Read → ⊥ }
     ensures no_memory { result ≢ Err CertError.Memory }
     ensures ok { IfOk result (λ p. finished line checker.old.rule checker.old.vars checker.old.database (ahead checker.old.rule checker.old.vars checker.old.database words.old checker.old.open_addition []) ≡ Ok (checking_of checker.new, p)) }
     ensures err { IfErr result (λ e. (e ≡ CertError.Memory) ⊎ (finished line checker.old.rule checker.old.vars checker.old.database (ahead checker.old.rule checker.old.vars checker.old.database words.old checker.old.open_addition []) ≡ Err e)) }
@@ -113,7 +110,6 @@ pub fn take_read(
 ) -> Result<Progress, CertError>
     requires { Fits words.old checker.old.open_addition }
     ensures closed { OnOk result (checker.new.open_addition ≡ None) }
-    ensures unread { IsErrOf result CertError.Read → ⊥ }
     ensures ok { IfOk result (λ p. read line is_part checker.old.rule checker.old.vars checker.old.database units.old (ahead checker.old.rule checker.old.vars checker.old.database words.old checker.old.open_addition []) ≡ Ok ((checking_of checker.new, p), units.new)) }
     ensures err { IfErr result (λ e. (e ≡ CertError.Memory) ⊎ (read line is_part checker.old.rule checker.old.vars checker.old.database units.old (ahead checker.old.rule checker.old.vars checker.old.database words.old checker.old.open_addition []) ≡ Err e)) }
 {

@@ -4,6 +4,7 @@ ghost use Rattle.desk_io.specs.State.{left_of, with_left};
 ghost use Rattle.desk_io.specs.Faults.{ReadFails};
 ghost use Rattle.fbas_model.specs.Systems.{System, IsSystem};
 ghost use Rattle.fbas_model.specs.Restriction.{everyone};
+ghost use Rattle.cert_lines.specs.Ends.{OnCert};
 ghost use Rattle.cert_lines.specs.Texts.{texts_of};
 ghost use Rattle.cert_lines.specs.declared.lines.TheConstants.{MAX_LINES};
 ghost use Rattle.certificate_file.specs.declared.places.Header.{Header};
@@ -15,7 +16,7 @@ ghost use Rattle.certificate_file.specs.Verification.{after_lemma, proof_lines, 
 use crate::formula::formula_of;
 use crate::places::{Header, Subject};
 use crate::streaming::finish;
-use cert_lines::{CertError, Lines, ProofLine, proof_line};
+use cert_lines::{CertError, CheckError, Lines, ProofLine, proof_line};
 use clause_encoder::Version;
 use desk_io::{Desk, Which};
 use fbas_core::System;
@@ -69,7 +70,7 @@ fn take_proof_line<D: Desk>(
     desk: &mut D,
     reader: &mut StepReader,
     checker: &mut Checker,
-) -> Result<Progress, CertError>
+) -> Result<Progress, CheckError>
     requires fresh { lines.old.taken ≡ 0 }
     requires closed { checker.old.open_addition ≡ None }
     ensures closed { OnOk result (checker.new.open_addition ≡ None) }
@@ -79,15 +80,15 @@ fn take_proof_line<D: Desk>(
     ensures few { OnOk result (lines.old.number ≤ MAX_LINES) }
     ensures number { OnOk result (lines.new.number ≡ lines.old.number + 1) }
     ensures taken { OnOk result (lines.new.taken ≡ 0) }
-    ensures err { IfErr result (λ e. IsTrue D.tells → (e ≡ CertError.Memory) ⊎ (e ≡ CertError.Read)
-        ⊎ (proof_lines lines.old.number (Some (checking_of checker.old)) (texts_of (lines.old.unread ++ left_of Which.Cert (D.state desk.old))) ≡ Err e)) }
-    ensures plain { IsErrOf result CertError.Read → IsTrue D.tells → IsTrue (D.state desk.old).plain → ⊥ }
+    ensures err { IfErr result (λ e. IsTrue D.tells → OnCert e (λ fault. (fault ≡ CertError.Memory)
+        ⊎ (proof_lines lines.old.number (Some (checking_of checker.old)) (texts_of (lines.old.unread ++ left_of Which.Cert (D.state desk.old))) ≡ Err fault))) }
+    ensures plain { IsErrOf result CheckError.Read → IsTrue D.tells → IsTrue (D.state desk.old).plain → ⊥ }
     ensures rest { IsTrue D.tells → D.state desk.new ≡ with_left Which.Cert (left_of Which.Cert (D.state desk.new)) (D.state desk.old) }
-    ensures faults { ReadFails (D.faults desk.old) (D.faults desk.new) (IsErrOf result CertError.Read) }
+    ensures faults { ReadFails (D.faults desk.old) (D.faults desk.new) (IsErrOf result CheckError.Read) }
 {
     let line = lines.number();
     match proof_line(lines, desk, checker, reader)? {
-        ProofLine::End => Err(CertError::NotRefuted(line)),
+        ProofLine::End => Err(CheckError::Cert(CertError::NotRefuted(line))),
         ProofLine::Passed => Ok(Progress::Going),
         ProofLine::Step => {
             let progress = finish(checker, &mut reader.words, line)?;
@@ -102,16 +103,16 @@ fn check_proof<D: Desk>(
     desk: &mut D,
     reader: &mut StepReader,
     checker: &mut Checker,
-) -> Result<(), CertError>
+) -> Result<(), CheckError>
     requires fresh { lines.old.taken ≡ 0 }
     requires closed { checker.old.open_addition ≡ None }
     ensures ok { OnOk result (IsTrue D.tells → proof_lines lines.old.number (Some (checking_of checker.old)) (texts_of (lines.old.unread ++ left_of Which.Cert (D.state desk.old))) ≡ Ok tt) }
-    ensures err { IfErr result (λ e. IsTrue D.tells → (e ≡ CertError.Memory) ⊎ (e ≡ CertError.Read)
-        ⊎ (proof_lines lines.old.number (Some (checking_of checker.old)) (texts_of (lines.old.unread ++ left_of Which.Cert (D.state desk.old))) ≡ Err e)) }
+    ensures err { IfErr result (λ e. IsTrue D.tells → OnCert e (λ fault. (fault ≡ CertError.Memory)
+        ⊎ (proof_lines lines.old.number (Some (checking_of checker.old)) (texts_of (lines.old.unread ++ left_of Which.Cert (D.state desk.old))) ≡ Err fault))) }
     ensures shows { OnOk result ((f : System) (h : Header) → AreSteps f h (checking_of checker.old) → PartIntersects f (part_from f h.from) h.faulty) }
-    ensures plain { IsErrOf result CertError.Read → IsTrue D.tells → IsTrue (D.state desk.old).plain → ⊥ }
+    ensures plain { IsErrOf result CheckError.Read → IsTrue D.tells → IsTrue (D.state desk.old).plain → ⊥ }
     ensures rest { IsTrue D.tells → D.state desk.new ≡ with_left Which.Cert (left_of Which.Cert (D.state desk.new)) (D.state desk.old) }
-    ensures faults { ReadFails (D.faults desk.old) (D.faults desk.new) (IsErrOf result CertError.Read) }
+    ensures faults { ReadFails (D.faults desk.old) (D.faults desk.new) (IsErrOf result CheckError.Read) }
 {
     'lines: loop {
         match take_proof_line(lines, desk, reader, checker)? {
@@ -138,15 +139,15 @@ pub fn check_lrat<D: Desk>(
     system: &System,
     header: &Header,
     desk: &mut D,
-) -> Result<(), CertError>
+) -> Result<(), CheckError>
     requires { FitsHeader system.now header.now }
     ensures ok { OnOk result (IsTrue D.tells → verified system.now header.now (left_of Which.Cert (D.state desk.old)) ≡ Ok tt) }
-    ensures err { IfErr result (λ e. IsTrue D.tells → (e ≡ CertError.Memory) ⊎ (e ≡ CertError.Read)
-        ⊎ (verified system.now header.now (left_of Which.Cert (D.state desk.old)) ≡ Err e)) }
+    ensures err { IfErr result (λ e. IsTrue D.tells → OnCert e (λ fault. (fault ≡ CertError.Memory)
+        ⊎ (verified system.now header.now (left_of Which.Cert (D.state desk.old)) ≡ Err fault))) }
     ensures shows { OnOk result (PartIntersects system.now (part_from system.now header.now.from) header.now.faulty) }
-    ensures plain { IsErrOf result CertError.Read → IsTrue D.tells → IsTrue (D.state desk.old).plain → ⊥ }
+    ensures plain { IsErrOf result CheckError.Read → IsTrue D.tells → IsTrue (D.state desk.old).plain → ⊥ }
     ensures rest { IsTrue D.tells → D.state desk.new ≡ with_left Which.Cert (left_of Which.Cert (D.state desk.new)) (D.state desk.old) }
-    ensures faults { ReadFails (D.faults desk.old) (D.faults desk.new) (IsErrOf result CertError.Read) }
+    ensures faults { ReadFails (D.faults desk.old) (D.faults desk.new) (IsErrOf result CheckError.Read) }
 {
     let mut lines = Lines::start(alloc)?;
     let subject = subject_from(system, header);

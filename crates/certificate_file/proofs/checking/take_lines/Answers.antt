@@ -1,7 +1,8 @@
-use Rattle.std.proofs.Common.{rules, ◌≡◌, ◌++◌, Err, inl, inr, refl, ◌∙◌, ap, subst}
+use Rattle.std.proofs.Common.{rules, ◌≡◌, ◌++◌, Err, refl, ◌∙◌, ap, subst}
 use Rattle.desk_io.specs.State.{left_of}
 use Rattle.desk_io.specs.declared.Which.TheVariants.{Cert}
 use Rattle.cert_lines.specs.Lines.{lines_of}
+use Rattle.cert_lines.proofs.Ends.{cert_or_memory}
 use Rattle.certificate_file.specs.Acceptance.{check_lines}
 use Rattle.certificate_file.specs.Known.{IsKnownState}
 use Rattle.certificate_file.specs.declared.places.State.{State}
@@ -27,10 +28,7 @@ returns-in_err-next g c =
     rw r (record {
       shown = tt;
       ok = tt;
-      err = λ tells. elim (failed.err tells) [
-        | inl memory ↦ inl memory
-        | inr other ↦ elim other [ inl read ↦ inr (inl read) | inr fault ↦ inr (inr (so_far.same tells ∙ fault)) ]
-      ];
+      err = λ tells. cert_or_memory e (λ _ fault. so_far.same tells ∙ fault) (failed.err tells);
       plain = λ is tells plain. failed.plain (same_fault e is) tells (plain_then (g.D.Desk.state c.args.desk.now) (g.D.Desk.state c.lines.desk) (so_far.rest tells) plain);
       rest = λ tells. rest_then (g.D.Desk.state c.args.desk.now) (g.D.Desk.state c.lines.desk) (g.D.Desk.state c.next_state.new.desk) (so_far.rest tells) (failed.rest tells);
       faults = fails_on (g.D.Desk.faults c.args.desk.now) (g.D.Desk.faults c.lines.desk) (g.D.Desk.faults c.next_state.new.desk) e so_far.writes so_far.reads failed.faults;

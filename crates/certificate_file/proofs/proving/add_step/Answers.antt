@@ -1,4 +1,4 @@
-use Rattle.std.proofs.Common.{◌≡◌, ◌&&◌, Result, Ok, Err, inl, inr, ap, ◌∙◌}
+use Rattle.std.proofs.Common.{◌&&◌, Result, Ok, inl, inr, ap, ◌∙◌}
 use Rattle.std.proofs.lemmas.Result.{IfErr-weaker}
 use Rattle.lrat_model.specs.Steps.{ProofStep, step_of, after_step, progress_of}
 use Rattle.lrat_model.specs.Rules.{step_fault_by}

@@ -4,13 +4,14 @@ use Rattle.desk_io.specs.declared.Which.TheVariants.{Cert}
 use Rattle.fbas_model.specs.Systems.{System}
 use Rattle.lrat_checker.specs.Checking.{Stepping}
 use Rattle.cert_lines.specs.Lines.{lines_of}
+use Rattle.cert_lines.proofs.Ends.{cert_or_memory, passed_on}
 use Rattle.certificate_file.specs.declared.given.Given.{Given}
 use Rattle.certificate_file.specs.Acceptance.{take_line, check_lines}
 use Rattle.reach_kinds.specs.Bodies.{and_then}
 use Rattle.certificate_file.specs.Known.{IsKnown}
 use Rattle.certificate_file.specs.Streamed.{place_of, end_of, checking_of}
 use Rattle.certificate_file.specs.declared.places.State.TheVariants.{Going}
-use Rattle.certificate_file.proofs.Desks.{rest_then, plain_then, fails_then, fails_on, fails_unread, same_fault, not_read}
+use Rattle.certificate_file.proofs.Desks.{rest_then, plain_then, fails_then, fails_on, fails_faulty, same_fault, not_read, not_faulty}
 use Rattle.certificate_file.proofs.Steps.{check_lines-line, check_lines-fault, check_lines-taken, check_lines-refused}
 use Rattle.certificate_file.proofs.StreamLaws.{read_line, known_after}
 use Rattle.certificate_file.proofs.stepping.take_steps.Goals as goal
@@ -20,8 +21,8 @@ returns-in-Some-clause-known g c = λ f given k.
     let same = rw c.in-Some.is at c.in_ok-text.ensures.same in
     subst (λ (x : Stepping). IsKnown f given (place_of c.args.proof.now (checking_of x) c.steps.units)) (sym same) (c.steps.invariant.known f given k)
 
-pub returns-in-Some-clause-text : goal.returns-in-Some-clause-text
-returns-in-Some-clause-text g c = λ tells f given.
+pub returns-in-Some-clause-ok : goal.returns-in-Some-clause-ok
+returns-in-Some-clause-ok g c = λ tells f given.
     let p = c.args.proof.now in
     let l = c.steps.lines.number in
     let place = place_of p (checking_of c.steps.checker) c.steps.units in
@@ -55,19 +56,11 @@ returns-in_err-text g c =
     rw r (record {
       closed = tt;
       known = tt;
-      shown = λ is. absurd cc;
-      text = tt;
-      end = λ is. absurd cc;
+      ok = tt;
       few = tt;
       number = tt;
       taken = tt;
-      err = λ tells. elim (failed.err tells) [
-        | inl memory ↦ inl memory
-        | inr other ↦ elim other [
-          | inl read ↦ inr (inl read)
-          | inr fault ↦ inr (inr (λ f given. so_far.same tells f given ∙ check_lines-fault f given c.steps.lines.number place ls e fault))
-        ]
-      ];
+      err = λ tells. cert_or_memory e (λ bad fault f given. so_far.same tells f given ∙ check_lines-fault f given c.steps.lines.number place ls bad fault) (failed.err tells);
       plain = λ is tells plain. failed.plain (same_fault e is) tells (plain_then (g.D.Desk.state c.args.desk.now) (g.D.Desk.state c.steps.desk) (so_far.rest tells) plain);
       rest = λ tells. rest_then (g.D.Desk.state c.args.desk.now) (g.D.Desk.state c.steps.desk) (g.D.Desk.state c.line_or_step.new.desk) (so_far.rest tells) (failed.rest tells);
       faults = fails_on (g.D.Desk.faults c.args.desk.now) (g.D.Desk.faults c.steps.desk) (g.D.Desk.faults c.line_or_step.new.desk) e so_far.writes so_far.reads failed.faults;
@@ -83,27 +76,25 @@ returns-in_err-take_read-in-None g c =
     let told = c.in_ok-text.ensures.step (rw c.in-None.is refl) in
     let failed = c.in_err-take_read-in-None.ensures in
     let e = c.in_err-take_read-in-None.field-0.0 in
-    let r : c.from_residual-in_err-take_read-in-None.result ≡ Err e = search rules in
+    let r = passed_on c.from_residual-in_err-take_read-in-None.result e c.from_residual-in_err-take_read-in-None.ensures.1 in
     rw r (record {
       closed = tt;
       known = tt;
-      shown = λ is. absurd cc;
-      text = tt;
-      end = λ is. absurd cc;
+      ok = tt;
       few = tt;
       number = tt;
       taken = tt;
       err = λ tells. elim failed.err [
         | inl memory ↦ inl memory
-        | inr fault ↦ inr (inr (λ f given.
+        | inr fault ↦ inr (λ f given.
             c.steps.invariant.same tells f given
             ∙ check_lines-refused f given l place ls more told.0 e (told.2 tells)
             (read_line f given p c.is_part-is_part.result c.steps.checker c.line_or_step.new.checker c.steps.units l c.number-line.result c.line_or_step.new.reader.words told.0 (Err e)
-            c.in_ok-text.ensures.rule c.in_ok-text.ensures.vars c.in_ok-text.ensures.database c.number-line.ensures c.is_part-is_part.ensures told.1 told.3 fault)))
+            c.in_ok-text.ensures.rule c.in_ok-text.ensures.vars c.in_ok-text.ensures.database c.number-line.ensures c.is_part-is_part.ensures told.1 told.3 fault))
       ];
-      plain = λ is. absurd (failed.unread (same_fault e is));
+      plain = λ is. absurd (not_faulty e is);
       rest = λ tells. rest_then (g.D.Desk.state c.args.desk.now) (g.D.Desk.state c.steps.desk) (g.D.Desk.state c.line_or_step.new.desk) (c.steps.invariant.rest tells) (c.in_ok-text.ensures.rest tells);
-      faults = fails_unread (g.D.Desk.faults c.args.desk.now) (g.D.Desk.faults c.steps.desk) (g.D.Desk.faults c.line_or_step.new.desk) _ e c.steps.invariant.writes c.steps.invariant.reads c.in_ok-text.ensures.faults failed.unread;
+      faults = fails_faulty (g.D.Desk.faults c.args.desk.now) (g.D.Desk.faults c.steps.desk) (g.D.Desk.faults c.line_or_step.new.desk) _ e c.steps.invariant.writes c.steps.invariant.reads c.in_ok-text.ensures.faults;
     })
 
 pub steps-preserved : goal.steps-preserved
@@ -133,8 +124,8 @@ steps-preserved g c =
       reads = c.in_ok-text.ensures.faults.none not_read ∙ c.steps.invariant.reads;
     }
 
-pub returns-in-Refuted-clause-shown : goal.returns-in-Refuted-clause-shown
-returns-in-Refuted-clause-shown g c = λ _ f given k.
+pub returns-in-Refuted-clause-known : goal.returns-in-Refuted-clause-known
+returns-in-Refuted-clause-known g c = λ f given k.
     let p = c.args.proof.now in
     let l = c.steps.lines.number in
     let told = c.in_ok-text.ensures.step (rw c.in-None.is refl) in
@@ -143,8 +134,8 @@ returns-in-Refuted-clause-shown g c = λ _ f given k.
     (read_line f given p c.is_part-is_part.result c.steps.checker c.line_or_step.new.checker c.steps.units l c.number-line.result c.line_or_step.new.reader.words told.0 _
     c.in_ok-text.ensures.rule c.in_ok-text.ensures.vars c.in_ok-text.ensures.database c.number-line.ensures c.is_part-is_part.ensures told.1 told.3 came)
 
-pub returns-in-Refuted-clause-end : goal.returns-in-Refuted-clause-end
-returns-in-Refuted-clause-end g c = λ _ tells f given.
+pub returns-in-Refuted-clause-ok : goal.returns-in-Refuted-clause-ok
+returns-in-Refuted-clause-ok g c = λ tells f given.
     let p = c.args.proof.now in
     let l = c.steps.lines.number in
     let place = place_of p (checking_of c.steps.checker) c.steps.units in

@@ -7,8 +7,8 @@ use Rattle.certificate_file.specs.declared.places.Place.TheVariants.{AtFrom}
 use Rattle.certificate_file.specs.declared.places.State.TheVariants.{Going}
 use Rattle.certificate_file.proofs.taking.digest_line.Goals as goal
 
-pub returns-clause-value : goal.returns-clause-value
-returns-clause-value c =
+pub returns : goal.returns
+returns c =
     let d : List ℕ = c.args.digest.now in
     let found : List ℕ = c.in-Some-read_digits.found in
     let is : digest_in c.args.text.now ≡ Some found = c.in-Some.ensures.some ∙ sym c.read_digits.ensures.value ∙ c.in-Some-read_digits.is in

@@ -6,5 +6,5 @@ use Rattle.certificate_file.specs.declared.places.Place.TheVariants.{AtDigest}
 use Rattle.certificate_file.specs.declared.places.State.TheVariants.{Going}
 use Rattle.certificate_file.proofs.taking.title_line.Goals as goal
 
-pub returns-clause-value : goal.returns-clause-value
-returns-clause-value c = ap (λ (o : Option Version). and_then (λ version. Ok (Going (AtDigest version))) (ok_or o (BadLine c.args.line))) (sym c.in-Some.is ∙ c.version_in.ensures)
+pub returns : goal.returns
+returns c = ap (λ (o : Option Version). and_then (λ version. Ok (Going (AtDigest version))) (ok_or o (BadLine c.args.line))) (sym c.in-Some.is ∙ c.version_in.ensures)

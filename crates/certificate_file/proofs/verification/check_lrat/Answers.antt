@@ -1,8 +1,9 @@
-use Rattle.std.proofs.Common.{rules, ◌≡◌, ◌≤◌, ℕ, Err, inl, inr, sym, ◌∙◌, subst}
+use Rattle.std.proofs.Common.{◌≤◌, ℕ, inl, inr, sym, ◌∙◌, subst}
 use Rattle.std.proofs.lemmas.Result.{IfOk-weaker, IfErr-weaker}
 use Rattle.desk_io.specs.State.{left_of}
 use Rattle.desk_io.specs.declared.Which.TheVariants.{Cert}
 use Rattle.clause_encoder.specs.declared.limits.TheConstants.{MOST_VARS}
+use Rattle.cert_lines.proofs.Ends.{cert_or_memory, passed_on}
 use Rattle.certificate_file.specs.Streamed.{checking_of}
 use Rattle.certificate_file.proofs.VerificationLaws.{formula_opened, opened_known, verified-small, verified-large}
 use Rattle.certificate_file.proofs.verification.check_lrat.Goals as goal
@@ -11,10 +12,10 @@ pub returns-in_err-checker-clause-err : goal.returns-in_err-checker-clause-err
 returns-in_err-checker-clause-err g c =
     let bytes = left_of Cert (g.D.Desk.state c.args.desk.now) in
     let e = c.in_err-checker.field-0.0 in
-    let r : c.from_residual-in_err-checker.result ≡ Err e = search rules in
+    let r = passed_on c.from_residual-in_err-checker.result e c.from_residual-in_err-checker.ensures.1 in
     rw r (λ tells. elim c.in_err-checker.ensures.err [
       | inl memory ↦ inl memory
-      | inr large ↦ inr (inr (verified-large c.args.system.now c.args.header.now c.subject_from-subject.result bytes e c.subject_from-subject.ensures.value large.0 large.1))
+      | inr large ↦ inr (verified-large c.args.system.now c.args.header.now c.subject_from-subject.result bytes e c.subject_from-subject.ensures.value large.0 large.1)
     ])
 
 pub returns-clause-err : goal.returns-clause-err
@@ -28,13 +29,7 @@ returns-clause-err g c =
     let lines = c.in_ok-lines.lines in
     let opened = formula_opened f h s idle opening c.subject_from-subject.ensures.value c.in_ok-checker.ensures.ok c.opening-checker.ensures.rule c.opening-checker.ensures.vars c.opening-checker.ensures.database in
     let small : opening.vars ≤ MOST_VARS = subst (λ (n : ℕ). n ≤ MOST_VARS) (sym c.opening-checker.ensures.vars) c.in_ok-checker.ensures.small in
-    IfErr-weaker c.check_proof-verified.result _ _ (λ e told tells. elim (told tells) [
-      | inl memory ↦ inl memory
-      | inr other ↦ elim other [
-        | inl read ↦ inr (inl read)
-        | inr fault ↦ inr (inr (verified-small f h (checking_of opening) lines.number lines.unread bytes opened small c.in_ok-lines.ensures.number c.in_ok-lines.ensures.unread ∙ fault))
-      ]
-    ]) c.check_proof-verified.ensures.err
+    IfErr-weaker c.check_proof-verified.result _ _ (λ e told tells. cert_or_memory e (λ _ fault. verified-small f h (checking_of opening) lines.number lines.unread bytes opened small c.in_ok-lines.ensures.number c.in_ok-lines.ensures.unread ∙ fault) (told tells)) c.check_proof-verified.ensures.err
 
 pub returns-clause-ok : goal.returns-clause-ok
 returns-clause-ok g c = IfOk-weaker c.check_proof-verified.result _ _ (λ _ ok tells.

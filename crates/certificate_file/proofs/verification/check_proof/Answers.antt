@@ -1,7 +1,8 @@
-use Rattle.std.proofs.Common.{rules, ◌≡◌, ◌++◌, Err, inl, inr, ◌∙◌}
+use Rattle.std.proofs.Common.{rules, ◌≡◌, ◌++◌, Err, ◌∙◌}
 use Rattle.desk_io.specs.State.{left_of}
 use Rattle.desk_io.specs.declared.Which.TheVariants.{Cert}
 use Rattle.cert_lines.specs.Texts.{texts_of}
+use Rattle.cert_lines.proofs.Ends.{cert_or_memory}
 use Rattle.certificate_file.specs.Streamed.{checking_of}
 use Rattle.certificate_file.proofs.Desks.{rest_then, plain_then, fails_then, fails_on, same_fault, not_read}
 use Rattle.certificate_file.proofs.verification.check_proof.Goals as goal
@@ -14,10 +15,7 @@ returns-in_err-take_proof_line g c =
     let failed = c.in_err-take_proof_line.ensures in
     rw r (record {
       ok = tt;
-      err = λ tells. elim (failed.err tells) [
-        | inl memory ↦ inl memory
-        | inr other ↦ elim other [ inl read ↦ inr (inl read) | inr fault ↦ inr (inr (so_far.same tells ∙ fault)) ]
-      ];
+      err = λ tells. cert_or_memory e (λ _ fault. so_far.same tells ∙ fault) (failed.err tells);
       shows = tt;
       plain = λ is tells plain. failed.plain (same_fault e is) tells (plain_then (g.D.Desk.state c.args.desk.now) (g.D.Desk.state c.lines.desk) (so_far.rest tells) plain);
       rest = λ tells. rest_then (g.D.Desk.state c.args.desk.now) (g.D.Desk.state c.lines.desk) (g.D.Desk.state c.take_proof_line.new.desk) (so_far.rest tells) (failed.rest tells);

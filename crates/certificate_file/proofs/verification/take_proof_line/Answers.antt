@@ -4,11 +4,12 @@ use Rattle.desk_io.specs.declared.Which.TheVariants.{Cert}
 use Rattle.lrat_checker.specs.Checking.{Stepping}
 use Rattle.cert_lines.specs.Texts.{texts_of}
 use Rattle.cert_lines.specs.declared.faults.CertError.TheVariants.{NotRefuted}
+use Rattle.cert_lines.proofs.Ends.{cert_or_memory, passed_on}
 use Rattle.certificate_file.specs.Streamed.{checking_of}
 use Rattle.certificate_file.specs.Known.{AreSteps}
 use Rattle.certificate_file.specs.Verification.{after_lemma, proof_lines}
 use Rattle.certificate_file.proofs.VerificationLaws.{line_known, proof_lines-taken, proof_lines-refused, proof_lines-ended, proof_lines-bad, proof_line-read, proof_line-passed}
-use Rattle.certificate_file.proofs.Desks.{fails_as, fails_on, fails_unread, same_fault, not_read}
+use Rattle.certificate_file.proofs.Desks.{fails_as, fails_on, fails_faulty, same_fault, not_read, not_faulty}
 use Rattle.certificate_file.proofs.verification.take_proof_line.Goals as goal
 
 pub returns-in_err-proof_line : goal.returns-in_err-proof_line
@@ -26,13 +27,7 @@ returns-in_err-proof_line g c =
       few = tt;
       number = tt;
       taken = tt;
-      err = λ tells. elim (failed.err tells) [
-        | inl memory ↦ inl memory
-        | inr other ↦ elim other [
-          | inl read ↦ inr (inl read)
-          | inr bad ↦ inr (inr (proof_lines-bad l now texts e bad))
-        ]
-      ];
+      err = λ tells. cert_or_memory e (proof_lines-bad l now texts) (failed.err tells);
       plain = λ is. failed.plain (same_fault e is);
       rest = failed.rest;
       faults = fails_on (g.D.Desk.faults c.args.desk.now) (g.D.Desk.faults c.args.desk.now) (g.D.Desk.faults c.proof_line.new.desk) e refl refl failed.faults;
@@ -44,7 +39,7 @@ returns-in-End-clause-err g c = λ tells.
     let now = checking_of c.args.checker.now in
     let texts = texts_of (c.args.lines.now.unread ++ left_of Cert (g.D.Desk.state c.args.desk.now)) in
     let reads = c.in_ok-proof_line.ensures.end (rw c.in-End.is refl) tells in
-    inr (inr (proof_lines-ended l now texts reads ∙ ap (λ (n : ℕ). Err (NotRefuted n)) (sym c.number-line.ensures)))
+    inr (proof_lines-ended l now texts reads ∙ ap (λ (n : ℕ). Err (NotRefuted n)) (sym c.number-line.ensures))
 
 pub returns-in_err-progress-in-Step : goal.returns-in_err-progress-in-Step
 returns-in_err-progress-in-Step g c =
@@ -56,7 +51,7 @@ returns-in_err-progress-in-Step g c =
     let told = read.step (rw c.in-Step.is refl) in
     let failed = c.in_err-progress-in-Step.ensures in
     let e = c.in_err-progress-in-Step.field-0.0 in
-    let r : c.from_residual-in_err-progress-in-Step.result ≡ Err e = search rules in
+    let r = passed_on c.from_residual-in_err-progress-in-Step.result e c.from_residual-in_err-progress-in-Step.ensures.1 in
     rw r (record {
       closed = tt;
       known = tt;
@@ -66,14 +61,14 @@ returns-in_err-progress-in-Step g c =
       taken = tt;
       err = λ tells. elim failed.err [
         | inl memory ↦ inl memory
-        | inr fault ↦ inr (inr (
+        | inr fault ↦ inr (
             proof_lines-refused l now texts more told.0 e (told.2 tells)
             (proof_line-read c.args.checker.now c.proof_line.new.checker l c.number-line.result c.proof_line.new.reader.words told.0 (Err e)
-            read.rule read.vars read.database c.number-line.ensures told.1 told.3 fault)))
+            read.rule read.vars read.database c.number-line.ensures told.1 told.3 fault))
       ];
-      plain = λ is. absurd (failed.unread (same_fault e is));
+      plain = λ is. absurd (not_faulty e is);
       rest = read.rest;
-      faults = fails_unread (g.D.Desk.faults c.args.desk.now) (g.D.Desk.faults c.args.desk.now) (g.D.Desk.faults c.proof_line.new.desk) _ e refl refl read.faults failed.unread;
+      faults = fails_faulty (g.D.Desk.faults c.args.desk.now) (g.D.Desk.faults c.args.desk.now) (g.D.Desk.faults c.proof_line.new.desk) _ e refl refl read.faults;
     })
 
 pub returns-in-Passed-clause-ok : goal.returns-in-Passed-clause-ok
