@@ -5,6 +5,9 @@ use Rattle.std.proofs.Math.Seq.{take-append_seam}
 use Rattle.desk_io.specs.State.{DeskState, written}
 use Rattle.desk_io.specs.Faults.{Faults, Rose, WriteFails}
 use Rattle.desk_io.specs.declared.desk.To.TheVariants.{Cert}
+use Rattle.fbas_model.specs.Systems.{System}
+use Rattle.enumeration_journal.specs.Journals.{JournalLine}
+use Rattle.enumeration_journal.specs.declared.kinds.ListKind.{ListKind}
 use Rattle.cert_writer.specs.Texts.{Text, joined}
 use Rattle.cert_writer.specs.Promises.{PutsPart, PutsCertificate}
 use Rattle.cert_writer.specs.Writing.{Pending, IsFresh, WroteAll, WrotePart, Wrote, CountsFailing, Writes}
@@ -67,3 +70,9 @@ ends_certificate tells head front a b c s v z e f g r new x y same none =
 -- the same text
 pub puts_same : {T E : Type 0} (tells : Bool) (t u : List ℕ) (r : Result T E) (s : DeskState) (e : Faults) (v : DeskState) (f : Faults) → t ≡ u → PutsCertificate tells t r s e v f → PutsCertificate tells u r s e v f
 puts_same tells t u r s e v f same x = subst (λ (z : List ℕ). PutsCertificate tells z r s e v f) same x
+
+-- the text of a journal, where the part, the kind and the journal are the same
+pub puts_journal : {T E : Type 0} (tells : Bool) (text : System → ListKind → List JournalLine → Text) (p q : System) (k l : ListKind) (js ks : List JournalLine) (r : Result T E) (s : DeskState) (e : Faults) (v : DeskState) (f : Faults) → p ≡ q → k ≡ l → js ≡ ks
+    → PutsCertificate tells (text p k js) r s e v f → PutsCertificate tells (text q l ks) r s e v f
+puts_journal tells text p q k l js ks r s e v f part kind journal x =
+    puts_same tells (text p k js) (text q l ks) r s e v f (ap (λ (y : System). text y k js) part ∙ ap (λ (y : ListKind). text q y js) kind ∙ ap (text q l) journal) x

@@ -1,9 +1,9 @@
 -- A list of blocking sets of groups that is written is accepted.
-use Rattle.std.proofs.Common.{◌≡◌, ℕ, ◌+◌, ◌*◌, ◌≤◌, ◌<◌, Bool, List, [], ◌∷◌, ◌++◌, length, map, IfSome, Option, Some, ok_or, Ok, refl, sym, ◌∙◌, ap, subst, arith, codes, length-append}
-use Rattle.std.specs.List.{All, AllByRecursion}
+use Rattle.std.proofs.Common.{◌≡◌, ℕ, ◌+◌, ◌*◌, ◌≤◌, Bool, List, [], ◌∷◌, ◌++◌, length, map, map-id, Option, Some, ok_or, Ok, refl, sym, ◌∙◌, ap, subst, arith, codes, length-append}
+use Rattle.std.specs.List.{All}
 use Rattle.std.specs.List.Sorted.{IsStrictlySortedBy}
-use Rattle.std.proofs.lemmas.List.{length-map, append-nil}
-use Rattle.std.proofs.lemmas.List.Elements.{All-map, recursion_from_All}
+use Rattle.std.proofs.lemmas.List.{length-map}
+use Rattle.std.proofs.lemmas.List.Elements.{All-map}
 use Rattle.hex.specs.Hex.{IsBytes, encode_lower}
 use Rattle.hex.proofs.HexLemmas.{decode_sized-encode_lower, length-encode_with}
 use Rattle.hex.specs.Hex.{lower_digits}
@@ -13,20 +13,17 @@ use Rattle.fbas_model.specs.Nodes.{Table, size}
 use Rattle.fbas_model.specs.Names.{Name, name_cmp}
 use Rattle.fbas_model.specs.Systems.{System, IsSystem}
 use Rattle.fbas_model.specs.Restriction.{kept, restricted}
-use Rattle.fbas_model.proofs.Kept.{kept_le, length-kept}
+use Rattle.fbas_model.proofs.Kept.{length-kept}
 use Rattle.fbas_model.proofs.Closure.{size_le_length}
-use Rattle.fbas_model.proofs.Renumbered.{length-restricted_sets}
 use Rattle.fbas_model.specs.declared.TheConstants.{MOST_NODES, MOST_ORGS}
 use Rattle.greatest_quorum.specs.Greatest.{greatest_of}
 use Rattle.lrat_model.specs.Steps.{Database}
-use Rattle.lrat_model.specs.declared.step.Progress.TheVariants.{Going as going}
-use Rattle.enumeration_journal.specs.Journals.{JournalLine, Rules, JournalRun, line_progress, nothing_held, sets_in, journal_units}
+use Rattle.enumeration_journal.specs.Journals.{JournalLine, JournalRun, nothing_held, sets_in}
 use Rattle.enumeration_journal.specs.Order.{ordered}
 use Rattle.enumeration_journal.specs.declared.kinds.ListKind.{ListKind}
 use Rattle.enumeration_journal.specs.declared.kinds.ListKind.TheVariants.{Whole, Partial as Part}
 use Rattle.enumeration_journal.specs.declared.kinds.Listed.{Listed}
 use Rattle.enumeration_journal.specs.declared.kinds.Listed.TheVariants as listed
-use Rattle.enumeration_journal.proofs.Runs.{sets_append}
 use Rattle.node_json.specs.Groups.{Group, groups_of, tables_of, texts_of}
 use Rattle.node_json.proofs.GroupNodes.{groups_sized, few_groups}
 use Rattle.group_journal.specs.Groups.{touching}
@@ -38,42 +35,37 @@ use Rattle.cert_lines.specs.Limits.{unless}
 use Rattle.cert_lines.specs.Words.{orgs_digest_in}
 use Rattle.cert_lines.specs.declared.faults.CertError.TheVariants.{BadLine, OrgsDigest}
 use Rattle.cert_lines.specs.declared.lines.TheConstants.{MAX_LINES}
-use Rattle.reach_kinds.specs.Bodies.{and_then, list_checking}
-use Rattle.reach_kinds.specs.GroupBodies.{group_part, rules_over, group_listing_on, groups_begin}
+use Rattle.reach_kinds.specs.Bodies.{and_then}
+use Rattle.reach_kinds.specs.GroupBodies.{group_part, rules_over, groups_begin}
 use Rattle.certificate_file.specs.Acceptance.{take_line, checked, orgs_found}
-use Rattle.certificate_file.specs.Known.{IsPart}
 use Rattle.certificate_file.specs.Meaning.{part_from}
 use Rattle.certificate_file.specs.declared.given.Given.{Given}
 use Rattle.certificate_file.specs.declared.given.GivenOrgs.{GivenOrgs}
 use Rattle.certificate_file.specs.declared.places.Header.{Header}
-use Rattle.certificate_file.specs.declared.places.Accepted.{Accepted}
 use Rattle.certificate_file.specs.declared.places.Subject.{Subject}
 use Rattle.certificate_file.specs.declared.places.Conclusion.{Conclusion}
 use Rattle.certificate_file.specs.declared.places.Conclusion.TheVariants.{Reached}
 use Rattle.reach_kinds.specs.Kinds.{kind_word}
 use Rattle.reach_kinds.specs.declared.kinds.ReachKind.TheVariants.{Groups}
-use Rattle.reach_kinds.specs.declared.places.Reached.TheVariants.{OrgBlocking, Partial}
-use Rattle.certificate_file.specs.declared.places.Place.TheVariants.{AtTitle, AtKind, AtOrgs, AtReach}
-use Rattle.certificate_file.specs.declared.places.State.{State}
-use Rattle.certificate_file.specs.declared.places.State.TheVariants.{Going, Done}
-use Rattle.certificate_file.proofs.WholeLaws.{part_is}
+use Rattle.reach_kinds.specs.declared.places.Reached.TheVariants.{OrgBlocking}
+use Rattle.certificate_file.specs.declared.places.Place.TheVariants.{AtOrgs, AtReach}
+use Rattle.certificate_file.specs.declared.places.State.TheVariants.{Going}
 use Rattle.reach_kinds.specs.declared.places.GroupPart.{GroupPart}
-use Rattle.reach_kinds.specs.declared.places.ReachPlace.TheVariants.{AtGroups}
-use Rattle.cert_writer.specs.Texts.{Text, letter, set_line, header_lines, kind_line, orgs_line, names_for, group_journal_line, group_text}
+use Rattle.cert_writer.specs.Texts.{letter, set_line, kind_line, orgs_line, names_for, group_text}
 use Rattle.cert_writer.specs.Promises.{IsHeader, AreOrgs, subject, part_of, faulty_in, ListEndsAs, groups_in, group_rules_in, shown_by_groups, IsGroupJournalOf}
-use Rattle.cert_writer.proofs.Joined.{Takes, takes-append, IsLine, AreLines, are_lines-append, accepted_text}
-use Rattle.cert_writer.proofs.Words.{IsWord, is_plain, is_word, same_text, words_of-worded, plain-worded}
-use Rattle.cert_writer.proofs.Names.{AreNames, AreListable, are_keys, listable, names-kept}
+use Rattle.cert_writer.proofs.Joined.{IsLine}
+use Rattle.cert_writer.proofs.Words.{IsWord, is_word, same_text, words_of-worded, plain-worded}
+use Rattle.cert_writer.proofs.Names.{AreListable, listable}
 use Rattle.cert_writer.proofs.KindLines.{line_body, body_taken}
-use Rattle.cert_writer.proofs.Headers.{digits_word, takes_header, lines_header}
+use Rattle.cert_writer.proofs.Headers.{digits_word}
 use Rattle.cert_writer.proofs.Pairs.{part_is_restricted}
-use Rattle.cert_writer.proofs.LogLaws.{front_all}
-use Rattle.cert_writer.proofs.SetLines.{line_set}
-use Rattle.cert_writer.proofs.ListLaws.{lines_by, run_split, split_lines, no_set, both_all}
+use Rattle.cert_writer.proofs.SetLines.{StandsAt, line_set}
 use Rattle.cert_writer.proofs.OrgKeys.{AreRead, orgs_read}
 use Rattle.cert_writer.proofs.GroupTexts.{groups_listable}
 use Rattle.cert_writer.proofs.GroupLines.{IsOver}
-use Rattle.cert_writer.proofs.GroupRuns.{takes_groups, groups_refuted, groups_part_end}
+use Rattle.cert_writer.proofs.JournalRuns.{OfGroups, shown_over, at_list}
+use Rattle.cert_writer.proofs.JournalLaws.{stands, few_names, journal_accepted}
+use Rattle.cert_writer.proofs.ListLaws.{lists_fall}
 
 -- ---- the digest of the organisations' file
 
@@ -118,115 +110,35 @@ module _ (f : System) (given : Given) (h : Header) (is : IsSystem f.names f.sets
   abbrev p : GroupPart
   p = group_part f nodes h.faulty orgs.orgs
 
-  abbrev r : Rules
-  r = rules_over p
-
-  abbrev text : JournalLine → Text
-  text line = group_journal_line (kept nodes f.names) (texts_of p.groups) line
-
-  part : IsPart f h.from nodes
-  part = part_is f h.from is (subst (λ n. IfSome h.from (λ v. v < n)) (sym is.places) head.node)
-
-  are : AreNames f.names
-  are = record { keys = are_keys f.names is.keys; sorted = sorted }
-
-  part_names : AreNames (kept nodes f.names)
-  part_names = names-kept nodes f.names are
+  part : StandsAt f nodes p.part
+  part = stands f h is sorted head
 
   read : AreRead orgs.orgs
   read = orgs_read f.names are_orgs.file orgs.orgs are_orgs.read
 
-  count : length p.part.system.sets ≡ size nodes
-  count = length-restricted_sets nodes f.sets part.places
-
-  same : length p.part.faulty ≡ length p.part.system.sets
-  same = length-kept nodes h.faulty (part.places ∙ is.places ∙ sym head.faulty) ∙ sym count
-
-  named : length (kept nodes f.names) ≡ length p.part.system.sets
-  named = length-kept nodes f.names (part.places ∙ is.places) ∙ sym count
-
-  few_names : length (kept nodes f.names) ≤ MOST_NODES
-  few_names = omega (arith, kept_le nodes f.names, is.few)
+  few_nodes : length (kept nodes f.names) ≤ MOST_NODES
+  few_nodes = few_names f h is sorted head
 
   few_texts : length (texts_of p.groups) ≤ MOST_NODES + MOST_ORGS
   unfolding groups_of
-  few_texts = omega (arith, length-map p.groups (λ (g : Group). g.text), few_groups f.names (kept nodes f.names) orgs.orgs, few_names, read.few)
+  few_texts = omega (arith, length-map p.groups (λ (g : Group). g.text), few_groups f.names (kept nodes f.names) orgs.orgs, few_nodes, read.few)
 
-  small : r.vars ≤ MOST_VARS
+  small : (rules_over p).vars ≤ MOST_VARS
   small = omega (arith, size_le_length (touching (tables_of p.groups) p.part.greatest), length-touching (tables_of p.groups) p.part.greatest, length-map p.groups (λ (g : Group). g.members), length-map p.groups (λ (g : Group). g.text), few_texts)
 
   sized : All (λ (t : Table). length t ≡ length p.part.system.sets) (tables_of p.groups)
   unfolding groups_of
-  sized = subst (λ (n : ℕ). All (λ (t : Table). length t ≡ n) (tables_of p.groups)) named (All-map (λ (t : Table). length t ≡ length (kept nodes f.names)) (λ (g : Group). g.members) p.groups (groups_sized f.names (kept nodes f.names) orgs.orgs))
+  sized =
+      let named = length-kept nodes f.names part.places ∙ sym part.count in
+      subst (λ (n : ℕ). All (λ (t : Table). length t ≡ n) (tables_of p.groups)) named (All-map (λ (t : Table). length t ≡ length (kept nodes f.names)) (λ (g : Group). g.members) p.groups (groups_sized f.names (kept nodes f.names) orgs.orgs))
 
   over : IsOver f nodes p
   over = record {
-    places = part.places ∙ is.places;
-    count = count;
-    same = same;
+    part = part;
     sized = sized;
     touched = refl;
-    names = listable f.names are;
-    part_names = listable (kept nodes f.names) part_names;
-    texts = groups_listable f.names (kept nodes f.names) orgs.orgs part_names.keys part_names.sorted read.keys;
+    texts = groups_listable f.names (kept nodes f.names) orgs.orgs part.part_names.keys part.part_names.sorted read.keys;
   }
-
-  abbrev IsFine : JournalLine → Type 0
-  IsFine line = HasLineNumbers line × HasFewWords r.vars line
-
-  -- the place after so many lines
-  abbrev place : ListKind → Database → List Table → ℕ → State
-  place kind database sets units = Going (AtReach (subject f h) (AtGroups (group_listing_on kind p (list_checking r.vars database) sets units)))
-
-  abbrev shown_of : ListKind → List JournalLine → Conclusion
-  shown_of kind journal = shown_by_groups p.groups r kind journal
-
-  takes_body : (kind : ListKind) (l : ℕ) (new : Database) (journal : List JournalLine) → JournalRun r kind r.start journal new → AllByRecursion IsFine journal → ListEndsAs kind journal
-      → Takes f given l (place kind r.start [] 0) (map text journal ++ codes "end" ∷ []) (Done (record { header = h; answer = shown_of kind journal }))
-  takes_body Part l new journal run fine ends =
-      let s = subject f h in
-      let on = recursion_from_All (λ line. line_progress line ≡ going) journal ends in
-      let sets = sets_in listed.Blocking journal in
-      let lines = map text journal in
-      let taken = takes_groups f given s Part p (omega (arith, small)) l r.start new [] sets 0 (journal_units r journal) journal over fine on run refl (omega arith) in
-      takes-append f given l (l + length lines) (place Part r.start [] 0) (place Part new sets (journal_units r journal)) (Done (record { header = h; answer = Reached (Partial Groups (journal_units r journal)) })) lines (codes "end" ∷ []) refl taken
-      (groups_part_end f given s p (l + length lines) r.vars new sets (journal_units r journal))
-  takes_body Whole l new journal run fine ends =
-      let s = subject f h in
-      let before = ends.before in
-      let last = ends.last in
-      let each = front_all IsFine before last (subst (λ (ls : List JournalLine). AllByRecursion IsFine ls) ends.is fine) in
-      let split = run_split r Whole r.start new before last (subst (λ (ls : List JournalLine). JournalRun r Whole r.start ls new) ends.is run) in
-      let on = recursion_from_All (λ line. line_progress line ≡ going) before ends.only in
-      let sets = sets_in listed.Blocking before in
-      let lines = map text before in
-      let taken = takes_groups f given s Whole p (omega (arith, small)) l r.start split.0 [] sets 0 (journal_units r before) before over each.0 on split.1 refl (omega arith) in
-      let end = groups_refuted f given s p (omega (arith, small)) (l + length lines) split.0 new sets (journal_units r before) last each.1 ends.ends split.2 in
-      let whole = takes-append f given l (l + length lines) (place Whole r.start [] 0) (place Whole split.0 sets (journal_units r before)) (Done (record { header = h; answer = Reached (OrgBlocking p.groups (ordered sets)) })) lines (text last ∷ codes "end" ∷ []) refl taken end in
-      let texts : lines ++ text last ∷ codes "end" ∷ [] ≡ map text journal ++ codes "end" ∷ [] = sym (split_lines text before last (codes "end" ∷ [])) ∙ ap (λ (ls : List JournalLine). map text ls ++ codes "end" ∷ []) (sym ends.is) in
-      let those : sets ≡ sets_in listed.Blocking journal =
-      sym (append-nil sets) ∙ ap (λ (xs : List Table). sets ++ xs) (sym (no_set listed.Blocking last ends.ends)) ∙ sym (sets_append listed.Blocking before (last ∷ [])) ∙ ap (sets_in listed.Blocking) (sym ends.is) in
-      subst (λ (xs : List Table). Takes f given l (place Whole r.start [] 0) (map text journal ++ codes "end" ∷ []) (Done (record { header = h; answer = Reached (OrgBlocking p.groups (ordered xs)) }))) those
-      (subst (λ (ls : List Text). Takes f given l (place Whole r.start [] 0) ls (Done (record { header = h; answer = Reached (OrgBlocking p.groups (ordered sets)) }))) texts whole)
-
-  journal_accepted : (kind : ListKind) (new : Database) (journal : List JournalLine) → JournalRun r kind r.start journal new → All HasLineNumbers journal → All (HasFewWords r.vars) journal → length journal + 7 ≤ MAX_LINES → ListEndsAs kind journal
-      → checked f given (group_text f.names (kept nodes f.names) given.digest h (texts_of p.groups) orgs.digest kind journal) ≡ Ok (record { header = h; answer = shown_of kind journal })
-  journal_accepted kind new journal run numbers words few ends =
-      let fine = both_all HasLineNumbers (HasFewWords r.vars) journal (recursion_from_All HasLineNumbers journal numbers) (recursion_from_All (HasFewWords r.vars) journal words) in
-      let s = subject f h in
-      let head_lines = header_lines f.names given.digest h in
-      let texts = map text journal in
-      let body = kind_line (kind_word Groups kind) ∷ orgs_line orgs.digest ∷ (texts ++ codes "end" ∷ []) in
-      let shown : Accepted = record { header = h; answer = shown_of kind journal } in
-      let taken : Takes f given 5 (Going (AtKind s)) body (Done shown) =
-      (Going (AtOrgs kind s), body_taken f given s Groups kind refl, (place kind r.start [] 0, orgs_taken f given s kind orgs given_is are_orgs.long are_orgs.bytes, takes_body kind 7 new journal run fine ends)) in
-      let whole = takes-append f given 1 5 (Going AtTitle) (Going (AtKind s)) (Done shown) head_lines body refl (takes_header f given h are size_is bytes head) taken in
-      let last_line : IsLine (codes "end") = record { plain = is_plain (codes "end") refl; short = omega arith } in
-      let of_set = line_of_set (kept nodes f.names) (texts_of p.groups) over.part_names over.texts (omega (arith, few_names)) few_texts in
-      let of_journal : AreLines texts = lines_by r kind text r.start new journal of_set (λ step. refl) small run fine in
-      let lines : AreLines (head_lines ++ body) = are_lines-append head_lines body (lines_header f given.digest h are is.few size_is head) (line_body Groups kind, (line_orgs orgs.digest are_orgs.long, are_lines-append texts (codes "end" ∷ []) of_journal (last_line, tt))) in
-      let total : length (head_lines ++ body) ≤ MAX_LINES = omega (arith, length-append texts (codes "end" ∷ []), length-map journal text, few) in
-      accepted_text f given (head_lines ++ body) shown lines total whole
 
   -- over a system of the part
   abbrev gone : Table
@@ -241,7 +153,18 @@ module _ (f : System) (given : Given) (h : Header) (is : IsSystem f.names f.sets
       → checked f given (group_text f.names x.names given.digest h (texts_of (groups_over x)) orgs.digest kind journal) ≡ Ok (record { header = h; answer = shown_by_groups (groups_over x) (group_rules x.sets gone (tables_of (groups_over x))) kind journal })
 
   groups_so : (kind : ListKind) (journal : List JournalLine) (new : Database) → All HasLineNumbers journal → length journal + 7 ≤ MAX_LINES → ListEndsAs kind journal → GroupsSo kind journal new (restricted nodes f)
-  groups_so kind journal new numbers few ends run words = journal_accepted kind new journal run numbers words few ends
+  groups_so kind journal new numbers few ends run words =
+      let s = subject f h in
+      let place = at_list s (OfGroups p) kind nothing_held [] 0 in
+      let of_set = line_of_set (kept nodes f.names) (texts_of p.groups) (listable (kept nodes f.names) part.part_names) over.texts (omega (arith, few_nodes)) few_texts in
+      journal_accepted f given h is sorted size_is bytes head (OfGroups p) over kind new journal (kind_line (kind_word Groups kind) ∷ orgs_line orgs.digest ∷ []) (line_body Groups kind, (line_orgs orgs.digest are_orgs.long, tt))
+      (Going (AtOrgs kind s), body_taken f given s Groups kind refl, (place, orgs_taken f given s kind orgs given_is are_orgs.long are_orgs.bytes, refl))
+      of_set small run (lists_fall (OfGroups p) tt nodes [] journal) numbers words (omega (arith, few)) ends
+      ∙ ap (λ (a : Conclusion). Ok (record { header = h; answer = a })) (as_listed kind)
+    where
+      as_listed : (kind : ListKind) → Reached (shown_over (OfGroups p) nodes kind journal) ≡ shown_by_groups p.groups (rules_over p) kind journal
+      as_listed Whole = ap (λ (xs : List Table). Reached (OrgBlocking p.groups (ordered xs))) (map-id (sets_in listed.Blocking journal))
+      as_listed Part = refl
 
   -- over the groups of the part
   abbrev AcceptedOver : ListKind → List JournalLine → List Group → Type 0

@@ -37,20 +37,16 @@ use Rattle.reach_kinds.specs.declared.places.ReachState.{ReachState}
 use Rattle.reach_kinds.specs.declared.places.ReachState.TheVariants.{Going}
 use Rattle.reach_kinds.proofs.Inside.{apart_from_others}
 use Rattle.cert_writer.specs.Texts.{Text, letter, set_line, names_for}
-use Rattle.cert_writer.proofs.Names.{AreListable, nodes_of-kept}
+use Rattle.cert_writer.proofs.Names.{AreListable, listable, nodes_of-kept}
 use Rattle.cert_writer.proofs.Raised.{spread, length-spread, kept-spread, not_others}
 use Rattle.cert_writer.proofs.RaisedOrder.{kept_of_spread}
-use Rattle.cert_writer.proofs.SetLines.{set_words, numbered, not_end, within_part, uncovered}
+use Rattle.cert_writer.proofs.SetLines.{StandsAt, set_words, numbered, not_end, within_part, uncovered}
 
--- what is so of a part with groups: it lies in the system at these nodes, and its groups are such as lines may name
+-- what is so of a part with groups, which are such as lines may name
 pub record IsOver (f : System) (nodes : Table) (p : GroupPart) : Type 0 where
-  pub places : length nodes ≡ length f.names
-  pub count : length p.part.system.sets ≡ size nodes
-  pub same : length p.part.faulty ≡ length p.part.system.sets
+  pub part : StandsAt f nodes p.part
   pub sized : All (λ (t : Table). length t ≡ length p.part.system.sets) (tables_of p.groups)
   pub touched : p.touched ≡ touching (tables_of p.groups) p.part.greatest
-  pub names : AreListable f.names
-  pub part_names : AreListable (kept nodes f.names)
   pub texts : AreListable (texts_of p.groups)
 
 -- a set inside another is within it
@@ -76,18 +72,18 @@ module _ (f : System) (s : Subject) (k : GroupListing) (l : ℕ) (is : IsOver f 
   tables = tables_of k.over.groups
 
   pub listable_over : (which : Listed) → AreListable (names_over which)
-  listable_over listed.Quorum = is.part_names
+  listable_over listed.Quorum = listable (kept s.nodes f.names) is.part.part_names
   listable_over listed.Blocking = is.texts
-  listable_over listed.Smaller = is.part_names
+  listable_over listed.Smaller = listable (kept s.nodes f.names) is.part.part_names
 
   quorum_there : (set : Table) → IsRightOver listed.Quorum set → listed_set f s.nodes k.over l listed.Quorum (kept set (kept s.nodes f.names)) ≡ Ok set
   quorum_there set right =
       let u : Table = spread s.nodes set in
       ap (λ (ns : List Name). and_then (λ w. quorum_in k.over l (kept s.nodes w)) (and_then (within s.nodes l) (nodes_of f.names l ns))) (kept-spread s.nodes set f.names)
-      ∙ ap (λ (r : Result Table CertError). and_then (λ w. quorum_in k.over l (kept s.nodes w)) (and_then (within s.nodes l) r)) (nodes_of-kept f.names l u is.names.sorted (length-spread s.nodes set ∙ is.places))
+      ∙ ap (λ (r : Result Table CertError). and_then (λ w. quorum_in k.over l (kept s.nodes w)) (and_then (within s.nodes l) r)) (nodes_of-kept f.names l u is.part.names.sorted (length-spread s.nodes set ∙ is.part.places))
       ∙ ap (λ (r : Result Table CertError). and_then (λ w. quorum_in k.over l (kept s.nodes w)) r) (within_part s.nodes l set)
-      ∙ ap (λ (t : Table). quorum_in k.over l t) (kept_of_spread s.nodes set (right.0 ∙ is.count))
-      ∙ ap (λ (b : Bool). unless (NotQuorum l) b (Ok set)) (is_kind_from listed.Quorum sets faulty set is.same right.0 right.1)
+      ∙ ap (λ (t : Table). quorum_in k.over l t) (kept_of_spread s.nodes set (right.0 ∙ is.part.count))
+      ∙ ap (λ (b : Bool). unless (NotQuorum l) b (Ok set)) (is_kind_from listed.Quorum sets faulty set is.part.same right.0 right.1)
 
   block_there : (set : Table) → IsRightOver listed.Blocking set → listed_set f s.nodes k.over l listed.Blocking (kept set (texts_of k.over.groups)) ≡ Ok set
   block_there set right =
@@ -96,8 +92,8 @@ module _ (f : System) (s : Subject) (k : GroupListing) (l : ℕ) (is : IsOver f 
       let inside : members set ⊆ members k.over.touched = subst (λ (t : Table). members set ⊆ members t) (sym is.touched) right.useful in
       ap (λ (r : Result Table CertError). and_then (block_in k.over l) (and_then (within k.over.touched l) r)) (nodes_of-kept (texts_of k.over.groups) l set is.texts.sorted places)
       ∙ ap (λ (r : Result Table CertError). and_then (block_in k.over l) r) (inside_of k.over.touched l set inside)
-      ∙ ap (λ (b : Bool). unless (NotBlocking l) b least) (group_block_from sets faulty tables is.same is.sized set right.minimal.blocks)
-      ∙ ap (λ (b : Bool). unless (NotMinimal l) b (Ok set)) (least_from sets faulty tables is.same is.sized set right.minimal.least)
+      ∙ ap (λ (b : Bool). unless (NotBlocking l) b least) (group_block_from sets faulty tables is.part.same is.sized set right.minimal.blocks)
+      ∙ ap (λ (b : Bool). unless (NotMinimal l) b (Ok set)) (least_from sets faulty tables is.part.same is.sized set right.minimal.least)
 
   set_there : (which : Listed) (set : Table) → IsRightOver which set → listed_set f s.nodes k.over l which (kept set (names_over which)) ≡ Ok set
   set_there listed.Quorum set right = quorum_there set right

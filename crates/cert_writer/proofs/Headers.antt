@@ -26,7 +26,7 @@ use Rattle.cert_writer.proofs.Joined.{Takes, IsLine, AreLines}
 use Rattle.cert_writer.proofs.Words.{IsWordByte, IsWord, is_word, is_plain, same_text, words_of-worded, names_after-worded, plain-worded, length-spaced}
 use Rattle.fbas_model.proofs.SortedNames.{place-found}
 use Rattle.fbas_model.specs.declared.TheConstants.{MOST_NODES, MOST_KEY_BYTES}
-use Rattle.cert_writer.proofs.Names.{AreNames, named-listed, keys-kept, words-keys, short-keys, key}
+use Rattle.cert_writer.proofs.Names.{AreNames, most_text_bytes, key, key_short, listable, texts-kept, words-texts, short-texts, named-listed}
 
 -- ---- the digest
 
@@ -83,12 +83,13 @@ takes_header f given h are size bytes is =
 -- ---- each is a line
 
 pub line_listed : (word : Text) (names : List Name) (set : Table) → IsWord word → length word ≤ 100 → AreNames names → length names ≤ MOST_NODES → IsLine (listed word names set)
-line_listed word names set is short are few = record {
-  plain = plain-worded word (kept set names) is (words-keys (kept set names) (keys-kept set names are.keys));
-  short =
-      let rest = length-spaced MOST_KEY_BYTES (kept set names) (short-keys (kept set names) (keys-kept set names are.keys)) in
-      omega (arith, length-append word (spaced (kept set names)), kept_le set names);
-}
+line_listed word names set is short are few =
+    let texts = texts-kept set names (listable names are).texts in record {
+      plain = plain-worded word (kept set names) is (words-texts (kept set names) texts);
+      short =
+          let rest = length-spaced most_text_bytes (kept set names) (short-texts (kept set names) texts) in
+          omega (arith, length-append word (spaced (kept set names)), kept_le set names);
+    }
 
 line_digest : (d : List ℕ) → length d ≡ 32 → IsLine (worded (codes "config") (encode_lower d ∷ []))
 line_digest d size = record {
@@ -103,8 +104,7 @@ line_from names None are low = record { plain = is_plain (codes "from") refl; sh
 line_from names (Some v) are low =
     let name = slice_index_or names v [] in
     let k : is_key name ≡ true = All-from_recursion (λ (n : Name). is_key n ≡ true) names are.keys v [] low in
-    let short = short-keys (name ∷ []) (k, tt) in
-    let least : length name ≤ MOST_KEY_BYTES = short.0 in
+    let short : length name ≤ MOST_KEY_BYTES = key_short name k in
     record {
       plain = plain-worded (codes "from") (name ∷ []) (is_word (codes "from") refl) ((key name k).0, tt);
       short = omega (arith, length-append (codes "from") (spaced (name ∷ [])), length-append name []);

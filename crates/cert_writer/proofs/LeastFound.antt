@@ -12,6 +12,7 @@ use Rattle.clause_encoder.specs.NameCounter.{counter_vars}
 use Rattle.clause_encoder.specs.declared.limits.TheConstants.{MOST_VARS}
 use Rattle.enumeration_journal.specs.Journals.{JournalLine}
 use Rattle.enumeration_journal.specs.declared.kinds.ListKind.TheVariants as kind
+use Rattle.enumeration_journal.specs.declared.kinds.Listed.{Listed}
 use Rattle.enumeration_journal.specs.declared.kinds.Listed.TheVariants as listed
 use Rattle.least_quorum.specs.Outcomes.{LeastHolds, least_rules as least_rules_of}
 use Rattle.least_quorum.specs.declared.outcome.LeastOutcome.{LeastOutcome}
@@ -28,7 +29,7 @@ use Rattle.cert_writer.specs.Promises.{IsHeader, greatest_of_part}
 use Rattle.cert_writer.specs.Finding.{Request, given_of, part, faulty}
 use Rattle.cert_writer.specs.Least.{least_cert_of, raised_if_any, LeastShows, FindsLeast, CanBeLeast}
 use Rattle.cert_writer.proofs.ListLaws.{least_of_accepted}
-use Rattle.cert_writer.proofs.ListFound.{HasPlacesFor, lines_can}
+use Rattle.cert_writer.proofs.ListFound.{node_lines_can}
 
 -- ---- what is found
 
@@ -63,12 +64,12 @@ module _ (s : Request) (is : IsSystem s.whole.names s.whole.sets) (sorted : IsSt
 
 -- ---- what can be written
 
-places_for : (f : Fbas) (b : Table) (n : ℕ) → n ≡ length f → HasPlacesFor n (least_rules_of f b)
+places_for : (f : Fbas) (b : Table) (n : ℕ) → n ≡ length f → (which : Listed) (u : Table) → (least_rules_of f b).IsRight which u → length u ≡ n
 places_for f b n same listed.Quorum u is = absurd is
 places_for f b n same listed.Blocking u is = is.0 ∙ sym same
 places_for f b n same listed.Smaller u is = is.0 ∙ sym same
 
 pub can_be_least : (f : System) (b : Table) (budget : ℕ) (outcome : LeastOutcome) → length f.names ≡ length f.sets → LeastShows f.sets b budget outcome → CanBeLeast (length f.names) outcome
-can_be_least f b budget (found.Least set journal) same r = lines_can (least_rules_of f.sets b) kind.Whole (length f.names) (least_rules_of f.sets b).start r.holds.journal_is.whole.after journal (places_for f.sets b (length f.names) same) r.holds.journal_is.whole.run r.numbers
-can_be_least f b budget (found.NoQuorum journal) same r = lines_can (least_rules_of f.sets b) kind.Whole (length f.names) (least_rules_of f.sets b).start r.holds.journal_is.whole.after journal (places_for f.sets b (length f.names) same) r.holds.journal_is.whole.run r.numbers
-can_be_least f b budget (found.Spent journal) same r = lines_can (least_rules_of f.sets b) kind.Partial (length f.names) (least_rules_of f.sets b).start r.holds.1.after journal (places_for f.sets b (length f.names) same) r.holds.1.journal_is.part.run r.numbers
+can_be_least f b budget (found.Least set journal) same r = node_lines_can (least_rules_of f.sets b) kind.Whole (length f.names) r.holds.journal_is.whole.after journal (places_for f.sets b (length f.names) same) r.holds.journal_is.whole.run r.numbers
+can_be_least f b budget (found.NoQuorum journal) same r = node_lines_can (least_rules_of f.sets b) kind.Whole (length f.names) r.holds.journal_is.whole.after journal (places_for f.sets b (length f.names) same) r.holds.journal_is.whole.run r.numbers
+can_be_least f b budget (found.Spent journal) same r = node_lines_can (least_rules_of f.sets b) kind.Partial (length f.names) r.holds.1.after journal (places_for f.sets b (length f.names) same) r.holds.1.journal_is.part.run r.numbers

@@ -12,8 +12,9 @@ use Rattle.fbas_model.specs.Restriction.{restricted_sets}
 use Rattle.fbas_model.proofs.Kept.{length-kept}
 use Rattle.fbas_model.proofs.Renumbered.{length-restricted_sets}
 use Rattle.greatest_quorum.specs.Greatest.{greatest_of}
-use Rattle.lrat_model.specs.Steps.{Database}
-use Rattle.enumeration_journal.specs.Journals.{JournalLine, SetLine, StepLine, Rules, JournalRun, IsWholeJournal, after_line, nothing_held, sets_in}
+use Rattle.lrat_model.specs.Steps.{ProofStep, Database}
+use Rattle.lrat_text.specs.Texts.{HasNumbers}
+use Rattle.enumeration_journal.specs.Journals.{JournalLine, SetLine, StepLine, Rules, JournalRun, IsTaken, IsWholeJournal, after_line, sets_in}
 use Rattle.enumeration_journal.specs.Lists.{IsListOf}
 use Rattle.enumeration_journal.specs.declared.kinds.Listed.{Listed}
 use Rattle.enumeration_journal.specs.Order.{ordered}
@@ -26,6 +27,7 @@ use Rattle.blocking_lists.specs.Lines.{HasLineNumbers}
 use Rattle.blocking_lists.specs.Outcomes.{rules}
 use Rattle.blocking_lists.specs.declared.outcome.ListOutcome.{ListOutcome}
 use Rattle.blocking_lists.specs.declared.outcome.ListOutcome.TheVariants.{Whole, Spent}
+use Rattle.certificate_file.specs.Acceptance.{checked}
 use Rattle.certificate_file.specs.Known.{IsPart}
 use Rattle.certificate_file.specs.Meaning.{part_from}
 use Rattle.certificate_file.specs.declared.places.Conclusion.TheVariants.{Reached}
@@ -38,7 +40,7 @@ use Rattle.cert_lines.specs.declared.lines.TheConstants.{MAX_LINES}
 use Rattle.cert_writer.specs.Texts.{raised_table}
 use Rattle.cert_writer.specs.Promises.{IsHeader}
 use Rattle.cert_writer.specs.Finding.{Request, given_of, part, faulty}
-use Rattle.cert_writer.specs.Listing.{list_cert_of, ListShows, FindsList, CanBeLine, CanBeListed}
+use Rattle.cert_writer.specs.Listing.{list_cert_of, list_accepted_as, ListShows, FindsList, CanBeLine, CanBeListed}
 use Rattle.cert_writer.proofs.ListLaws.{lists_ordered, list_of_accepted}
 use Rattle.cert_writer.proofs.Pairs.{part_is_restricted}
 use Rattle.cert_writer.proofs.Raised.{spread, is_raised}
@@ -80,42 +82,40 @@ module _ (s : Request) (is : IsSystem s.whole.names s.whole.sets) (sorted : IsSt
   pub same : length (faulty s) ≡ length (part s).sets
   same = length-kept nodes s.header.faulty (of_part.places ∙ is.places ∙ sym head.faulty) ∙ sym count
 
-  pub list_found : (outcome : ListOutcome) → ListShows sought (part s).sets (faulty s) s.budget outcome → FindsList sought s outcome (list_cert_of sought s outcome)
-  list_found (Whole sets journal) r =
+  accepted_as : (outcome : ListOutcome) → ListShows sought (part s).sets (faulty s) s.budget outcome → checked s.whole (given_of s) (list_cert_of sought s outcome) ≡ Ok (record { header = s.header; answer = list_accepted_as sought s outcome })
+  accepted_as (Whole sets journal) r =
       let holds = r.holds in
       let whole = holds.journal_is in
-      let few : length journal + 6 ≤ MAX_LINES = omega (arith, holds.few_steps.short, holds.taken, small) in record {
-        shows = r;
-        cert_is = refl;
-        accepted =
-            list_of_accepted s.whole (given_of s) s.header is sorted long bytes head sought (part s) kind.Whole journal refl (record { lists = r.lists; new = whole.after; run = whole.run; numbers = r.numbers; few_words = r.few_words; few = few; ends = whole.ends })
-            ∙ ap (λ (xs : List Table). Ok (record { header = s.header; answer = Reached (whole_of sought xs) })) (lists_ordered sought r.lists (map (raised_table nodes) (sets_in sought journal)) ∙ raised_list sought (part s).sets (faulty s) nodes sets.items journal same count holds.list whole);
-      }
-  list_found (Spent journal) r =
+      let few : length journal + 6 ≤ MAX_LINES = omega (arith, holds.few_steps.short, holds.taken, small) in
+      list_of_accepted s.whole (given_of s) s.header is sorted long bytes head sought (part s) kind.Whole journal refl (record { lists = r.lists; new = whole.after; run = whole.run; numbers = r.numbers; few_words = r.few_words; few = few; ends = whole.ends })
+      ∙ ap (λ (xs : List Table). Ok (record { header = s.header; answer = Reached (whole_of sought xs) })) (lists_ordered sought r.lists (map (raised_table nodes) (sets_in sought journal)) ∙ raised_list sought (part s).sets (faulty s) nodes sets.items journal same count holds.list whole)
+  accepted_as (Spent journal) r =
       let holds = r.holds.1 in
       let one = holds.journal_is in
-      let few : length journal + 6 ≤ MAX_LINES = omega (arith, holds.few_steps.short, holds.taken, small) in record {
-        shows = r;
-        cert_is = refl;
-        accepted =
-            list_of_accepted s.whole (given_of s) s.header is sorted long bytes head sought (part s) kind.Partial journal refl (record { lists = r.lists; new = holds.after; run = one.run; numbers = r.numbers; few_words = r.few_words; few = few; ends = one.opens })
-            ∙ ap (λ (n : ℕ). Ok (record { header = s.header; answer = Reached (Partial (Nodes sought) n) })) holds.taken;
-      }
+      let few : length journal + 6 ≤ MAX_LINES = omega (arith, holds.few_steps.short, holds.taken, small) in
+      list_of_accepted s.whole (given_of s) s.header is sorted long bytes head sought (part s) kind.Partial journal refl (record { lists = r.lists; new = holds.after; run = one.run; numbers = r.numbers; few_words = r.few_words; few = few; ends = one.opens })
+      ∙ ap (λ (n : ℕ). Ok (record { header = s.header; answer = Reached (Partial (Nodes sought) n) })) holds.taken
+
+  pub list_found : (outcome : ListOutcome) → ListShows sought (part s).sets (faulty s) s.budget outcome → FindsList sought s outcome (list_cert_of sought s outcome)
+  list_found outcome r = record { shows = r; cert_is = refl; accepted = accepted_as outcome r }
 
 -- ---- what can be written
 
--- each listed set has a place for each of n nodes
-abbrev pub HasPlacesFor : ℕ → Rules → Type 0
-HasPlacesFor n r = (which : Listed) (u : Table) → r.IsRight which u → length u ≡ n
+-- what can be written of the sets that the rules let be listed, and of each step with its numbers, can be of the lines of a journal
+pub lines_can : (Can : JournalLine → Type 0) (r : Rules) (kind : ListKind) (old new : Database) (lines : List JournalLine) → ((which : Listed) (id : ℕ) (u : Table) → r.IsRight which u → Can (SetLine which id u)) → ((step : ProofStep) → HasNumbers step → Can (StepLine step))
+    → JournalRun r kind old lines new → All HasLineNumbers lines → All Can lines
+lines_can Can r kind old new [] of_set of_step run numbers = All-nil Can
+lines_can Can r kind old new (line ∷ lines) of_set of_step run numbers =
+    All-cons Can line lines (first line run.0 (All-head HasLineNumbers line lines numbers)) (lines_can Can r kind (after_line r old line) new lines of_set of_step run.2 (All-tail HasLineNumbers line lines numbers))
+  where
+    first : (line : JournalLine) → IsTaken r old line → HasLineNumbers line → Can line
+    first (SetLine which id u) taken has = of_set which id u taken.1
+    first (StepLine step) taken has = of_step step has
 
-pub lines_can : (r : Rules) (kind : ListKind) (n : ℕ) (old new : Database) (lines : List JournalLine) → HasPlacesFor n r → JournalRun r kind old lines new → All HasLineNumbers lines → All (CanBeLine n) lines
-lines_can r kind n old new [] places run numbers = All-nil (CanBeLine n)
-lines_can r kind n old new (SetLine which id u ∷ lines) places run numbers =
-    All-cons (CanBeLine n) (SetLine which id u) lines (places which u run.0.1)
-    (lines_can r kind n (after_line r old (SetLine which id u)) new lines places run.2 (All-tail HasLineNumbers (SetLine which id u) lines numbers))
-lines_can r kind n old new (StepLine step ∷ lines) places run numbers =
-    All-cons (CanBeLine n) (StepLine step) lines (All-head HasLineNumbers (StepLine step) lines numbers) (lines_can r kind n (after_line r old (StepLine step)) new lines places run.2 (All-tail HasLineNumbers (StepLine step) lines numbers))
+-- where each listed set has a place for each of n nodes
+pub node_lines_can : (r : Rules) (kind : ListKind) (n : ℕ) (new : Database) (journal : List JournalLine) → ((which : Listed) (u : Table) → r.IsRight which u → length u ≡ n) → JournalRun r kind r.start journal new → All HasLineNumbers journal → All (CanBeLine n) journal
+node_lines_can r kind n new journal places run numbers = lines_can (CanBeLine n) r kind r.start new journal (λ which id u right. places which u right) (λ step has. has) run numbers
 
 pub can_be_listed : (sought : Listed) (f : System) (b : Table) (budget : ℕ) (outcome : ListOutcome) → length f.names ≡ length f.sets → ListShows sought f.sets b budget outcome → CanBeListed (length f.names) outcome
-can_be_listed sought f b budget (Whole sets journal) same r = lines_can (rules sought f.sets b) kind.Whole (length f.names) nothing_held r.holds.journal_is.after journal (λ which u is. is.0 ∙ sym same) r.holds.journal_is.run r.numbers
-can_be_listed sought f b budget (Spent journal) same r = lines_can (rules sought f.sets b) kind.Partial (length f.names) nothing_held r.holds.1.after journal (λ which u is. is.0 ∙ sym same) r.holds.1.journal_is.run r.numbers
+can_be_listed sought f b budget (Whole sets journal) same r = node_lines_can (rules sought f.sets b) kind.Whole (length f.names) r.holds.journal_is.after journal (λ which u is. is.0 ∙ sym same) r.holds.journal_is.run r.numbers
+can_be_listed sought f b budget (Spent journal) same r = node_lines_can (rules sought f.sets b) kind.Partial (length f.names) r.holds.1.after journal (λ which u is. is.0 ∙ sym same) r.holds.1.journal_is.run r.numbers

@@ -49,29 +49,26 @@ AreKeys names = AllByRecursion (λ (n : Name). is_key n ≡ true) names
 pub are_keys : (names : List Name) → All (λ name. IsTrue (is_key name)) names → AreKeys names
 are_keys names all = recursion_from_All (λ (name : Name). is_key name ≡ true) names all
 
+-- what is so of each name
+each : (P Q : Name → Type 0) → ((n : Name) → P n → Q n) → (names : List Name) → AllByRecursion P names → AllByRecursion Q names
+each P Q so [] all = tt
+each P Q so (n ∷ names) all = (so n all.0, each P Q so names all.1)
+
+-- and of each that is kept
+each-kept : (P : Name → Type 0) (set : Table) (names : List Name) → AllByRecursion P names → AllByRecursion P (kept set names)
+each-kept P [] names all = tt
+each-kept P (m ∷ set) [] all = tt
+each-kept P (true ∷ set) (n ∷ names) all = (all.0, each-kept P set names all.1)
+each-kept P (false ∷ set) (n ∷ names) all = each-kept P set names all.1
+
 pub keys-kept : (set : Table) (names : List Name) → AreKeys names → AreKeys (kept set names)
-keys-kept [] names all = tt
-keys-kept (m ∷ set) [] all = tt
-keys-kept (true ∷ set) (n ∷ names) all = (all.0, keys-kept set names all.1)
-keys-kept (false ∷ set) (n ∷ names) all = keys-kept set names all.1
-
-pub words-keys : (names : List Name) → AreKeys names → AreWords names
-words-keys [] all = tt
-words-keys (n ∷ names) all = ((key n all.0).0, words-keys names all.1)
-
-pub named-keys : (names : List Name) → AreKeys names → list_all is_name names ≡ true
-named-keys [] all = refl
-named-keys (n ∷ names) all = and_from (is_name n) (list_all is_name names) (key n all.0).1 (named-keys names all.1)
+keys-kept set names all = each-kept (λ (n : Name). is_key n ≡ true) set names all
 
 pub key_short : (name : Name) → is_key name ≡ true → length name ≤ MOST_KEY_BYTES
 key_short name h =
     let p = and_parts (nat_le 1 (length name) && nat_le (length name) MOST_KEY_BYTES) (list_all is_key_byte name) h in
     let q = and_parts (nat_le 1 (length name)) (nat_le (length name) MOST_KEY_BYTES) p.0 in
     grind (arith, nat_tests)
-
-pub short-keys : (names : List Name) → AreKeys names → AllByRecursion (λ (n : Name). length n ≤ MOST_KEY_BYTES) names
-short-keys [] all = tt
-short-keys (n ∷ names) all = (key_short n all.0, short-keys names all.1)
 
 -- ---- texts that a line may list: those of groups are longer than keys
 
@@ -91,26 +88,20 @@ key_text : (name : Name) → is_key name ≡ true → IsText name
 key_text name h = record { word = (key name h).0; named = (key name h).1; short = omega (arith, key_short name h) }
 
 texts-keys : (names : List Name) → AreKeys names → AreTexts names
-texts-keys [] all = tt
-texts-keys (n ∷ names) all = (key_text n all.0, texts-keys names all.1)
+texts-keys names all = each (λ (n : Name). is_key n ≡ true) IsText key_text names all
 
 pub texts-kept : (set : Table) (names : List Name) → AreTexts names → AreTexts (kept set names)
-texts-kept [] names all = tt
-texts-kept (m ∷ set) [] all = tt
-texts-kept (true ∷ set) (n ∷ names) all = (all.0, texts-kept set names all.1)
-texts-kept (false ∷ set) (n ∷ names) all = texts-kept set names all.1
+texts-kept set names all = each-kept IsText set names all
 
 pub words-texts : (names : List Name) → AreTexts names → AreWords names
-words-texts [] all = tt
-words-texts (n ∷ names) all = (all.0.word, words-texts names all.1)
+words-texts names all = each IsText IsWord (λ n is. is.word) names all
 
 named-texts : (names : List Name) → AreTexts names → list_all is_name names ≡ true
 named-texts [] all = refl
 named-texts (n ∷ names) all = and_from (is_name n) (list_all is_name names) all.0.named (named-texts names all.1)
 
 pub short-texts : (names : List Name) → AreTexts names → AllByRecursion (λ (n : Name). length n ≤ most_text_bytes) names
-short-texts [] all = tt
-short-texts (n ∷ names) all = (all.0.short, short-texts names all.1)
+short-texts names all = each IsText (λ (n : Name). length n ≤ most_text_bytes) (λ n is. is.short) names all
 
 -- ---- sorted names
 
@@ -200,8 +191,8 @@ names-kept set names are = record { keys = keys-kept set names are.keys; sorted 
 
 pub names_after-listed : (word : Word) (names : List Name) (set : Table) → IsWord word → AreNames names → names_after word (listed word names set) ≡ Some (kept set names)
 names_after-listed word names set is are =
-    let keys = keys-kept set names are.keys in
-    names_after-worded word (kept set names) is (words-keys (kept set names) keys) (named-keys (kept set names) keys) (rising-sorted (kept set names) (kept_sorted set names are.sorted))
+    let texts = texts-kept set names (listable names are).texts in
+    names_after-worded word (kept set names) is (words-texts (kept set names) texts) (named-texts (kept set names) texts) (rising-sorted (kept set names) (kept_sorted set names are.sorted))
 
 pub named-listed : (names : List Name) (l : ℕ) (word : Word) (set : Table) → IsWord word → AreNames names → length set ≡ length names → named names l word (listed word names set) ≡ Ok set
 named-listed names l word set is are size =

@@ -178,37 +178,46 @@ new k l which id set is = ap (λ (b : Bool). unless (NotNew l) (not b) (Ok set))
 
 -- ---- the line
 
-module _ (f : System) (s : Subject) (k : Listing) (l : ℕ) (which : Listed) (id : ℕ) (set : Table) (places : length s.nodes ≡ length f.names) (same : length k.part.faulty ≡ length k.part.system.sets) (count : length k.part.system.sets ≡ size s.nodes)
-    (greatest : k.part.greatest ≡ greatest_of k.part.system.sets k.part.faulty) (above : k.checker.database.last < id) (is_right : IsRightIn k which set) (is_smaller : IsSmallerIn k which set) (is_new : IsNewIn k which set) where
+-- what is so of a part: it lies in the system at these nodes, and its greatest quorum is known
+pub record StandsAt (f : System) (nodes : Table) (part : ListPart) : Type 0 where
+  pub places : length nodes ≡ length f.names
+  pub count : length part.system.sets ≡ size nodes
+  pub same : length part.faulty ≡ length part.system.sets
+  pub greatest : part.greatest ≡ greatest_of part.system.sets part.faulty
+  pub names : AreNames f.names
+  pub part_names : AreNames (kept nodes f.names)
+
+module _ (f : System) (s : Subject) (k : Listing) (l : ℕ) (which : Listed) (id : ℕ) (set : Table) (stands : StandsAt f s.nodes k.part) (above : k.checker.database.last < id) (is_right : IsRightIn k which set) (is_smaller : IsSmallerIn k which set) (is_new : IsNewIn k which set) where
   -- what is awaited behind the line
   abbrev next : Table → ReachState
   next w = Going (AtList (with_listed k which id (spread s.nodes set) w))
 
   set_listed : list_set s.nodes k l which id (spread s.nodes set) ≡ Ok (next set)
   set_listed =
-      ap (λ (t : Table). and_then (λ w. Ok (next w)) (and_then (new_set k l which id) (right_set k l which t))) (kept_of_spread s.nodes set (right_places k.sought which k.part set is_right ∙ count))
-      ∙ ap (λ (r : Result Table CertError). and_then (λ w. Ok (next w)) (and_then (new_set k l which id) r)) (right k l which set same greatest is_right is_smaller)
+      ap (λ (t : Table). and_then (λ w. Ok (next w)) (and_then (new_set k l which id) (right_set k l which t))) (kept_of_spread s.nodes set (right_places k.sought which k.part set is_right ∙ stands.count))
+      ∙ ap (λ (r : Result Table CertError). and_then (λ w. Ok (next w)) (and_then (new_set k l which id) r)) (right k l which set stands.same stands.greatest is_right is_smaller)
       ∙ ap (λ (r : Result Table CertError). and_then (λ w. Ok (next w)) r) (new k l which id set is_new)
 
-  set_taken : AreNames f.names → take_set_line f s.nodes k l which (record { id = id; names = kept set (kept s.nodes f.names) }) ≡ Ok (next set)
-  set_taken are =
+  set_taken : take_set_line f s.nodes k l which (record { id = id; names = kept set (kept s.nodes f.names) }) ≡ Ok (next set)
+  set_taken =
       let u : Table = spread s.nodes set in
       let names : List Name = kept set (kept s.nodes f.names) in
       ap (λ (b : Bool). unless (Step l (IdOrder k.checker.database.last id)) b (and_then (list_set s.nodes k l which id) (and_then (within s.nodes l) (nodes_of f.names l names)))) (lt-ltb k.checker.database.last id above)
       ∙ ap (λ (ns : List Name). and_then (list_set s.nodes k l which id) (and_then (within s.nodes l) (nodes_of f.names l ns))) (kept-spread s.nodes set f.names)
-      ∙ ap (λ (r : Result Table CertError). and_then (list_set s.nodes k l which id) (and_then (within s.nodes l) r)) (nodes_of-kept f.names l u are.sorted (length-spread s.nodes set ∙ places))
+      ∙ ap (λ (r : Result Table CertError). and_then (list_set s.nodes k l which id) (and_then (within s.nodes l) r)) (nodes_of-kept f.names l u stands.names.sorted (length-spread s.nodes set ∙ stands.places))
       ∙ ap (λ (r : Result Table CertError). and_then (list_set s.nodes k l which id) r) (within_part s.nodes l set)
       ∙ set_listed
 
-  pub set_line_taken : (given : Given) → AreNames f.names → AreNames (kept s.nodes f.names) → IsId id → take_line f given (AtReach s (AtList k)) l (set_line (letter which) id (kept s.nodes f.names) set) ≡ Ok (Here (AtReach s (AtList (with_listed k which id (spread s.nodes set) set))))
+  pub set_line_taken : (given : Given) → IsId id → take_line f given (AtReach s (AtList k)) l (set_line (letter which) id (kept s.nodes f.names) set) ≡ Ok (Here (AtReach s (AtList (with_listed k which id (spread s.nodes set) set))))
   unfolding take_line
-  set_line_taken given are part is =
+  set_line_taken given is =
       let names : List Name = kept s.nodes f.names in
       let text : Text = set_line (letter which) id names set in
-      let words : words_of text ≡ letter which ∷ decimal id ∷ kept set names = set_words which id names set (listable names part) is in
+      let names_are : AreListable names = listable names stands.part_names in
+      let words : words_of text ≡ letter which ∷ decimal id ∷ kept set names = set_words which id names set names_are is in
       ap (λ (b : Bool). and_then (λ x. Ok (in_reach s x)) (if b then list_end k.kind k l else list_text f s.nodes k l text (listed_by k.sought (words_of text)))) (not_end which id names set)
       ∙ ap (λ (ws : List Word). and_then (λ x. Ok (in_reach s x)) (list_text f s.nodes k l text (listed_by k.sought ws))) words
       ∙ ap (λ (o : Option Listed). and_then (λ x. Ok (in_reach s x)) (list_text f s.nodes k l text o)) (listed_letter k.sought which k.part set (decimal id ∷ kept set names) is_right)
       ∙ ap (λ (ws : List Word). and_then (λ x. Ok (in_reach s x)) (and_then (take_set_line f s.nodes k l which) (ok_or (numbered_in ws) (BadLine l)))) words
-      ∙ ap (λ (o : Option Numbered). and_then (λ x. Ok (in_reach s x)) (and_then (take_set_line f s.nodes k l which) (ok_or o (BadLine l)))) (numbered which id names set (listable names part) is)
-      ∙ ap (λ (r : Result ReachState CertError). and_then (λ x. Ok (in_reach s x)) r) (set_taken are)
+      ∙ ap (λ (o : Option Numbered). and_then (λ x. Ok (in_reach s x)) (and_then (take_set_line f s.nodes k l which) (ok_or o (BadLine l)))) (numbered which id names set names_are is)
+      ∙ ap (λ (r : Result ReachState CertError). and_then (λ x. Ok (in_reach s x)) r) set_taken

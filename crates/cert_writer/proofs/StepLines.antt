@@ -50,26 +50,22 @@ hint_word (negsuc n) is = (minus_word (decimal (suc n)) (decimal_word (suc n) (o
 id_word : (id : ℕ) → IsId id → IsWord (decimal id) × (length (decimal id) ≤ 20)
 id_word id is = (decimal_word id (omega (arith, is.1)), let h : length (decimal id) ≤ 19 = length-decimal-le 19 id (omega arith) (omega (arith, is.1)) (omega (arith, is.1)) in omega arith)
 
-literal_words : (lits : List Literal) → AllByRecursion IsLiteral lits → AreWords (map literal_text lits) × AllByRecursion (λ (w : Word). length w ≤ 11) (map literal_text lits)
-literal_words [] all = (tt, tt)
-literal_words (l ∷ lits) all =
-    let first = literal_word l all.0 in
-    let rest = literal_words lits all.1 in
+-- where each of a list has a word of at most so many bytes
+words_of_each : {A : Type 0} (word : A → Word) (Is : A → Type 0) (most : ℕ) → ((x : A) → Is x → IsWord (word x) × (length (word x) ≤ most)) → (xs : List A) → AllByRecursion Is xs → AreWords (map word xs) × AllByRecursion (λ (w : Word). length w ≤ most) (map word xs)
+words_of_each word Is most one [] all = (tt, tt)
+words_of_each word Is most one (x ∷ xs) all =
+    let first = one x all.0 in
+    let rest = words_of_each word Is most one xs all.1 in
     ((first.0, rest.0), (first.1, rest.1))
+
+literal_words : (lits : List Literal) → AllByRecursion IsLiteral lits → AreWords (map literal_text lits) × AllByRecursion (λ (w : Word). length w ≤ 11) (map literal_text lits)
+literal_words lits all = words_of_each literal_text IsLiteral 11 literal_word lits all
 
 hint_words : (hints : List ℤ) → AllByRecursion IsHint hints → AreWords (map signed_decimal hints) × AllByRecursion (λ (w : Word). length w ≤ 20) (map signed_decimal hints)
-hint_words [] all = (tt, tt)
-hint_words (hint ∷ hints) all =
-    let first = hint_word hint all.0 in
-    let rest = hint_words hints all.1 in
-    ((first.0, rest.0), (first.1, rest.1))
+hint_words hints all = words_of_each signed_decimal IsHint 20 hint_word hints all
 
 id_words : (ids : List ℕ) → AllByRecursion IsId ids → AreWords (map decimal ids) × AllByRecursion (λ (w : Word). length w ≤ 20) (map decimal ids)
-id_words [] all = (tt, tt)
-id_words (id ∷ ids) all =
-    let first = id_word id all.0 in
-    let rest = id_words ids all.1 in
-    ((first.0, rest.0), (first.1, rest.1))
+id_words ids all = words_of_each decimal IsId 20 id_word ids all
 
 words-append : (xs ys : List Word) → AreWords xs → AreWords ys → AreWords (xs ++ ys)
 words-append [] ys a b = b
