@@ -84,57 +84,45 @@ fn read(alloc: Global, line: &str, part: Part) -> Result<String, AllocError> {
     }
 }
 
+/// A row `LINE => READ` of its line.
+fn row_of(alloc: Global, row: &str, part: Part) -> Result<String, AllocError> {
+    let line = match row.split_once(" => ") {
+        Some((line, _)) => line,
+        None => row,
+    };
+    format!(in alloc; "{line} => {}", read(alloc, line, part)?)
+}
+
 /// Fails the test where a line gives another order, or another fault.
-fn wants_read(rt: &impl Abort, alloc: Global, part: Part, rows: &[(&str, &str)]) {
-    for (line, want) in rows {
-        same(rt, read(alloc, line, part), want);
+fn wants_read(rt: &impl Abort, alloc: Global, part: Part, rows: &[&str]) {
+    for row in rows {
+        same(rt, row_of(alloc, row, part), row);
     }
 }
 
-static ORDERS: [(&str, &str); 13] = [
-    ("show f", r#"show ("f", "") None None None"#),
-    (
-        "closure f --node v",
-        r#"closure ("f", "") Some("v") None None"#,
-    ),
-    (
-        "greatest f --faulty a,b",
-        r#"greatest ("f", "") None Some("a,b") None"#,
-    ),
-    (
-        "available f --set a",
-        r#"available ("f", "") None None Some("a")"#,
-    ),
-    ("blocks f --set=", r#"blocks ("f", "") None None Some("")"#),
-    (
-        "blocks --set=-x --faulty b f",
-        r#"blocks ("f", "") None Some("b") Some("-x")"#,
-    ),
-    (
-        "vblocks f --node v --set a",
-        r#"vblocks ("f", "") Some("v") None Some("a")"#,
-    ),
-    ("check f c", r#"check ("f", "c") None None None"#),
-    (
-        "blocking f c --faulty a",
-        r#"blocking ("f", "c") None Some("a") None"#,
-    ),
-    (
-        "trial --budget 0 100 c",
-        r#"trial ("", "c") None None None"#,
-    ),
-    (
-        "export f --faulty a",
-        r#"export ("f", "") None Some("a") None"#,
-    ),
-    (
-        "org-blocking f c --orgs o --faulty a",
-        r#"org-blocking ("f", "c") None Some("a") None"#,
-    ),
-    (
-        "check-lrat f p --faulty a",
-        r#"check-lrat ("f", "p") None Some("a") None"#,
-    ),
+static ORDERS: [&str; 13] = [
+    r#"show f => show ("f", "") None None None"#,
+    r#"closure f --node v => closure ("f", "") Some("v") None None"#,
+    r#"greatest f --faulty a,b => greatest ("f", "") None Some("a,b") None"#,
+    r#"available f --set a => available ("f", "") None None Some("a")"#,
+    r#"blocks f --set= => blocks ("f", "") None None Some("")"#,
+    r#"blocks --set=-x --faulty b f => blocks ("f", "") None Some("b") Some("-x")"#,
+    r#"vblocks f --node v --set a => vblocks ("f", "") Some("v") None Some("a")"#,
+    r#"check f c => check ("f", "c") None None None"#,
+    r#"blocking f c --faulty a => blocking ("f", "c") None Some("a") None"#,
+    r#"trial --budget 0 100 c => trial ("", "c") None None None"#,
+    r#"export f --faulty a => export ("f", "") None Some("a") None"#,
+    r#"org-blocking f c --orgs o --faulty a => org-blocking ("f", "c") None Some("a") None"#,
+    r#"check-lrat f p --faulty a => check-lrat ("f", "p") None Some("a") None"#,
+];
+
+static COMMON: [&str; 6] = [
+    "greatest f => None None None",
+    r#"greatest f --from a --orgs o --faulty-orgs c,d => Some("a") Some("o") Some("c,d")"#,
+    r#"available f --from a --set b => Some("a") None None"#,
+    r#"blocks --faulty-orgs= --set b --orgs o f => None Some("o") Some("")"#,
+    r#"check f c --orgs o => None Some("o") None"#,
+    r#"org-blocking f c --from a --orgs o --faulty-orgs c => Some("a") Some("o") Some("c")"#,
 ];
 
 #[test]
@@ -142,51 +130,36 @@ fn takes_each_command(rt: HostRuntime) {
     wants_read(&rt, rt.alloc(), Part::Own, &ORDERS);
 }
 
-static COMMON: [(&str, &str); 6] = [
-    ("greatest f", "None None None"),
-    (
-        "greatest f --from a --orgs o --faulty-orgs c,d",
-        r#"Some("a") Some("o") Some("c,d")"#,
-    ),
-    ("available f --from a --set b", r#"Some("a") None None"#),
-    (
-        "blocks --faulty-orgs= --set b --orgs o f",
-        r#"None Some("o") Some("")"#,
-    ),
-    ("check f c --orgs o", r#"None Some("o") None"#),
-    (
-        "org-blocking f c --from a --orgs o --faulty-orgs c",
-        r#"Some("a") Some("o") Some("c")"#,
-    ),
-];
-
 #[test]
 fn takes_the_common_options(rt: HostRuntime) {
     wants_read(&rt, rt.alloc(), Part::Common, &COMMON);
 }
 
-static REFUSED: [(&str, &str); 15] = [
-    ("", "Words"),
-    ("--help", "Words"),
-    ("check f", "Words"),
-    ("check f f", "SamePath"),
-    ("blocks f --set -x", "Words"),
-    ("blocks f --set a --set a", "Words"),
-    ("available f --set a --faulty b", "Words"),
-    ("closure f", "Words"),
-    ("check f c --from a", "Words"),
-    ("interse f c", "Words"),
-    ("org-blocking f c", "Words"),
-    ("check f o --orgs o", "SamePath"),
-    ("org-blocking f o --orgs o", "SamePath"),
-    ("trial 0 c", "Words"),
-    ("trial 101 c", "Words"),
+static REFUSED: [&str; 15] = [
+    " => Words",
+    "--help => Words",
+    "check f => Words",
+    "check f f => SamePath",
+    "blocks f --set -x => Words",
+    "blocks f --set a --set a => Words",
+    "available f --set a --faulty b => Words",
+    "closure f => Words",
+    "check f c --from a => Words",
+    "interse f c => Words",
+    "org-blocking f c => Words",
+    "check f o --orgs o => SamePath",
+    "org-blocking f o --orgs o => SamePath",
+    "trial 0 c => Words",
+    "trial 101 c => Words",
 ];
 
 #[test]
 fn refuses_other_words(rt: HostRuntime) {
     wants_read(&rt, rt.alloc(), Part::Own, &REFUSED);
 }
+
+const USAGE: &str =
+    "usage: quorum_cli COMMAND\nshow CONFIG\nclosure CONFIG --node NAME\ngreatest CONFIG [COMMON]\nintersect CONFIG CERT [COMMON] [--budget UNITS]\navailable CONFIG --set NAMES [--from NAME]\ndset CONFIG CERT --set NAMES [--from NAME] [--budget UNITS]\nblocks CONFIG --set NAMES [COMMON]\nvblocks CONFIG --node NAME --set NAMES\nsplits CONFIG CERT --set NAMES [COMMON] [--budget UNITS]\nblocking CONFIG CERT [COMMON] [--budget UNITS]\ncheck CONFIG CERT [--orgs ORGS]\nexport CONFIG [COMMON]\ntrial N CERT [--budget UNITS]\ncheck-lrat CONFIG LRAT [COMMON]\nquorums CONFIG CERT [COMMON] [--budget UNITS]\nleast CONFIG CERT [COMMON] [--budget UNITS]\norg-blocking CONFIG CERT --orgs ORGS [--from NAME] [--faulty NAMES] [--faulty-orgs IDS] [--budget UNITS]\nwhatif CONFIG SCRIPT --set NAMES\nCOMMON: --from NAME --faulty NAMES --orgs ORGS --faulty-orgs IDS\n";
 
 /// The usage text as a string.
 fn printed(alloc: Global) -> Result<String, AllocError> {
@@ -196,9 +169,5 @@ fn printed(alloc: Global) -> Result<String, AllocError> {
 
 #[test]
 fn prints_a_line_for_each_command(rt: HostRuntime) {
-    same(
-        &rt,
-        printed(rt.alloc()),
-        "usage: quorum_cli COMMAND\nshow CONFIG\nclosure CONFIG --node NAME\ngreatest CONFIG [COMMON]\nintersect CONFIG CERT [COMMON] [--budget UNITS]\navailable CONFIG --set NAMES [--from NAME]\ndset CONFIG CERT --set NAMES [--from NAME] [--budget UNITS]\nblocks CONFIG --set NAMES [COMMON]\nvblocks CONFIG --node NAME --set NAMES\nsplits CONFIG CERT --set NAMES [COMMON] [--budget UNITS]\nblocking CONFIG CERT [COMMON] [--budget UNITS]\ncheck CONFIG CERT [--orgs ORGS]\nexport CONFIG [COMMON]\ntrial N CERT [--budget UNITS]\ncheck-lrat CONFIG LRAT [COMMON]\nquorums CONFIG CERT [COMMON] [--budget UNITS]\nleast CONFIG CERT [COMMON] [--budget UNITS]\norg-blocking CONFIG CERT --orgs ORGS [--from NAME] [--faulty NAMES] [--faulty-orgs IDS] [--budget UNITS]\nwhatif CONFIG SCRIPT --set NAMES\nCOMMON: --from NAME --faulty NAMES --orgs ORGS --faulty-orgs IDS\n",
-    );
+    same(&rt, printed(rt.alloc()), USAGE);
 }
