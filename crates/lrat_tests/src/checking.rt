@@ -1,8 +1,7 @@
 //! The checker, step by step.
 
-use crate::shared::{TWO_OF_TWO, added, addition, checker, deleted, deletion, equal, lits, same};
+use crate::shared::{Lemma, REFUSED, TWO_OF_TWO, added, checker, deleted, equal, lits, same};
 use lrat_checker::{IdleChecker, Rule};
-use lrat_model::{Progress, StepFault};
 use std::alloc::{AllocError, Global};
 use std::process::Abort;
 
@@ -11,46 +10,33 @@ fn two_of_two(rt: &impl Abort, alloc: Global) -> IdleChecker {
     checker(alloc, &TWO_OF_TWO, 8, Rule::Rup).expect(rt, "memory")
 }
 
-// One checker takes these in turn: a fault leaves no literal true, and no id behind.
-static STEPS: [(u64, &[i32], &[i64], &str); 12] = [
-    (16, &[-1], &[7, 6, 3, 4, 2], "id-order 16 16"),
-    (17, &[9, -9], &[], "bad-literal 9"),
-    (17, &[-1, 2, 1, 9], &[], "tautology 1"),
-    (17, &[-1], &[6, 7, 3, 4, 2], "not-unit 1"),
-    (17, &[-1], &[7, 1, 6, 3, 4, 2], "not-unit 2"),
-    (17, &[-1], &[7, -6, 3, 4, 2], "rat-step 2"),
-    (17, &[-1], &[7, 40, 3, 4, 2], "no-such-clause 40"),
-    (17, &[-1], &[7, 5, 6, 3, 4], "no-conflict"),
-    (17, &[], &[], "no-conflict"),
-    (17, &[-1], &[7, 6, 3, 4, 2], "Going"),
-    (19, &[-1, -1], &[17, -9], "Going"),
-    (20, &[], &[17, 1, 10, 8], "Refuted"),
+// One checker takes these in turn behind those that are refused: a fault leaves no literal true, and no id behind.
+static STEPS: [(Lemma<'static>, &str); 4] = [
+    ((17, &[-1], &[7, 5, 6, 3, 4]), "no-conflict"),
+    ((17, &[-1], &[7, 6, 3, 4, 2]), "Going"),
+    ((19, &[-1, -1], &[17, -9]), "Going"),
+    ((20, &[], &[17, 1, 10, 8]), "Refuted"),
 ];
 
 /// Fails the test where a step has another answer. The checker is lent, so that what is proved of the loop does not carry it.
-fn wants_steps(rt: &impl Abort, alloc: Global, checker: &mut IdleChecker) {
-    for (id, numbers, hints, want) in STEPS.iter() {
-        same(rt, added(alloc, checker, *id, numbers, hints), want);
+fn wants_steps(rt: &impl Abort, alloc: Global, checker: &mut IdleChecker, steps: &[(Lemma, &str)]) {
+    for (lemma, want) in steps {
+        same(rt, added(alloc, checker, *lemma), want);
     }
-    equal(rt, &checker.last(), &20, "the last id");
 }
 
 #[test]
 fn steps_of_two_of_two(rt: HostRuntime) {
-    let alloc = rt.alloc();
-    let mut checker = two_of_two(&rt, alloc);
-    wants_steps(&rt, alloc, &mut checker);
+    let mut checker = two_of_two(&rt, rt.alloc());
+    wants_steps(&rt, rt.alloc(), &mut checker, &REFUSED);
+    wants_steps(&rt, rt.alloc(), &mut checker, &STEPS);
+    equal(&rt, &checker.last(), &20, "the last id");
     drop(checker);
-}
-
-fn is_going(answer: Result<Progress, StepFault>) -> bool {
-    matches!(answer, Ok(Progress::Going))
 }
 
 /// Whether the checker takes the deletion of an id.
 fn delete(alloc: Global, checker: &mut IdleChecker, id: u64) -> Result<bool, AllocError> {
-    let step = deletion(alloc, 1, &[id])?;
-    Ok(is_going(checker.step(&step)))
+    Ok(deleted(alloc, checker, &[id])?.as_str() == "Going")
 }
 
 /// Whether the checker takes the deletion of each of these ids.
@@ -69,20 +55,16 @@ fn delete_each(
 }
 
 /// Whether the checker takes the addition of a lemma.
-fn add(
-    alloc: Global,
-    checker: &mut IdleChecker,
-    id: u64,
-    numbers: &[i32],
-    hints: &[i64],
-) -> Result<bool, AllocError> {
-    let step = addition(alloc, id, numbers, hints)?;
-    Ok(is_going(checker.step(&step)))
+fn add(alloc: Global, checker: &mut IdleChecker, lemma: Lemma) -> Result<bool, AllocError> {
+    Ok(added(alloc, checker, lemma)?.as_str() == "Going")
 }
 
-/// Whether the checker takes the lemma -1 of the formula.
+/// The lemma -1 of the formula.
+const FIRST: Lemma<'static> = (17, &[-1], &[7, 6, 3, 4, 2]);
+
+/// Whether the checker takes it.
 fn add_first(alloc: Global, checker: &mut IdleChecker) -> Result<bool, AllocError> {
-    add(alloc, checker, 17, &[-1], &[7, 6, 3, 4, 2])
+    add(alloc, checker, FIRST)
 }
 
 #[derive(Clone, Copy)]
@@ -151,9 +133,8 @@ fn wants_covered(rt: &impl Abort, alloc: Global, checker: &mut IdleChecker) {
 // The index learns of lemmas that are added, and of clauses that are deleted.
 #[test]
 fn covered_after_changes(rt: HostRuntime) {
-    let alloc = rt.alloc();
-    let mut checker = two_of_two(&rt, alloc);
-    wants_covered(&rt, alloc, &mut checker);
+    let mut checker = two_of_two(&rt, rt.alloc());
+    wants_covered(&rt, rt.alloc(), &mut checker);
     drop(checker);
 }
 
@@ -161,7 +142,7 @@ fn covered_after_changes(rt: HostRuntime) {
 fn renew(alloc: Global, checker: &mut IdleChecker, id: u32) -> Result<bool, AllocError> {
     let at = u64::from(id);
     let hints = [i64::from(id)];
-    Ok(add(alloc, checker, at + 1, &[-1], &hints)? && delete(alloc, checker, at)?)
+    Ok(add(alloc, checker, (at + 1, &[-1], &hints))? && delete(alloc, checker, at)?)
 }
 
 fn renew_all(alloc: Global, checker: &mut IdleChecker) -> Result<bool, AllocError> {
@@ -181,15 +162,14 @@ fn renewed(alloc: Global, checker: &mut IdleChecker) -> Result<bool, AllocError>
 // The empty lemma follows from the last of them.
 fn wants_renewed(rt: &impl Abort, alloc: Global, checker: &mut IdleChecker) {
     equal(rt, &renewed(alloc, checker), &Ok(true), "renewed");
-    let last = added(alloc, checker, 518, &[], &[517, 1, 10, 8]);
+    let last = added(alloc, checker, (518, &[], &[517, 1, 10, 8]));
     same(rt, last, "Refuted");
 }
 
 #[test]
 fn a_thousand_steps(rt: HostRuntime) {
-    let alloc = rt.alloc();
-    let mut checker = two_of_two(&rt, alloc);
-    wants_renewed(&rt, alloc, &mut checker);
+    let mut checker = two_of_two(&rt, rt.alloc());
+    wants_renewed(&rt, rt.alloc(), &mut checker);
     drop(checker);
 }
 
@@ -214,7 +194,7 @@ fn wants_deleted(rt: &impl Abort, alloc: Global, checker: &mut IdleChecker) {
     for (ids, want) in DELETIONS.iter() {
         same(rt, deleted(alloc, checker, ids), want);
     }
-    let shown = added(alloc, checker, 17, &[-1], &[7, 6, 3, 4, 2]);
+    let shown = added(alloc, checker, FIRST);
     same(rt, shown, "no-such-clause 7");
     same(rt, covered(alloc, checker), "false true true");
     // and by the index
@@ -224,8 +204,7 @@ fn wants_deleted(rt: &impl Abort, alloc: Global, checker: &mut IdleChecker) {
 
 #[test]
 fn deleted_and_covered(rt: HostRuntime) {
-    let alloc = rt.alloc();
-    let mut checker = two_of_two(&rt, alloc);
-    wants_deleted(&rt, alloc, &mut checker);
+    let mut checker = two_of_two(&rt, rt.alloc());
+    wants_deleted(&rt, rt.alloc(), &mut checker);
     drop(checker);
 }

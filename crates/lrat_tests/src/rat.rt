@@ -64,7 +64,7 @@ static TWO_OF_THREE: [&[i32]; 53] = [
 // What is answered to an addition after the formula, as a step.
 fn whole(alloc: Global, rule: Rule, numbers: &[i32], hints: &[i64]) -> Result<String, AllocError> {
     let mut checker = checker(alloc, &TWO_OF_THREE, 36, rule)?;
-    let answer = added(alloc, &mut checker, 54, numbers, hints);
+    let answer = added(alloc, &mut checker, (54, numbers, hints));
     drop(checker);
     answer
 }
@@ -143,7 +143,7 @@ fn answer(
     if id == 0 {
         deleted(alloc, checker, ids)
     } else {
-        added(alloc, checker, id, numbers, hints)
+        added(alloc, checker, (id, numbers, hints))
     }
 }
 

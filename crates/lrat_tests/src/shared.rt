@@ -29,6 +29,21 @@ pub static TWO_OF_TWO: [&[i32]; 16] = [
     &[-4, 8],
 ];
 
+/// A lemma: its id, the numbers of its literals, and its hints.
+pub type Lemma<'a> = (u64, &'a [i32], &'a [i64]);
+
+/// Lemmas that are refused behind the formula, and their faults.
+pub static REFUSED: [(Lemma<'static>, &str); 8] = [
+    ((16, &[-1], &[7, 6, 3, 4, 2]), "id-order 16 16"),
+    ((17, &[9, -9], &[]), "bad-literal 9"),
+    ((17, &[-1, 2, 1, 9], &[]), "tautology 1"),
+    ((17, &[-1], &[6, 7, 3, 4, 2]), "not-unit 1"),
+    ((17, &[-1], &[7, 1, 6, 3, 4, 2]), "not-unit 2"),
+    ((17, &[-1], &[7, -6, 3, 4, 2]), "rat-step 2"),
+    ((17, &[-1], &[7, 40, 3, 4, 2]), "no-such-clause 40"),
+    ((17, &[], &[]), "no-conflict"),
+];
+
 /// The literals of these numbers.
 pub fn lits(alloc: Global, numbers: &[i32]) -> Result<Vec<Lit>, AllocError> {
     let mut lits = Vec::new(alloc);
@@ -113,14 +128,8 @@ pub fn answered(alloc: Global, answer: Result<Progress, StepFault>) -> Result<St
 }
 
 /// What the checker answers to the addition of a lemma.
-pub fn added(
-    alloc: Global,
-    checker: &mut IdleChecker,
-    id: u64,
-    numbers: &[i32],
-    hints: &[i64],
-) -> Result<String, AllocError> {
-    let step = addition(alloc, id, numbers, hints)?;
+pub fn added(alloc: Global, checker: &mut IdleChecker, lemma: Lemma) -> Result<String, AllocError> {
+    let step = addition(alloc, lemma)?;
     answered(alloc, checker.step(&step))
 }
 
@@ -154,12 +163,7 @@ pub fn deleted(
 }
 
 /// The addition of a lemma.
-pub fn addition(
-    alloc: Global,
-    id: u64,
-    numbers: &[i32],
-    hints: &[i64],
-) -> Result<Step, AllocError> {
+pub fn addition(alloc: Global, (id, numbers, hints): Lemma) -> Result<Step, AllocError> {
     Ok(Step::Add {
         id,
         lits: lits(alloc, numbers)?,

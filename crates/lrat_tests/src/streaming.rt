@@ -40,8 +40,7 @@ fn wants_additions(rt: &impl Abort, alloc: Global, checker: &mut Checker)
 
 #[test]
 fn hints_one_by_one(rt: HostRuntime) {
-    let alloc = rt.alloc();
-    let mut checker = started(&rt, alloc);
-    wants_additions(&rt, alloc, &mut checker);
+    let mut checker = started(&rt, rt.alloc());
+    wants_additions(&rt, rt.alloc(), &mut checker);
     drop(checker);
 }
