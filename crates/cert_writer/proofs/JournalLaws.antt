@@ -108,7 +108,7 @@ module _ (f : System) (given : Given) (h : Header) (is : IsSystem f.names f.sets
   abbrev r : Rules
   r = rules_for over
 
-  -- behind these lines, which lead to the journal's first
+  -- after these lines, which lead to the journal's first
   pub journal_accepted : (kind : ListKind) (new : Database) (journal : List JournalLine) (front : List Text) → AreLines front → Takes f given 5 (Going (AtKind (subject f h))) front (at_list (subject f h) over kind r.start [] 0)
       → ((which : Listed) (id : ℕ) (u : Table) → IsId id → IsLine (text (SetLine which id u))) → r.vars ≤ MOST_VARS → JournalRun r kind r.start journal new → FallOn over (part_from f h.from) [] journal
       → All HasLineNumbers journal → All (HasFewWords r.vars) journal → length front + length journal + 5 ≤ MAX_LINES → ListEndsAs kind journal

@@ -212,7 +212,7 @@ set_taken f given s (OfGroups part) kind stands l old sets units which id u take
 
 -- ---- a journal
 
--- the sets so far with one more, raised, and those of the lines behind it
+-- the sets so far with one more, raised, and those of the lines after it
 set_behind : (b : Bool) (raise : Table → Table) (sets : List Table) (u : Table) (more : List Table) → (sets ++ map raise (put_if b u more)) ≡ put_last b sets (raise u) ++ map raise more
 set_behind true raise sets u more = sym (append_assoc sets (raise u ∷ []) (map raise more))
 set_behind false raise sets u more = refl

@@ -168,7 +168,7 @@ module _ (f : System) (given : Given) (h : Header) (is : IsSystem f.names f.sets
   vars_few : size p.greatest ≤ MOST_VARS
   vars_few = omega (arith, size_le_length p.greatest, length-greatest_of p.system.sets p.faulty, there.count, size_le_length nodes, there.places, is.few)
 
-  -- behind the lines of its kind
+  -- after the lines of its kind
   over_nodes : (sought : Listed) (kind : ListKind) (new : Database) (journal : List JournalLine) (front : List Text) → AreLines front → Takes f given 5 (Going (AtKind (subject f h))) front (at_list (subject f h) (OfNodes sought p) kind (rules_of sought p).start [] 0)
       → (rules_of sought p).vars ≤ MOST_VARS → JournalRun (rules_of sought p) kind (rules_of sought p).start journal new → FallOn (OfNodes sought p) nodes [] journal
       → All HasLineNumbers journal → All (HasFewWords (rules_of sought p).vars) journal → length front + length journal + 5 ≤ MAX_LINES → ListEndsAs kind journal

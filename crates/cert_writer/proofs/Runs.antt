@@ -83,7 +83,7 @@ step_taken f given aim.Partial h vars old n l step read on fault fresh =
     let goes : progress_of step ≡ going = on in
     rw (not_end step read, read, goes, taken_by_rat vars old step fault, fresh, goes) refl
 
--- the units behind a log
+-- the units after a log
 abbrev pub units_after : ℕ → List ProofStep → ℕ
 units_after n [] = n
 units_after n (step ∷ log) = units_after (counted n step) log

@@ -188,7 +188,7 @@ pub record StandsAt (f : System) (nodes : Table) (part : ListPart) : Type 0 wher
   pub part_names : AreNames (kept nodes f.names)
 
 module _ (f : System) (s : Subject) (k : Listing) (l : ℕ) (which : Listed) (id : ℕ) (set : Table) (stands : StandsAt f s.nodes k.part) (above : k.checker.database.last < id) (is_right : IsRightIn k which set) (is_smaller : IsSmallerIn k which set) (is_new : IsNewIn k which set) where
-  -- what is awaited behind the line
+  -- what is awaited after the line
   abbrev next : Table → ReachState
   next w = Going (AtList (with_listed k which id (spread s.nodes set) w))
 

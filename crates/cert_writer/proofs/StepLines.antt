@@ -50,7 +50,7 @@ hint_word (negsuc n) is = (minus_word (decimal (suc n)) (decimal_word (suc n) (o
 id_word : (id : ℕ) → IsId id → IsWord (decimal id) × (length (decimal id) ≤ 20)
 id_word id is = (decimal_word id (omega (arith, is.1)), let h : length (decimal id) ≤ 19 = length-decimal-le 19 id (omega arith) (omega (arith, is.1)) (omega (arith, is.1)) in omega arith)
 
--- where each of a list has a word of at most so many bytes
+-- where each of a list has a word of at most this many bytes
 words_of_each : {A : Type 0} (word : A → Word) (Is : A → Type 0) (most : ℕ) → ((x : A) → Is x → IsWord (word x) × (length (word x) ≤ most)) → (xs : List A) → AllByRecursion Is xs → AreWords (map word xs) × AllByRecursion (λ (w : Word). length w ≤ most) (map word xs)
 words_of_each word Is most one [] all = (tt, tt)
 words_of_each word Is most one (x ∷ xs) all =
@@ -78,7 +78,7 @@ length-spaced-append (x ∷ xs) ys = let e = length-spaced-append xs ys in omega
 zero_word : IsWord (codes "0")
 zero_word = is_word (codes "0") refl
 
--- the words behind the id of a lemma
+-- the words after the id of a lemma
 abbrev pub lemma_words : List Literal → List ℤ → List Word
 lemma_words lits hints = map literal_text lits ++ codes "0" ∷ (map signed_decimal hints ++ codes "0" ∷ [])
 
@@ -107,7 +107,7 @@ line_addition id lits hints is hs ls few_lits few_hints =
 delete_word : IsWord (codes "d")
 delete_word = is_word (codes "d") refl
 
--- the words behind the id of a deletion
+-- the words after the id of a deletion
 abbrev pub deletion_words : List ℕ → List Word
 deletion_words ids = codes "d" ∷ (map decimal ids ++ codes "0" ∷ [])
 

@@ -1,4 +1,4 @@
--- A word and others behind it, read back.
+-- A word and others after it, read back.
 use Rattle.std.proofs.Common.{◌≡◌, ℕ, suc, ◌*◌, ◌≤◌, List, [], ◌∷◌, ◌++◌, length, Bool, true, false, not, ◌&&◌, ◌==◌, Some, refl, ap, arith, length-append}
 use Rattle.std.specs.List.{AllByRecursion, list_all}
 use Rattle.std.specs.Str.{bytes_eq}
@@ -56,7 +56,7 @@ plain-spaced (w ∷ words) are = (refl, plain-append w (spaced words) (plain-wor
 pub plain-worded : (word : Word) (words : List Word) → IsWord word → AreWords words → IsPlain (worded word words)
 plain-worded word words is are = plain-append word (spaced words) (plain-word word is) (plain-spaced words are)
 
--- how long words of at most so many bytes are, with a space before each
+-- how long words of at most this many bytes are, with a space before each
 pub length-spaced : (most : ℕ) (words : List Word) → AllByRecursion (λ (w : Word). length w ≤ most) words → length (spaced words) ≤ length words * suc most
 length-spaced most [] all = omega arith
 length-spaced most (w ∷ words) all = let rest = length-spaced most words all.1 in let first : length w ≤ most = all.0 in omega (arith, length-append w (spaced words))
@@ -72,6 +72,6 @@ words_of-spaced (w ∷ words) are = ap (λ (ws : List Word). [] ∷ ws) (behind_
 pub words_of-worded : (word : Word) (words : List Word) → IsWord word → AreWords words → words_of (worded word words) ≡ word ∷ words
 words_of-worded word words is are = behind_word word (spaced words) words is (words_of-spaced words are)
 
--- names behind a word
+-- names after a word
 pub names_after-worded : (word : Word) (names : List Word) → IsWord word → AreWords names → list_all is_name names ≡ true → is_rising names ≡ true → names_after word (worded word names) ≡ Some names
 names_after-worded word names is are named rising = rw (words_of-worded word names is are, same_text word, named, rising) refl

@@ -16,7 +16,7 @@ use Rattle.quorum_questions.specs.declared.answers.Answer.TheVariants.{Yes, No, 
 use Rattle.cert_writer.specs.Texts.{Text, pair_text, log_text}
 use Rattle.cert_writer.specs.Promises.{part_of, faulty_in, raised_pair}
 
--- what is asked: whether every two quorums share a node in the part that the header names, once its faulty nodes are deleted, within so many units; the organisations are given where blocking sets of them are sought
+-- what is asked: whether every two quorums share a node in the part that the header names, once its faulty nodes are deleted, within this many units; the organisations are given where blocking sets of them are sought
 pub record Request : Type 0 where
   pub whole : System
   pub digest : List ℕ

@@ -47,7 +47,7 @@ fn journal_of(outcome: &LeastOutcome) -> &Journal
 
 /// Writes the certificate of a search for a smallest quorum, whole or in part, to the created file. `check` accepts it.
 ///
-/// The journal has the numbers of the part, whose greatest quorum has so many nodes.
+/// The journal has the numbers of the part, whose greatest quorum has this many nodes.
 pub fn write_least<D: Desk>(
     writer: &mut CertWriter,
     desk: &mut D,

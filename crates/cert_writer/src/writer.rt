@@ -293,7 +293,7 @@ impl CertWriter {
         self.text(desk, buffer.format(id).as_bytes());
     }
 
-    /// Writes the line of a lemma: its id, and its literals and its hints with a zero behind each list.
+    /// Writes the line of a lemma: its id, and its literals and its hints with a zero after each list.
     fn lemma<D: Desk>(&mut self, desk: &mut D, id: u64, lits: &[Lit], hints: HintsRef<'_>)
         ensures { Writes D.tells (line_of (Addition id lits.now (lent_hints hints.entry)) ++ 10 ∷ []) self.old (D.state desk.old) (D.faults desk.old) self.new (D.state desk.new) (D.faults desk.new) }
     {
@@ -304,7 +304,7 @@ impl CertWriter {
         self.text(desk, b" 0\n");
     }
 
-    /// Writes the line of a deletion: its id, a mark, and the ids of the clauses with a zero behind them.
+    /// Writes the line of a deletion: its id, a mark, and the ids of the clauses with a zero after them.
     fn deletion<D: Desk>(&mut self, desk: &mut D, id: u64, ids: &[u64])
         ensures { Writes D.tells (line_of (Deletion id ids.now) ++ 10 ∷ []) self.old (D.state desk.old) (D.faults desk.old) self.new (D.state desk.new) (D.faults desk.new) }
     {
@@ -314,7 +314,7 @@ impl CertWriter {
         self.text(desk, b" 0\n");
     }
 
-    /// Writes the line of a step that is lent.
+    /// Writes the line of a step that is borrowed.
     fn step<D: Desk>(&mut self, desk: &mut D, step: StepRef<'_>)
         requires { HasNumbers (lent_step step) }
         ensures { Writes D.tells (line_of (lent_step step.entry) ++ 10 ∷ []) self.old (D.state desk.old) (D.faults desk.old) self.new (D.state desk.new) (D.faults desk.new) }
@@ -412,7 +412,7 @@ impl CertWriter {
         self.journal_lines(desk, names, journal);
     }
 
-    /// Writes the lines of a search for a smallest quorum up to the last: its kind, the size of the counter of so many nodes, and
+    /// Writes the lines of a search for a smallest quorum up to the last: its kind, the size of the counter of this many nodes, and
     /// its journal.
     fn least_lines<D: Desk>(
         &mut self,

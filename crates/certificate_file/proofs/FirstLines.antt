@@ -1,4 +1,4 @@
--- What is known behind the first two lines, results that are known, and a list before its first line.
+-- What is known after the first two lines, results that are known, and a list before its first line.
 use Rattle.std.proofs.Common.{◌≡◌, ◌⊎◌, ℕ, List, Bool, true, false, Option, Some, None, ok_or, Result, Ok, Err, IfOk, IfErr, inr, sym, subst, bytes_eq}
 use Rattle.fbas_model.specs.Systems.{System}
 use Rattle.clause_encoder.specs.declared.version.Version.{Version}

@@ -22,7 +22,7 @@ all_three = (true ∷ true ∷ false ∷ []) ∷ (true ∷ false ∷ true ∷ []
 
 blocking_sets : Answers (λ body. checked three zeros_given (first_lines (codes "1") [] [] (codes "blocking") ++ body)) (
     (codes "q 1 a b\nq 2 a c\nq 3 b c\nb 4 a b\nb 5 a c\nb 6 b c\n7 -1 0 4 5 3 0\n8 0 7 1 2 6 0\nend\n", Ok (shows (Minimal listed.Blocking all_three)))
-    -- a set that is listed again behind the deletion of its clause counts once
+    -- a set that is listed again after the deletion of its clause counts once
     ∷ (codes "b 1 b c\nb 2 a b\n2 d 2 0\nb 3 a b\nq 4 a b\nq 5 a c\nq 6 b c\nb 7 a c\n8 -1 0 3 7 6 0\n9 0 8 4 5 1 0\nend\n", Ok (shows (Minimal listed.Blocking all_three)))
     -- a blocking set has to be new; a whole list asks it of no quorum
     ∷ (codes "q 1 a b\nb 2 a b\nb 3 a b\nend\n", Err (NotNew 8))
@@ -30,7 +30,7 @@ blocking_sets : Answers (λ body. checked three zeros_given (first_lines (codes 
     ∷ (codes "b 1 a\nend\n", Err (NotBlocking 6))
     ∷ (codes "b 1 a b c\nend\n", Err (NotMinimal 6))
     ∷ (codes "q 1 a\nend\n", Err (NotQuorum 6))
-    -- the id is asked for before the names, and both behind the grammar
+    -- the id is asked for before the names, and both after the grammar
     ∷ (codes "q 1 a b\nq 1 z\nend\n", Err (Step 7 (IdOrder 1 1)))
     ∷ (codes "b 1 a z\nend\n", Err (UnknownNode 6))
     ∷ (codes "q 1 a b\nq 1 z a\nend\n", Err (BadLine 7))
@@ -69,7 +69,7 @@ quorums_in_version_one : checked three zeros_given (first_lines (codes "1") [] [
 unfolding checked take_line encode_with decode_pairs
 quorums_in_version_one = refl
 
--- a smallest quorum: behind the counter each quorum is smaller than the one before it
+-- a smallest quorum: after the counter each quorum is smaller than the one before it
 least : Answers (λ body. checked three zeros_given (first_lines (codes "2") [] [] (codes "least") ++ body)) (
     (codes "counter 9 9\ns 10 a b\nb 11 a b\nb 12 a c\nb 13 b c\n14 -2 0 3 10 8 7 4 1 12 0\n15 0 14 11 13 1 2 10 8 0\nend\n", Ok (shows (Least (Some (true ∷ true ∷ false ∷ [])))))
     ∷ (codes "counter 9 9\ns 10 a b\ns 11 a c\nend\n", Err (NotSmaller 8))

@@ -90,7 +90,7 @@ at_groups f given s k l text = refl
 
 -- ---- steps that were read
 
--- the state behind a step that was read
+-- the state after a step that was read
 abbrev next_of : Proof → Finished × ℕ → Result State CertError
 next_of p r = Ok (after_step_of p r.0.0 r.1 r.0.1)
 
@@ -218,7 +218,7 @@ sized_sets f given (proof.Steps to h) c n is = tt
 sized_sets f given (proof.List s sought kind part sets) c n is = (length f.sets, λ k t low. (is.1.sets k t low).places)
 sized_sets f given (proof.Groups s kind over sets) c n is = (length over.groups, is.1.sets)
 
--- what is known behind a line of a proof by steps
+-- what is known after a line of a proof by steps
 pub known_after : (f : System) (given : Given) (p : Proof) (c : Checking) (n l : ℕ) (text : List ℕ) (state : State) → IsKnown f given (place_of p c n) → take_line f given (place_of p c n) l text ≡ Ok state → IsKnownState f given state
 known_after f given (proof.Steps to h) c n l text state is e = known_step f given to h c n l text is state (sym (at_steps f given to h c n l text) ∙ e)
 known_after f given (proof.List s sought kind part sets) c n l text state is e =

@@ -98,7 +98,7 @@ proof_lines-ended l c texts reads = proof_lines-next l c texts ∙ ap (and_then 
 pub proof_lines-bad : (l : ℕ) (c : Checking) (texts : List (List ℕ)) (e : CertError) → next_text l texts ≡ Err e → proof_lines l (Some c) texts ≡ Err e
 proof_lines-bad l c texts e reads = proof_lines-next l c texts ∙ ap (and_then (after_text l c)) reads
 
--- nothing is looked at behind the empty lemma
+-- nothing is looked at after the empty lemma
 pub nothing : (l : ℕ) (texts : List (List ℕ)) → proof_lines l None texts ≡ Ok tt
 nothing l texts = refl
 

@@ -81,13 +81,13 @@ is_part (proof.Steps to h) = asks_steps (extent to)
 is_part (proof.List s sought kind part sets) = asks_steps kind
 is_part (proof.Groups s kind over sets) = asks_steps kind
 
--- the place of its next line, where this is held and there are so many units
+-- the place of its next line, where this is held and there are this many units
 abbrev pub place_of : Proof → Checking → ℕ → Place
 place_of (proof.Steps to h) c n = AtSteps to h c n
 place_of (proof.List s sought kind part sets) c n = AtReach s (AtList (record { sought = sought; kind = kind; part = part; checker = c; sets = sets; units = n }))
 place_of (proof.Groups s kind over sets) c n = AtReach s (AtGroups (record { kind = kind; over = over; checker = c; sets = sets; units = n }))
 
--- the place behind the empty lemma
+-- the place after the empty lemma
 abbrev pub end_of : Proof → Place
 end_of (proof.Steps to h) = AtEnd (record { header = h; answer = Refutation })
 end_of (proof.List s sought kind part sets) = AtReach s (Ended (whole_of sought (in_shown_order sought sets)))

@@ -43,7 +43,7 @@ proof_line c l text = if is_passed_over text then Ok (Some c) else and_then (tak
 
 -- ---- the whole
 
--- the lines from line l on. No line behind the empty lemma is looked at
+-- the lines from line l on. No line after the empty lemma is looked at
 abbrev pub proof_lines : ℕ → Option Checking → List (List ℕ) → Result (Unit {0}) CertError
 proof_lines l None texts = Ok tt
 proof_lines l (Some c) [] = Err (NotRefuted l)

@@ -42,7 +42,7 @@ fn body_named(word: &[u8]) -> Option<Body>
     }
 }
 
-/// The word behind the word `kind`, where there is one and nothing else.
+/// The word after the word `kind`, where there is one and nothing else.
 fn kind_in(text: &[u8]) -> Option<&[u8]>
     ensures some { IfSome result (λ word. body_in (words_of text.now) ≡ body_named word.now) }
     ensures none { result ≡ None → body_in (words_of text.now) ≡ None }

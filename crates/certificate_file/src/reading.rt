@@ -19,7 +19,7 @@ use fbas_core::System;
 use lrat_stream::StepReader;
 use std::alloc::Global;
 
-/// What is so after the next line. Where steps may stand, it is taken with the steps behind it, to the first line that begins as
+/// What is so after the next line. Where steps may stand, it is taken with the steps after it, to the first line that begins as
 /// no step does or to the empty lemma.
 pub fn next_state<D: Desk>(
     alloc: Global,

@@ -128,7 +128,7 @@ impl Proof {
         }
     }
 
-    /// The place behind the empty lemma, which ends a refutation, and a list. In no part of a proof is it taken.
+    /// The place after the empty lemma, which ends a refutation, and a list. In no part of a proof is it taken.
     fn end(self) -> Place
         requires { HasSizedSets self }
         ensures { result ≡ end_of self }
@@ -149,7 +149,7 @@ impl Proof {
     }
 }
 
-/// Takes the steps that come next. Gives the first line that begins as no step does, with its number, or None behind the empty
+/// Takes the steps that come next. Gives the first line that begins as no step does, with its number, or None after the empty
 /// lemma.
 fn take_steps<D: Desk>(
     alloc: Global,
@@ -188,7 +188,7 @@ fn take_steps<D: Desk>(
     }
 }
 
-/// The steps that come next, and then the line that begins as no step does, or the place behind the empty lemma.
+/// The steps that come next, and then the line that begins as no step does, or the place after the empty lemma.
 pub fn next_steps<D: Desk>(
     alloc: Global,
     lines: &mut Lines,

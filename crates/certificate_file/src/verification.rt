@@ -127,7 +127,7 @@ fn check_proof<D: Desk>(
 /// The proof is one of the formula of the header's part of the system, once the faulty nodes are deleted, as it is exported:
 /// the clauses have the ids from 1 on in their order. The answer is `verified` of the bytes that are left. On any desk, where it
 /// is Ok every two quorums of the part share a node once the faulty nodes are deleted. A line that begins with a `c` or has no
-/// word is passed over, the last line may lack its line feed, and nothing is looked at behind the line of the empty lemma.
+/// word is passed over, the last line may lack its line feed, and nothing is looked at after the line of the empty lemma.
 /// `TooLarge` comes before the first line is read, and `NotRefuted` with the number of the line that would come next. `Read` comes
 /// exactly where a call of the desk failed, and after an `Err` only what is left of the proof has changed.
 ///

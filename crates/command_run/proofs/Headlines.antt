@@ -106,7 +106,7 @@ text_there s old new status cert a b put is = put.out ∙ ap (λ (x : Answer). o
 cert_there : (s : Search) (old new : DeskState) (status : Status) (cert : Text) (a : Answer) → PutsBoth s.path cert a old new status → new.files s.path ≡ Some cert
 cert_there s old new status cert a put = held_there s.path cert old.files new.files put.files
 
--- a pair is printed behind a line
+-- a pair is printed after a line
 pair_there : (s : Search) (old new : DeskState) (head : Text) (p : Pair) → ShowsPair s p new → new.out ≡ old.out ++ with_pair head (part s).names p → PrintsPair s head [] old new
 pair_there s old new head p shows out = record {
   pair = p;
@@ -114,7 +114,7 @@ pair_there s old new head p shows out = record {
   out = out ∙ ap (λ (t : Text). old.out ++ t) (sym (append-nil (with_pair head (part s).names p)));
 }
 
--- a pair is printed behind a line, between other texts
+-- a pair is printed after a line, between other texts
 pair_between : (s : Search) (old new : DeskState) (before head behind : Text) (p : Pair) → ShowsPair s p new → new.out ≡ old.out ++ (before ++ (with_pair head (part s).names p ++ behind)) → PrintsPair s (before ++ head) behind old new
 pair_between s old new before head behind p shows out =
     let both : Text = with_pair [] (part s).names p in

@@ -84,7 +84,7 @@ fails_as before after P Q to from w = record {
   none = λ not. w.none (λ p. not (from p));
 }
 
--- where so many variables are too many, which is told
+-- where this many variables are too many, which is told
 pub printed_ends : (tells : Bool) (s : Search) (n : ℕ) (a : Answer) (old new : DeskState) (before after : Faults) (status : Status) → a ≡ too_large_answer n → AreTooMany (meaning_of s.goal).vars (part s) (deleted s) n
     → (IsTrue tells → IsTrue (is_answer status) → PrintsAnswer a old new status) → (IsTrue tells → status ≡ WriteFault → PrintsAnswerPart a old new) → (status ≡ a.status) ⊎ (status ≡ WriteFault) → WriteFails before after (status ≡ WriteFault)
     → SearchEnds tells s old before new after status

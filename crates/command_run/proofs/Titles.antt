@@ -28,7 +28,7 @@ use Rattle.command_run.specs.Sought.{request}
 use Rattle.command_run.specs.Meanings.{cert_of, meaning_of}
 use Rattle.command_run.specs.Showing.{IsOfVersionTwo}
 
--- the header behind its first line
+-- the header after its first line
 abbrev behind_title : List Name → List ℕ → Header → List Text
 behind_title names digest h = worded (codes "config") (encode_lower digest ∷ []) ∷ worded (codes "from") (name_if_any names h.from) ∷ listed (codes "faulty") names h.faulty ∷ []
 

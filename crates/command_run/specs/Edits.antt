@@ -40,7 +40,7 @@ fault_number fault = None
 abbrev pub fault_line : ScriptFault → Text
 fault_line f = script_refused (fault_word f.fault) f.line (fault_number f.fault)
 
--- what is said of a system after so many edits: its greatest quorum, and whether the nodes without the set of these names are available
+-- what is said of a system after this many edits: its greatest quorum, and whether the nodes without the set of these names are available
 abbrev pub state_lines : Text → ℕ → System → Text
 state_lines set i s = edit_lines s.names i (greatest_in s) (is_available s.sets (set_in set s)) (unmet_in set s)
 

@@ -18,7 +18,7 @@ pub record IsBarred (path : List ℕ) (old : DeskState) : Type 0 where
   pub missing : old.files path ≡ None
   pub never : Contains old.may_create path → ⊥
 
--- there is no room for so many bytes of the certificate, which are in its file at the end, and another buffer
+-- there is no room for this many bytes of the certificate, which are in its file at the end, and another buffer
 abbrev pub LacksBuffer : ℕ → DeskState → Type 0
 LacksBuffer count old = old.room < count + BUFFER
 

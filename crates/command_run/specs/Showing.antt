@@ -80,7 +80,7 @@ pub record PrintsUnknown (s : Search) (text : Text) (old new : DeskState) : Type
   pub shows : ShowsUnknown s new
   pub out : new.out ≡ old.out ++ text
 
--- and so is how large the trial is, and a text behind it
+-- and so is how large the trial is, and a text after it
 pub record PrintsUnknownTrial (s : Search) (text : Text) (old new : DeskState) : Type 0 where
   pub shows : ShowsUnknown s new
   pub out : new.out ≡ old.out ++ (size_lines (part s) shows.size ++ text)

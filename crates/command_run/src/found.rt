@@ -29,7 +29,7 @@ pub struct BlockingFound(pub ListOutcome);
 #[derive(Drop)]
 pub struct QuorumsFound(pub ListOutcome);
 
-/// A smallest quorum, where the greatest one has so many nodes.
+/// A smallest quorum, where the greatest one has this many nodes.
 #[derive(Drop)]
 pub struct LeastFound {
     pub nodes: u32,

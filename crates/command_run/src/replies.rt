@@ -20,7 +20,7 @@ use quorum_questions::{Answer, Size};
 use request_reading::{Reply, Status, says};
 use std::alloc::{AllocError, Global};
 
-/// That clauses of so many variables are too large.
+/// That clauses of this many variables are too large.
 pub fn too_large(alloc: Global, vars: u64) -> Result<Reply, AllocError>
     ensures { IfOk result (λ a. a ≡ too_large_answer vars) }
 {

@@ -78,7 +78,7 @@ fn put_found<D: Desk, F: Found>(
     }
 }
 
-// Tells that clauses of so many variables are too large.
+// Tells that clauses of this many variables are too large.
 fn tell_too_large<D: Desk>(
     alloc: Global,
     desk: &mut D,

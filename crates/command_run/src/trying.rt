@@ -34,7 +34,7 @@ fn fault_number(fault: EditFault) -> Option<u64>
     }
 }
 
-// Adds what is so of the system after so many edits.
+// Adds what is so of the system after this many edits.
 fn push_state(
     text: &mut Vec<u8>,
     edit: u64,
@@ -56,7 +56,7 @@ fn push_state(
     )
 }
 
-// Adds what is so of the system before a line, which stands after so many, and makes its edit.
+// Adds what is so of the system before a line, which stands after this many, and makes its edit.
 fn try_line(
     alloc: Global,
     text: &mut Vec<u8>,

@@ -54,7 +54,7 @@ fn written(alloc: Global, desk: &MemDesk) -> Result<String, AllocError> {
     format!(in alloc; "{:?} {made:?} {other:?}", desk.out())
 }
 
-/// Fails the test where a call has another answer. The desk is lent, so that what is proved of the comparisons does not carry it.
+/// Fails the test where a call has another answer. The desk is borrowed, so that what is proved of the comparisons does not carry it.
 fn wants_answers(rt: &impl Abort, alloc: Global, desk: &mut MemDesk) {
     let want = "true Ok(4) [48, 49, 50, 51, 0, 0, 0, 0]";
     same(rt, piece(alloc, desk), want);

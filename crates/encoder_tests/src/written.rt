@@ -24,7 +24,7 @@ static TWO_OF_FOUR: &str =
 /// The names of seventeen nodes.
 static SEVENTEEN: &str = r#""a","b","c","d","e","f","g","h","i","j","k","l","m","n","o","p","q""#;
 
-/// The configuration of seventeen nodes, each of which wants so many of them.
+/// The configuration of seventeen nodes, each of which wants this many of them.
 fn of_seventeen(alloc: Global, threshold: u64) -> Result<String, AllocError> {
     let mut text = String::from_str(alloc, "[")?;
     for name in SEVENTEEN.split(',') {

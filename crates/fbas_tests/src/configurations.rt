@@ -158,7 +158,7 @@ fn reads_as_deep_as_the_limits(rt: HostRuntime) {
     }
 }
 
-// Node x with a quorum set of so many validators: names from n0 on, or the same name each time.
+// Node x with a quorum set of this many validators: names from n0 on, or the same name each time.
 fn many(alloc: Global, n: u64, are_alike: bool) -> Result<String, AllocError> {
     let head = "[{\"publicKey\":\"x\",\"quorumSet\":{\"threshold\":1,\"validators\":[\"x\"";
     numbered(alloc, (head, "]}}]"), (",\"n", "\""), n, are_alike)

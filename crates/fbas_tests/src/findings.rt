@@ -11,7 +11,7 @@ use std::alloc::{AllocError, Global};
 const NESTED: &str =
     r#"[{"publicKey":"a","quorumSet":{"threshold":7,"validators":["b","c","b"],"innerQuorumSets":[{"threshold":1,"validators":["a","b"]},{"threshold":0,"validators":["c","d","d","c"],"innerQuorumSets":[{"threshold":1,"validators":["f","f","f"]}]},{"threshold":1}]}},{"publicKey":"e"}]"#;
 
-/// Finds it all, behind one that was found before.
+/// Finds it all, after one that was found before.
 fn find(alloc: Global, quorum_set: &QuorumSet, found: &mut Vec<Finding>) -> Result<(), AllocError>
     requires { all_entries quorum_set.now < 2 ^ 32 }
 {
@@ -19,7 +19,7 @@ fn find(alloc: Global, quorum_set: &QuorumSet, found: &mut Vec<Finding>) -> Resu
     quorum_set.findings(alloc, found)
 }
 
-/// What is found in it, behind one that was found before.
+/// What is found in it, after one that was found before.
 fn found(alloc: Global, quorum_set: &QuorumSet) -> Result<String, AllocError>
     requires { all_entries quorum_set.now < 2 ^ 32 }
 {

@@ -130,13 +130,13 @@ fn has_no_organisations_without_a_file(rt: HostRuntime) {
     );
 }
 
-// So many organisations, each with an id of its own.
+// This many organisations, each with an id of its own.
 fn many(alloc: Global, n: u64) -> Result<String, AllocError> {
     let ends = ("[{\"id\":\"o0\"}", "]");
     numbered(alloc, ends, (",{\"id\":\"o", "\"}"), n, false)
 }
 
-// Fails the test where so many have another fault.
+// Fails the test where this many have another fault.
 fn wants_fault_of_many(
     rt: &impl Abort,
     alloc: Global,

@@ -80,7 +80,7 @@ static PARTS: [([bool; 4], [bool; 4], bool); 6] = [
     ([true, true, true, true], [false, false, false, false], true),
 ];
 
-/// Fails the test where something else is found. The quorum set is lent, so that what is proved of the loop does not carry it.
+/// Fails the test where something else is found. The quorum set is borrowed, so that what is proved of the loop does not carry it.
 fn wants_met(rt: &impl Abort, quorum_set: &QuorumSet)
     requires { IsBelow 4 quorum_set.now }
 {

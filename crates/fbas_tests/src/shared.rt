@@ -27,7 +27,7 @@ pub fn system_of(rt: &impl Abort, alloc: Global, config: &str) -> System {
     read_config(alloc, config.as_bytes()).expect(rt, "a system")
 }
 
-/// The quorum set of the first node of a system, which has so many nodes.
+/// The quorum set of the first node of a system, which has this many nodes.
 pub fn first_set<'a>(rt: &impl Abort, system: &'a System, n: u32) -> &'a QuorumSet
     ensures small { all_entries result.now < 2 ^ 32 }
     ensures below { IsBelow n result.now }
@@ -44,7 +44,7 @@ fn listed(alloc: Global, names: &[&str]) -> Result<Vec<Vec<u8>>, AllocError> {
     Ok(list)
 }
 
-/// The names of a list, which are so many.
+/// The names of a list, which are this many.
 pub fn names_of(rt: &impl Abort, alloc: Global, list: &[&str], n: u32) -> Names
     ensures { length result ≡ n }
 {

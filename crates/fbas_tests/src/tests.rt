@@ -177,7 +177,7 @@ fn part_shown(alloc: Global, part: &System, faulty: &NodeSet) -> Result<String, 
     format!(in alloc; "{is_cut:?} {entries} {unset} {list:?}")
 }
 
-// The same of the part behind c.
+// The same of the part after c.
 fn behind_c(alloc: Global, system: &System) -> Result<String, AllocError> {
     match part_of(alloc, system, "c", "b,e") {
         Some((part, faulty)) => {

@@ -10,7 +10,7 @@ fn two_of_two(rt: &impl Abort, alloc: Global) -> IdleChecker {
     checker(alloc, &TWO_OF_TWO, 8, Rule::Rup).expect(rt, "memory")
 }
 
-// One checker takes these in turn behind those that are refused: a fault leaves no literal true, and no id behind.
+// One checker takes these in turn after those that are refused: a fault leaves no literal true, and no id behind.
 static STEPS: [(Lemma<'static>, &str); 4] = [
     ((17, &[-1], &[7, 5, 6, 3, 4]), "no-conflict"),
     ((17, &[-1], &[7, 6, 3, 4, 2]), "Going"),
@@ -18,7 +18,7 @@ static STEPS: [(Lemma<'static>, &str); 4] = [
     ((20, &[], &[17, 1, 10, 8]), "Refuted"),
 ];
 
-/// Fails the test where a step has another answer. The checker is lent, so that what is proved of the loop does not carry it.
+/// Fails the test where a step has another answer. The checker is borrowed, so that what is proved of the loop does not carry it.
 fn wants_steps(rt: &impl Abort, alloc: Global, checker: &mut IdleChecker, steps: &[(Lemma, &str)]) {
     for (lemma, want) in steps {
         same(rt, added(alloc, checker, *lemma), want);

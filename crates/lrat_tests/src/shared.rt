@@ -32,7 +32,7 @@ pub static TWO_OF_TWO: [&[i32]; 16] = [
 /// A lemma: its id, the numbers of its literals, and its hints.
 pub type Lemma<'a> = (u64, &'a [i32], &'a [i64]);
 
-/// Lemmas that are refused behind the formula, and their faults.
+/// Lemmas that are refused after the formula, and their faults.
 pub static REFUSED: [(Lemma<'static>, &str); 8] = [
     ((16, &[-1], &[7, 6, 3, 4, 2]), "id-order 16 16"),
     ((17, &[9, -9], &[]), "bad-literal 9"),
@@ -73,7 +73,7 @@ pub fn are_in_range(lits: &[Lit], vars: u64) -> bool
     lits.iter().all(|l| l.variable() as u64 <= vars)
 }
 
-// Gives a clause to a checker of so many variables, under the next id.
+// Gives a clause to a checker of this many variables, under the next id.
 fn give(checker: &mut IdleChecker, vars: u64, clause: &[Lit]) -> Result<(), AllocError>
     requires { checker.old.vars ≡ vars }
     ensures { checker.new.vars ≡ vars }
@@ -85,7 +85,7 @@ fn give(checker: &mut IdleChecker, vars: u64, clause: &[Lit]) -> Result<(), Allo
     Ok(())
 }
 
-// Gives clauses to a checker of so many variables.
+// Gives clauses to a checker of this many variables.
 fn give_all(
     alloc: Global,
     checker: &mut IdleChecker,
@@ -100,7 +100,7 @@ fn give_all(
     Ok(())
 }
 
-/// A checker of these clauses over so many variables.
+/// A checker of these clauses over this many variables.
 pub fn checker(
     alloc: Global,
     clauses: &[&[i32]],

@@ -17,7 +17,7 @@ fn started(rt: &impl Abort, alloc: Global) -> Checker
 }
 
 // Additions of the empty lemma. One checker takes them in turn: a fault leaves no literal true, and no id behind, and the
-// hints behind a conflict are not looked at.
+// hints after a conflict are not looked at.
 static ADDITIONS: [(u64, &[i64], &str); 7] = [
     (3, &[], "id-order 3 3"),
     (4, &[2, 1], "not-unit 1"),

@@ -252,11 +252,11 @@ enum Asked {
     NoCost,
     /// A search, and the values of two variables.
     Assignment,
-    /// A literal that is given between two searches with so many units.
+    /// A literal that is given between two searches with this many units.
     Given(Lit, u64),
 }
 
-// What is asked of a solver over so many variables.
+// What is asked of a solver over this many variables.
 fn shown(alloc: Global, solver: &mut Solver, vars: u64, asked: Asked) -> Result<String, AllocError>
     requires few { solver.old.database.last ≤ 100 }
     requires vars { solver.old.vars ≡ vars }

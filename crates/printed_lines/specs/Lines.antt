@@ -78,7 +78,7 @@ names_fault option (Empty at) = numbered (worded (codes "usage empty-name") opti
 names_fault option (BadName at) = numbered (worded (codes "usage bad-name") option) at
 names_fault option (Unknown at) = numbered (worded (codes "usage unknown-name") option) at
 
--- the list of names behind this option is refused
+-- the list of names after this option is refused
 abbrev pub names_refused : Text → NameFault → Text
 names_refused option fault = line (names_fault option fault)
 
@@ -227,7 +227,7 @@ answer_lines names Refutation = []
 answer_lines names (Partial units) = []
 answer_lines names (Reached body) = body_lines names body
 
--- a word, and behind it the name of a node where there is one
+-- a word, and after it the name of a node where there is one
 abbrev pub word_if_any : Text → List Name → Option ℕ → Text
 word_if_any word names None = word
 word_if_any word names (Some v) = worded word (name_at names v)
@@ -240,7 +240,7 @@ accepted names a = accepted_kind a.answer ++ (line (word_if_any (codes "from") n
 abbrev pub verified_lines : List Name → Header → Text
 verified_lines names h = codes "verified\n" ++ (line (word_if_any (codes "from") names h.from) ++ line (list (codes "faulty") names h.faulty))
 
--- a line of its own, and the list of a set's names behind a word
+-- a line of its own, and the list of a set's names after a word
 abbrev pub with_list : Text → Text → List Name → Table → Text
 with_list head word names set = head ++ line (list word names set)
 
@@ -248,7 +248,7 @@ with_list head word names set = head ++ line (list word names set)
 abbrev pub with_pair : Text → List Name → Pair → Text
 with_pair head names p = head ++ (line (list (codes "first") names p.first) ++ line (list (codes "second") names p.second))
 
--- a word, and behind it the word of an option where it is given
+-- a word, and after it the word of an option where it is given
 abbrev pub worded_if_any : Text → Option Text → Text
 worded_if_any text None = text
 worded_if_any text (Some word) = worded text word

@@ -45,7 +45,7 @@ pub fn push_group_sets(
     Ok(())
 }
 
-/// A line of a word and how many sets of groups there are, and behind it a line for each of them.
+/// A line of a word and how many sets of groups there are, and after it a line for each of them.
 pub fn with_group_sets(
     alloc: Global,
     word: &str,

@@ -249,7 +249,7 @@ pub fn script_refused(
     line_of(script_words(alloc, word, line, number)?)
 }
 
-/// The line for a list of names that is refused, behind this option.
+/// The line for a list of names that is refused, after this option.
 pub fn names_refused(alloc: Global, option: &str, fault: NameFault) -> Result<Vec<u8>, AllocError>
     ensures { IfOk result (λ text. text.items ≡ spec_names_refused option.now fault) }
 {

@@ -1,4 +1,4 @@
-//! Words, numbers and names, one behind another.
+//! Words, numbers and names, one after another.
 ghost use Rattle.std.specs.Prelude.{◌≡◌, ◌<◌, ◌++◌, ◌∷◌, [], length, decimal, codes, option_map, All, OnOk, IfOk};
 ghost use Rattle.reach_kinds.specs.Shown.{ReachedHasPlaces};
 ghost use Rattle.certificate_file.specs.Meaning.{HasPlaces, ConclusionHasPlaces};
@@ -83,7 +83,7 @@ pub fn push_list(
     Ok(())
 }
 
-// Adds a line of a word, and behind it the name of a node where there is one.
+// Adds a line of a word, and after it the name of a node where there is one.
 fn push_word_if_any(
     text: &mut Vec<u8>,
     word: &str,
@@ -245,7 +245,7 @@ pub fn verified_lines(
     Ok(text)
 }
 
-/// A text, and behind it the lines `first` and `second` of two quorums.
+/// A text, and after it the lines `first` and `second` of two quorums.
 pub fn with_pair(
     alloc: Global,
     head: &str,
@@ -262,7 +262,7 @@ pub fn with_pair(
     Ok(text)
 }
 
-/// A text, and behind it a line of a word and the names of a set.
+/// A text, and after it a line of a word and the names of a set.
 pub fn with_list(
     alloc: Global,
     head: &str,
@@ -324,7 +324,7 @@ pub fn push_edit(
     push_available(text, system, is_available, unmet)
 }
 
-/// A line of a word and how many sets there are, and behind it a line for each of them.
+/// A line of a word and how many sets there are, and after it a line for each of them.
 pub fn with_sets(
     alloc: Global,
     word: &str,

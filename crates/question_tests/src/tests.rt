@@ -96,7 +96,7 @@ fn answered(alloc: Global, system: &System, question: Question) -> Option<String
     }
 }
 
-/// What is answered about a configuration. The system is lent, since what is proved of a function carries it from call to call.
+/// What is answered about a configuration. The system is borrowed, since what is proved of a function carries it from call to call.
 fn asked(alloc: Global, config: &str, question: Question) -> Option<String> {
     let system = read_config(alloc, config.as_bytes()).ok()?;
     answered(alloc, &system, question)

@@ -83,7 +83,7 @@ body_starts f listed.Quorum kind nodes gone is = list_starts f listed.Quorum kin
 body_starts f listed.Blocking kind nodes gone is = list_starts f listed.Blocking kind nodes gone is tt tt
 body_starts f listed.Smaller kind nodes gone is = (is, refl)
 
--- behind the counter
+-- after the counter
 pub counter_gave : (kind : ListKind) (p : ListPart) (l : ℕ) (text : List ℕ) (state : ReachState) → counter_line kind p l text ≡ Ok state → (counter_vars (size p.greatest) ≤ MOST_VARS) × (Going (AtList (counted_listing kind p)) ≡ state)
 counter_gave kind p l text state e =
     let vars : ℕ = counter_vars (size p.greatest) in
@@ -362,11 +362,11 @@ known_list f nodes gone k l text is state e = elim (cases_Bool (bytes_eq text (c
   | inr not ↦ text_known f nodes gone k l text (listed_by k.sought (words_of text)) state is (rw not at e)
 ]
 
--- what is known behind the line of the counter
+-- what is known after the line of the counter
 pub known_counter : (f : System) (nodes gone : Table) (kind : ListKind) (p : ListPart) (l : ℕ) (text : List ℕ) → IsReachPlace f nodes gone (AtCounter kind p) → (state : ReachState) → counter_line kind p l text ≡ Ok state → IsReachState f nodes gone state
 known_counter f nodes gone kind p l text is state e = counter_known f nodes gone kind l text state is.0 (subst (λ (q : ListPart). counter_line kind q l text ≡ Ok state) is.1 e)
 
--- the line `end`, behind what is shown
+-- the line `end`, after what is shown
 pub known_end : (f : System) (nodes gone : Table) (l : ℕ) (t : Bool) (r : Reached) (result : Result ReachState CertError) → IsReached f nodes gone r → result ≡ unless (BadLine l) t (Ok (Done r)) → IfOk result (IsReachState f nodes gone)
 known_end f nodes gone l true r result is e = subst (λ (x : Result ReachState CertError). IfOk x (IsReachState f nodes gone)) (sym e) is
 known_end f nodes gone l false r result is e = subst (λ (x : Result ReachState CertError). IfOk x (IsReachState f nodes gone)) (sym e) tt

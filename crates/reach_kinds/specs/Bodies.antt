@@ -141,7 +141,7 @@ rules_of listed.Quorum p = list_of listed.Quorum p.system.sets (members p.faulty
 rules_of listed.Blocking p = list_of listed.Blocking p.system.sets (members p.faulty) p.greatest
 rules_of listed.Smaller p = least_of p.system.sets (members p.faulty) p.greatest
 
--- behind the counter: its clauses are held
+-- after the counter: its clauses are held
 abbrev pub counted_listing : ListKind → ListPart → Listing
 counted_listing kind p = listing_on listed.Smaller kind p (list_checking (counter_vars (size p.greatest)) (formula_database (counter_of (size p.greatest)))) [] 0
 
@@ -188,7 +188,7 @@ numbered_if_any (Some id) (Some names) = Some (record { id = id; names = names }
 numbered_if_any (Some id) None = None
 numbered_if_any None names = None
 
--- the id and the names behind the first word
+-- the id and the names after the first word
 abbrev pub numbered_in : List Word → Option Numbered
 numbered_in [] = None
 numbered_in (w ∷ []) = None

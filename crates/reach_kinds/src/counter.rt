@@ -34,7 +34,7 @@ fn counting_checker(alloc: Global, greatest: &NodeSet) -> Result<IdleChecker, Ce
     }
 }
 
-/// The lines begin where the counter has so many variables and clauses.
+/// The lines begin where the counter has this many variables and clauses.
 fn counter_sized(
     alloc: Global,
     kind: ListKind,

@@ -13,7 +13,7 @@ use lrat_checker::IdleChecker;
 use lrat_model::Rule;
 use std::alloc::{AllocError, Global};
 
-/// A checker that holds nothing, with so many variables.
+/// A checker that holds nothing, with this many variables.
 pub(crate) fn list_checker(alloc: Global, vars: u32) -> Result<IdleChecker, AllocError>
     requires { vars < 2 ^ 31 }
     ensures { IfOk result (λ checker. checker ≡ list_checking vars nothing_held) }

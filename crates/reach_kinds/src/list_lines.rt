@@ -67,7 +67,7 @@ fn are_names(names: &mut Words<'_>) -> bool
     true
 }
 
-/// The id behind the first word, and the names behind it, where they are names, each once and in order.
+/// The id after the first word, and the names after it, where they are names, each once and in order.
 pub(crate) fn numbered_in(text: &[u8]) -> Option<(u64, Words<'_>)>
     ensures some { IfSome result (λ r. (names_in r.1 ≡ Some r.1) × (numbered_in (words_of text.now) ≡ Some (record { id = r.0; names = r.1 }))) }
     ensures none { result ≡ None → numbered_in (words_of text.now) ≡ None }
@@ -156,7 +156,7 @@ fn list_line(
     }
 }
 
-/// The line `end`, behind what is shown.
+/// The line `end`, after what is shown.
 fn end_line(line: u64, text: &[u8], reached: Reached) -> Result<ReachState, CertError>
     ensures value { result ≡ expected line text.now (codes "end") (Ok (ReachState.Done reached)) }
 {

@@ -66,7 +66,7 @@ pub enum Reached {
     /// The groups of the part, and all their minimal blocking sets, each once, in the order of the groups' numbers. A set has the
     /// numbers of its groups among these.
     OrgBlocking(Groups, GroupSets),
-    /// Nothing but work done towards what a whole body of the kind shows: so many listed sets and lemmas with a literal, each with a
+    /// Nothing but work done towards what a whole body of the kind shows: this many listed sets and lemmas with a literal, each with a
     /// clause that was new.
     Partial(ReachKind, u64),
 }

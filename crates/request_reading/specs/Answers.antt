@@ -56,7 +56,7 @@ use Rattle.request_reading.specs.Searches.{header_of, search_of, trial_of, FitsS
 abbrev pub words_of : List (String Global) → List (List ℕ)
 words_of words = map string_bytes words
 
--- the bytes of a file, which is refused with this answer where they are more than so many
+-- the bytes of a file, which is refused with this answer where they are more than this many
 abbrev pub file_within : ℕ → Answer → Option (List ℕ) → Result (List ℕ) Early
 file_within most refusal None = Err Read
 file_within most refusal (Some bytes) = if nat_le (length bytes) most then Ok bytes else Err (Refused refusal)

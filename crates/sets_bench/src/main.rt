@@ -100,7 +100,7 @@ fn make(call: Call, set: &mut NodeSet, other: &NodeSet, v: u32) -> u64
     0
 }
 
-/// Makes the call so many times.
+/// Makes the call this many times.
 fn run(call: Call, rounds: u32) -> u64 {
     let other = thirds();
     let mut set = NodeSet::new(NODES);

@@ -78,7 +78,7 @@ fn make(call: SystemCall, system: &System, scratch: &mut NodeSet) -> u64
     }
 }
 
-/// Makes the call so many times, and gives how many nodes it found in all.
+/// Makes the call this many times, and gives how many nodes it found in all.
 pub fn run_system(call: SystemCall, system: &System, rounds: u32) -> u64 {
     let mut scratch = NodeSet::new(system.len());
     let mut sum = 0u64;

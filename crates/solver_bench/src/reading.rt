@@ -30,7 +30,7 @@ fn read_header(text: &str) -> Result<u64>
     bail!("no line 'p cnf'");
 }
 
-/// The first number behind the words of the header.
+/// The first number after the words of the header.
 fn variables_of(rest: &str) -> Result<u64>
     ensures { IfOk result (λ vars. vars < 2 ^ 31) }
 {
