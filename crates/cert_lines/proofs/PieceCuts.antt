@@ -21,7 +21,7 @@ module _ (xs : List ℕ) (at end place : ℕ) (within : at + place + 1 ≤ end) 
       ∙ ap (take (end - (at + place + 1))) (drop-drop (place + 1) at xs ∙ ap (λ (n : ℕ). drop n xs) start))
 
 module _ (hay : List ℕ) where
-  -- what is before and behind the first line feed
+  -- what is before and after the first line feed
   pub feed_at : (n : ℕ) → IsFirstByte (is_byte 10) hay (Some n) → hay ≡ take n hay ++ 10 ∷ drop (n + 1) hay
   feed_at n h =
       let one : suc n ≡ n + 1 = omega arith in

@@ -13,12 +13,12 @@ position-le (b ∷ text) = elim (is_space b) as (λ t. cond (not t) (1 + positio
   | false ↦ let rest : position_or_len is_space text ≤ length text = position-le text in omega arith
 ]
 
--- what is behind a first byte, where there is one
+-- what is after a first byte, where there is one
 abbrev pub behind : List ℕ → Option (List ℕ)
 behind [] = None
 behind (b ∷ text) = Some text
 
--- the first word ends before the first space, and the others are behind that
+-- the first word ends before the first space, and the others are after that
 pub first_word : (text : List ℕ) → words_of text ≡ take (position_or_len is_space text) text ∷ words_left (behind (drop (position_or_len is_space text) text))
 first_word [] = refl
 first_word (b ∷ text) =

@@ -2,6 +2,7 @@ pub mod Lines
 pub mod Limits
 pub mod Texts
 pub mod Parts
+pub mod Taking
 pub mod Steps
 pub mod Words
 pub mod Saying

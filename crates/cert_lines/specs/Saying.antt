@@ -18,16 +18,16 @@ counts_if_any (Some vars) (Some clauses) = Some (record { vars = vars; clauses =
 counts_if_any (Some vars) None = None
 counts_if_any None clauses = None
 
--- the two numbers behind the word: there may be no variable, but there is some clause
+-- the two numbers after the word: there may be no variable, but there is some clause
 abbrev pub counts_behind : List Word → Option Counts
 counts_behind (word ∷ vars ∷ clauses ∷ []) = if bytes_eq word (codes "formula") then counts_if_any (number_in vars) (id_in clauses) else None
 counts_behind words = None
 
--- the numbers behind the word `formula`
+-- the numbers after the word `formula`
 abbrev pub counts_in : List ℕ → Option Counts
 counts_in text = counts_behind (words_of text)
 
--- the two numbers behind the word `counter`: there may be no variable, and no clause
+-- the two numbers after the word `counter`: there may be no variable, and no clause
 abbrev pub counter_behind : List Word → Option Counts
 counter_behind (word ∷ vars ∷ clauses ∷ []) = if bytes_eq word (codes "counter") then counts_if_any (number_in vars) (number_in clauses) else None
 counter_behind words = None

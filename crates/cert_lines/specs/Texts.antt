@@ -1,8 +1,7 @@
 -- The lines of a text whose last line may lack its line feed.
-use Rattle.std.specs.Prelude.{◌≡◌, ℕ, List, [], ◌∷◌, ◌++◌, Bool, true, false, Option, Some, None, Result, Ok, Err}
+use Rattle.std.specs.Prelude.{◌≡◌, ℕ, List, [], ◌∷◌, Option, Some, None, Result, Ok, Err}
 use Rattle.cert_lines.specs.Lines.{Lines, tail, line, lines_of}
 use Rattle.cert_lines.specs.Limits.{within_limits, next_line}
-use Rattle.cert_lines.specs.Parts.{with_front}
 use Rattle.cert_lines.specs.declared.faults.CertError.{CertError}
 
 -- the lines, and the bytes that no line feed follows, where there are any
@@ -23,11 +22,6 @@ pub record Text : Type 0 where
 abbrev pub next_text : ℕ → List (List ℕ) → Result (Option Text) CertError
 next_text l [] = Ok None
 next_text l (text ∷ more) = within_limits l text (Ok (Some (record { text = text; more = more })))
-
--- what a part makes of the lines that are left, where these bytes of line l came before it: it ends the line, or more of it follows
-abbrev pub IsTextPart : Bool → ℕ → List ℕ → List ℕ → Lines → Lines → Type 0
-IsTextPart true l front part old new = next_text l (texts_in (with_front front old)) ≡ Ok (Some (record { text = front ++ part; more = texts_in new }))
-IsTextPart false l front part old new = with_front front old ≡ with_front (front ++ part) new
 
 -- line l has this fault, whether it may lack its line feed or not
 pub record IsTooLong (l : ℕ) (ls : Lines) (e : CertError) : Type 0 where

@@ -5,11 +5,12 @@ ghost use Rattle.desk_io.specs.Faults.{ReadFails};
 ghost use Rattle.cert_lines.specs.Ends.{OnCert};
 ghost use Rattle.cert_lines.specs.Lines.{lines_of};
 ghost use Rattle.cert_lines.specs.Limits.{next_line};
-ghost use Rattle.cert_lines.specs.Parts.{with_front, IsPart};
-ghost use Rattle.cert_lines.specs.Texts.{texts_in, texts_of, next_text, IsTextPart, IsTooLong};
+ghost use Rattle.cert_lines.specs.Parts.{with_front};
+ghost use Rattle.cert_lines.specs.Taking.{goes_on, TookPart, TookLine};
+ghost use Rattle.cert_lines.specs.Texts.{texts_of, next_text, IsTooLong};
 
 use crate::faults::{CertError, CheckError};
-use crate::pieces::Pieces;
+use crate::pieces::{LineEnd, Pieces};
 use desk_io::{Desk, Which};
 use std::alloc::{AllocError, Global};
 use std::marker::Model;
@@ -70,8 +71,11 @@ impl Lines {
         ensures faults { ReadFails (D.faults desk.old) (D.faults desk.new) (IsErrOf result CheckError.Read) }
     {
         self.begin()?;
+        let number = self.number;
+        let first = self.take_part(desk)?;
         let mut text = Vec::new(alloc);
-        self.rest_of_line(desk, &mut text)?;
+        let end = self.rest_of_line(desk, &mut text, first)?;
+        end.is_whole(number)?;
         Ok(text)
     }
 
@@ -87,118 +91,72 @@ impl Lines {
         Ok(())
     }
 
-    /// Puts what is left of the line behind the text.
-    pub fn rest_of_line<D: Desk>(
-        &mut self,
-        desk: &mut D,
-        text: &mut Vec<u8>,
-    ) -> Result<(), CheckError>
-        requires { self.old.number ≤ MAX_LINES }
-        ensures line { OnOk result ((suffix : List ℕ) × (text.new.items ≡ text.old.items ++ suffix)
-            × (IsTrue D.tells → (front : List ℕ) → length front ≡ self.old.taken → IsPart true self.old.number front suffix (lines_of (self.old.unread ++ left_of Which.Cert (D.state desk.old))) (lines_of (self.new.unread ++ left_of Which.Cert (D.state desk.new))))) }
-        ensures number { OnOk result (self.new.number ≡ self.old.number + 1) }
-        ensures taken { OnOk result (self.new.taken ≡ 0) }
-        ensures err { IfErr result (λ e. IsTrue D.tells → OnCert e (λ fault. (fault ≡ CertError.Memory)
-            ⊎ ((front : List ℕ) → length front ≡ self.old.taken → next_line self.old.number (with_front front (lines_of (self.old.unread ++ left_of Which.Cert (D.state desk.old)))) ≡ Err fault))) }
-        ensures plain { IsErrOf result CheckError.Read → IsTrue D.tells → IsTrue (D.state desk.old).plain → ⊥ }
-        ensures rest { IsTrue D.tells → D.state desk.new ≡ with_left Which.Cert (left_of Which.Cert (D.state desk.new)) (D.state desk.old) }
-        ensures faults { ReadFails (D.faults desk.old) (D.faults desk.new) (IsErrOf result CheckError.Read) }
-    {
-        'parts: loop {
-            let ends = self.next_part(desk)?;
-            text.extend_from_slice(self.part())?;
-            if ends {
-                return Ok(());
-            }
-        }
-    }
-
-    /// Takes the next part of the line: whether it ends the line.
-    pub fn next_part<D: Desk>(&mut self, desk: &mut D) -> Result<bool, CheckError>
-        requires few { self.old.number ≤ MAX_LINES }
-        ensures part { IfOk result (λ ends. IsTrue D.tells → (front : List ℕ) → length front ≡ self.old.taken → IsPart ends self.old.number front self.new.part (lines_of (self.old.unread ++ left_of Which.Cert (D.state desk.old))) (lines_of (self.new.unread ++ left_of Which.Cert (D.state desk.new)))) }
-        ensures number { IfOk result (λ ends. self.new.number ≡ (if ends then self.old.number + 1 else self.old.number)) }
-        ensures taken { IfOk result (λ ends. self.new.taken ≡ (if ends then 0 else self.old.taken + length self.new.part)) }
-        ensures short { OnOk result (self.old.taken + length self.new.part ≤ MAX_LINE_BYTES) }
-        ensures grows { IfOk result (λ ends. ends ≡ false → 0 < length self.new.part) }
-        ensures err { IfErr result (λ e. IsTrue D.tells → OnCert e (λ fault. (front : List ℕ) → length front ≡ self.old.taken → next_line self.old.number (with_front front (lines_of (self.old.unread ++ left_of Which.Cert (D.state desk.old)))) ≡ Err fault)) }
-        ensures plain { IsErrOf result CheckError.Read → IsTrue D.tells → IsTrue (D.state desk.old).plain → ⊥ }
-        ensures rest { IsTrue D.tells → D.state desk.new ≡ with_left Which.Cert (left_of Which.Cert (D.state desk.new)) (D.state desk.old) }
-        ensures faults { ReadFails (D.faults desk.old) (D.faults desk.new) (IsErrOf result CheckError.Read) }
-    {
-        if !self.bytes.fill(desk)? {
-            return Err(CheckError::Cert(CertError::Truncated(self.number)));
-        }
-        Ok(self.cut_part()?)
-    }
-
-    /// Takes the first part of the next line of a text whose last line may lack its line feed: whether it ends the line, or None
-    /// where no line is left.
-    pub fn first_part<D: Desk>(&mut self, desk: &mut D) -> Result<Option<bool>, CheckError>
-        requires { self.old.taken ≡ 0 }
-        ensures none { result ≡ Ok None → IsTrue D.tells → next_text self.old.number (texts_of (self.old.unread ++ left_of Which.Cert (D.state desk.old))) ≡ Ok None }
-        ensures part { IfOk result (λ o. IfSome o (λ ends. IsTrue D.tells → IsTextPart ends self.old.number [] self.new.part (lines_of (self.old.unread ++ left_of Which.Cert (D.state desk.old))) (lines_of (self.new.unread ++ left_of Which.Cert (D.state desk.new))))) }
-        ensures few { IfOk result (λ o. IfSome o (λ _. self.old.number ≤ MAX_LINES)) }
-        ensures number { IfOk result (λ o. IfSome o (λ ends. self.new.number ≡ (if ends then self.old.number + 1 else self.old.number))) }
-        ensures taken { IfOk result (λ o. IfSome o (λ ends. self.new.taken ≡ (if ends then 0 else length self.new.part))) }
-        ensures grows { IfOk result (λ o. IfSome o (λ ends. ends ≡ false → 0 < length self.new.part)) }
+    /// Whether a text whose last line may lack its line feed has a next line, and one that there may be.
+    pub fn begin_text<D: Desk>(&mut self, desk: &mut D) -> Result<bool, CheckError>
+        ensures none { IfOk result (λ more. more ≡ false → IsTrue D.tells → next_text self.old.number (texts_of (self.old.unread ++ left_of Which.Cert (D.state desk.old))) ≡ Ok None) }
+        ensures some { IfOk result (λ more. more ≡ true → (self.old.number ≤ MAX_LINES) × (0 < length self.new.unread)) }
+        ensures all { OnOk result (IsTrue D.tells → self.old.unread ++ left_of Which.Cert (D.state desk.old) ≡ self.new.unread ++ left_of Which.Cert (D.state desk.new)) }
+        ensures number { self.new.number ≡ self.old.number }
+        ensures taken { self.new.taken ≡ self.old.taken }
         ensures err { IfErr result (λ e. IsTrue D.tells → OnCert e (λ fault. next_text self.old.number (texts_of (self.old.unread ++ left_of Which.Cert (D.state desk.old))) ≡ Err fault)) }
         ensures plain { IsErrOf result CheckError.Read → IsTrue D.tells → IsTrue (D.state desk.old).plain → ⊥ }
         ensures rest { IsTrue D.tells → D.state desk.new ≡ with_left Which.Cert (left_of Which.Cert (D.state desk.new)) (D.state desk.old) }
         ensures faults { ReadFails (D.faults desk.old) (D.faults desk.new) (IsErrOf result CheckError.Read) }
     {
         if !self.bytes.fill(desk)? {
-            return Ok(None);
+            return Ok(false);
         }
         self.begin()?;
-        Ok(Some(self.cut_part()?))
+        Ok(true)
     }
 
-    /// Takes one more part of such a line: whether it ends the line. Where nothing is left, an empty part does.
-    pub fn more_part<D: Desk>(&mut self, desk: &mut D) -> Result<bool, CheckError>
-        requires few { self.old.number ≤ MAX_LINES }
-        requires begun { 0 < self.old.taken }
-        ensures part { IfOk result (λ ends. IsTrue D.tells → (front : List ℕ) → length front ≡ self.old.taken → IsTextPart ends self.old.number front self.new.part (lines_of (self.old.unread ++ left_of Which.Cert (D.state desk.old))) (lines_of (self.new.unread ++ left_of Which.Cert (D.state desk.new)))) }
-        ensures number { IfOk result (λ ends. self.new.number ≡ (if ends then self.old.number + 1 else self.old.number)) }
-        ensures taken { IfOk result (λ ends. self.new.taken ≡ (if ends then 0 else self.old.taken + length self.new.part)) }
-        ensures short { OnOk result (self.old.taken + length self.new.part ≤ MAX_LINE_BYTES) }
-        ensures grows { IfOk result (λ ends. ends ≡ false → 0 < length self.new.part) }
-        ensures err { IfErr result (λ e. IsTrue D.tells → OnCert e (λ fault. (front : List ℕ) → length front ≡ self.old.taken → next_text self.old.number (texts_in (with_front front (lines_of (self.old.unread ++ left_of Which.Cert (D.state desk.old))))) ≡ Err fault)) }
+    /// Takes the next part of the line: how it ends. If the input ends before a line feed, that ends the line too.
+    pub fn take_part<D: Desk>(&mut self, desk: &mut D) -> Result<LineEnd, CheckError>
+        requires { self.old.number ≤ MAX_LINES }
+        ensures part { IfOk result (λ end. TookPart D.tells self.old (left_of Which.Cert (D.state desk.old)) end self.new (left_of Which.Cert (D.state desk.new))) }
+        ensures err { IfErr result (λ e. IsTrue D.tells → OnCert e (λ fault. (front : List ℕ) → length front ≡ self.old.taken → IsTooLong self.old.number (with_front front (lines_of (self.old.unread ++ left_of Which.Cert (D.state desk.old)))) fault)) }
         ensures plain { IsErrOf result CheckError.Read → IsTrue D.tells → IsTrue (D.state desk.old).plain → ⊥ }
         ensures rest { IsTrue D.tells → D.state desk.new ≡ with_left Which.Cert (left_of Which.Cert (D.state desk.new)) (D.state desk.old) }
         ensures faults { ReadFails (D.faults desk.old) (D.faults desk.new) (IsErrOf result CheckError.Read) }
     {
-        if !self.bytes.fill(desk)? {
-            self.number += 1;
-            self.taken = 0;
-            return Ok(true);
-        }
-        Ok(self.cut_part()?)
-    }
-
-    /// Cuts the next part of the line off what is unread: whether it ends the line.
-    fn cut_part(&mut self) -> Result<bool, CertError>
-        requires few { self.old.number ≤ MAX_LINES }
-        requires some { 0 < length self.old.unread }
-        ensures part { IfOk result (λ ends. (left front : List ℕ) → length front ≡ self.old.taken → IsPart ends self.old.number front self.new.part (lines_of (self.old.unread ++ left)) (lines_of (self.new.unread ++ left))) }
-        ensures number { IfOk result (λ ends. self.new.number ≡ (if ends then self.old.number + 1 else self.old.number)) }
-        ensures taken { IfOk result (λ ends. self.new.taken ≡ (if ends then 0 else self.old.taken + length self.new.part)) }
-        ensures short { OnOk result (self.old.taken + length self.new.part ≤ MAX_LINE_BYTES) }
-        ensures grows { IfOk result (λ ends. ends ≡ false → 0 < length self.new.part) }
-        ensures long { IfErr result (λ e. (left front : List ℕ) → length front ≡ self.old.taken → IsTooLong self.old.number (with_front front (lines_of (self.old.unread ++ left))) e) }
-    {
-        let ends = self.bytes.cut();
+        let end = self.bytes.take(desk)?;
         let taken = self.taken + self.bytes.part().len() as u64;
         if taken > MAX_LINE_BYTES {
-            return Err(CertError::LineTooLong(self.number));
+            return Err(CheckError::Cert(CertError::LineTooLong(self.number)));
         }
-        if ends {
+        if end.goes_on() {
+            self.taken = taken;
+        } else {
             self.number += 1;
             self.taken = 0;
-        } else {
-            self.taken = taken;
         }
-        Ok(ends)
+        Ok(end)
+    }
+
+    /// Puts the part of the line that was taken last, and those that follow it, after the text: how the line ends.
+    pub fn rest_of_line<D: Desk>(
+        &mut self,
+        desk: &mut D,
+        text: &mut Vec<u8>,
+        first: LineEnd,
+    ) -> Result<LineEnd, CheckError>
+        requires { goes_on first ≡ true → self.old.number ≤ MAX_LINES }
+        ensures line { IfOk result (λ end. (suffix : List ℕ) × (text.new.items ≡ text.old.items ++ (self.old.part ++ suffix))
+            × ((l : ℕ) (before bytes : List ℕ) → TookLine D.tells l before bytes first self.old (left_of Which.Cert (D.state desk.old)) → TookLine D.tells l before (bytes ++ suffix) end self.new (left_of Which.Cert (D.state desk.new)))) }
+        ensures ended { IfOk result (λ end. goes_on end ≡ false) }
+        ensures err { IfErr result (λ e. IsTrue D.tells → OnCert e (λ fault. (fault ≡ CertError.Memory)
+            ⊎ ((l : ℕ) (before bytes : List ℕ) → TookLine D.tells l before bytes first self.old (left_of Which.Cert (D.state desk.old)) → IsTooLong l (lines_of before) fault))) }
+        ensures plain { IsErrOf result CheckError.Read → IsTrue D.tells → IsTrue (D.state desk.old).plain → ⊥ }
+        ensures rest { IsTrue D.tells → D.state desk.new ≡ with_left Which.Cert (left_of Which.Cert (D.state desk.new)) (D.state desk.old) }
+        ensures faults { ReadFails (D.faults desk.old) (D.faults desk.new) (IsErrOf result CheckError.Read) }
+    {
+        text.extend_from_slice(self.part())?;
+        let mut end = first;
+        'parts: while end.goes_on() {
+            end = self.take_part(desk)?;
+            text.extend_from_slice(self.part())?;
+        }
+        Ok(end)
     }
 
     /// The part that was taken last.
@@ -215,7 +173,7 @@ impl Lines {
         self.number
     }
 
-    /// Ends the reading after the last line: `Trailing` where something follows it.
+    /// Ends the reading after the last line: `Trailing` if something follows it.
     pub fn close<D: Desk>(mut self, desk: &mut D) -> Result<(), CheckError>
         ensures ok { OnOk result (IsTrue D.tells → self.unread ++ left_of Which.Cert (D.state desk.old) ≡ []) }
         ensures err { IfErr result (λ e. IsTrue D.tells → OnCert e (λ fault. (fault ≡ CertError.Trailing)

@@ -1,10 +1,12 @@
 //! The bytes of the certificate, taken from a desk in pieces, and cut at the line feeds.
-ghost use Rattle.std.specs.Prelude.{◌≡◌, ◌<◌, ◌≤◌, ◌∷◌, ◌++◌, [], drop, length, true, false, IsTrue, IfOk, IfErr, IsErr, OnOk, OnErr};
+ghost use Rattle.std.specs.Prelude.{◌≡◌, ◌≢◌, ◌<◌, ◌≤◌, ◌∷◌, ◌++◌, [], drop, length, true, false, IsTrue, IfOk, IfErr, IsErr, OnOk, OnErr};
 ghost use Rattle.desk_io.specs.State.{left_of, with_left};
 ghost use Rattle.desk_io.specs.Faults.{ReadFails};
+ghost use Rattle.cert_lines.specs.Lines.{lines_of};
 ghost use Rattle.cert_lines.specs.Parts.{IsFeedless};
+ghost use Rattle.cert_lines.specs.Taking.{goes_on, IsBegun};
 
-use crate::faults::CheckError;
+use crate::faults::{CertError, CheckError};
 use desk_io::{Desk, Which};
 use memchr::memchr;
 use std::alloc::{AllocError, Global};
@@ -13,7 +15,41 @@ use std::marker::Model;
 /// Bytes that are asked of the desk at once.
 const PIECE: usize = 65_536;
 
-/// The part of a line that was cut off last, and what is not taken yet of the last piece behind it. Both lie in one buffer.
+/// How a part of a line ends.
+#[derive(Clone, Copy)]
+pub enum LineEnd {
+    /// The line goes on.
+    More,
+    /// With the line feed of the line.
+    Feed,
+    /// With the input, before a line feed.
+    Input,
+}
+
+impl LineEnd {
+    /// Whether the line goes on.
+    pub fn goes_on(self) -> bool
+        ensures { result ≡ goes_on self }
+    {
+        match self {
+            LineEnd::More => true,
+            LineEnd::Feed | LineEnd::Input => false,
+        }
+    }
+
+    /// That the line doesn't end with the input, as no line of a certificate may.
+    pub fn is_whole(self, line: u64) -> Result<(), CertError>
+        ensures ok { OnOk result (self ≢ LineEnd.Input) }
+        ensures err { IfErr result (λ e. (self ≡ LineEnd.Input) × (e ≡ CertError.Truncated line)) }
+    {
+        match self {
+            LineEnd::More | LineEnd::Feed => Ok(()),
+            LineEnd::Input => Err(CertError::Truncated(line)),
+        }
+    }
+}
+
+/// The part of a line that was cut off last, and what is not taken yet of the last piece after it. Both lie in one buffer.
 #[derive(Drop)]
 pub struct Pieces {
     piece: Vec<u8>,
@@ -68,7 +104,7 @@ impl Pieces {
         Ok(())
     }
 
-    /// Takes the next piece, where nothing is unread: whether something is unread then.
+    /// Takes the next piece, if nothing is unread: whether something is unread then.
     pub fn fill<D: Desk>(&mut self, desk: &mut D) -> Result<bool, CheckError>
         ensures all { OnOk result (IsTrue D.tells → self.old.unread ++ left_of Which.Cert (D.state desk.old) ≡ self.new.unread ++ left_of Which.Cert (D.state desk.new)) }
         ensures some { IfOk result (λ more. more ≡ true → 0 < length self.new.unread) }
@@ -109,8 +145,26 @@ impl Pieces {
         &self.piece[self.start..self.stop]
     }
 
+    /// Takes the next part of a line: how it ends. If nothing is left, it is empty.
+    pub fn take<D: Desk>(&mut self, desk: &mut D) -> Result<LineEnd, CheckError>
+        ensures lines { IfOk result (λ end. IsTrue D.tells → IsBegun end self.new.part (lines_of (self.old.unread ++ left_of Which.Cert (D.state desk.old))) (lines_of (self.new.unread ++ left_of Which.Cert (D.state desk.new)))) }
+        ensures grows { IfOk result (λ end. goes_on end ≡ true → 0 < length self.new.part) }
+        ensures err { IfErr result (λ e. e ≡ CheckError.Read) }
+        ensures plain { OnErr result (IsTrue D.tells → IsTrue (D.state desk.old).plain → ⊥) }
+        ensures rest { IsTrue D.tells → D.state desk.new ≡ with_left Which.Cert (left_of Which.Cert (D.state desk.new)) (D.state desk.old) }
+        ensures faults { ReadFails (D.faults desk.old) (D.faults desk.new) (IsErr result) }
+    {
+        if !self.fill(desk)? {
+            return Ok(LineEnd::Input);
+        }
+        if self.cut() {
+            return Ok(LineEnd::Feed);
+        }
+        Ok(LineEnd::More)
+    }
+
     /// Cuts off what is unread up to the next line feed, which is taken too, or all of it: whether there was a line feed.
-    pub fn cut(&mut self) -> bool
+    fn cut(&mut self) -> bool
         ensures feed { result ≡ true → self.old.unread ≡ self.new.part ++ 10 ∷ self.new.unread }
         ensures all { result ≡ false → (self.new.part ≡ self.old.unread) × (self.new.unread ≡ []) }
         ensures feedless { IsFeedless self.new.part }

@@ -2,19 +2,19 @@
 ghost use Rattle.std.specs.Prelude.{◌≡◌, ◌≢◌, ℕ, Bool, List, [], ◌+◌, ◌++◌, ◌<◌, ◌≤◌, ◌⊎◌, ◌||◌, true, false, Some, None, length, IsTrue, IfSome, IfOk, IfErr, IsErrOf, OnOk, Ok, Err, if◌then◌else◌};
 ghost use Rattle.desk_io.specs.State.{left_of, with_left};
 ghost use Rattle.desk_io.specs.Faults.{ReadFails};
-ghost use Rattle.lrat_text.specs.Words.{words_of};
 ghost use Rattle.lrat_text.specs.Lines.{step_in};
 ghost use Rattle.lrat_stream.specs.Outline.{outline_in};
 ghost use Rattle.lrat_stream.specs.Ahead.{ahead, Fits};
-ghost use Rattle.lrat_stream.specs.Solid.{IsSolid};
 ghost use Rattle.cert_lines.specs.Ends.{OnCert};
 ghost use Rattle.cert_lines.specs.Lines.{lines_of};
-ghost use Rattle.cert_lines.specs.Parts.{with_front};
-ghost use Rattle.cert_lines.specs.Texts.{texts_in, texts_of, next_text, IsTextPart};
 ghost use Rattle.cert_lines.specs.Steps.{is_comment, is_wordless, is_passed_over};
+ghost use Rattle.cert_lines.specs.Taking.{goes_on, TookLine};
+ghost use Rattle.cert_lines.specs.Texts.{texts_of, next_text, IsTooLong};
 
 use crate::faults::{CertError, CheckError};
-use crate::lines::{Lines, MAX_LINE_BYTES, MAX_LINES};
+use crate::lines::{Lines, MAX_LINES};
+use crate::pieces::LineEnd;
+use crate::steps::read_step;
 use desk_io::{Desk, Which};
 use lrat_checker::Checker;
 use lrat_stream::StepReader;
@@ -47,7 +47,7 @@ fn is_wordless(text: &[u8]) -> bool
     text.iter().all(|byte| *byte == b' ' || *byte == b'\t')
 }
 
-/// Whether a part of a line is passed over, where the line is a comment or not.
+/// Whether a part of a line is passed over, given whether the line is a comment.
 fn is_passed(is_comment: bool, part: &[u8]) -> bool
     ensures { result ≡ (is_comment || is_wordless part.now) }
 {
@@ -89,162 +89,37 @@ pub fn proof_line<D: Desk>(
     ensures rest { IsTrue D.tells → D.state desk.new ≡ with_left Which.Cert (left_of Which.Cert (D.state desk.new)) (D.state desk.old) }
     ensures faults { ReadFails (D.faults desk.old) (D.faults desk.new) (IsErrOf result CheckError.Read) }
 {
-    match begin_line(lines, desk)? {
-        Begun::End => Ok(ProofLine::End),
-        Begun::Passed => Ok(ProofLine::Passed),
-        Begun::Word(ends) => {
-            read_line(lines, desk, checker, reader, ends)?;
-            Ok(ProofLine::Step)
-        }
+    if !lines.begin_text(desk)? {
+        return Ok(ProofLine::End);
     }
-}
-
-/// How the next line begins.
-enum Begun {
-    /// There is none.
-    End,
-    /// It was passed over.
-    Passed,
-    /// Its first part with a word was taken: whether that ends it.
-    Word(bool),
-}
-
-/// Takes the next line up to the first part with a word, or to its end where it is passed over.
-fn begin_line<D: Desk>(lines: &mut Lines, desk: &mut D) -> Result<Begun, CheckError>
-    requires { lines.old.taken ≡ 0 }
-    ensures end { result ≡ Ok Begun.End → IsTrue D.tells → next_text lines.old.number (texts_of (lines.old.unread ++ left_of Which.Cert (D.state desk.old))) ≡ Ok None }
-    ensures passed { result ≡ Ok Begun.Passed → (text : List ℕ) × (is_passed_over text ≡ true)
-        × (IsTrue D.tells → IsTextPart true lines.old.number [] text (lines_of (lines.old.unread ++ left_of Which.Cert (D.state desk.old))) (lines_of (lines.new.unread ++ left_of Which.Cert (D.state desk.new)))) }
-    ensures word { (ends : Bool) → result ≡ Ok (Begun.Word ends) → (blanks : List ℕ) × (is_wordless blanks ≡ true)
-        × ((more : List ℕ) → is_passed_over ((blanks ++ lines.new.part) ++ more) ≡ false)
-        × (lines.new.taken ≡ (if ends then 0 else length (blanks ++ lines.new.part)))
-        × (IsTrue D.tells → IsTextPart ends lines.old.number [] (blanks ++ lines.new.part) (lines_of (lines.old.unread ++ left_of Which.Cert (D.state desk.old))) (lines_of (lines.new.unread ++ left_of Which.Cert (D.state desk.new)))) }
-    ensures begun { (ends : Bool) → result ≡ Ok (Begun.Word ends) → ends ≡ false → 0 < length lines.new.part }
-    ensures few { IfOk result (λ b. b ≢ Begun.End → lines.old.number ≤ MAX_LINES) }
-    ensures number { result ≡ Ok Begun.Passed → lines.new.number ≡ lines.old.number + 1 }
-    ensures place { (ends : Bool) → result ≡ Ok (Begun.Word ends) → lines.new.number ≡ (if ends then lines.old.number + 1 else lines.old.number) }
-    ensures taken { result ≡ Ok Begun.Passed → lines.new.taken ≡ 0 }
-    ensures err { IfErr result (λ e. IsTrue D.tells → OnCert e (λ fault. next_text lines.old.number (texts_of (lines.old.unread ++ left_of Which.Cert (D.state desk.old))) ≡ Err fault)) }
-    ensures plain { IsErrOf result CheckError.Read → IsTrue D.tells → IsTrue (D.state desk.old).plain → ⊥ }
-    ensures rest { IsTrue D.tells → D.state desk.new ≡ with_left Which.Cert (left_of Which.Cert (D.state desk.new)) (D.state desk.old) }
-    ensures faults { ReadFails (D.faults desk.old) (D.faults desk.new) (IsErrOf result CheckError.Read) }
-{
-    let Some(ends) = lines.first_part(desk)? else {
-        return Ok(Begun::End);
+    let Some(first) = pass_over(lines, desk)? else {
+        return Ok(ProofLine::Passed);
     };
+    read_step(lines, desk, checker, reader, first)?;
+    Ok(ProofLine::Step)
+}
+
+/// Takes the parts of the next line, up to the first with a word: how that ends, or None if the line is passed over. Of a
+/// comment all are taken.
+fn pass_over<D: Desk>(lines: &mut Lines, desk: &mut D) -> Result<Option<LineEnd>, CheckError>
+    requires few { lines.old.number ≤ MAX_LINES }
+    requires fresh { lines.old.taken ≡ 0 }
+    ensures passed { result ≡ Ok None → (text : List ℕ) × (end : LineEnd) × (is_passed_over text ≡ true) × (goes_on end ≡ false)
+        × TookLine D.tells lines.old.number (lines.old.unread ++ left_of Which.Cert (D.state desk.old)) text end lines.new (left_of Which.Cert (D.state desk.new)) }
+    ensures word { IfOk result (λ o. IfSome o (λ end. (blanks : List ℕ) × (is_wordless blanks ≡ true) × ((more : List ℕ) → is_passed_over ((blanks ++ lines.new.part) ++ more) ≡ false)
+        × TookLine D.tells lines.old.number (lines.old.unread ++ left_of Which.Cert (D.state desk.old)) (blanks ++ lines.new.part) end lines.new (left_of Which.Cert (D.state desk.new)))) }
+    ensures err { IfErr result (λ e. IsTrue D.tells → OnCert e (λ fault. IsTooLong lines.old.number (lines_of (lines.old.unread ++ left_of Which.Cert (D.state desk.old))) fault)) }
+    ensures plain { IsErrOf result CheckError.Read → IsTrue D.tells → IsTrue (D.state desk.old).plain → ⊥ }
+    ensures rest { IsTrue D.tells → D.state desk.new ≡ with_left Which.Cert (left_of Which.Cert (D.state desk.new)) (D.state desk.old) }
+    ensures faults { ReadFails (D.faults desk.old) (D.faults desk.new) (IsErrOf result CheckError.Read) }
+{
+    let mut end = lines.take_part(desk)?;
     let is_comment = is_comment(lines.part());
-    if !is_passed(is_comment, lines.part()) {
-        return Ok(Begun::Word(ends));
-    }
-    if ends {
-        return Ok(Begun::Passed);
-    }
-    pass_over(lines, desk, is_comment)
-}
-
-/// Takes the parts of a line behind the first, up to the first with a word. Of a comment all are passed over.
-fn pass_over<D: Desk>(
-    lines: &mut Lines,
-    desk: &mut D,
-    is_comment: bool,
-) -> Result<Begun, CheckError>
-    requires few { lines.old.number ≤ MAX_LINES }
-    requires begun { 0 < lines.old.taken }
-    ensures some { result ≡ Ok Begun.End → ⊥ }
-    ensures passed { result ≡ Ok Begun.Passed → (suffix : List ℕ) × (is_comment ≡ false → is_wordless suffix ≡ true)
-        × (IsTrue D.tells → (front : List ℕ) → length front ≡ lines.old.taken → IsTextPart true lines.old.number front suffix (lines_of (lines.old.unread ++ left_of Which.Cert (D.state desk.old))) (lines_of (lines.new.unread ++ left_of Which.Cert (D.state desk.new)))) }
-    ensures word { (ends : Bool) → result ≡ Ok (Begun.Word ends) → (blanks : List ℕ) × (is_comment ≡ false) × (is_wordless blanks ≡ true) × (is_wordless lines.new.part ≡ false)
-        × (lines.new.taken ≡ (if ends then 0 else lines.old.taken + length (blanks ++ lines.new.part)))
-        × (IsTrue D.tells → (front : List ℕ) → length front ≡ lines.old.taken → IsTextPart ends lines.old.number front (blanks ++ lines.new.part) (lines_of (lines.old.unread ++ left_of Which.Cert (D.state desk.old))) (lines_of (lines.new.unread ++ left_of Which.Cert (D.state desk.new)))) }
-    ensures begun { (ends : Bool) → result ≡ Ok (Begun.Word ends) → ends ≡ false → 0 < length lines.new.part }
-    ensures number { result ≡ Ok Begun.Passed → lines.new.number ≡ lines.old.number + 1 }
-    ensures place { (ends : Bool) → result ≡ Ok (Begun.Word ends) → lines.new.number ≡ (if ends then lines.old.number + 1 else lines.old.number) }
-    ensures taken { result ≡ Ok Begun.Passed → lines.new.taken ≡ 0 }
-    ensures err { IfErr result (λ e. IsTrue D.tells → OnCert e (λ fault. (front : List ℕ) → length front ≡ lines.old.taken → next_text lines.old.number (texts_in (with_front front (lines_of (lines.old.unread ++ left_of Which.Cert (D.state desk.old))))) ≡ Err fault)) }
-    ensures plain { IsErrOf result CheckError.Read → IsTrue D.tells → IsTrue (D.state desk.old).plain → ⊥ }
-    ensures rest { IsTrue D.tells → D.state desk.new ≡ with_left Which.Cert (left_of Which.Cert (D.state desk.new)) (D.state desk.old) }
-    ensures faults { ReadFails (D.faults desk.old) (D.faults desk.new) (IsErrOf result CheckError.Read) }
-{
-    'parts: loop {
-        let ends = lines.more_part(desk)?;
-        if !is_passed(is_comment, lines.part()) {
-            return Ok(Begun::Word(ends));
+    'parts: while is_passed(is_comment, lines.part()) {
+        if !end.goes_on() {
+            return Ok(None);
         }
-        if ends {
-            return Ok(Begun::Passed);
-        }
+        end = lines.take_part(desk)?;
     }
-}
-
-/// Reads the step of the line whose part was taken last, with the parts behind that where it does not end the line.
-fn read_line<D: Desk>(
-    lines: &mut Lines,
-    desk: &mut D,
-    checker: &mut Checker,
-    reader: &mut StepReader,
-    ends: bool,
-) -> Result<(), CheckError>
-    requires closed { checker.old.open_addition ≡ None }
-    requires done { ends ≡ true → lines.old.taken ≡ 0 }
-    requires few { ends ≡ false → lines.old.number ≤ MAX_LINES }
-    requires begun { ends ≡ false → 0 < lines.old.taken }
-    ensures line { OnOk result ((suffix : List ℕ)
-        × (IsTrue D.tells → (n : ℕ) (came before : List ℕ) → (ends ≡ false → (n ≡ lines.old.number) × (length came ≡ lines.old.taken)) → IsTextPart ends n [] came (lines_of before) (lines_of (lines.old.unread ++ left_of Which.Cert (D.state desk.old)))
-        → IsTextPart true n [] (came ++ suffix) (lines_of before) (lines_of (lines.new.unread ++ left_of Which.Cert (D.state desk.new))))
-        × (outline_in checker.old.rule checker.old.vars checker.old.database (step_in (lines.old.part ++ suffix)) ≡ ahead checker.old.rule checker.old.vars checker.old.database reader.new.words checker.new.open_addition [])) }
-    ensures fits { OnOk result (Fits reader.new.words checker.new.open_addition) }
-    ensures database { checker.new.database ≡ checker.old.database }
-    ensures rule { checker.new.rule ≡ checker.old.rule }
-    ensures vars { checker.new.vars ≡ checker.old.vars }
-    ensures number { OnOk result (lines.new.number ≡ (if ends then lines.old.number else lines.old.number + 1)) }
-    ensures taken { OnOk result (lines.new.taken ≡ 0) }
-    ensures err { IfErr result (λ e. IsTrue D.tells → OnCert e (λ fault. (fault ≡ CertError.Memory)
-        ⊎ ((ends ≡ false) × ((front : List ℕ) → length front ≡ lines.old.taken → next_text lines.old.number (texts_in (with_front front (lines_of (lines.old.unread ++ left_of Which.Cert (D.state desk.old))))) ≡ Err fault)))) }
-    ensures plain { IsErrOf result CheckError.Read → IsTrue D.tells → IsTrue (D.state desk.old).plain → ⊥ }
-    ensures rest { IsTrue D.tells → D.state desk.new ≡ with_left Which.Cert (left_of Which.Cert (D.state desk.new)) (D.state desk.old) }
-    ensures faults { ReadFails (D.faults desk.old) (D.faults desk.new) (IsErrOf result CheckError.Read) }
-{
-    reader.restart();
-    if ends {
-        reader.last(checker, lines.part())?;
-    } else {
-        reader.part(checker, lines.part())?;
-        rest_of_text(lines, desk, checker, reader)?;
-    }
-    Ok(())
-}
-
-/// Reads the parts of a step's line behind one that was read.
-fn rest_of_text<D: Desk>(
-    lines: &mut Lines,
-    desk: &mut D,
-    checker: &mut Checker,
-    reader: &mut StepReader,
-) -> Result<(), CheckError>
-    requires few { lines.old.number ≤ MAX_LINES }
-    requires begun { 0 < lines.old.taken }
-    requires fits { Fits reader.old.words checker.old.open_addition }
-    requires solid { IsSolid reader.old.begun.items }
-    ensures line { OnOk result ((suffix : List ℕ)
-        × (IsTrue D.tells → (front : List ℕ) → length front ≡ lines.old.taken → IsTextPart true lines.old.number front suffix (lines_of (lines.old.unread ++ left_of Which.Cert (D.state desk.old))) (lines_of (lines.new.unread ++ left_of Which.Cert (D.state desk.new))))
-        × (ahead checker.old.rule checker.old.vars checker.old.database reader.old.words checker.old.open_addition (words_of (reader.old.begun.items ++ suffix)) ≡ ahead checker.old.rule checker.old.vars checker.old.database reader.new.words checker.new.open_addition [])) }
-    ensures fits { OnOk result (Fits reader.new.words checker.new.open_addition) }
-    ensures database { checker.new.database ≡ checker.old.database }
-    ensures rule { checker.new.rule ≡ checker.old.rule }
-    ensures vars { checker.new.vars ≡ checker.old.vars }
-    ensures number { OnOk result (lines.new.number ≡ lines.old.number + 1) }
-    ensures taken { OnOk result (lines.new.taken ≡ 0) }
-    ensures err { IfErr result (λ e. IsTrue D.tells → OnCert e (λ fault. (fault ≡ CertError.Memory)
-        ⊎ ((front : List ℕ) → length front ≡ lines.old.taken → next_text lines.old.number (texts_in (with_front front (lines_of (lines.old.unread ++ left_of Which.Cert (D.state desk.old))))) ≡ Err fault))) }
-    ensures plain { IsErrOf result CheckError.Read → IsTrue D.tells → IsTrue (D.state desk.old).plain → ⊥ }
-    ensures rest { IsTrue D.tells → D.state desk.new ≡ with_left Which.Cert (left_of Which.Cert (D.state desk.new)) (D.state desk.old) }
-    ensures faults { ReadFails (D.faults desk.old) (D.faults desk.new) (IsErrOf result CheckError.Read) }
-{
-    'parts: loop {
-        if lines.more_part(desk)? {
-            reader.last(checker, lines.part())?;
-            return Ok(());
-        }
-        reader.part(checker, lines.part())?;
-    }
+    Ok(Some(end))
 }

@@ -19,7 +19,7 @@ pub struct Counts {
     pub clauses: u64,
 }
 
-/// The word behind this one, where there is one and nothing else.
+/// The word after this one, if there is one and nothing else.
 fn digits_behind<'a>(name: &str, text: &'a [u8]) -> Option<&'a [u8]>
     ensures some { IfSome result (λ digits. digest_behind name.now (words_of text.now) ≡ digest_of digits.now) }
     ensures none { result ≡ None → digest_behind name.now (words_of text.now) ≡ None }
@@ -31,7 +31,7 @@ fn digits_behind<'a>(name: &str, text: &'a [u8]) -> Option<&'a [u8]>
     }
 }
 
-/// The word behind the word `config`, where there is one and nothing else.
+/// The word after the word `config`, if there is one and nothing else.
 pub fn digits_in(text: &[u8]) -> Option<&[u8]>
     ensures some { IfSome result (λ digits. digest_in text.now ≡ digest_of digits.now) }
     ensures none { result ≡ None → digest_in text.now ≡ None }
@@ -39,7 +39,7 @@ pub fn digits_in(text: &[u8]) -> Option<&[u8]>
     digits_behind("config", text)
 }
 
-/// The word behind the word `orgs`, where there is one and nothing else.
+/// The word after the word `orgs`, if there is one and nothing else.
 pub fn orgs_digits_in(text: &[u8]) -> Option<&[u8]>
     ensures some { IfSome result (λ digits. orgs_digest_in text.now ≡ digest_of digits.now) }
     ensures none { result ≡ None → orgs_digest_in text.now ≡ None }
@@ -57,7 +57,7 @@ fn number(word: &[u8]) -> Option<u64>
     read_id(word)
 }
 
-/// The numbers behind the word `formula`, where there are two and nothing else: each up to 2^63 - 1, and some clause.
+/// The numbers after the word `formula`, if there are two and nothing else: each up to 2^63 - 1, and some clause.
 pub fn counts_in(text: &[u8]) -> Option<Counts>
     ensures { result ≡ counts_in text.now }
 {
@@ -73,7 +73,7 @@ pub fn counts_in(text: &[u8]) -> Option<Counts>
     }
 }
 
-/// The numbers behind the word `counter`, where there are two and nothing else: each from 0 to 2^63 - 1.
+/// The numbers after the word `counter`, if there are two and nothing else: each from 0 to 2^63 - 1.
 pub fn counter_in(text: &[u8]) -> Option<Counts>
     ensures { result ≡ counter_in text.now }
 {

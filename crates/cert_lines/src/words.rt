@@ -63,7 +63,7 @@ fn word_len(text: &[u8]) -> usize
     text.len()
 }
 
-/// The first word, and what follows the space behind it, where there is one.
+/// The first word, and what follows the space after it, if there is one.
 fn cut_word(text: &[u8]) -> (&[u8], Option<&[u8]>)
     ensures { words_of text.now ≡ result.0.now ∷ words_left (option_copied result.1) }
 {

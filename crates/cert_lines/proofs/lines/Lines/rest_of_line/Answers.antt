@@ -1,66 +1,46 @@
-use Rattle.std.proofs.Common.{rules, ◌≡◌, ◌+◌, ◌++◌, ℕ, List, length, true, false, Bool, if◌then◌else◌, ap, ◌∙◌, arith, append_assoc, length-append, Err, inr}
+use Rattle.std.proofs.Common.{rules, ◌≡◌, ◌+◌, ◌++◌, ℕ, List, true, Bool, if◌then◌else◌, Err, inr, ap, sym, subst, ◌∙◌, arith, append_assoc}
 use Rattle.desk_io.specs.State.{left_of}
 use Rattle.desk_io.specs.declared.Which.TheVariants.{Cert}
-use Rattle.cert_lines.specs.Lines.{lines_of}
+use Rattle.cert_lines.specs.Taking.{goes_on, TookLine}
 use Rattle.cert_lines.proofs.Ends.{on_cert}
-use Rattle.cert_lines.proofs.PartRuns.{came_more, came_end, placed, came_fault}
+use Rattle.cert_lines.proofs.Takings.{more_part, long_line}
 use Rattle.cert_lines.proofs.lines.Lines.rest_of_line.Goals as goal
 
-pub returns-then-ends-clause-line : goal.returns-then-ends-clause-line
-returns-then-ends-clause-line g c =
-    let before = c.args.self.now in
-    let now = c.parts.self in
-    let part = c.next_part.new.self.part in
-    let suffix = c.parts.invariant.suffix.0 in
-    let old_lines = lines_of (before.unread ++ left_of Cert (g.D.Desk.state c.args.desk.now)) in
-    let now_lines = lines_of (now.unread ++ left_of Cert (g.D.Desk.state c.parts.desk)) in
-    let new_lines = lines_of (c.next_part.new.self.unread ++ left_of Cert (g.D.Desk.state c.next_part.new.desk)) in (
-      suffix ++ part,
-      c.in_ok-extend_from_slice.ensures.items
-          ∙ ap (λ (xs : List ℕ). c.parts.text.items ++ xs) c.part.ensures
-          ∙ ap (λ (xs : List ℕ). xs ++ part) c.parts.invariant.suffix.1
-          ∙ append_assoc c.args.text.now.items suffix part,
-      λ tells.
-          came_end before.number before.taken now.taken suffix part old_lines now_lines new_lines c.parts.invariant.suffix.2 (c.parts.invariant.suffix.3 tells)
-          (placed true c.in_ok-ends.ends now.number before.number now.taken part now_lines new_lines c.if-ends.true c.parts.invariant.number (c.in_ok-ends.ensures.part tells)),
-    )
+pub returns-in_err-end-clause-err : goal.returns-in_err-end-clause-err
+returns-in_err-end-clause-err g c =
+    let left = left_of Cert (g.D.Desk.state c.parts.desk) in
+    let suffix = c.parts.invariant.line.0 in
+    let on : goes_on c.parts.end ≡ true = sym c.goes_on.ensures ∙ c.parts-test.true in
+    let e = c.in_err-end.field-0.0 in
+    let r : c.from_residual-in_err-end.result ≡ Err e = search rules in
+    rw r (λ tells. on_cert e (λ fault long. inr (λ n before bytes took. long_line g.D.Desk.tells n before (bytes ++ suffix) c.parts.end c.parts.self left fault on (c.parts.invariant.line.2 n before bytes took) tells long)) (c.in_err-end.ensures.err tells))
 
 pub parts-preserved : goal.parts-preserved
 parts-preserved g c =
-    let before = c.args.self.now in
-    let now = c.parts.self in
-    let part = c.next_part.new.self.part in
-    let suffix = c.parts.invariant.suffix.0 in
-    let old_lines = lines_of (before.unread ++ left_of Cert (g.D.Desk.state c.args.desk.now)) in
-    let now_lines = lines_of (now.unread ++ left_of Cert (g.D.Desk.state c.parts.desk)) in
-    let new_lines = lines_of (c.next_part.new.self.unread ++ left_of Cert (g.D.Desk.state c.next_part.new.desk)) in
-    let taken : c.next_part.new.self.taken ≡ now.taken + length part = c.in_ok-ends.ensures.taken ∙ ap (λ (b : Bool). if b then 0 else (now.taken + length part)) c.if-ends.false in
-    let number : c.next_part.new.self.number ≡ now.number = c.in_ok-ends.ensures.number ∙ ap (λ (b : Bool). if b then now.number + 1 else now.number) c.if-ends.false in
+    let old = c.args.text.now.items in
+    let first = c.args.self.now.part in
+    let now = c.take_part.new.self in
+    let end = c.in_ok-end.end in
+    let suffix = c.parts.invariant.line.0 in
+    let left = left_of Cert (g.D.Desk.state c.parts.desk) in
+    let later = left_of Cert (g.D.Desk.state c.take_part.new.desk) in
+    let on : goes_on c.parts.end ≡ true = sym c.goes_on.ensures ∙ c.parts-test.true in
     record {
-      suffix = (
-        suffix ++ part,
-        c.in_ok-extend_from_slice.ensures.items
-            ∙ ap (λ (xs : List ℕ). c.parts.text.items ++ xs) c.part.ensures
-            ∙ ap (λ (xs : List ℕ). xs ++ part) c.parts.invariant.suffix.1
-            ∙ append_assoc c.args.text.now.items suffix part,
-        omega (arith, taken, c.parts.invariant.suffix.2, length-append suffix part),
-        λ tells.
-            came_more before.number before.taken now.taken suffix part old_lines now_lines new_lines c.parts.invariant.suffix.2 (c.parts.invariant.suffix.3 tells)
-            (placed false c.in_ok-ends.ends now.number before.number now.taken part now_lines new_lines c.if-ends.false c.parts.invariant.number (c.in_ok-ends.ensures.part tells)),
+      line = (
+        suffix ++ now.part,
+        c.in_ok-extend_from_slice-2.ensures.items
+            ∙ ap (λ (xs : List ℕ). c.parts.text.items ++ xs) c.part-in-parts.ensures
+            ∙ ap (λ (xs : List ℕ). xs ++ now.part) c.parts.invariant.line.1
+            ∙ append_assoc old (first ++ suffix) now.part
+            ∙ ap (λ (xs : List ℕ). old ++ xs) (append_assoc first suffix now.part),
+        λ n before bytes took.
+            subst (λ (xs : List ℕ). TookLine g.D.Desk.tells n before xs end now later) (append_assoc bytes suffix now.part)
+            (more_part g.D.Desk.tells n before (bytes ++ suffix) c.parts.end c.parts.self left end now later on (c.parts.invariant.line.2 n before bytes took) c.in_ok-end.ensures.part),
       );
-      number = number ∙ c.parts.invariant.number;
+      few = λ further.
+          let number = c.in_ok-end.ensures.part.number ∙ ap (λ (b : Bool). if b then c.parts.self.number else c.parts.self.number + 1) further in
+          let few = c.parts.invariant.few on in omega (arith, number, few);
       rest = search rules;
       writes = search rules;
       reads = search rules;
     }
-
-pub returns-in_err-ends-clause-err : goal.returns-in_err-ends-clause-err
-returns-in_err-ends-clause-err g c =
-    let before = c.args.self.now in
-    let now = c.parts.self in
-    let suffix = c.parts.invariant.suffix in
-    let old_lines = lines_of (before.unread ++ left_of Cert (g.D.Desk.state c.args.desk.now)) in
-    let now_lines = lines_of (now.unread ++ left_of Cert (g.D.Desk.state c.parts.desk)) in
-    let e = c.in_err-ends.field-0.0 in
-    let r : c.from_residual.result ≡ Err e = search rules in
-    rw r (λ tells. on_cert e (λ fault told. inr (came_fault now.number before.number before.taken now.taken suffix.0 old_lines now_lines fault c.parts.invariant.number suffix.2 (suffix.3 tells) told)) (c.in_err-ends.ensures.err tells))
