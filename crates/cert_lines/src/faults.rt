@@ -43,7 +43,7 @@ pub enum CertError {
     /// The quorum of this line shares nodes with the one before it, of which this is the least.
     #[error("the quorum of line {0} shares node {1} with the first one")]
     Overlap(u64, u32),
-    /// The formula, or the counter, has so many variables, more than 4,000,000.
+    /// The formula, or the counter, has this many variables, more than 4,000,000.
     #[error("the formula has {0} variables")]
     TooLarge(u64),
     /// The formula, or the counter, has not the variables or the clauses that this line says.
