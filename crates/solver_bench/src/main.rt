@@ -8,13 +8,10 @@ mod outcome;
 mod reading;
 mod words;
 
-use crate::outcome::{Outcome, outcome_of, outcome_of_text};
+use crate::outcome::{Outcome, UNITS, outcome_of, outcome_of_text};
 use crate::words::{Task, asked, organisations_of};
 use anyhow::Result;
 use std::fs;
-
-/// The units of the solver's budget.
-const UNITS: u64 = 4_000_000;
 
 fn main(rt: HostRuntime) -> Result<()> {
     match asked(&rt)? {

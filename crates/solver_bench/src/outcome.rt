@@ -14,7 +14,10 @@ use lrat_model::{Progress, Rule};
 use lrat_text::Log;
 use name_set::NodeSet;
 use std::alloc::{AllocError, Global};
-use trial_network::Trial;
+use trial_network::{MOST_ORGANISATIONS, Trial};
+
+/// The most units of the solver's budget.
+pub const UNITS: u64 = 4_000_000;
 
 /// The most clauses of a formula that the solver is given.
 const MOST_CLAUSES: u64 = 1_000_000_000;
@@ -113,7 +116,7 @@ fn solved(alloc: Global, store: Store, vars: u64, units: u64) -> Result<Outcome,
 fn solve(alloc: Global, store: Store, vars: u64, units: u64) -> Result<Outcome>
     requires small { vars < 2 ^ 31 }
     requires range { AreInRange vars store.held }
-    requires few { units ≤ 4000000 }
+    requires few { units ≤ UNITS }
 {
     if store.last() > MOST_CLAUSES {
         bail!("too many clauses");
@@ -143,7 +146,7 @@ fn model_of(
 
 /// Solves a formula in DIMACS form within a budget, and checks the log.
 pub fn outcome_of_text(alloc: Global, text: &str, units: u64) -> Result<Outcome>
-    requires { units ≤ 4000000 }
+    requires { units ≤ UNITS }
 {
     let (store, vars) = read_dimacs(alloc, text)?;
     solve(alloc, store, vars, units)
@@ -163,8 +166,8 @@ fn formula(alloc: Global, system: &System) -> Result<(Store, u64)>
 /// Solves the formula of a trial configuration within a budget, and checks the log.
 pub fn outcome_of(alloc: Global, organisations: u32, units: u64) -> Result<Outcome>
     requires some { 1 ≤ organisations }
-    requires organisations { organisations ≤ 100 }
-    requires few { units ≤ 4000000 }
+    requires organisations { organisations ≤ MOST_ORGANISATIONS }
+    requires few { units ≤ UNITS }
 {
     let trial = Trial::of(alloc, organisations)?;
     let (store, vars) = formula(alloc, &trial.system)?;

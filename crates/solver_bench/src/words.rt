@@ -33,7 +33,7 @@ fn task_of(first: Option<String>, second: Option<String>) -> Result<Task> {
 /// The number of organisations.
 pub fn organisations_of(word: &str) -> Result<u32>
     ensures some { IfOk result (λ organisations. 1 ≤ organisations) }
-    ensures few { IfOk result (λ organisations. organisations ≤ 100) }
+    ensures few { IfOk result (λ organisations. organisations ≤ MOST_ORGANISATIONS) }
 {
     let organisations: u32 = word.parse().context("the number of organisations")?;
     if organisations == 0 || organisations > MOST_ORGANISATIONS {
