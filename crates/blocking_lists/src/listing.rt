@@ -90,7 +90,7 @@ pub fn list_quorums(
     list_all(alloc, Listed::Quorum, system, faulty, budget)
 }
 
-/// A solver over so many variables, without a clause.
+/// A solver over this many variables, without a clause.
 pub fn solver_over(alloc: Global, vars: u32) -> Result<Solver, AllocError>
     requires small { vars < 2 ^ 31 }
     ensures vars { IfOk result (λ solver. solver.vars ≡ vars) }
@@ -130,7 +130,7 @@ fn outcome_of(
     })
 }
 
-/// The minimal sets of the kind in name order, or none where the budget was spent first. The solver is lent: a function that owns
+/// The minimal sets of the kind in name order, or none where the budget was spent first. The solver is borrowed: a function that owns
 /// one is dear to prove at each of its ways out.
 fn found_sets(
     alloc: Global,

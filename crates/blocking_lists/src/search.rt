@@ -27,7 +27,7 @@ pub struct Searched<'a> {
     pub greatest: &'a NodeSet,
 }
 
-/// Adds the clause of a set to the solver, and lists the set behind the steps of the solver's log. Linear in the literals.
+/// Adds the clause of a set to the solver, and lists the set after the steps of the solver's log. Linear in the literals.
 pub fn list_set<const W: usize>(
     which: Listed,
     clause: &[Lit],

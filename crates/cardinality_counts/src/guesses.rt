@@ -12,7 +12,7 @@ const MOST_VARIABLE: u32 = i32::MAX as u32;
 const MOST_INPUTS: usize = 32;
 
 /// For each variable the gates whose head it is; how many false inputs a gate has before it may force something; the gates that
-/// have so many; and in how many ways r of n are chosen, at n * 65 + r.
+/// have this many; and in how many ways r of n are chosen, at n * 65 + r.
 #[derive(Drop)]
 pub struct Guesses {
     heads: Table,

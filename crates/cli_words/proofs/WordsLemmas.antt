@@ -75,7 +75,7 @@ path_checked-same o same = rw same refl
 pub path_checked-other : (o : Ordered) → has_same_path o ≡ false → path_checked o ≡ Ok o
 path_checked-other o other = rw other refl
 
--- rules that are added behind those of an app
+-- rules that are added after those of an app
 pub rules_behind : (name : Text) (before rules : List Rule) → with_rules (app_with name before) rules ≡ app_with name (before ++ rules)
 rules_behind name before [] = ap (app_with name) (sym (append-nil before))
 rules_behind name before (rule ∷ rules) = rules_behind name (before ++ rule ∷ []) rules ∙ ap (app_with name) (append_assoc before (rule ∷ []) rules)

@@ -33,7 +33,7 @@ needed id = record (new_rule id) { long = Some id; required = true }
 abbrev pub optional : Text → Rule
 optional id = record (new_rule id) { long = Some id }
 
--- the app with these arguments behind its own
+-- the app with these arguments after its own
 abbrev pub with_rules : App → List Rule → App
 with_rules app [] = app
 with_rules app (rule ∷ rules) = with_rules (with_rule app rule) rules
@@ -98,7 +98,7 @@ order_in command budget trial rows = record {
 abbrev pub path_checked : Ordered → Result Ordered OrderFault
 path_checked o = if has_same_path o then Err SamePath else Ok o
 
--- the order of a command's texts with this budget and so many organisations, if both are numbers
+-- the order of a command's texts with this budget and this many organisations, if both are numbers
 abbrev pub order_with : Command → List Matched → Option ℕ → Option ℕ → Result Ordered OrderFault
 order_with command rows None trial = Err Words
 order_with command rows (Some budget) None = Err Words

@@ -15,7 +15,7 @@ abbrev pub EachReadable : (NamedSet → Type 0) → NamedSets → Type 0
 EachReadable P no_sets = Unit {0}
 EachReadable P (one_set s ss) = P s × EachReadable P ss
 
--- of keys, and no deeper than so many levels
+-- of keys, and no deeper than this many levels
 abbrev pub IsReadable : ℕ → NamedSet → Type 0
 IsReadable zero s = ⊥
 IsReadable (suc levels) (named_set k validators inners) = All IsKey validators × EachReadable (IsReadable levels) inners

@@ -15,7 +15,7 @@ use Rattle.enumeration_journal.specs.declared.kinds.Listed.{Listed}
 use Rattle.enumeration_journal.specs.declared.kinds.Listed.TheVariants.{Quorum, Blocking, Smaller}
 use Rattle.greatest_quorum.proofs.GreatestLaws.{some_set-from, table_of}
 
--- ---- sets of so many nodes
+-- ---- sets of this many nodes
 
 some_of : (n : ℕ) (test : Table → Bool) → some_set n test ≡ true → (u : Table) × (length u ≡ n) × (test u ≡ true)
 some_of zero test h = ([], refl, h)

@@ -38,7 +38,7 @@ impl<const W: usize> SetList<W> {
         }
     }
 
-    /// Adds a set behind the others. Where memory runs out the list is as it was. O(1), amortised.
+    /// Adds a set after the others. Where memory runs out the list is as it was. O(1), amortised.
     pub fn push(&mut self, set: NodeWords<W>) -> Result<(), AllocError>
         ensures pushed { OnOk result (self.new ≡ self.old ++ set.entry ∷ []) }
         ensures unchanged { OnErr result (self.new ≡ self.old) }

@@ -35,7 +35,7 @@ kept_le (false ∷ ms) (x ∷ xs) = omega (arith, kept_le ms xs)
 pub rank-cons : (m : Bool) (ms : Table) (v : ℕ) → rank (m ∷ ms) (suc v) ≡ cond m 1 0 + rank ms v
 rank-cons m ms v = size-cons m (take v ms)
 
--- a marked place has its rank among so many
+-- a marked place has its rank among this many
 pub rank_lt : (t : Table) (v : ℕ) → members t v ≡ true → rank t v < size t
 rank_lt [] v h = absurd (false≢true h)
 rank_lt (true ∷ ms) zero h = omega (arith, size-cons true ms)

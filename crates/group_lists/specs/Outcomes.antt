@@ -31,7 +31,7 @@ pub record PartGroupsHold (f : Fbas) (b : Table) (groups : List Table) (units : 
   pub forgets : AreForgetting (group_rules f b groups) (group_rules f b groups).start journal
   pub taken : journal_units (group_rules f b groups) journal ≡ units
 
--- what is so of an outcome, where so many units were left at first, and are left now
+-- what is so of an outcome, where this many units were left at first, and are left now
 abbrev pub GroupOutcomeHolds : Fbas → Table → List Table → ℕ → ℕ → GroupOutcome → Type 0
 GroupOutcomeHolds f b groups units left (Whole sets journal) = WholeGroupsHold f b groups units left sets.items journal
 GroupOutcomeHolds f b groups units left (Spent journal) = (left ≡ 0) × PartGroupsHold f b groups units journal

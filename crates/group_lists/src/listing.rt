@@ -87,7 +87,7 @@ fn outcome_of(
     })
 }
 
-/// The minimal blocking sets of groups in order, or none where the budget was spent first. The solver is lent: a function that owns
+/// The minimal blocking sets of groups in order, or none where the budget was spent first. The solver is borrowed: a function that owns
 /// one is dear to prove at each of its ways out.
 fn found_sets(
     alloc: Global,

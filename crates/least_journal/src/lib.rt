@@ -1,6 +1,6 @@
 //! Journals of a search for a smallest quorum: what their lines are, and what a whole journal shows.
 //!
-//! A journal begins with the clauses of a counter: if they are true, a variable tells that at least so many of the nodes of
+//! A journal begins with the clauses of a counter: if they are true, a variable tells that at least this many of the nodes of
 //! the greatest quorum are in the set. A listed quorum says that fewer nodes are in it than the quorum has, a blocking set that
 //! one of its nodes is. So a proof of the empty clause shows that no quorum has fewer nodes than the one listed last.
 #![tactic(auto)]

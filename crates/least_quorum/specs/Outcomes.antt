@@ -48,7 +48,7 @@ pub record PartLeastHolds (f : Fbas) (b : Table) (units : ℕ) (journal : List J
   pub forgets : AreForgetting (least_rules f b) (least_rules f b).start journal
   pub taken : journal_units (least_rules f b) journal ≡ units
 
--- what is so of an outcome, where so many units were left at first, and are left now
+-- what is so of an outcome, where this many units were left at first, and are left now
 abbrev pub LeastOutcomeHolds : Fbas → Table → ℕ → ℕ → LeastOutcome → Type 0
 LeastOutcomeHolds f b units left (Least set journal) = LeastHolds f b units left (Some set) journal
 LeastOutcomeHolds f b units left (NoQuorum journal) = LeastHolds f b units left None journal

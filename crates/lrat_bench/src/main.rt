@@ -99,7 +99,7 @@ fn is_covered(checker: &IdleChecker, step: &Step) -> bool {
     }
 }
 
-/// Takes a step behind the formula. Where `asks` is so, a lemma is asked about first.
+/// Takes a step after the formula. Where `asks` is so, a lemma is asked about first.
 fn take(checker: &mut IdleChecker, counts: &mut Counts, step: &Step, asks: bool) -> Result<()>
     ensures { checker.new.vars ≡ checker.old.vars }
 {

@@ -27,7 +27,7 @@ use Rattle.lrat_checker.specs.Adding.{group_rest, left_out, more_groups, unit_fa
 use Rattle.lrat_checker.specs.Courses.{unless_done, led, adding_of, Suits, IsUnitHint, onward, is_over, Ends, IsUndone, missing_of}
 use Rattle.lrat_checker.proofs.AddingLaws.{alike_fault, unit_alike}
 
--- what was true first stays so where literals are made true behind it
+-- what was true first stays so where literals are made true after it
 pub taken_grown : (old new : List Literal) (n : ℕ) → n ≤ length old → Extends old new → take n new ≡ take n old
 taken_grown old new n within grows = ap (take n) grows.1 ∙ take-append-le n old grows.0 within
 
@@ -87,7 +87,7 @@ groups_pass : (place : ℕ) (hint : ℤ) (hints : List ℤ) → group_id hint �
 groups_pass place (pos id) hints none = refl
 groups_pass place (negsuc n) hints none = absurd cc
 
--- the hints of a group that is done, or behind a conflict
+-- the hints of a group that is done, or after a conflict
 pub over_goes_on : (rule : Rule) (held : Held) (lits trues : List Literal) (groups : List ℤ) (c : Course) (place : ℕ) (hint : ℤ) → is_over c ≡ true → IsUnitHint rule hint → Suits rule trues groups c
     → (hints : List ℤ) → fault_from rule held lits place (led trues groups c) (hint ∷ hints) ≡ fault_from rule held lits (place + 1) (led trues groups c) hints
 over_goes_on rule held lits trues groups course.Propagates place hint over unit suits hints = absurd cc

@@ -65,7 +65,7 @@ IsBegun rule vars database id lits None = ⊥
 IsBegun rule vars database id lits (Some a) =
     (a.id ≡ id) × (a.lits ≡ lits) × (a.hints ≡ 0) × ((hints : List ℤ) → fault_after rule database.held a hints ≡ addition_fault_by rule vars database id lits hints)
 
--- the place of the hint that comes after so many is a number of 64 bits
+-- the place of the hint that comes after this many is a number of 64 bits
 abbrev pub HasPlace : ℕ → Type 0
 HasPlace hints = hints + 1 < 2 ^ 64
 
@@ -76,7 +76,7 @@ GoesOn rule held hint (Some a) (Some b) =
 GoesOn rule held hint (Some a) None = ⊥
 GoesOn rule held hint None o = ⊥
 
--- whatever hints come behind this one, this is the fault, if its place can be told
+-- whatever hints come after this one, this is the fault, if its place can be told
 abbrev pub StopsAt : Rule → Held → ℤ → Option Adding → StepFault → Type 0
 StopsAt rule held hint adding fault = IfSome adding (λ a. HasPlace a.hints → (hints : List ℤ) → fault_after rule held a (hint ∷ hints) ≡ Some fault)
 

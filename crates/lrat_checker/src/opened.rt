@@ -99,7 +99,7 @@ impl Opened {
     }
 }
 
-/// Takes a hint that begins no group. The hints of a group that is done are passed over, and those behind a conflict are not
+/// Takes a hint that begins no group. The hints of a group that is done are passed over, and those after a conflict are not
 /// looked at. Only what changes is written: a whole `Opened` is slow to read again so soon.
 pub fn after_unit(
     store: &Store,

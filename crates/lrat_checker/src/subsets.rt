@@ -252,7 +252,7 @@ pub fn put_clause(index: &mut Option<SubsetIndex>, store: &Store, id: u64, lits:
     }
 }
 
-/// What so many clauses that were taken out of the store leave of the index: it is made anew once more than a quarter of
+/// What the index loses where this many clauses are taken out of the store: it is made anew once more than a quarter of
 /// its watches may be of clauses that are held no more. O(1), or O(literals held), amortised.
 pub fn forget(index: &mut Option<SubsetIndex>, store: &Store, removed: usize)
     requires { IfSome index.old (AreFound store.now.held) }

@@ -40,7 +40,7 @@ split_append (x ∷ xs) b ys is =
           ∙ sym (ap (λ (ws : List Word). ws ++ slice_split is_blank ys) (slice_split-cons_no is_blank x xs here ∙ ap (onto_first x) first.2))
     ] refl
 
--- a blank parts the words before it from those behind it
+-- a blank parts the words before it from those after it
 pub parted : (xs : List ℕ) (b : ℕ) (ys : List ℕ) → is_blank b ≡ true → words_of (xs ++ b ∷ ys) ≡ words_of xs ++ words_of ys
 parted xs b ys is = ap (filter has_byte) (split_append xs b ys is) ∙ filter-append has_byte (slice_split is_blank xs) (slice_split is_blank ys)
 
@@ -60,7 +60,7 @@ ends_with front b ys is =
     ap words_of (append_assoc front (b ∷ []) ys) ∙ parted front b ys is
     ∙ ap (λ (ws : List Word). ws ++ words_of ys) (sym (parted front b [] is ∙ append-nil (words_of front)))
 
--- a text that is cut behind a blank, or before its first byte
+-- a text that is cut after a blank, or before its first byte
 pub cut_behind : (text more : List ℕ) (n : ℕ) → n ≤ length text → (0 < n → is_blank (get_or text (n - 1) 0) ≡ true) → words_of (text ++ more) ≡ words_of (take n text) ++ words_of (drop n text ++ more)
 cut_behind text more zero within blank = refl
 cut_behind text more (suc n) within blank =
@@ -96,7 +96,7 @@ solid_append (x ∷ xs) ys first second = elim (is_blank x) as (λ t. (t || list
   | false ↦ λ e. solid_append xs ys e second
 ] first
 
--- a blank behind bytes parts them from what follows it
+-- a blank after bytes parts them from what follows it
 pub before : (xs : List ℕ) (b : ℕ) (ys : List ℕ) → is_blank b ≡ true → words_of (xs ++ b ∷ ys) ≡ words_of xs ++ words_of (b ∷ ys)
 before xs b ys is = parted xs b ys is ∙ ap (λ (ws : List Word). words_of xs ++ ws) (sym (parted [] b ys is))
 
@@ -136,7 +136,7 @@ pub some_bytes : (xs : List ℕ) → length xs ≢ 0 → (b : ℕ) × (ys : List
 some_bytes [] some = absurd (some refl)
 some_bytes (b ∷ ys) some = (b, ys, refl)
 
--- the words up to the last blank, and what is behind it
+-- the words up to the last blank, and what is after it
 pub cut_words : (begun rest more whole behind : List ℕ) (n : ℕ) → (begun ≡ []) ⊎ (rest ≡ []) → n ≤ length rest → (0 < n → is_blank (get_or rest (n - 1) 0) ≡ true) → whole ≡ take n rest → behind ≡ drop n rest
     → words_of (begun ++ (rest ++ more)) ≡ words_of whole ++ words_of ((begun ++ behind) ++ more)
 cut_words begun rest more whole behind n one within blank front back = elim one [

@@ -87,7 +87,7 @@ front_of_digits text n len some within first digits value small ends = record {
 pub front_of_id : (text : List ℕ) (n len : ℕ) → IsFront id_in text n len → IsFront said text (pos n) len
 front_of_id text n len is = record { some = is.some; within = is.within; solid = is.solid; ends = is.ends; said = said_id (take len text) n is.said }
 
--- and behind a `-` its minus is
+-- and after a `-` its minus is
 pub front_of_minus : (text digits : List ℕ) (n len : ℕ) (z : ℤ) → text ≡ 45 ∷ digits → z ≡ neg_ℤ (pos n) → IsFront id_in digits n len → IsFront said text z (len + 1)
 front_of_minus text digits n len z whole value is =
     let one : suc len ≡ len + 1 = omega arith in

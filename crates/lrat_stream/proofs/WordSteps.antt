@@ -14,7 +14,7 @@ use Rattle.lrat_stream.specs.declared.words.StepWords.{StepWords}
 use Rattle.lrat_stream.specs.Outline.{outline_in}
 use Rattle.lrat_stream.specs.Ahead.{ahead, addition_from, fault_then, IsOpen}
 
--- the word behind the id, where it begins no deletion
+-- the word after the id, where it begins no deletion
 pub begins_addition : (rule : Rule) (vars : ℕ) (database : Database) (id : ℕ) (word : Word) (rest : List Word) → is_mark word ≡ false → outline_in rule vars database (after_id id (word ∷ rest)) ≡ outline_in rule vars database (addition_from id [] (word ∷ rest))
 begins_addition rule vars database id word rest mark = rw mark refl
 
@@ -30,7 +30,7 @@ moved p q v w d e rule vars database s t now then ws us is =
     subst (λ (r : Rule). ahead r v d s now ws ≡ ahead r v d t then us) rule
     (subst (λ (n : ℕ). ahead q n d s now ws ≡ ahead q n d t then us) vars (subst (λ (b : Database). ahead q w b s now ws ≡ ahead q w b t then us) database is))
 
--- a hint at which the addition goes on or stops, whatever hints come behind it
+-- a hint at which the addition goes on or stops, whatever hints come after it
 module _ (rule : Rule) (held : Held) (hint : ℤ) (id : ℕ) (lits : List Literal) where
   pub went : (kept : Option StepFault) (now then : Option Adding) → is_some kept ≡ false → IsOpen id lits kept now → GoesOn rule held hint now then → IfSome now (λ a. HasPlace a.hints)
       → (hints : List ℤ) → fault_then rule held kept now (hint ∷ hints) ≡ fault_then rule held kept then hints
@@ -45,7 +45,7 @@ module _ (rule : Rule) (held : Held) (hint : ℤ) (id : ℕ) (lits : List Litera
   stopped None None fault none is stops place hints = absurd is
   stopped None (Some a) fault none is stops place hints = stops place hints
 
--- the place of a hint after so many
+-- the place of a hint after this many
 pub has_place : (now : Option Adding) (hints : ℕ) → IfSome now (λ a. hints ≡ a.hints) → hints < MOST_HINTS → IfSome now (λ a. HasPlace a.hints)
 has_place None hints is few = tt
 has_place (Some a) hints is few = omega (arith, is, few)

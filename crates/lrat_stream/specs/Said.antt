@@ -9,7 +9,7 @@ use Rattle.lrat_stream.specs.Solid.{IsSolid}
 abbrev pub said : Word → Option ℤ
 said word = if is_zero word then Some (pos 0) else hint_in word
 
--- so many bytes at the front are a word that says this
+-- this many bytes at the front are a word that says this
 pub record IsFront {A : Type 0} (said_in : Word → Option A) (text : List ℕ) (number : A) (len : ℕ) : Type 0 where
   pub some : 0 < len
   pub within : len ≤ length text

@@ -16,11 +16,11 @@ use Rattle.lrat_stream.specs.declared.words.StepWords.{StepWords}
 abbrev pub IsSound : ℕ → Database → ℕ → List Literal → Type 0
 IsSound vars database id lits = (database.last < id) × (literal_fault vars [] lits ≡ None)
 
--- for a literal, which is kept; and for the 0 behind the literals, with which the addition begins, if nothing is at fault
+-- for a literal, which is kept; and for the 0 after the literals, with which the addition begins, if nothing is at fault
 abbrev pub LiteralWants : ℕ → Database → ℕ → List Literal → Word → Type 0
 LiteralWants vars database id lits word = (is_zero word ≡ true → IsSound vars database id lits) × (is_zero word ≡ false → IsSome (literal_in word))
 
--- for a hint behind so many of an addition without a fault
+-- for a hint after this many of an addition without a fault
 abbrev pub HintWants : Option StepFault → Option Adding → Word → Type 0
 HintWants fault now word = (is_zero word ≡ false) × IsSome (hint_in word) × (fault ≡ None) × IfSome now (λ a. MOST_HINTS ≤ a.hints)
 

@@ -39,7 +39,7 @@ impl StepReader {
         self.begun.clear();
     }
 
-    /// Takes a part of the line behind those before. A word whose end does not come in it is kept.
+    /// Takes a part of the line after those before. A word whose end does not come in it is kept.
     /// O(bytes), and what the checker does with the literals and hints.
     pub fn part(&mut self, checker: &mut Checker, part: &[u8]) -> Result<(), AllocError>
         requires fits { Fits self.old.words checker.old.open_addition }
@@ -74,7 +74,7 @@ impl StepReader {
         take_words(&mut self.words, checker, &mut SpelledWords::of(rest))
     }
 
-    /// Puts the end of the word that is begun behind it, if there is one, and takes it where a blank follows. Gives what is
+    /// Puts the end of the word that is begun after it, if there is one, and takes it where a blank follows. Gives what is
     /// left of the part.
     fn join<'a>(&mut self, checker: &mut Checker, part: &'a [u8]) -> Result<&'a [u8], AllocError>
         requires fits { Fits self.old.words checker.old.open_addition }

@@ -10,7 +10,7 @@ use lrat_model::Lit;
 use lrat_text::{is_mark, is_zero, read_hint, read_id, read_literal, word_len};
 use std::marker::Model;
 
-/// The greatest number behind which a digit is put in the first pass: no sum of them wraps.
+/// The greatest number after which a digit is put in the first pass: no sum of them wraps.
 const MOST_TENTH: u64 = 100_000_000_000_000_000;
 
 /// A word of a step line, and the number that it says: 0 where it closes a list, or a hint.
@@ -169,11 +169,11 @@ fn any_word(text: &[u8]) -> Option<(&[u8], &[u8])>
         return None;
     }
     let (word, rest) = line.split_at(word_len(line));
-    // Behind the blank, so that the next word is one that `front` reads.
+    // After the blank, so that the next word is one that `front` reads.
     Some((word, behind_blank(rest)))
 }
 
-/// The text behind the blanks at its front.
+/// The text after the blanks at its front.
 fn without_blanks(text: &[u8]) -> &[u8]
     ensures words { words_of result.now ≡ words_of text.now }
     ensures first { 0 < length result.now → is_blank (slice_index result.now 0) ≡ false }
@@ -188,7 +188,7 @@ fn without_blanks(text: &[u8]) -> &[u8]
     rest
 }
 
-/// The text behind its first byte, if it has one.
+/// The text after its first byte, if it has one.
 #[inline(always)]
 fn behind_blank(text: &[u8]) -> &[u8]
     requires { 0 < length text.now → is_blank (slice_index text.now 0) ≡ true }

@@ -29,13 +29,13 @@ pub enum Stage {
     Start,
     /// The id came.
     Numbered(u64),
-    /// A literal comes next, or the 0 behind the last.
+    /// A literal comes next, or the 0 after the last.
     Literals(u64),
-    /// A hint comes next, or the 0 behind the last.
+    /// A hint comes next, or the 0 after the last.
     Hints(u64),
     /// An addition is complete.
     Added(u64),
-    /// An id of a deletion comes next, or the 0 behind the last.
+    /// An id of a deletion comes next, or the 0 after the last.
     Ids(u64),
     /// A deletion is complete.
     Deleted(u64),
@@ -81,8 +81,8 @@ impl StepWords {
         self.fault = None;
     }
 
-    /// Takes a word of the line. Wants memory only for a literal, for an id of a deletion, for the 0 behind literals that have no
-    /// fault, under an id above the last, and for a hint behind 10^12 of an addition that has no fault so far. O(its bytes), and
+    /// Takes a word of the line. Wants memory only for a literal, for an id of a deletion, for the 0 after literals that have no
+    /// fault, under an id above the last, and for a hint after 10^12 of an addition that has no fault so far. O(its bytes), and
     /// what the checker does with a hint or with the literals.
     pub fn word(&mut self, checker: &mut Checker, word: &SpelledWord<'_>) -> Result<(), AllocError>
         requires { Fits self.old checker.old.open_addition }
@@ -109,7 +109,7 @@ impl StepWords {
         }
     }
 
-    /// The word behind the id: `d` begins a deletion.
+    /// The word after the id: `d` begins a deletion.
     fn numbered(
         &mut self,
         checker: &mut Checker,
@@ -133,7 +133,7 @@ impl StepWords {
         self.literal(checker, id, word)
     }
 
-    /// A literal, or the 0 behind the last one, with which the addition begins.
+    /// A literal, or the 0 after the last one, with which the addition begins.
     fn literal(
         &mut self,
         checker: &mut Checker,
@@ -188,7 +188,7 @@ impl StepWords {
         }
     }
 
-    /// A hint, or the 0 behind the last one.
+    /// A hint, or the 0 after the last one.
     fn hint(
         &mut self,
         checker: &mut Checker,
@@ -243,7 +243,7 @@ impl StepWords {
         }
     }
 
-    /// An id of a deletion, or the 0 behind the last one.
+    /// An id of a deletion, or the 0 after the last one.
     fn listed(&mut self, id: u64, word: &SpelledWord<'_>) -> Result<(), AllocError>
         ensures ahead { (rule : Rule) (vars : ℕ) (database : Database) (now : Option Adding) → OnOk result ((rest : List Word) → outline_in rule vars database (deletion_from id self.old.ids.items (word.now ∷ rest)) ≡ ahead rule vars database self.new now rest) }
         ensures fits { (now : Option Adding) → OnOk result (now ≡ None → Fits self.new now) }
@@ -267,7 +267,7 @@ impl StepWords {
     }
 }
 
-/// The stage behind the first word.
+/// The stage after the first word.
 fn after_start(word: &SpelledWord<'_>) -> Stage
     ensures fits { (lits : List Literal) (ids : List ℕ) (fault : Option StepFault) (now : Option Adding) → FitsAt Stage.Start lits ids fault now → FitsAt result lits ids fault now }
     ensures ahead { (rule : Rule) (vars : ℕ) (database : Database) (now : Option Adding) (rest : List Word) → outline_in rule vars database (step_of_words (word.now ∷ rest)) ≡ ahead_at result rule vars database [] [] None now rest }

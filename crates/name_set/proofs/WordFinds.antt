@@ -211,7 +211,7 @@ module _ (size n : ℕ) (a : List ℕ) (t : Table) (are : AreWordsOf size n a) (
       ap (λ (r : Nodes). r w) (same-members size n a t are d) ∙ set_of-split a w ∙ ap₂ (λ (y z : ℕ). bit (get_or a y 0) z) word bit_is
       ∙ sym (rest_bit (get_or a (at / 64) 0) (at % 64) (w - at)) ∙ ap (λ (y : ℕ). bit y (w - at)) none ∙ bit-zero (w - at)
 
-  -- so that it is the least of the words behind
+  -- so that it is the least one in the words after it
   pub least_behind : (at v : ℕ) → get_or a (at / 64) 0 / 2 ^ (at % 64) ≡ 0 → IsLeastFrom (members t) (64 * (at / 64 + 1)) v → IsLeastFrom (members t) at v
   least_behind at v none least = (
     omega (arith, least.0),

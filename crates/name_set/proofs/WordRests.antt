@@ -11,7 +11,7 @@ use Rattle.name_set.proofs.WordFinds.{IsLowest, lowest, set_of-at, set_of-split}
 nothing_left : (s : Nodes) (at from rest : ℕ) → IsRest s at from rest → rest ≡ 0 → (v : ℕ) → from ≤ v → v < 64 * at + 64 → v ∈ s → ⊥
 nothing_left s at from rest r none v above below is = both_ways (bit rest (v % 64)) (ap (λ (x : ℕ). bit x (v % 64)) none ∙ bit-zero (v % 64)) (r.all v above below is)
 
--- so none is left where none stands behind
+-- so none is left where none stands after it
 pub nothing_behind : (s : Nodes) (at from rest : ℕ) → IsRest s at from rest → rest ≡ 0 → HasNoneFrom s (64 * (at + 1)) → HasNoneFrom s from
 nothing_behind s at from rest r none behind v above = elim (cases_lt v (64 * at + 64)) [
   | inl lt ↦ false_from_ne_true (s v) (λ is. nothing_left s at from rest r none v above lt is)
@@ -89,7 +89,7 @@ module _ (size n : ℕ) (a : List ℕ) (t : Table) (are : AreWordsOf size n a) (
     all = λ v above below is. absurd (both_ways (members t v) (ap (λ (s : Nodes). s v) (same-members size n a t are d) ∙ are.clear v (omega (arith, none))) is);
   }
 
-  -- the word of the least number behind a rest that is 0
+  -- the word of the least number after a rest that is 0
   pub first_behind : (at from rest v : ℕ) → IsRest (members t) at from rest → rest ≡ 0 → IsLeastFrom (members t) (64 * (at + 1)) v → get_or a (v / 64) 0 < 2 ^ 64 → IsFirst (members t) from (v / 64) (get_or a (v / 64) 0)
   first_behind at from rest v r none least fits = record {
     low = 64 * (v / 64);

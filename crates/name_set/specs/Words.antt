@@ -17,13 +17,13 @@ set_of words v = bit (slice_index words (v / 64)) (v % 64)
 unfoldable pub table_of : ℕ → List ℕ → Table
 table_of n words = table_from 0 n (set_of words)
 
--- so many words have room for the bits of the numbers below n, and no other bit is set
+-- this many words have room for the bits of the numbers below n, and no other bit is set
 pub record AreWordsOf (size n : ℕ) (words : List ℕ) : Type 0 where
   pub fits : n ≤ 64 * size
   pub few : size ≤ MOST_WORDS
   pub clear : (v : ℕ) → n ≤ v → set_of words v ≡ false
 
--- what is left of the word at a place: the bits of the numbers from one on, which stands in the word or right behind it
+-- what is left of the word at a place: the bits of the numbers from one on, which stands in the word or right after it
 pub record IsRest (s : Nodes) (at from rest : ℕ) : Type 0 where
   pub reached : 64 * at ≤ from
   pub within : from ≤ 64 * at + 64

@@ -24,7 +24,7 @@ pub record AreApart (names : List Name) (orgs : List NamedOrg) : Type 0 where
   pub seen : names ≡ in_order (named_ids orgs)
   pub apart : IsDistinct bytes_eq (named_ids orgs)
 
--- the organisation that the element is, behind the others
+-- the organisation that the element is, after the others
 pub record IsOneMore (element : Result spec.NamedOrg OrgFault) (before then : List NamedOrg) : Type 0 where
   pub org : NamedOrg
   pub read : element ≡ Ok (named_org_view org)

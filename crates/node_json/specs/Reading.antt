@@ -99,7 +99,7 @@ set_by one i d = unless (BadQuorumSet i Shape) (is_object d)
     (ok_or (validators_of d) (BadQuorumSet i Validators)))
     (ok_or (threshold_of d) (BadQuorumSet i Threshold)))
 
--- a quorum set of element i, where sets may nest so many levels deep
+-- a quorum set of element i, where sets may nest this many levels deep
 unfoldable pub set_of : ℕ → ℕ → Data → Result NamedSet ConfigFault
 set_of i zero d = Err (TooDeep i)
 set_of i (suc levels) d = set_by (set_of i levels) i d

@@ -66,7 +66,7 @@ impl Groups {
     }
 }
 
-// The bytes behind a word.
+// The bytes after a word.
 fn text_of(alloc: Global, word: &str, bytes: &[u8]) -> Result<Vec<u8>, AllocError>
     ensures { IfOk result (λ text. text.items ≡ word.now ++ bytes.now) }
 {

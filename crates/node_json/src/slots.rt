@@ -19,7 +19,7 @@ const FEWEST_SLOTS: usize = 256;
 /// and again.
 const BYTES_PER_SLOT: usize = 16;
 
-/// How many slots a table has for the names of a text of so many bytes. They go by the text since zeroing two tables of the
+/// How many slots a table has for the names of a text of this many bytes. They go by the text since zeroing two tables of the
 /// most slots, 1.8 MB, took a quarter of the time of a small configuration.
 pub(crate) fn slots_for(text: usize) -> usize
     ensures { 0 < result }
@@ -27,7 +27,7 @@ pub(crate) fn slots_for(text: usize) -> usize
     (text / BYTES_PER_SLOT).clamp(FEWEST_SLOTS, MOST_SLOTS)
 }
 
-/// The slot of a name among so many: O(its length).
+/// The slot of a name among this many: O(its length).
 pub(crate) fn slot_of(name: &str, slots: usize) -> usize
     ensures { 0 < slots → result < slots }
 {

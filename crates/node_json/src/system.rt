@@ -113,7 +113,7 @@ fn no_sets(alloc: Global, names: &Names) -> Result<Vec<Option<QuorumSet>>, Alloc
 }
 
 // The entries of a quorum set at all depths, or none where they are too many for 64 bits. No file that fits in memory has
-// so many, so that counts as want of memory.
+// this many, so that counts as want of memory.
 fn entries(set: &QuorumSet) -> Option<u64>
     ensures { IfSome result (λ n. n ≡ all_entries set.now) }
 {

@@ -88,7 +88,7 @@ module _ (old all now next : List Found) (path : List ℕ) (qs : List QuorumSet)
   inner_part p =
       holds_part old all now next (findings_at (path ++ i ∷ []) q) (findings_inside path (i + 1) (inner_entries (drop (i + 1) qs))) (subst (λ (l : List Found). Holds old all now l) (inside_more path qs i q h e) holds) p
 
--- a place is put behind a path
+-- a place is put after a path
 pub pushed : (path was new : List ℕ) (i : ℕ) → was ≡ path → new ≡ was ++ i ∷ [] → new ≡ path ++ i ∷ []
 pushed path was new i e put = put ∙ ap (λ (l : List ℕ). l ++ i ∷ []) e
 

@@ -32,7 +32,7 @@ validators_of (inner q rest) = validators_of rest
 abbrev pub times : ℕ → List ℕ → ℕ
 times v ws = count_by (λ w. w == v) ws
 
--- those nodes of a list, behind earlier ones, that stand there for the second time
+-- those nodes of a list, after earlier ones, that stand there for the second time
 abbrev pub second_times : List ℕ → List ℕ → List ℕ
 second_times earlier [] = []
 second_times earlier (w ∷ ws) = if times w earlier == 1 then w ∷ second_times (earlier ++ w ∷ []) ws else second_times (earlier ++ w ∷ []) ws
@@ -69,7 +69,7 @@ abbrev mutual
   HavePlaces (node w rest) = HavePlaces rest
   HavePlaces (inner q rest) = HasPlaces q × HavePlaces rest
 
--- the list is what it was, followed by the first so many of the findings
+-- the list is what it was, followed by the first this many of the findings
 pub record HoldsFirst (old findings new : List Found) : Type 0 where
   pub many : ℕ
   pub first : new ≡ old ++ take many findings

@@ -44,7 +44,7 @@ impl KeptHints {
         self.hints.as_slice()
     }
 
-    /// No hint, and room for so many.
+    /// No hint, and room for this many.
     pub fn restart(&mut self, room: usize) -> Result<(), AllocError>
         ensures hints { self.new.hints ≡ [] }
         ensures room { OnOk result (room ≤ self.new.room) }

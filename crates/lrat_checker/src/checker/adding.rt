@@ -105,7 +105,7 @@ impl Checker {
     }
 
     /// Takes the next hint of the open addition. Once a hint's clause was false before any group, which is `Conflict`, the hints
-    /// behind it are not looked at. Under `Rat` a negative hint begins a group, and is kept until the addition ends, in the room
+    /// after it are not looked at. Under `Rat` a negative hint begins a group, and is kept until the addition ends, in the room
     /// that `begin_add` made. After an `Err` the addition is gone, and the checker is as before it began. Takes no memory.
     /// O(literals of the hint's clause), and O(log n) for its id at worst; at a group's begin also O(literals of the group
     /// before), and O(groups) where its id does not rise.
