@@ -1,5 +1,5 @@
 -- A list of blocking sets of groups that is written is accepted.
-use Rattle.std.proofs.Common.{◌≡◌, ℕ, ◌+◌, ◌*◌, ◌≤◌, Bool, List, [], ◌∷◌, ◌++◌, length, map, map-id, Option, Some, ok_or, Ok, refl, sym, ◌∙◌, ap, subst, arith, codes, length-append}
+use Rattle.std.proofs.Common.{◌≡◌, ℕ, ◌+◌, ◌*◌, ◌≤◌, Bool, List, [], ◌∷◌, length, map-id, Option, Some, ok_or, Ok, refl, sym, ◌∙◌, ap, subst, arith, codes, length-append}
 use Rattle.std.specs.List.{All}
 use Rattle.std.specs.List.Sorted.{IsStrictlySortedBy}
 use Rattle.std.proofs.lemmas.List.{length-map}

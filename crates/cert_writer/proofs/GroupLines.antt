@@ -4,7 +4,7 @@ use Rattle.std.specs.Prelude.{All}
 use Rattle.std.specs.Fmt.{decimal}
 use Rattle.std.proofs.lemmas.Bool.{lt-ltb}
 use Rattle.std.proofs.lemmas.List.{length-map}
-use Rattle.fbas_model.specs.Nodes.{Table, members, ◌⊆◌, size}
+use Rattle.fbas_model.specs.Nodes.{Table, members, ◌⊆◌}
 use Rattle.fbas_model.specs.Fbas.{Fbas}
 use Rattle.fbas_model.specs.Names.{Name}
 use Rattle.fbas_model.specs.Systems.{System}

@@ -40,7 +40,7 @@ use Rattle.cert_writer.proofs.Headers.{takes_header, lines_header}
 use Rattle.cert_writer.proofs.LogLaws.{literals_of}
 use Rattle.cert_writer.proofs.StepLines.{line_addition, line_deletion, few_literals}
 use Rattle.cert_writer.proofs.SetLines.{StandsAt}
-use Rattle.cert_writer.proofs.JournalRuns.{Over, OfNodes, OfGroups, rules_for, text_over, shown_over, Stands, IsFineLine, at_list, short_literals, FallOn, takes_body}
+use Rattle.cert_writer.proofs.JournalRuns.{Over, OfNodes, OfGroups, rules_for, text_over, shown_over, Stands, at_list, short_literals, FallOn, takes_body}
 
 -- ---- each is a line
 
