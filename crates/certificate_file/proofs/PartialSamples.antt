@@ -1,5 +1,5 @@
 -- What the definition answers for partial certificates that are written out.
-use Rattle.std.specs.Prelude.{◌≡◌, refl, ℕ, List, [], ◌∷◌, ◌++◌, false, None, Ok, Err, codes}
+use Rattle.std.specs.Prelude.{refl, ℕ, [], ◌∷◌, ◌++◌, false, None, Ok, Err, codes}
 use Rattle.hex.specs.Hex.{encode_with, decode_pairs}
 use Rattle.lrat_model.specs.declared.step.StepFault.TheVariants.{NotUnit}
 use Rattle.clause_encoder.specs.Formula.{formula}

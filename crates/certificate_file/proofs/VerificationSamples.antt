@@ -1,5 +1,5 @@
 -- What the definition answers for LRAT proofs that are written out.
-use Rattle.std.specs.Prelude.{◌≡◌, refl, ℕ, List, [], ◌∷◌, ◌++◌, false, None, Ok, Err, codes}
+use Rattle.std.specs.Prelude.{refl, ℕ, List, [], ◌∷◌, ◌++◌, false, None, Ok, Err, codes}
 use Rattle.lrat_model.specs.declared.step.StepFault.TheVariants.{NotUnit, RatMissing}
 use Rattle.clause_encoder.specs.Formula.{formula}
 use Rattle.greatest_quorum.specs.Greatest.{greatest_of}
