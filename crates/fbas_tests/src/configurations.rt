@@ -1,7 +1,8 @@
 //! What no clause says: that calls succeed, and rows whose answers come from the rules by hand.
 
-use crate::shared::{equal, numbered, same, system_of};
+use crate::shared::{equal, input_of, numbered, same, system_of, wants_printed};
 use fbas_core::System;
+use fbas_model::{MOST_ENTRIES, MOST_LEVELS, MOST_NODES};
 use name_set::NodeSet;
 use node_json::ConfigFault::{
     BadKey, BadQuorumSet, Duplicate, NotJson, NotNode, NotNodes, TooDeep, TooManyEntries,
@@ -11,6 +12,27 @@ use node_json::SetFault::{Inner, Shape, Threshold, Validators};
 use node_json::{ConfigFault, read_config};
 use std::alloc::{AllocError, Global};
 use std::process::Abort;
+
+// What is said of a text: its fault, or that it is read.
+fn said(alloc: Global, text: &[u8]) -> Result<String, AllocError> {
+    match fault_of(alloc, text) {
+        Some(fault) => format!(in alloc; "{fault}"),
+        None => String::from_str(alloc, "read"),
+    }
+}
+
+// What is found of a row's text.
+fn row_of_text(alloc: Global, row: &str) -> Result<String, AllocError> {
+    let text = input_of(row);
+    format!(in alloc; "{text} => {}", said(alloc, text.as_bytes())?)
+}
+
+// What is found of a row's quorum set, as that of node x.
+fn row_of_set(alloc: Global, row: &str) -> Result<String, AllocError> {
+    let set = input_of(row);
+    let text = with_set(alloc, set)?;
+    format!(in alloc; "{set} => {}", said(alloc, text.as_bytes())?)
+}
 
 // The fault of a text, or none where it is read.
 fn fault_of(alloc: Global, text: &[u8]) -> Option<ConfigFault> {
@@ -39,85 +61,54 @@ fn with_set(alloc: Global, set: &str) -> Result<String, AllocError> {
     format!(in alloc; "[{{\"publicKey\":\"x\",\"quorumSet\":{set}}}]")
 }
 
-static TEXTS: [(&str, Option<ConfigFault>); 14] = [
-    ("", Some(NotJson)),
-    ("[", Some(NotJson)),
-    ("[{\"publicKey\":\"a\",\"latitude\":1e400}]", Some(NotJson)),
-    ("{}", Some(NotNodes)),
-    ("[{\"publicKey\":\"a\"},1,{}]", Some(NotNode(1))),
-    ("[{}]", Some(BadKey(0))),
-    ("[{\"publicKey\":\"a\"},{\"publicKey\":7}]", Some(BadKey(1))),
-    ("[{\"publicKey\":\"\"}]", Some(BadKey(0))),
-    ("[{\"publicKey\":\"a b\"}]", Some(BadKey(0))),
-    ("[{\"publicKey\":\"a,b\",\"quorumSet\":1}]", Some(BadKey(0))),
-    (
-        "[{\"publicKey\":\"a\"},{\"publicKey\":\"a\",\"quorumSet\":1}]",
-        Some(Duplicate(1)),
-    ),
-    ("[]", None),
-    ("[{\"publicKey\":\"a\",\"quorumSet\":null}]", None),
-    ("[{\"publicKey\":\"a,\",\"publicKey\":\"b\"}]", None),
+static TEXTS: [&str; 14] = [
+    " => not-json",
+    "[ => not-json",
+    r#"[{"publicKey":"a","latitude":1e400}] => not-json"#,
+    "{} => not-nodes",
+    r#"[{"publicKey":"a"},1,{}] => not-node 1"#,
+    "[{}] => bad-key 0",
+    r#"[{"publicKey":"a"},{"publicKey":7}] => bad-key 1"#,
+    r#"[{"publicKey":""}] => bad-key 0"#,
+    r#"[{"publicKey":"a b"}] => bad-key 0"#,
+    r#"[{"publicKey":"a,b","quorumSet":1}] => bad-key 0"#,
+    r#"[{"publicKey":"a"},{"publicKey":"a","quorumSet":1}] => duplicate 1"#,
+    "[] => read",
+    r#"[{"publicKey":"a","quorumSet":null}] => read"#,
+    r#"[{"publicKey":"a,","publicKey":"b"}] => read"#,
 ];
 
 #[test]
 fn finds_the_first_fault(rt: HostRuntime) {
     let alloc = rt.alloc();
-    for (text, fault) in TEXTS.iter() {
-        wants_fault(&rt, alloc, text.as_bytes(), *fault, text);
+    for row in TEXTS.iter() {
+        same(&rt, row_of_text(alloc, row), row);
     }
     let bytes = [0x5b, 0xff, 0x5d];
     wants_fault(&rt, alloc, &bytes, Some(NotJson), "bytes that are no text");
 }
 
-static SETS: [(&str, Option<ConfigFault>); 14] = [
-    ("[]", Some(BadQuorumSet(0, Shape))),
-    ("{}", Some(BadQuorumSet(0, Threshold))),
-    ("{\"threshold\":-1}", Some(BadQuorumSet(0, Threshold))),
-    ("{\"threshold\":1.0}", Some(BadQuorumSet(0, Threshold))),
-    (
-        "{\"threshold\":18446744073709551616}",
-        Some(BadQuorumSet(0, Threshold)),
-    ),
-    (
-        "{\"threshold\":1,\"threshold\":\"1\"}",
-        Some(BadQuorumSet(0, Threshold)),
-    ),
-    (
-        "{\"threshold\":null,\"validators\":{}}",
-        Some(BadQuorumSet(0, Threshold)),
-    ),
-    (
-        "{\"threshold\":1,\"validators\":{},\"innerQuorumSets\":1}",
-        Some(BadQuorumSet(0, Validators)),
-    ),
-    (
-        "{\"threshold\":1,\"validators\":[\"a\",\"b c\"]}",
-        Some(BadQuorumSet(0, Validators)),
-    ),
-    (
-        "{\"threshold\":1,\"innerQuorumSets\":{}}",
-        Some(BadQuorumSet(0, Inner)),
-    ),
-    (
-        "{\"threshold\":1,\"innerQuorumSets\":[null]}",
-        Some(BadQuorumSet(0, Shape)),
-    ),
-    (
-        "{\"threshold\":1,\"innerQuorumSets\":[{\"threshold\":1,\"innerQuorumSets\":1},{}]}",
-        Some(BadQuorumSet(0, Inner)),
-    ),
-    (
-        "{\"threshold\":18446744073709551615,\"validators\":null,\"innerQuorumSets\":null}",
-        None,
-    ),
-    ("{\"thres\\u0068old\":0}", None),
+static SETS: [&str; 14] = [
+    "[] => bad-quorum-set 0 shape",
+    "{} => bad-quorum-set 0 threshold",
+    r#"{"threshold":-1} => bad-quorum-set 0 threshold"#,
+    r#"{"threshold":1.0} => bad-quorum-set 0 threshold"#,
+    r#"{"threshold":18446744073709551616} => bad-quorum-set 0 threshold"#,
+    r#"{"threshold":1,"threshold":"1"} => bad-quorum-set 0 threshold"#,
+    r#"{"threshold":null,"validators":{}} => bad-quorum-set 0 threshold"#,
+    r#"{"threshold":1,"validators":{},"innerQuorumSets":1} => bad-quorum-set 0 validators"#,
+    r#"{"threshold":1,"validators":["a","b c"]} => bad-quorum-set 0 validators"#,
+    r#"{"threshold":1,"innerQuorumSets":{}} => bad-quorum-set 0 inner"#,
+    r#"{"threshold":1,"innerQuorumSets":[null]} => bad-quorum-set 0 shape"#,
+    r#"{"threshold":1,"innerQuorumSets":[{"threshold":1,"innerQuorumSets":1},{}]} => bad-quorum-set 0 inner"#,
+    r#"{"threshold":18446744073709551615,"validators":null,"innerQuorumSets":null} => read"#,
+    r#"{"thres\u0068old":0} => read"#,
 ];
 
 #[test]
 fn finds_the_first_fault_of_a_quorum_set(rt: HostRuntime) {
-    for (set, fault) in SETS.iter() {
-        let text = with_set(rt.alloc(), set);
-        wants_fault_of_made(&rt, rt.alloc(), text, *fault, set);
+    for row in SETS.iter() {
+        same(&rt, row_of_set(rt.alloc(), row), row);
     }
 }
 
@@ -144,8 +135,8 @@ const INNERS: [&str; 5] = [
 const ARRAYS: [&str; 5] = ["", "[", "", "]", ""];
 
 static NESTED: [([&str; 5], usize, Option<ConfigFault>); 4] = [
-    (INNERS, 31, None),
-    (INNERS, 32, Some(TooDeep(0))),
+    (INNERS, MOST_LEVELS as usize - 1, None),
+    (INNERS, MOST_LEVELS as usize, Some(TooDeep(0))),
     (ARRAYS, 127, Some(NotNode(0))),
     (ARRAYS, 128, Some(NotJson)),
 ];
@@ -164,11 +155,17 @@ fn many(alloc: Global, n: u64, are_alike: bool) -> Result<String, AllocError> {
     numbered(alloc, (head, "]}}]"), (",\"n", "\""), n, are_alike)
 }
 
+const NODES: u64 = MOST_NODES as u64;
+
 static MANY: [(u64, bool, Option<ConfigFault>); 4] = [
-    (16_384, false, None),
-    (16_385, false, Some(TooManyNodes(16_385))),
-    (1_000_000, true, None),
-    (1_000_001, true, Some(TooManyEntries(1_000_001))),
+    (NODES, false, None),
+    (NODES + 1, false, Some(TooManyNodes(NODES + 1))),
+    (MOST_ENTRIES, true, None),
+    (
+        MOST_ENTRIES + 1,
+        true,
+        Some(TooManyEntries(MOST_ENTRIES + 1)),
+    ),
 ];
 
 #[test]
@@ -238,13 +235,7 @@ static PRINTED: [(ConfigFault, &str); 12] = [
     (TooManyEntries(1_000_001), "too-many-entries 1000001"),
 ];
 
-fn printed(alloc: Global, fault: ConfigFault) -> Result<String, AllocError> {
-    format!(in alloc; "{fault}")
-}
-
 #[test]
 fn prints_each_fault(rt: HostRuntime) {
-    for (fault, text) in PRINTED.iter() {
-        same(&rt, printed(rt.alloc(), *fault), text);
-    }
+    wants_printed(&rt, rt.alloc(), &PRINTED);
 }

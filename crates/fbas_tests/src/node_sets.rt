@@ -3,7 +3,8 @@
 ghost use Rattle.std.specs.Prelude.{◌≡◌, ◌*◌, ◌≤◌, ◌<◌, length};
 
 use crate::shared::{equal, names_of, same};
-use name_set::{MOST_WORDS, Names, NodeSet, NodeWords, cmp_sets};
+use fbas_model::{MOST_NODES, MOST_ORGS};
+use name_set::{GROUP_WORDS, MOST_WORDS, NODE_WORDS, Names, NodeSet, NodeWords, cmp_sets};
 use std::alloc::{AllocError, Global};
 use std::process::Abort;
 
@@ -178,15 +179,17 @@ fn show<const W: usize>(rt: &impl Abort, n: u32)
     equal(rt, &found, &want, "the numbers below");
 }
 
+const NODES: u32 = MOST_NODES as u32;
+
 #[test]
 fn sets_end_anywhere_in_a_word(rt: HostRuntime) {
-    for n in [0, 1, 63, 64, 65, 127, 128, 16_383, 16_384] {
-        show::<256>(&rt, n);
+    for n in [0, 1, 63, 64, 65, 127, 128, NODES - 1, NODES] {
+        show::<NODE_WORDS>(&rt, n);
     }
     show::<1>(&rt, 64);
     show::<2>(&rt, 65);
     show::<3>(&rt, 130);
-    show::<320>(&rt, 20_480);
+    show::<GROUP_WORDS>(&rt, NODES + MOST_ORGS as u32);
 }
 
 /// Whether the one set comes before the other, both ways.

@@ -2,8 +2,9 @@
 
 ghost use Rattle.std.specs.Prelude.{◌≡◌, All, length};
 
-use crate::shared::{equal, numbered, same, system_of};
+use crate::shared::{equal, input_of, numbered, same, system_of, wants_printed};
 use fbas_core::System;
+use fbas_model::MOST_ORGS;
 use name_set::NameFault;
 use node_json::OrgFault::{BadOrg, DuplicateOrg, NotJson, NotOrgs, TooManyOrgs};
 use node_json::{OrgFault, Orgs, read_ids, read_orgs};
@@ -25,39 +26,36 @@ fn wants_fault(
     equal(rt, &found, &want, at);
 }
 
-static TEXTS: [(&str, Option<OrgFault>); 12] = [
-    ("[", Some(NotJson)),
-    ("{}", Some(NotOrgs)),
-    ("[1]", Some(BadOrg(0))),
-    ("[{\"id\":\"A\"},{\"validators\":[]}]", Some(BadOrg(1))),
-    ("[{\"id\":\"A B\"}]", Some(BadOrg(0))),
-    ("[{\"id\":\"A\"},{\"id\":\"A\"}]", Some(DuplicateOrg(1))),
-    (
-        "[{\"id\":\"A\"},{\"id\":\"A\",\"validators\":1}]",
-        Some(DuplicateOrg(1)),
-    ),
-    (
-        "[{\"id\":\"A\",\"validators\":{}},{\"id\":\"A\"}]",
-        Some(BadOrg(0)),
-    ),
-    ("[{\"id\":\"A\",\"validators\":[\"a\",1]}]", Some(BadOrg(0))),
-    (
-        "[{\"id\":\"A\",\"validators\":[\"a\",\"z z\"]}]",
-        Some(BadOrg(0)),
-    ),
-    ("[]", None),
-    (
-        "[{\"id\":\"A\",\"validators\":null,\"name\":[]},{\"id\":\"B\"}]",
-        None,
-    ),
+// What is found of a row's text: its fault, or that it is read.
+fn row_of_text(alloc: Global, system: &System, row: &str) -> Result<String, AllocError> {
+    let text = input_of(row);
+    match read_orgs(alloc, text.as_bytes(), system).err() {
+        Some(fault) => format!(in alloc; "{text} => {fault}"),
+        None => format!(in alloc; "{text} => read"),
+    }
+}
+
+static TEXTS: [&str; 12] = [
+    "[ => not-json",
+    "{} => not-orgs",
+    "[1] => bad-org 0",
+    r#"[{"id":"A"},{"validators":[]}] => bad-org 1"#,
+    r#"[{"id":"A B"}] => bad-org 0"#,
+    r#"[{"id":"A"},{"id":"A"}] => duplicate-org 1"#,
+    r#"[{"id":"A"},{"id":"A","validators":1}] => duplicate-org 1"#,
+    r#"[{"id":"A","validators":{}},{"id":"A"}] => bad-org 0"#,
+    r#"[{"id":"A","validators":["a",1]}] => bad-org 0"#,
+    r#"[{"id":"A","validators":["a","z z"]}] => bad-org 0"#,
+    "[] => read",
+    r#"[{"id":"A","validators":null,"name":[]},{"id":"B"}] => read"#,
 ];
 
 #[test]
 fn finds_the_first_fault(rt: HostRuntime) {
     let alloc = rt.alloc();
     let system = system_of(&rt, alloc, NODES);
-    for (text, fault) in TEXTS.iter() {
-        wants_fault(&rt, alloc, &system, text, *fault, text);
+    for row in TEXTS.iter() {
+        same(&rt, row_of_text(alloc, &system, row), row);
     }
     drop(system);
 }
@@ -75,30 +73,43 @@ const ONE: &str = "[{\"id\":\"A\",\"validators\":[\"a\",\"zz\"]}]";
 const THREE: &str =
     "[{\"id\":\"Q\",\"validators\":[\"c\",\"b\"]},{\"id\":\"P\"},{\"id\":\"A\",\"validators\":[\"a\",\"c\",\"a\"]}]";
 
-static LISTS: [(&str, &str, &str); 13] = [
-    (ONE, "", "Ok((false, false, false))"),
-    (ONE, "A", "Ok((true, false, false))"),
-    (ONE, "A,A", "Ok((true, false, false))"),
-    (ONE, "A,", "Err(Empty(2))"),
-    (ONE, "B", "Err(Unknown(1))"),
-    (ONE, "a", "Err(Unknown(1))"),
-    (ONE, "A,B,A B", "Err(Unknown(2))"),
-    (ONE, "A,A B,B", "Err(BadKey(2))"),
-    (THREE, "A", "Ok((true, false, true))"),
-    (THREE, "P", "Ok((false, false, false))"),
-    (THREE, "P,Q", "Ok((false, true, true))"),
-    (THREE, "A,Q", "Ok((true, true, true))"),
-    ("[]", "A", "Err(Unknown(1))"),
+// Lists of ids, and their members among these organisations.
+static OF_ONE: [&str; 8] = [
+    " => Ok((false, false, false))",
+    "A => Ok((true, false, false))",
+    "A,A => Ok((true, false, false))",
+    "A, => Err(Empty(2))",
+    "B => Err(Unknown(1))",
+    "a => Err(Unknown(1))",
+    "A,B,A B => Err(Unknown(2))",
+    "A,A B,B => Err(BadKey(2))",
 ];
 
-// The members that a list of ids has among the organisations of a text.
-fn read(alloc: Global, system: &System, text: &str, ids: &str) -> Result<String, AllocError> {
+static OF_THREE: [&str; 4] = [
+    "A => Ok((true, false, true))",
+    "P => Ok((false, false, false))",
+    "P,Q => Ok((false, true, true))",
+    "A,Q => Ok((true, true, true))",
+];
+
+static OF_NONE: [&str; 1] = ["A => Err(Unknown(1))"];
+
+// What is found of a row's list among the organisations of a text.
+fn read(alloc: Global, system: &System, text: &str, row: &str) -> Result<String, AllocError> {
     if system.len() != 3 {
         return String::from_str(alloc, "not three nodes");
     }
+    let ids = input_of(row);
     match read_orgs(alloc, text.as_bytes(), system) {
-        Ok(orgs) => format!(in alloc; "{:?}", members(&orgs, ids)),
+        Ok(orgs) => format!(in alloc; "{ids} => {:?}", members(&orgs, ids)),
         Err(fault) => format!(in alloc; "{fault:?}"),
+    }
+}
+
+// Fails the test where a list has other members.
+fn wants_members(rt: &impl Abort, alloc: Global, system: &System, text: &str, rows: &[&str]) {
+    for row in rows {
+        same(rt, read(alloc, system, text, row), row);
     }
 }
 
@@ -106,9 +117,9 @@ fn read(alloc: Global, system: &System, text: &str, ids: &str) -> Result<String,
 fn finds_the_members_of_a_list_or_its_first_fault(rt: HostRuntime) {
     let alloc = rt.alloc();
     let system = system_of(&rt, alloc, NODES);
-    for (text, ids, want) in LISTS.iter() {
-        same(&rt, read(alloc, &system, text, ids), want);
-    }
+    wants_members(&rt, alloc, &system, ONE, &OF_ONE);
+    wants_members(&rt, alloc, &system, THREE, &OF_THREE);
+    wants_members(&rt, alloc, &system, "[]", &OF_NONE);
     drop(system);
 }
 
@@ -123,11 +134,8 @@ fn without_a_file(alloc: Global) -> Result<String, AllocError> {
 
 #[test]
 fn has_no_organisations_without_a_file(rt: HostRuntime) {
-    same(
-        &rt,
-        without_a_file(rt.alloc()),
-        "true Some(Unknown(1)) Ok(0)",
-    );
+    let want = "true Some(Unknown(1)) Ok(0)";
+    same(&rt, without_a_file(rt.alloc()), want);
 }
 
 // This many organisations, each with an id of its own.
@@ -152,27 +160,22 @@ fn wants_fault_of_many(
 fn reads_as_many_as_the_limit(rt: HostRuntime) {
     let alloc = rt.alloc();
     let system = system_of(&rt, alloc, NODES);
-    wants_fault_of_many(&rt, alloc, &system, 4096, None);
-    let fault = Some(TooManyOrgs(4097));
-    wants_fault_of_many(&rt, alloc, &system, 4097, fault);
+    let most = MOST_ORGS as u64;
+    wants_fault_of_many(&rt, alloc, &system, most, None);
+    let fault = Some(TooManyOrgs(most + 1));
+    wants_fault_of_many(&rt, alloc, &system, most + 1, fault);
     drop(system);
-}
-
-static PRINTED: [(OrgFault, &str); 5] = [
-    (NotJson, "not-json"),
-    (NotOrgs, "not-orgs"),
-    (BadOrg(2), "bad-org 2"),
-    (DuplicateOrg(1), "duplicate-org 1"),
-    (TooManyOrgs(4097), "too-many-orgs 4097"),
-];
-
-fn printed(alloc: Global, fault: OrgFault) -> Result<String, AllocError> {
-    format!(in alloc; "{fault}")
 }
 
 #[test]
 fn prints_each_fault(rt: HostRuntime) {
-    for (fault, text) in PRINTED.iter() {
-        same(&rt, printed(rt.alloc(), *fault), text);
-    }
+    wants_printed(&rt, rt.alloc(), &PRINTED);
 }
+
+static PRINTED: [(OrgFault, &str); 5] = [
+    (BadOrg(2), "bad-org 2"),
+    (DuplicateOrg(1), "duplicate-org 1"),
+    (NotJson, "not-json"),
+    (NotOrgs, "not-orgs"),
+    (TooManyOrgs(4097), "too-many-orgs 4097"),
+];

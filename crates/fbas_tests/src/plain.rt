@@ -4,7 +4,7 @@ ghost use Rattle.std.specs.Prelude.{◌≡◌, ◌<◌, ◌≤◌, ◌↔◌, le
 ghost use Rattle.fbas_model.specs.QuorumSets.{IsBelow};
 ghost use Rattle.fbas_plain.specs.Plain.{IsWellFormed};
 
-use crate::shared::{equal, system_of};
+use crate::shared::{A, B, C, D, equal, node_set, system_of};
 use fbas_core::System;
 use fbas_plain::{
     available, has_choice_within, has_choice_within_either, intersects, is_quorum, meets_quorums,
@@ -15,105 +15,62 @@ use quorum_set::QuorumSet;
 use std::alloc::{AllocError, Global};
 use std::process::Abort;
 
-// The nodes 0 to 3, each as a set of one. A set of more is their sum.
-const A: u32 = 1;
+/// A threshold and nodes.
+type Flat = (u64, &'static [u32]);
 
-const B: u32 = 2;
-
-const C: u32 = 4;
-
-const D: u32 = 8;
-
-/// A quorum set whose inner quorum sets have nodes alone.
+/// A quorum set: its threshold and nodes, and inner quorum sets that have nodes alone.
 #[derive(Clone, Copy)]
-struct Choices {
-    threshold: u64,
-    nodes: &'static [u32],
-    inner: &'static [(u64, &'static [u32])],
-}
+struct Choices(Flat, &'static [Flat]);
 
-const NONE_OF_A: Choices = Choices {
-    threshold: 0,
-    nodes: &[0],
-    inner: &[],
-};
+const NONE_OF_A: Choices = Choices((0, &[0]), &[]);
 
-const TWO_OF_A: Choices = Choices {
-    threshold: 2,
-    nodes: &[0],
-    inner: &[],
-};
+const TWO_OF_A: Choices = Choices((2, &[0]), &[]);
 
-const ONE_OF_B: Choices = Choices {
-    threshold: 1,
-    nodes: &[1],
-    inner: &[],
-};
+const ONE_OF_B: Choices = Choices((1, &[1]), &[]);
 
-const TWO_OF_B_TWICE: Choices = Choices {
-    threshold: 2,
-    nodes: &[1, 1],
-    inner: &[],
-};
+const TWO_OF_B_TWICE: Choices = Choices((2, &[1, 1]), &[]);
 
-const TWO_OF_AB: Choices = Choices {
-    threshold: 2,
-    nodes: &[0, 1],
-    inner: &[],
-};
+const TWO_OF_AB: Choices = Choices((2, &[0, 1]), &[]);
 
-const TWO_OF_CD: Choices = Choices {
-    threshold: 2,
-    nodes: &[2, 3],
-    inner: &[],
-};
+const TWO_OF_CD: Choices = Choices((2, &[2, 3]), &[]);
 
-const TWO_OF_ABC: Choices = Choices {
-    threshold: 2,
-    nodes: &[0, 1, 2],
-    inner: &[],
-};
+const TWO_OF_ABC: Choices = Choices((2, &[0, 1, 2]), &[]);
 
-const THREE_OF_ABCD: Choices = Choices {
-    threshold: 3,
-    nodes: &[0, 1, 2, 3],
-    inner: &[],
-};
+const THREE_OF_ABCD: Choices = Choices((3, &[0, 1, 2, 3]), &[]);
 
-const A_AND_ONE_OF_BC: Choices = Choices {
-    threshold: 2,
-    nodes: &[0],
-    inner: &[(1, &[1, 2])],
-};
+const A_AND_ONE_OF_BC: Choices = Choices((2, &[0]), &[(1, &[1, 2])]);
 
-const ONE_OF_NO_CHOICE: Choices = Choices {
-    threshold: 1,
-    nodes: &[],
-    inner: &[(0, &[0]), (2, &[1])],
-};
+const ONE_OF_NO_CHOICE: Choices = Choices((1, &[]), &[(0, &[0]), (2, &[1])]);
 
-/// A system, and what is so once the faulty nodes are deleted.
-#[derive(Clone, Copy)]
-struct Example<'a> {
-    sets: &'a [Option<Choices>],
-    faulty: u32,
-    quorums: &'a [u32],
-    all_meet: bool,
-    rest_is_quorum: bool,
-}
+/// The quorum sets of two nodes to four.
+type Sets = &'static [Option<Choices>];
 
-fn node_set(n: u32, nodes: u32) -> NodeSet
-    requires { n ≤ 4 }
-    ensures { length result ≡ n }
-{
-    let mut set = NodeSet::new(n);
-    for v in 0..n {
-        if (nodes >> v) & 1 == 1 {
-            set.put(v);
-        }
-    }
-    set
-}
+const PAIR: Sets = &[Some(TWO_OF_AB); 2];
+
+const TWO_OF_THREE: Sets = &[Some(TWO_OF_ABC); 3];
+
+const THREE_OF_FOUR: Sets = &[Some(THREE_OF_ABCD); 4];
+
+const INNER_SET: Sets = &[Some(A_AND_ONE_OF_BC); 3];
+
+const TWO_PAIRS: Sets = &[
+    Some(TWO_OF_AB),
+    Some(TWO_OF_AB),
+    Some(TWO_OF_CD),
+    Some(TWO_OF_CD),
+];
+
+const B_TWICE: Sets = &[Some(TWO_OF_B_TWICE), Some(ONE_OF_B)];
+
+const THRESHOLD_OF_NONE: Sets = &[Some(NONE_OF_A), Some(ONE_OF_B)];
+
+const THRESHOLD_ABOVE: Sets = &[Some(TWO_OF_A), Some(ONE_OF_B)];
+
+const UNSET_NEIGHBOUR: Sets = &[Some(ONE_OF_B), None];
+
+/// A system and its faulty nodes, and what is so once these are deleted: the quorums, whether all meet, and whether the rest is a
+/// quorum.
+type Example<'a> = (&'a [Option<Choices>], u32, &'a [u32], (bool, bool));
 
 fn are_below(nodes: &[u32], n: u32) -> bool
     ensures { IsTrue result ↔ All (λ w. w < n) nodes.now }
@@ -150,10 +107,11 @@ fn quorum_set(
     ensures { IfOk result (IsBelow n) }
 {
     let mut inner = Vec::new(alloc);
-    for (threshold, nodes) in choices.inner {
+    let Choices((own_threshold, own_nodes), inners) = *choices;
+    for (threshold, nodes) in inners {
         inner.push(with_inner(rt, alloc, n, *threshold, nodes, Vec::new(alloc))?)?;
     }
-    with_inner(rt, alloc, n, choices.threshold, choices.nodes, inner)
+    with_inner(rt, alloc, n, own_threshold, own_nodes, inner)
 }
 
 fn node(
@@ -242,155 +200,38 @@ fn is_as_listed(sets: &[Option<QuorumSet>], faulty: &NodeSet, quorums: &[u32]) -
     true
 }
 
+// The threshold of 0 is that of a, and so is the one above its entries.
 static EXAMPLES: [Example<'static>; 15] = [
-    // two of two
-    Example {
-        sets: &[Some(TWO_OF_AB), Some(TWO_OF_AB)],
-        faulty: 0,
-        quorums: &[A | B],
-        all_meet: true,
-        rest_is_quorum: true,
-    },
-    // two of two, both faulty
-    Example {
-        sets: &[Some(TWO_OF_AB), Some(TWO_OF_AB)],
-        faulty: A | B,
-        quorums: &[],
-        all_meet: true,
-        rest_is_quorum: true,
-    },
-    // two of three
-    Example {
-        sets: &[Some(TWO_OF_ABC), Some(TWO_OF_ABC), Some(TWO_OF_ABC)],
-        faulty: 0,
-        quorums: &[A | B, A | C, B | C, A | B | C],
-        all_meet: true,
-        rest_is_quorum: true,
-    },
-    // two of three, a faulty
-    Example {
-        sets: &[Some(TWO_OF_ABC), Some(TWO_OF_ABC), Some(TWO_OF_ABC)],
-        faulty: A,
-        quorums: &[B, C, B | C],
-        all_meet: false,
-        rest_is_quorum: true,
-    },
-    // three of four
-    Example {
-        sets: &[
-            Some(THREE_OF_ABCD),
-            Some(THREE_OF_ABCD),
-            Some(THREE_OF_ABCD),
-            Some(THREE_OF_ABCD),
-        ],
-        faulty: 0,
-        quorums: &[A | B | C, A | B | D, A | C | D, B | C | D, A | B | C | D],
-        all_meet: true,
-        rest_is_quorum: true,
-    },
-    // three of four, a faulty
-    Example {
-        sets: &[
-            Some(THREE_OF_ABCD),
-            Some(THREE_OF_ABCD),
-            Some(THREE_OF_ABCD),
-            Some(THREE_OF_ABCD),
-        ],
-        faulty: A,
-        quorums: &[B | C, B | D, C | D, B | C | D],
-        all_meet: true,
-        rest_is_quorum: true,
-    },
-    // three of four, a and b faulty
-    Example {
-        sets: &[
-            Some(THREE_OF_ABCD),
-            Some(THREE_OF_ABCD),
-            Some(THREE_OF_ABCD),
-            Some(THREE_OF_ABCD),
-        ],
-        faulty: A | B,
-        quorums: &[C, D, C | D],
-        all_meet: false,
-        rest_is_quorum: false,
-    },
-    // two pairs
-    Example {
-        sets: &[
-            Some(TWO_OF_AB),
-            Some(TWO_OF_AB),
-            Some(TWO_OF_CD),
-            Some(TWO_OF_CD),
-        ],
-        faulty: 0,
-        quorums: &[A | B, C | D, A | B | C | D],
-        all_meet: false,
-        rest_is_quorum: true,
-    },
-    // b stands twice
-    Example {
-        sets: &[Some(TWO_OF_B_TWICE), Some(ONE_OF_B)],
-        faulty: 0,
-        quorums: &[B, A | B],
-        all_meet: true,
-        rest_is_quorum: true,
-    },
-    // a threshold of 0
-    Example {
-        sets: &[Some(NONE_OF_A), Some(ONE_OF_B)],
-        faulty: 0,
-        quorums: &[B],
-        all_meet: true,
-        rest_is_quorum: false,
-    },
-    // a threshold above its entries
-    Example {
-        sets: &[Some(TWO_OF_A), Some(ONE_OF_B)],
-        faulty: A,
-        quorums: &[B],
-        all_meet: true,
-        rest_is_quorum: true,
-    },
-    // an inner quorum set
-    Example {
-        sets: &[
-            Some(A_AND_ONE_OF_BC),
-            Some(A_AND_ONE_OF_BC),
-            Some(A_AND_ONE_OF_BC),
-        ],
-        faulty: 0,
-        quorums: &[A | B, A | C, A | B | C],
-        all_meet: true,
-        rest_is_quorum: true,
-    },
-    // an inner quorum set, a faulty
-    Example {
-        sets: &[
-            Some(A_AND_ONE_OF_BC),
-            Some(A_AND_ONE_OF_BC),
-            Some(A_AND_ONE_OF_BC),
-        ],
-        faulty: A,
-        quorums: &[B, C, B | C],
-        all_meet: false,
-        rest_is_quorum: false,
-    },
-    // a neighbour with no quorum set
-    Example {
-        sets: &[Some(ONE_OF_B), None],
-        faulty: 0,
-        quorums: &[],
-        all_meet: true,
-        rest_is_quorum: false,
-    },
-    // a faulty neighbour with no quorum set
-    Example {
-        sets: &[Some(ONE_OF_B), None],
-        faulty: B,
-        quorums: &[A],
-        all_meet: true,
-        rest_is_quorum: false,
-    },
+    (PAIR, 0, &[A | B], (true, true)),
+    (PAIR, A | B, &[], (true, true)),
+    (
+        TWO_OF_THREE,
+        0,
+        &[A | B, A | C, B | C, A | B | C],
+        (true, true),
+    ),
+    (TWO_OF_THREE, A, &[B, C, B | C], (false, true)),
+    (
+        THREE_OF_FOUR,
+        0,
+        &[A | B | C, A | B | D, A | C | D, B | C | D, A | B | C | D],
+        (true, true),
+    ),
+    (
+        THREE_OF_FOUR,
+        A,
+        &[B | C, B | D, C | D, B | C | D],
+        (true, true),
+    ),
+    (THREE_OF_FOUR, A | B, &[C, D, C | D], (false, false)),
+    (TWO_PAIRS, 0, &[A | B, C | D, A | B | C | D], (false, true)),
+    (B_TWICE, 0, &[B, A | B], (true, true)),
+    (THRESHOLD_OF_NONE, 0, &[B], (true, false)),
+    (THRESHOLD_ABOVE, A, &[B], (true, true)),
+    (INNER_SET, 0, &[A | B, A | C, A | B | C], (true, true)),
+    (INNER_SET, A, &[B, C, B | C], (false, false)),
+    (UNSET_NEIGHBOUR, 0, &[], (true, false)),
+    (UNSET_NEIGHBOUR, B, &[A], (true, false)),
 ];
 
 /// Whether the quorums are as listed, all meet, and the rest is a quorum.
@@ -399,10 +240,11 @@ fn found(
     alloc: Global,
     example: &Example,
 ) -> Result<(bool, bool, bool), AllocError> {
-    let sets = system(rt, alloc, example.sets)?;
-    let faulty = node_set(sets.len() as u32, example.faulty);
+    let (sets, faulty, quorums, _) = *example;
+    let sets = system(rt, alloc, sets)?;
+    let faulty = node_set(sets.len() as u32, faulty);
     Ok((
-        is_as_listed(&sets, &faulty, example.quorums),
+        is_as_listed(&sets, &faulty, quorums),
         intersects(&sets, &faulty),
         available(&sets, &faulty),
     ))
@@ -411,7 +253,8 @@ fn found(
 /// Fails the test where something else is found.
 fn wants_found(rt: &impl Abort, alloc: Global, at: usize, example: &Example) {
     let found = (at, found(rt, alloc, example));
-    let want = (true, example.all_meet, example.rest_is_quorum);
+    let (_, _, _, (all_meet, rest_is_quorum)) = *example;
+    let want = (true, all_meet, rest_is_quorum);
     equal(rt, &found, &(at, Ok(want)), "an example");
 }
 
@@ -424,11 +267,7 @@ fn definitions_say_what_was_meant(rt: HostRuntime) {
 
 /// A quorum set of nodes 0 to 2, with an inner quorum set.
 fn nested(threshold: u64) -> Option<Choices> {
-    Some(Choices {
-        threshold,
-        nodes: &[0, 1],
-        inner: &[(2, &[1, 2])],
-    })
+    Some(Choices((threshold, &[0, 1]), &[(2, &[1, 2])]))
 }
 
 /// The quorum sets of a system of three nodes, which differ in their thresholds.

@@ -1,9 +1,8 @@
 //! Quorum sets, whose choices are counted by places.
 
-ghost use Rattle.std.specs.Prelude.{◌≡◌, length};
 ghost use Rattle.fbas_model.specs.QuorumSets.{IsBelow};
 
-use crate::shared::{equal, first_set, system_of};
+use crate::shared::{A, B, C, D, equal, first_set, node_set, system_of};
 use name_set::NodeSet;
 use quorum_set::QuorumSet;
 use std::process::Abort;
@@ -12,28 +11,16 @@ use std::process::Abort;
 const WORKED: &str =
     r#"[{"publicKey":"a","quorumSet":{"threshold":3,"validators":["a","b","b"],"innerQuorumSets":[{"threshold":1,"validators":["c","d"]},{"threshold":0,"validators":["a"]},{"threshold":3,"validators":["a","b"]}]}}]"#;
 
-fn set(marks: [bool; 4]) -> NodeSet
-    ensures { length result ≡ 4 }
-{
-    let mut set = NodeSet::new(4);
-    for v in 0..4 {
-        if marks[v as usize] {
-            set.put(v);
-        }
-    }
-    set
-}
-
 /// Whether it is satisfied in the two sets, in their union, and where the others are avoided.
-fn met(quorum_set: &QuorumSet, part: [bool; 4], rest: [bool; 4]) -> (bool, bool, bool)
+fn met(quorum_set: &QuorumSet, part: u32, rest: u32) -> (bool, bool, bool)
     requires { IsBelow 4 quorum_set.now }
 {
-    let part = set(part);
-    let rest = set(rest);
-    let mut others = set([true; 4]);
+    let part = node_set(4, part);
+    let rest = node_set(4, rest);
+    let mut others = node_set(4, A | B | C | D);
     others.minus(&part);
     others.minus(&rest);
-    let mut both = set([true; 4]);
+    let mut both = node_set(4, A | B | C | D);
     both.minus(&others);
     (
         quorum_set.satisfied_in(&part, &rest),
@@ -46,38 +33,18 @@ fn met(quorum_set: &QuorumSet, part: [bool; 4], rest: [bool; 4]) -> (bool, bool,
 fn mentioned(quorum_set: &QuorumSet) -> u32
     requires { IsBelow 4 quorum_set.now }
 {
-    let mut mentioned = set([false; 4]);
+    let mut mentioned = NodeSet::new(4);
     quorum_set.mentions(&mut mentioned);
     mentioned.count()
 }
 
-static PARTS: [([bool; 4], [bool; 4], bool); 6] = [
-    (
-        [false, false, false, false],
-        [false, false, false, false],
-        false,
-    ),
-    (
-        [false, true, false, false],
-        [false, true, false, false],
-        false,
-    ),
-    (
-        [true, false, false, false],
-        [false, true, false, false],
-        true,
-    ),
-    (
-        [false, true, false, false],
-        [false, false, true, false],
-        true,
-    ),
-    (
-        [true, false, true, false],
-        [false, false, false, true],
-        false,
-    ),
-    ([true, true, true, true], [false, false, false, false], true),
+static PARTS: [(u32, u32, bool); 6] = [
+    (0, 0, false),
+    (B, B, false),
+    (A, B, true),
+    (B, C, true),
+    (A | C, D, false),
+    (A | B | C | D, 0, true),
 ];
 
 /// Fails the test where something else is found. The quorum set is borrowed, so that what is proved of the loop does not carry it.

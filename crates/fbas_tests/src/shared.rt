@@ -1,14 +1,14 @@
 //! What the tests share.
 
-ghost use Rattle.std.specs.Prelude.{◌≡◌, ◌<◌, ◌^◌, length};
+ghost use Rattle.std.specs.Prelude.{◌≡◌, ◌<◌, ◌≤◌, ◌^◌, length};
 ghost use Rattle.fbas_model.specs.QuorumSets.{IsBelow, all_entries};
 
 use fbas_core::System;
-use name_set::Names;
+use name_set::{Names, NodeSet};
 use node_json::read_config;
 use quorum_set::QuorumSet;
 use std::alloc::{AllocError, Global};
-use std::fmt::Debug;
+use std::fmt::{Debug, Display};
 use std::process::Abort;
 
 /// Fails the test where the values differ. It stands apart, so that the tests have no branches of it.
@@ -20,6 +20,48 @@ pub fn equal<T: PartialEq + Debug>(rt: &impl Abort, found: &T, want: &T, at: &st
 pub fn same(rt: &impl Abort, found: Result<String, AllocError>, want: &str) {
     let found = found.expect(rt, "memory");
     equal(rt, &found.as_str(), &want, "a text");
+}
+
+/// What is handed in by a row `INPUT => FOUND`, which is what has to be found of it.
+pub fn input_of(row: &str) -> &str {
+    match row.split_once(" => ") {
+        Some((input, _)) => input,
+        None => row,
+    }
+}
+
+fn printed<T: Display>(alloc: Global, value: &T) -> Result<String, AllocError> {
+    format!(in alloc; "{value}")
+}
+
+/// Fails the test where a value is printed as another text than its own.
+pub fn wants_printed<T: Display>(rt: &impl Abort, alloc: Global, rows: &[(T, &str)]) {
+    for (value, text) in rows {
+        same(rt, printed(alloc, value), text);
+    }
+}
+
+/// The nodes 0 to 3, each as a set of one. A set of more is their sum.
+pub const A: u32 = 1;
+
+pub const B: u32 = 2;
+
+pub const C: u32 = 4;
+
+pub const D: u32 = 8;
+
+/// The nodes below `n` that such a sum has.
+pub fn node_set(n: u32, nodes: u32) -> NodeSet
+    requires { n ≤ 4 }
+    ensures { length result ≡ n }
+{
+    let mut set = NodeSet::new(n);
+    for v in 0..n {
+        if (nodes >> v) & 1 == 1 {
+            set.put(v);
+        }
+    }
+    set
 }
 
 /// The system of a configuration.

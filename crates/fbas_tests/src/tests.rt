@@ -32,44 +32,62 @@ fn set_of(system: &System, list: &str) -> Result<NodeSet, NameFault>
     read_names(list.as_bytes(), system.names())
 }
 
-// Whether the node b is the minimal quorum that is found in both.
-fn is_minimal_quorum(system: &System) -> Result<bool, NameFault> {
-    let mut quorum = set_of(system, "a,b")?;
-    let minimal = set_of(system, "b")?;
-    let faulty = NodeSet::new(system.len());
+/// What is made minimal.
+#[derive(Clone, Copy)]
+enum Kind {
+    Quorum,
+    BlockingSet,
+}
+
+// Makes the set minimal, if it is of its kind without the faulty nodes.
+fn is_made_minimal(system: &System, kind: Kind, set: &mut NodeSet, faulty: &NodeSet) -> bool
+    requires set { length set.old ≡ length system.now.sets }
+    requires same_faulty { length faulty.now ≡ length system.now.sets }
+    ensures { length set.new ≡ length set.old }
+{
     let mut scratch = NodeSet::new(system.len());
-    if !system.is_quorum(&quorum, &faulty) {
-        return Ok(false);
+    match kind {
+        Kind::Quorum if system.is_quorum(set, faulty) => {
+            minimal_quorum(system, set, faulty, &mut scratch);
+            true
+        }
+        Kind::BlockingSet if !set.meets(faulty) && blocks(system, set, faulty, &mut scratch) => {
+            minimal_block(system, set, faulty, &mut scratch);
+            true
+        }
+        _ => false,
     }
-    minimal_quorum(system, &mut quorum, &faulty, &mut scratch);
-    Ok(quorum.same(&minimal))
+}
+
+// Whether a list is made a minimal one without the faulty nodes.
+fn is_minimal(
+    system: &System,
+    kind: Kind,
+    [list, faulty, minimal]: [&str; 3],
+) -> Result<bool, NameFault> {
+    let mut set = set_of(system, list)?;
+    let faulty = set_of(system, faulty)?;
+    let minimal = set_of(system, minimal)?;
+    Ok(is_made_minimal(system, kind, &mut set, &faulty) && set.same(&minimal))
+}
+
+// Fails the test unless it is.
+fn wants_minimal(rt: &impl Abort, alloc: Global, config: &str, kind: Kind, lists: [&str; 3]) {
+    let system = system_of(rt, alloc, config);
+    equal(rt, &is_minimal(&system, kind, lists), &Ok(true), lists[0]);
+    drop(system);
 }
 
 #[test]
 fn a_minimal_quorum_of_a_repeated_entry(rt: HostRuntime) {
-    let system = system_of(&rt, rt.alloc(), REPEATED_ENTRY);
-    equal(&rt, &is_minimal_quorum(&system), &Ok(true), "a quorum");
-    drop(system);
-}
-
-// Whether b and c are a minimal blocking set without a.
-fn is_minimal_block(system: &System) -> Result<bool, NameFault> {
-    let mut set = set_of(system, "b,c")?;
-    let faulty = set_of(system, "a")?;
-    let minimal = set.copy();
-    let mut scratch = NodeSet::new(system.len());
-    if set.meets(&faulty) || !blocks(system, &set, &faulty, &mut scratch) {
-        return Ok(false);
-    }
-    minimal_block(system, &mut set, &faulty, &mut scratch);
-    Ok(set.same(&minimal))
+    let lists = ["a,b", "", "b"];
+    wants_minimal(&rt, rt.alloc(), REPEATED_ENTRY, Kind::Quorum, lists);
 }
 
 #[test]
 fn a_minimal_blocking_set_of_two_of_three(rt: HostRuntime) {
-    let system = system_of(&rt, rt.alloc(), TWO_OF_THREE);
-    equal(&rt, &is_minimal_block(&system), &Ok(true), "a blocking set");
-    drop(system);
+    let lists = ["b,c", "a", "b,c"];
+    wants_minimal(&rt, rt.alloc(), TWO_OF_THREE, Kind::BlockingSet, lists);
 }
 
 // The trust closure of the node that has the name.

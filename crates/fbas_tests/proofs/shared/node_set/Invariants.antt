@@ -1,5 +1,5 @@
 use Rattle.std.proofs.Common.{◌≡◌, length}
-use Rattle.fbas_tests.proofs.plain.node_set.Given as goal
+use Rattle.fbas_tests.proofs.shared.node_set.Given as goal
 
 abbrev pub invariant-loop-v : goal.invariant-loop-v
 invariant-loop-v l = length l.set ≡ l.n
