@@ -196,7 +196,7 @@ def maker(judge, module, folder):
     judge("made again", first == (run("-o", page, "--module", path), hashlib.sha256(held(page)).hexdigest()) and first[0] == 0, first)
     judge("its digest beside it", held(page + ".sha256").decode() == "%s  made.html\n" % first[1])
     large = written(os.urandom(MOST_BYTES), folder, "large.wasm")
-    for name, words, status in (("no module", ["-o", page, "--module", os.path.join(folder, "none.wasm")], 1), ("too large", ["-o", page, "--module", large], 1), ("no name", [], 2)):
+    for name, words, status in (("no module", ["-o", page, "--module", os.path.join(folder, "none.wasm")], 1), ("too large", ["-o", page, "--module", large], 1), ("no folder", ["-o", os.path.join(folder, "none", "made.html")], 1), ("no name", [], 2)):
         judge("the tool: " + name, run(*words) == status and hashlib.sha256(held(page)).hexdigest() == first[1], words)
 
 
