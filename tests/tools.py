@@ -2,7 +2,8 @@
 """Runs tools/hints and tools/pair on files that a slip hands them: what they say, and that they put out nothing then.
 
 Whether what they make is right is shown by the examples of the documents, where `check-lrat` and `check` read it. Of
-tools/arguments and tools/twice it shows what they count, and that docs/DECISIONS.md names each contract that the former lists.
+tools/arguments and tools/twice it shows what they count, and that docs/DECISIONS.md names each contract that the former lists; of
+tools/uses, which names it sees in a text and in crates.txt.
 The program is not needed. The last line is 'tools: N passed, M failed'.
 """
 
@@ -75,6 +76,18 @@ TWICE = [
     ("Text", ["a", "b", "cert_lines"], {"a": {"Text": {"c"}}, "b": {"Text": {"d"}}, "cert_lines": {"Text": {"d"}}}, False),
 ]
 
+# A text, its kind, and the libraries of NAMED that it names.
+NAMED = {"low", "high", "other"}
+NAMES = [
+    ("use low::Answer;\nfn one() { crate::high::two() }", ".rt", {"low"}),
+    ("use low as high;\n// other::three()\n/// other::four()", ".rt", {"low"}),
+    ("ghost use Rattle.low.specs.Found.{word_of};\nfn one() { high ::two::<other::Three>() }", ".rt", {"low", "high", "other"}),
+    ("let low = self.high.other();", ".rt", set()),
+    ("use Rattle.low.specs.Found.{word_of}\n-- use Rattle.other.specs.Found\nword : high ≡ other", ".antt", {"low"}),
+    ("word = Rattle.low.word --> Rattle.other.word", ".antt", {"low", "other"}),
+]
+LINES = "# A room: of two\n\nlow:\nhigh staticlib: low other # both\n"
+
 
 def tool(name):
     """A tool as a module."""
@@ -86,8 +99,11 @@ def tool(name):
 
 
 def source_tools():
-    """What tools/arguments and tools/twice say, each with what it should be."""
-    arguments, twice = tool("arguments"), tool("twice")
+    """What tools/arguments, tools/twice and tools/uses say, each with what it should be."""
+    arguments, twice, uses = tool("arguments"), tool("twice"), tool("uses")
+    for text, kind, names in NAMES:
+        yield "uses of %r" % text, uses.names_in(text, kind) & NAMED, names
+    yield "uses of crates.txt", uses.lines_of(LINES), {"low": [], "high": ["low", "other"]}
     yield "arguments of CODE", list(arguments.functions(CODE)), COUNTS
     for text, crate, names in IMPORTS:
         ((model, code, path),) = twice.IMPORT.findall(text)
