@@ -2,8 +2,8 @@
 """Runs tools/hints and tools/pair on files that a slip hands them: what they say, and that they put out nothing then.
 
 Whether what they make is right is shown by the examples of the documents, where `check-lrat` and `check` read it. Of
-tools/arguments and tools/twice it shows what they count, and that docs/DECISIONS.md names each contract that the former lists; of
-tools/uses, which names it sees in a text and in crates.txt.
+tools/arguments, tools/twice and tools/callers it shows what they count, and that docs/DECISIONS.md names each contract that the first of
+them lists; of tools/uses, which names it sees in a text and in crates.txt.
 The program is not needed. The last line is 'tools: N passed, M failed'.
 """
 
@@ -88,6 +88,23 @@ NAMES = [
 ]
 LINES = "# A room: of two\n\nlow:\nhigh staticlib: low other # both\n"
 
+# A text of another crate, a function of the crate `low`, the type it is a method of, and whether the text calls it.
+CALLS = [
+    ("use low::{find, list};", "list", "", True),
+    ("use low::{find, listed};", "list", "", False),
+    ("use high::{list};", "list", "", False),
+    ("    low::list(alloc)", "list", "", True),
+    ("    set.count()", "count", "Set", True),
+    ("    Set::of(alloc)", "of", "Set", True),
+    ("    let count = 3;", "count", "Set", False),
+]
+
+# A law, and a function that does something.
+LAWS = [
+    "pub fn what_is_listed_is_found()\n    ensures { (x : ℕ) → Finds x }\n{}\n",
+    "pub fn list(alloc: Global) -> u32\n    ensures { result ≡ 1 }\n{\n    1\n}\n",
+]
+
 
 def tool(name):
     """A tool as a module."""
@@ -99,8 +116,8 @@ def tool(name):
 
 
 def source_tools():
-    """What tools/arguments, tools/twice and tools/uses say, each with what it should be."""
-    arguments, twice, uses = tool("arguments"), tool("twice"), tool("uses")
+    """What the tools that read the crates say, each with what it should be."""
+    arguments, twice, callers, uses = tool("arguments"), tool("twice"), tool("callers"), tool("uses")
     for text, kind, names in NAMES:
         yield "uses of %r" % text, uses.names_in(text, kind) & NAMED, names
     yield "uses of crates.txt", uses.lines_of(LINES), {"low": [], "high": ["low", "other"]}
@@ -110,6 +127,11 @@ def source_tools():
         yield "twice of %r" % text, (model or code, twice.names_of(path) | {""}), (crate, names)
     for name, crates, cited, may in TWICE:
         yield "twice of %s in %s" % (name, cited), twice.reason_of(name, crates, cited) is not None, may
+    for text, name, owner, is_called in CALLS:
+        yield "callers of %s in %r" % (name, text), callers.is_called("low", name, owner, [], [text]), is_called
+    yield "a law", [callers.is_law(text, 0) for text in LAWS], [True, False]
+    found = [name for _, name in callers.uncalled()]
+    yield "public functions that nothing calls", found, sorted(callers.KEPT, key=found.index)
     with open(os.path.join(TOP, "docs", "DECISIONS.md"), encoding="utf-8") as it:
         (line,) = re.findall(r"^- \*\*Contracts of more than twelve clauses\*\*.*", it.read(), re.M)
     long = {name for _, name, _, clauses in arguments.functions_of(arguments.crates_of_the_program()) if clauses > arguments.MOST_CLAUSES}

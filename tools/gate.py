@@ -13,7 +13,8 @@ what FILE had of it, and the table is made of all that FILE has. So a cold run t
 after a change a run over kept work adds what changed. Below the table stands what was not seen.
 
 Each process that rt starts names its crate; one that tries a must-fail edit, or proves the crate that the edits of it
-begin with, runs in a folder of its own. Time and memory of each are read every half second, so its last half second may
+begin with, runs in a folder of its own. If a kit numbers no edits, the first check over a crate's kept work counts as the
+proof that its edits begin with, and the rest as edits. Time and memory of each are read every half second, so its last half second may
 be missing.
 """
 import json
@@ -26,6 +27,8 @@ import time
 TICKS = os.sysconf("SC_CLK_TCK")
 CRATE = re.compile(rb"--crate-name\0([a-z0-9_]+)\0")
 OVER = re.compile(rb"--incremental\0[^\0]*/([^\0/]+)\0")
+# the folder of the first check over each folder of kept work
+FIRST = {}
 # what is no check of a crate: rt itself, linking, and the runs of tests and programs
 OTHER = "rt itself, and the runs of tests and programs"
 PROGRAM = "quorum_cli"
@@ -64,6 +67,8 @@ def part_of(words, room, crate):
     number = over and over.group(1).decode()
     if number and number.isdigit() and int(number) < len(edits_of(crate)):
         return "edit " + edits_of(crate)[int(number)]
+    if number and not number.isdigit():
+        return "base" if FIRST.setdefault(number, room) == room else "edit ?"
     # an only edit is tried from nothing, and so are all where the proof that they begin with did not end well
     return "base" if number else "edit " + ([*edits_of(crate), "?"][0] if len(edits_of(crate)) == 1 else "?")
 

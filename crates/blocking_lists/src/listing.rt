@@ -58,38 +58,6 @@ pub fn list_all(
     }
 }
 
-/// All minimal blocking sets once the faulty nodes are deleted: `list_all` of them.
-pub fn list(
-    alloc: Global,
-    system: &System,
-    faulty: &NodeSet,
-    budget: &mut Budget,
-) -> Result<ListOutcome, AllocError>
-    requires same_faulty { length faulty.now ≡ length system.now.sets }
-    requires room { budget.old + 1 < 2 ^ 63 }
-    ensures outcome { IfOk result (λ outcome. OutcomeHolds Listed.Blocking system.now.sets faulty.now budget.old budget.new outcome) }
-    ensures numbers { IfOk result (λ outcome. All HasLineNumbers (journal_in outcome)) }
-    ensures few_words { IfOk result (λ outcome. All (HasFewWords (size (greatest_of system.now.sets faulty.now))) (journal_in outcome)) }
-{
-    list_all(alloc, Listed::Blocking, system, faulty, budget)
-}
-
-/// All minimal quorums once the faulty nodes are deleted: `list_all` of them.
-pub fn list_quorums(
-    alloc: Global,
-    system: &System,
-    faulty: &NodeSet,
-    budget: &mut Budget,
-) -> Result<ListOutcome, AllocError>
-    requires same_faulty { length faulty.now ≡ length system.now.sets }
-    requires room { budget.old + 1 < 2 ^ 63 }
-    ensures outcome { IfOk result (λ outcome. OutcomeHolds Listed.Quorum system.now.sets faulty.now budget.old budget.new outcome) }
-    ensures numbers { IfOk result (λ outcome. All HasLineNumbers (journal_in outcome)) }
-    ensures few_words { IfOk result (λ outcome. All (HasFewWords (size (greatest_of system.now.sets faulty.now))) (journal_in outcome)) }
-{
-    list_all(alloc, Listed::Quorum, system, faulty, budget)
-}
-
 /// A solver over this many variables, without a clause.
 pub fn solver_over(alloc: Global, vars: u32) -> Result<Solver, AllocError>
     requires small { vars < 2 ^ 31 }

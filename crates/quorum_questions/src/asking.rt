@@ -1,9 +1,6 @@
 //! The questions.
-ghost use Rattle.std.specs.Prelude.{◌≡◌, ℕ, ◌<◌, ◌≤◌, length, IsTrue, ◌↔◌, Err, IfOk, IfSome, OnOk};
-ghost use Rattle.fbas_model.specs.Nodes.{members};
-ghost use Rattle.fbas_model.specs.Fbas.{Available, AreUnmet};
+ghost use Rattle.std.specs.Prelude.{◌≡◌, ℕ, ◌<◌, ◌≤◌, length, Err, IfOk, IfSome, OnOk};
 ghost use Rattle.clause_encoder.specs.declared.limits.TheConstants.{MOST_VARS};
-ghost use Rattle.fbas_model.specs.Restriction.{union};
 ghost use Rattle.quorum_questions.specs.Evidence.{vars_of, Shows};
 ghost use Rattle.quorum_questions.specs.Searching.{IsAsked, IsFormulaFor, IsStartedFor, IsAnswerTo};
 
@@ -13,7 +10,6 @@ use crate::searching::{Asked, End, Formula, Search, end_of, formula_of, start, w
 use counter_pairs::{has_rivals, plan_of};
 use expanded_search::has_gates;
 use fbas_core::System;
-use greatest_quorum::available;
 use name_set::NodeSet;
 use std::alloc::{AllocError, Global};
 
@@ -134,61 +130,5 @@ fn search_from(alloc: Global, asked: &Asked, mut search: Search) -> Result<Answe
         End::Told(pair) => Ok(Answer::No(pair)),
         End::Refuted => Ok(Answer::Yes(log, search.size)),
         End::Spent => Ok(Answer::Spent(log, search.size)),
-    }
-}
-
-/// Both sets as one: O(n / 64).
-fn union(s: &NodeSet, t: &NodeSet) -> NodeSet
-    requires { length s.now ≡ length t.now }
-    ensures same_n { length result ≡ length s.now }
-    ensures union { result ≡ union s.now t.now }
-{
-    let mut both = s.copy();
-    both.join(t);
-    both
-}
-
-/// Whether two quorums share no node once the faulty nodes and those of `s` are deleted: the answer of `intersect` with both
-/// sets deleted, of which `No` is the yes of splitting.
-pub fn splits(
-    alloc: Global,
-    system: &System,
-    faulty: &NodeSet,
-    s: &NodeSet,
-    budget: u64,
-) -> Result<Answer, AskError>
-    requires same_n { length faulty.now ≡ length system.now.sets }
-    requires same_s { length s.now ≡ length system.now.sets }
-    requires few { budget ≤ MOST_UNITS }
-    ensures shows { IfOk result (Shows system.now.sets (union faulty.now s.now) budget) }
-    ensures small { OnOk result (vars_of system.now.sets (union faulty.now s.now) ≤ MOST_VARS) }
-    ensures too_large { (vars : ℕ) → result ≡ Err (AskError.TooLarge vars) → (vars ≡ vars_of system.now.sets (union faulty.now s.now)) × (MOST_VARS < vars) }
-{
-    let both = union(faulty, s);
-    intersect(alloc, system, &both, budget)
-}
-
-/// Whether `b` is a dispensable set (Mazières 2015): whether the others are available despite it, the nodes outside `b` that have
-/// no slice outside `b`, and the answer of `intersect` with `b` deleted.
-pub fn dset(
-    alloc: Global,
-    system: &System,
-    b: &NodeSet,
-    budget: u64,
-) -> Result<(bool, NodeSet, Answer), AskError>
-    requires same_n { length b.now ≡ length system.now.sets }
-    requires few { budget ≤ MOST_UNITS }
-    ensures available { IfOk result (λ r. IsTrue r.0 ↔ Available system.now.sets (members b.now)) }
-    ensures same_n { IfOk result (λ r. length r.1 ≡ length system.now.sets) }
-    ensures unmet { IfOk result (λ r. AreUnmet system.now.sets (members b.now) (members r.1)) }
-    ensures shows { IfOk result (λ r. Shows system.now.sets b.now budget r.2) }
-    ensures small { OnOk result (vars_of system.now.sets b.now ≤ MOST_VARS) }
-    ensures too_large { (vars : ℕ) → result ≡ Err (AskError.TooLarge vars) → (vars ≡ vars_of system.now.sets b.now) × (MOST_VARS < vars) }
-{
-    let mut unmet = NodeSet::new(system.len());
-    let is_available = available(system, b, &mut unmet);
-    match intersect(alloc, system, b, budget) {
-        Ok(answer) => Ok((is_available, unmet, answer)),
-        Err(error) => Err(error),
     }
 }

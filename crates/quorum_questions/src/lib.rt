@@ -1,4 +1,4 @@
-//! Whether every two quorums share a node, and the questions that rest on it, each answered with its evidence.
+//! Whether every two quorums share a node, with the evidence.
 #![tactic(auto)]
 
 mod answers;
@@ -7,6 +7,6 @@ mod gates;
 mod searching;
 
 pub use answers::{Answer, AskError, Size};
-pub use asking::{MOST_UNITS, dset, intersect, splits};
+pub use asking::{MOST_UNITS, intersect};
 pub use lrat_text::Log;
 pub use witness_pair::Pair;
