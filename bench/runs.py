@@ -4,11 +4,15 @@ import os
 import resource
 import shutil
 import subprocess
+import sys
 import tempfile
 from dataclasses import dataclass
 
 TOP = os.path.dirname(os.path.dirname(os.path.abspath(__file__)))
-PROGRAM = os.environ.get("QUORUM_CLI", os.path.join(TOP, "crates", "quorum_cli", "out", "quorum_cli"))
+sys.path.append(os.path.join(TOP, "tests"))
+import chosen  # noqa: E402
+
+PROGRAM = chosen.PROGRAM
 # a folder whose files lie in memory, if there is one
 MEMORY = "/dev/shm" if os.access("/dev/shm", os.W_OK) else None
 MOST_SECONDS = 900

@@ -24,10 +24,11 @@ import tempfile
 
 sys.dont_write_bytecode = True
 
+import chosen  # noqa: E402
 import watchers  # noqa: E402
 
 TOP = os.path.dirname(os.path.dirname(os.path.abspath(__file__)))
-PROGRAM = os.environ.get("QUORUM_CLI", os.path.join(TOP, "crates", "quorum_cli", "out", "quorum_cli"))
+PROGRAM = chosen.PROGRAM
 TOOL = os.path.join(TOP, "tools", "network-report")
 BUDGET = os.environ.get("BUDGET", "10000")
 MOST_BYTES = 400_000

@@ -18,9 +18,10 @@ TOP = os.path.dirname(os.path.dirname(os.path.abspath(__file__)))
 DOCUMENTS = ["README.md", "docs/GUIDE.md", "docs/FORMATS.md"]
 # Tools from outside that an example may need.
 TOOLS = ["minisat", "cadical", "sha256sum", "jq"]
-# What an example does not run: the gate itself, and what installs.
-NOT_RUN = [".ci/run", "rt ", "apt-get "]
-PROGRAM = os.environ.get("QUORUM_CLI", os.path.join(TOP, "quorum_cli"))
+# What an example does not run: the tests themselves, and what installs.
+NOT_RUN = [".ci/run", "rt ", "apt-get ", "make "]
+# (the script: it heeds QUORUM_CLI itself)
+PROGRAM = os.path.join(TOP, "quorum_cli")
 
 
 def blocks(text):

@@ -15,8 +15,10 @@ import subprocess
 import sys
 import tempfile
 
+import chosen
+
 TOP = os.path.dirname(os.path.dirname(os.path.abspath(__file__)))
-PROGRAM = os.environ.get("QUORUM_CLI", os.path.join(TOP, "crates", "quorum_cli", "out", "quorum_cli"))
+PROGRAM = chosen.PROGRAM
 COUNT = 300
 
 

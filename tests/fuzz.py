@@ -23,10 +23,11 @@ import sys
 import tempfile
 
 sys.path.insert(0, os.path.dirname(os.path.abspath(__file__)))
+import chosen
 import plain_checker as plain
 
 TOP = os.path.dirname(os.path.dirname(os.path.abspath(__file__)))
-BUILT = os.path.join(TOP, "crates", "quorum_cli", "out", "quorum_cli")
+BUILT = chosen.PROGRAM
 
 # What is put out with a status. 8 is none of them: no case wants more memory than there is.
 REFUSALS = {

@@ -16,8 +16,10 @@ import subprocess
 import sys
 import tempfile
 
+import chosen
+
 TOP = os.path.dirname(os.path.dirname(os.path.abspath(__file__)))
-BUILT = os.path.join(TOP, "crates", "quorum_cli", "out", "quorum_cli")
+BUILT = chosen.PROGRAM
 
 MOST_LINE = 134217728
 

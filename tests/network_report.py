@@ -17,8 +17,10 @@ import sys
 import tempfile
 import time
 
+import chosen
+
 TOP = os.path.dirname(os.path.dirname(os.path.abspath(__file__)))
-PROGRAM = os.environ.get("QUORUM_CLI", os.path.join(TOP, "crates", "quorum_cli", "out", "quorum_cli"))
+PROGRAM = chosen.PROGRAM
 # Where it lies, a program that is compiled without proofs says so.
 PROVED = os.path.basename(os.path.dirname(os.path.realpath(PROGRAM))) != "unproved"
 NETWORK = os.path.join(TOP, "examples", "network.json")
@@ -285,9 +287,9 @@ class Trial:
 
     def unproved(self):
         """A page of the program that is compiled without proofs says so, and does not say that anything is proved."""
-        os.environ["QUORUM_CLI_UNPROVED"] = "1"
-        status, error, page = self.run(NETWORK)
-        del os.environ["QUORUM_CLI_UNPROVED"]
+        copy = self.path("unproved/quorum_cli")
+        os.makedirs(os.path.dirname(copy))
+        status, error, page = self.run(NETWORK, program=shutil.copy(PROGRAM, copy))
         self.judge("what is not proved", status == 0 and "Nothing on this page is proved" in page and "contract is proved" not in page, error)
 
     def nothing_unchecked(self):

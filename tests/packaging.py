@@ -16,8 +16,10 @@ import sys
 import tempfile
 import time
 
+import chosen
+
 TOP = os.path.dirname(os.path.dirname(os.path.abspath(__file__)))
-PROGRAM = os.path.join(TOP, "crates", "quorum_cli", "out", "quorum_cli")
+PROGRAM = chosen.PROGRAM
 # What is typed, and one of the words that have to be offered.
 TYPED = [(["bl"], "blocking"), (["quo"], "quorums"), (["intersect", "--f"], "--faulty-orgs"), (["vblocks", "--"], "--node")]
 BASH = """source "$1"; shift; COMP_WORDS=(quorum_cli "$@"); COMP_CWORD=$#; _quorum_cli; printf '%s\\n' "${COMPREPLY[@]}" """

@@ -14,9 +14,10 @@ import tempfile
 import threading
 
 TOP = os.path.dirname(os.path.dirname(os.path.abspath(__file__)))
-BUILT = os.path.join(TOP, "crates", "quorum_cli", "out", "quorum_cli")
+BUILT = chosen.PROGRAM
 
 sys.path.append(os.path.join(TOP, "bench"))
+import chosen
 import plain_checker
 import replacing
 import trials
@@ -344,8 +345,6 @@ class Trial:
 
 def main():
     built = os.path.abspath(sys.argv[1]) if len(sys.argv) > 1 else BUILT
-    if not os.path.exists(built):
-        subprocess.run([os.path.join(TOP, "quorum_cli")], stdout=subprocess.DEVNULL)
     with tempfile.TemporaryDirectory() as folder:
         trial = Trial(folder, built)
         for row in ROWS:

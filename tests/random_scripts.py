@@ -16,7 +16,7 @@ sys.path.insert(0, os.path.dirname(os.path.abspath(__file__)))
 import fuzz
 import plain_checker as plain
 
-PROGRAM = os.environ.get("QUORUM_CLI", fuzz.BUILT)
+PROGRAM = fuzz.BUILT
 COUNT = 60
 
 

@@ -31,10 +31,11 @@ import time
 sys.dont_write_bytecode = True
 
 import browser  # noqa: E402
+import chosen  # noqa: E402
 import watchers  # noqa: E402
 
 TOP = os.path.dirname(os.path.dirname(os.path.abspath(__file__)))
-PROGRAM = os.environ.get("QUORUM_CLI", os.path.join(TOP, "crates", "quorum_cli", "out", "quorum_cli"))
+PROGRAM = chosen.PROGRAM
 MAKER = os.path.join(TOP, "tools", "web-page")
 EXAMPLES = os.path.join(TOP, "examples")
 MOST_BYTES = 700_000

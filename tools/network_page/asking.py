@@ -215,15 +215,20 @@ class Program:
         self.certificates.append(Certificate(path, lines[0], self.shown(words)))
         return self.certificates[-1], [line.split(" ")[1:] for line in lines[3:]]
 
+    def file(self):
+        """The program itself: if this is the script of a repository, the one that it runs."""
+        chooser = os.path.join(os.path.dirname(os.path.realpath(self.path)), "tools", "program")
+        if not os.path.exists(chooser):
+            return self.path
+        return subprocess.run([chooser], stdin=subprocess.DEVNULL, stdout=subprocess.PIPE, check=True).stdout.decode().rstrip("\n")
+
     def is_proved(self):
-        """Whether the program is not the one that is compiled without proofs, which the script of this repository takes where it is told so."""
-        return os.environ.get("QUORUM_CLI_UNPROVED") != "1" and os.path.basename(os.path.dirname(os.path.realpath(self.path))) != "unproved"
+        """Whether the program is not the one that is compiled without proofs."""
+        return os.path.basename(os.path.dirname(os.path.realpath(self.file()))) != "unproved"
 
     def digest(self):
-        """The SHA-256 of the program: of what the script of this repository runs, where it is that script."""
-        room = os.path.join("crates", "quorum_cli", "out") if self.is_proved() else os.path.join("out", "unproved")
-        built = os.path.join(os.path.dirname(os.path.realpath(self.path)), room, "quorum_cli")
-        with open(built if os.path.exists(built) else self.path, "rb") as it:
+        """The SHA-256 of the program."""
+        with open(self.file(), "rb") as it:
             return hashlib.sha256(it.read()).hexdigest()
 
     def version(self):
