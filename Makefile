@@ -1,16 +1,30 @@
-# make            proves and builds the program
+# make            makes sure that there is a proved program: that of dist/, or else one that is proved and built here
+# make test       all tests that need no proof
+# make prove      proves all from nothing, builds, and compares with dist/
+# make dist       writes dist/ of what is proved and built here
 # make install    puts the program, its man page and its completions below PREFIX
 PREFIX ?= /usr/local
 DESTDIR ?=
+# the program of dist/ if its sources are those here, else the one that is proved here
+PROVED = tools/program --proved
 
 all:
-	tools/first-build
+	$(PROVED) >/dev/null
 
-install: all
-	install -D -m 755 crates/quorum_cli/out/quorum_cli "$(DESTDIR)$(PREFIX)/bin/quorum_cli"
+test:
+	@tests/run.py
+
+prove:
+	tools/dist --prove
+
+dist:
+	tools/dist
+
+install:
+	install -D -m 755 "$$($(PROVED))" "$(DESTDIR)$(PREFIX)/bin/quorum_cli"
 	install -D -m 644 share/quorum_cli.1 "$(DESTDIR)$(PREFIX)/share/man/man1/quorum_cli.1"
 	install -D -m 644 share/quorum_cli.bash "$(DESTDIR)$(PREFIX)/share/bash-completion/completions/quorum_cli"
 	install -D -m 644 share/_quorum_cli "$(DESTDIR)$(PREFIX)/share/zsh/site-functions/_quorum_cli"
 	install -D -m 644 share/quorum_cli.fish "$(DESTDIR)$(PREFIX)/share/fish/vendor_completions.d/quorum_cli.fish"
 
-.PHONY: all install
+.PHONY: all test prove dist install

@@ -1,16 +1,17 @@
 #!/usr/bin/env python3
 """Calls the library from C, C++ and Python, and compares it with the program: status, text and certificate are the same bytes.
 
-First tools/library builds it. Then: what it exports and calls; the callers of library/; questions on the examples; the rows of
+First tools/library builds it. With --built nothing is built: the library is the one that tools/library has built of these sources, else that of
+dist/, if ./quorum_cli runs its program. Then: what it exports and calls; the callers of library/; questions on the examples; the rows of
 tests/malicious.py; rooms of every size; memory that is refused at each place; threads; stacks; words that are no UTF-8; the classes
 of the Python package, installed by pip; and mutated files and words. What needs a tool that is not there is skipped, and it says so.
 
-tests/library.py [--built] [--cases N] [--seed S] [PROGRAM]; with --built an archive that is not of these sources is not built, and all is
-skipped. Its last line is 'library: N passed, M failed, K skipped'.
+tests/library.py [--built] [--cases N] [--share N] [--seed S] [PROGRAM]; with --share only one growth of memory in N is refused. Its last line is 'library: N passed, M failed, K skipped'.
 """
 
 import argparse
 import ctypes
+import glob
 import os
 import random
 import re
@@ -20,16 +21,20 @@ import subprocess
 import sys
 import tempfile
 import threading
+import zipfile
 
 TOP = os.path.dirname(os.path.dirname(os.path.abspath(__file__)))
 sys.path[:0] = [os.path.join(TOP, "tests"), os.path.join(TOP, "bench"), os.path.join(TOP, "library", "python")]
+import chosen
 import fail_alloc
 import fuzz
 import malicious
 import process
 from quorums import binding
 
-OUT = os.path.join(TOP, "library", "out")
+OUT, DIST = os.path.join(TOP, "library", "out"), os.path.join(TOP, "dist")
+# The status of tools/library --built where it has built no library of these sources.
+NOT_BUILT = 3
 FILES = ("config", "orgs", "script", "cert")
 STRICT = ["-Wall", "-Wextra", "-Werror", "-pedantic", "-O2"]
 # All that the shared library may call.
@@ -136,7 +141,8 @@ class Trial:
         self.folder, self.asked = folder, asked
         self.program = Program(program, folder)
         self.passed = self.failed = self.skipped = 0
-        self.path = os.path.join(OUT, "libquorum.so")
+        self.out = asked.out
+        self.path = os.path.join(self.out, "libquorum.so")
         binding.PATH, self.call = self.path, binding.load(self.path)
         self.wanted = []
 
@@ -160,7 +166,7 @@ class Trial:
 
     def compile(self, compiler, *words):
         made = os.path.join(self.folder, "made_by_" + compiler)
-        ran = subprocess.run([compiler, *STRICT, *words, "-I", OUT, "-o", made, os.path.join(OUT, "libquorum.a")], stderr=subprocess.PIPE)
+        ran = subprocess.run([compiler, *STRICT, *words, "-I", self.out, "-o", made, os.path.join(self.out, "libquorum.a")], stderr=subprocess.PIPE)
         self.judge(ran.returncode == 0, "%s: %s" % (compiler, ran.stderr.decode("latin-1")))
         return made if ran.returncode == 0 else None
 
@@ -170,7 +176,7 @@ class Trial:
         """The shared library exports one function, and calls nothing that reads, writes or waits."""
         if not shutil.which("nm"):
             return self.skip("what the shared library exports: there is no nm")
-        listed = lambda *words: {line.split()[-1].split("@")[0] for line in subprocess.run(["nm", "-D", *words, os.path.join(OUT, "libquorum.so")], stdout=subprocess.PIPE).stdout.decode().splitlines()}
+        listed = lambda *words: {line.split()[-1].split("@")[0] for line in subprocess.run(["nm", "-D", *words, self.path], stdout=subprocess.PIPE).stdout.decode().splitlines()}
         self.same("exports", listed("--defined-only"), {"quorum_answer"})
         self.judge(listed("--undefined-only") <= CALLS, "calls %s" % sorted(listed("--undefined-only") - CALLS))
 
@@ -252,11 +258,13 @@ class Trial:
     def refused_memory(self):
         """Each growth of memory is refused, by itself and with all later ones: the answer is as with ample memory, or status 8 and nothing."""
         compiler = os.environ.get("CC", "cc")
+        if not shutil.which(compiler):
+            return self.skip("memory that is refused: there is no %s" % compiler)
         source, library = os.path.join(self.folder, "heap.c"), os.path.join(self.folder, "refusing.so")
         with open(source, "w") as it:
             it.write(REFUSING_HEAP)
-        archive = os.path.join(TOP, "crates", "quorum_library", "out", "libquorum_library.a")
-        subprocess.run([compiler, "-shared", "-fPIC", "-O1", "-o", library, source, "-Wl,-u,quorum_answer", archive], check=True)
+        # (this heap comes first, so that of the archive stays out)
+        subprocess.run([compiler, "-shared", "-fPIC", "-O1", "-o", library, source, "-Wl,-u,quorum_answer", os.path.join(self.out, "libquorum.a")], check=True)
         call, heap, most = binding.load(library), ctypes.CDLL(library), 2**63
         for words, files, wanted in self.wanted:
             ask = lambda first, last: (heap.refuse(ctypes.c_ulong(first), ctypes.c_ulong(last)), binding.answer(words, **files, call=call, room=1 << 20))[1]
@@ -264,7 +272,7 @@ class Trial:
                 continue
             number = heap.growths()
             for last in (0, most):
-                for first in range(1, number + 1):
+                for first in range(1, number + 1, self.asked.share):
                     found = ask(first, last or first)
                     self.judge(found in (wanted, (8, b"", b"")), "%s with growth %d refused: %r" % (" ".join(words), first, short(found)))
             self.same("with no growth at all: " + " ".join(words), ask(1, most)[0], 8)
@@ -314,11 +322,12 @@ class Trial:
 
     def installed(self):
         """The package as pip installs it, with nothing fetched; else as it lies in the folder."""
-        place = os.path.join(self.folder, "installed")
-        words = [sys.executable, "-m", "pip", "install", "--quiet", "--no-index", "--disable-pip-version-check", "--no-deps", "--target", place, os.path.join(OUT, "python")]
+        place, wheels = os.path.join(self.folder, "installed"), glob.glob(os.path.join(DIST, "quorums-*.whl"))
+        package = wheels[0] if self.out == DIST else os.path.join(self.out, "python")
+        words = [sys.executable, "-m", "pip", "install", "--quiet", "--no-index", "--disable-pip-version-check", "--no-deps", "--target", place, package]
         if subprocess.run([sys.executable, "-m", "pip", "--version"], stdout=subprocess.DEVNULL, stderr=subprocess.DEVNULL).returncode:
             self.skip("the package as pip installs it: there is no pip")
-            place = os.path.join(OUT, "python")
+            place = self.unpacked(package) if self.out == DIST else package
         else:
             ran = subprocess.run(words, stdout=subprocess.PIPE, stderr=subprocess.STDOUT)
             self.judge(ran.returncode == 0, "pip: " + ran.stdout.decode("latin-1"))
@@ -329,6 +338,12 @@ class Trial:
         shown = subprocess.run([sys.executable, "-c", code + "print(found.yes, found['first'], found['second'])"], cwd=TOP, env=dict(env, PYTHONPATH=place), stdout=subprocess.PIPE, stderr=subprocess.STDOUT)
         self.same("docs/LIBRARY.md", (shown.returncode, shown.stdout.decode()), (0, "False ('b',) ('c',)\n"))
         self.same("ask.py", (ran.returncode, ran.stdout.decode()), (0, "it can fork: b / c\nthe checker: accepted pair\n"))
+
+    def unpacked(self, wheel):
+        place = os.path.join(self.folder, "unpacked")
+        with zipfile.ZipFile(wheel) as it:
+            it.extractall(place)
+        return place
 
     def classes(self):
         """What the classes of the package make of the answers."""
@@ -403,25 +418,33 @@ def short(found):
     return tuple(it if not isinstance(it, bytes) or len(it) < 200 else it[:200] + b".. of %d" % len(it) for it in found) if isinstance(found, tuple) else found
 
 
+def library(is_built):
+    """The folder of the library, and if there is none, the status to end with."""
+    if not is_built or shutil.which("rt"):
+        status = subprocess.run([os.path.join(TOP, "tools", "library"), *["--built"] * is_built]).returncode
+        if status == 0:
+            return OUT, 0
+        if not is_built or status != NOT_BUILT:
+            print("library: 0 passed, 1 failed, 0 skipped")
+            return None, 1
+    if os.path.dirname(chosen.PROGRAM) == DIST:
+        return DIST, 0
+    print("library: skipped: none is built of these sources, which tools/library does, and that of dist/ is of others")
+    return None, 0
+
+
 def main():
     parser = argparse.ArgumentParser()
     parser.add_argument("--built", action="store_true")
     parser.add_argument("--cases", type=int, default=2000)
+    parser.add_argument("--share", type=int, default=1)
     parser.add_argument("--seed", type=int, default=53)
     parser.add_argument("program", nargs="?", default=malicious.BUILT)
     asked = parser.parse_args()
     asked.rooms = [1 << 16, 1 << 20, 16, 0]
-    for tool in (os.environ.get("CC", "cc"), "ar"):
-        if not shutil.which(tool):
-            print("library: skipped: there is no %s" % tool)
-            return 0
-    status = subprocess.run([os.path.join(TOP, "tools", "library"), *["--built"] * asked.built]).returncode
-    if asked.built and status == 3:
-        print("library: skipped: no archive is built of these sources, which tools/library does")
-        return 0
-    if status:
-        print("library: 0 passed, 1 failed, 0 skipped")
-        return 1
+    asked.out, status = library(asked.built)
+    if not asked.out:
+        return status
     with tempfile.TemporaryDirectory(dir="/dev/shm" if os.path.isdir("/dev/shm") else None) as folder:
         trial = Trial(folder, asked.program, asked)
         for part in (trial.symbols, trial.examples, trial.cpp, trial.no_text, trial.rooms, trial.refused_memory, trial.little_memory, trial.threads, trial.stacks, trial.installed, trial.classes, trial.malicious, trial.mutated):

@@ -1,0 +1,143 @@
+#!/usr/bin/env python3
+"""Runs all tests that need no proof, side by side on all processors, on the program that ./quorum_cli runs and on the files of dist/.
+
+usage: tests/run.py [--long] [--jobs N] [GROUP..]
+
+It needs python3, and a C compiler for the callers of the library. A line says how each group ended and what it took; what failed
+is shown in full, and what was skipped with its reason. With --long the groups that make up their cases make many more, and those run that
+need tools from outside. The last line is 'N passed, M failed', with ', K skipped' if something was. Status 0 if nothing failed, else 1.
+"""
+
+import argparse
+import concurrent.futures
+import os
+import re
+import shutil
+import subprocess
+import sys
+import tempfile
+import threading
+import time
+
+sys.dont_write_bytecode = True
+
+TOP = os.path.dirname(os.path.dirname(os.path.abspath(__file__)))
+COUNTS = re.compile(r"(\d+) passed, (\d+) failed(?:, (\d+) skipped)?$")
+MOST_SECONDS = 3600
+
+# Each group: its script and its words; the dearest come first. A word PAGE or LIBRARY is for a file of dist/.
+GROUPS = {
+    "network_report": "network_report.py",
+    "web_page": "web_page.py --page PAGE",
+    "library": "library.py --built --cases 500",
+    "process": "process.py",
+    "malicious": "malicious.py",
+    "fuzz": "fuzz.py --cases 400 --seed 1",
+    "browser": "browser.py",
+    "wrapper": "wrapper.py",
+    "documents": "documents.py",
+    "dist": "dist.py",
+    "random_scripts": "random_scripts.py",
+    "examples": "examples.py",
+    "packaging": "packaging.py",
+    "tools": "tools.py",
+}
+# What --long runs in the place of the groups of these names, and besides.
+LONG = {
+    "fail_alloc": "fail_alloc.py",
+    "library": "library.py",
+    "fuzz": "fuzz.py --cases 20000 --seed 1",
+    "memory": "memory.py",
+    "web_page": "web_page.py",
+    "random_scripts": "random_scripts.py 1000",
+    "exports": "exports.py",
+    "questions": "questions.py",
+    "random_lists": "random_lists.py",
+    "edits": "edits.py",
+}
+
+
+class Ended:
+    """How a group ended: its counts, why something was skipped, and all that it said."""
+
+    def __init__(self, name, status, said, seconds):
+        self.name, self.said, self.seconds = name, said.rstrip("\n"), seconds
+        last = self.said.rpartition("\n")[2]
+        found = COUNTS.search(last)
+        self.passed, self.failed, skipped = (int(it or 0) for it in found.groups()) if found else (0, 0, 0)
+        self.why = [re.sub(r"^%s: |: \d+ passed.*$" % re.escape(name.replace("_", "-")), "", line) for line in self.said.split("\n") if "skipped" in line and not re.search(r"\d+ skipped$", line)]
+        self.skipped = max(skipped, len(self.why))
+        # (one that ends badly, or says nothing of what it did, has failed)
+        if (status and not self.failed) or not (found or self.why):
+            self.failed += 1
+
+    def line(self):
+        counts = "%d passed, %d failed%s" % (self.passed, self.failed, ", %d skipped" % self.skipped if self.skipped else "")
+        return "%-15s %7.1f s  %s" % (self.name, self.seconds, counts)
+
+
+class Runner:
+    def __init__(self, program, processors):
+        self.env = {**os.environ, "QUORUM_CLI": program, "PYTHONDONTWRITEBYTECODE": "1"}
+        self.is_of_dist = program == os.path.join(TOP, "dist", "quorum_cli")
+        self.processors, self.printing = processors, threading.Lock()
+
+    def run(self, name, line):
+        words = [os.path.join(TOP, "dist", "quorums.html") if word == "PAGE" else word for word in line.split()]
+        began = time.monotonic()
+        if "PAGE" in line and not self.is_of_dist:
+            ended = Ended(name, 0, "%s: skipped, since the page of dist/ is of other sources than those here" % name, 0)
+        else:
+            status, said = self.ran([sys.executable, os.path.join(TOP, "tests", words[0]), *words[1:]])
+            ended = Ended(name, status, said, time.monotonic() - began)
+        with self.printing:
+            if ended.failed:
+                print("\n".join("  " + it for it in ended.said.split("\n")))
+            print(ended.line(), flush=True)
+        return ended
+
+    def ran(self, words):
+        with tempfile.TemporaryFile() as out:
+            try:
+                status = subprocess.run(words, env=self.env, cwd=TOP, stdin=subprocess.DEVNULL, stdout=out, stderr=subprocess.STDOUT, timeout=MOST_SECONDS).returncode
+            except subprocess.TimeoutExpired:
+                status = 1
+            out.seek(0)
+            return status, out.read().decode("utf-8", "replace")
+
+    def all(self, groups):
+        with concurrent.futures.ThreadPoolExecutor(self.processors) as pool:
+            return [it.result() for it in [pool.submit(self.run, *it) for it in groups.items()]]
+
+
+def program():
+    """The program that ./quorum_cli runs; none where it can be neither found nor made."""
+    return subprocess.run([os.path.join(TOP, "tools", "program")], stdin=subprocess.DEVNULL, stdout=subprocess.PIPE).stdout.decode().rstrip("\n")
+
+
+def main():
+    words = argparse.ArgumentParser(prog="run.py", description="Runs all tests that need no proof.")
+    words.add_argument("--long", action="store_true", help="more cases, and what needs tools from outside")
+    words.add_argument("--jobs", type=int, default=len(os.sched_getaffinity(0)), help="groups at a time (default: one a processor)")
+    words.add_argument("group", nargs="*", help="only these")
+    asked = words.parse_args()
+    groups = {**LONG, **{name: line for name, line in GROUPS.items() if name not in LONG}} if asked.long else GROUPS
+    if not {*asked.group} <= {*groups}:
+        words.error("the groups are " + " ".join(groups))
+    found, began = program(), time.monotonic()
+    if not found:
+        print("0 passed, 1 failed")
+        return 1
+    subprocess.run([os.path.join(TOP, "quorum_cli"), "--about"])
+    ended = Runner(found, asked.jobs).all({name: line for name, line in groups.items() if not asked.group or name in asked.group})
+    for group in ended:
+        for why in group.why:
+            print("skipped: %s: %s" % (group.name, why))
+    passed, failed, skipped = (sum(getattr(it, what) for it in ended) for what in ("passed", "failed", "skipped"))
+    print("%d groups in %.0f s by %d at a time" % (len(ended), time.monotonic() - began, asked.jobs))
+    print("%d passed, %d failed%s" % (passed, failed, ", %d skipped" % skipped if skipped else ""))
+    return 1 if failed else 0
+
+
+if __name__ == "__main__":
+    sys.exit(main())
