@@ -1,7 +1,7 @@
 #!/usr/bin/env python3
 """A caller in Python: ask.py CONFIG [NODE..] asks whether the network can fork if these nodes lie, and has the certificate checked.
 
-The package is installed by `pip install library/out/python`, after tools/library.
+The package is installed by `pip install dist/quorums-*.whl`.
 """
 
 import sys
