@@ -5,11 +5,11 @@
 # make install    puts the program, its man page and its completions below PREFIX
 PREFIX ?= /usr/local
 DESTDIR ?=
-# the program of dist/ if its sources are those here, else the one that is proved here
-PROVED = tools/program --proved
+# what is installed; if nothing is said, the program of dist/ if its sources are those here, else the one that is proved here
+PROGRAM ?=
 
 all:
-	$(PROVED) >/dev/null
+	@tools/program --proved >/dev/null 2>&1 || tools/first-build
 
 test:
 	@tests/run.py
@@ -21,7 +21,8 @@ dist:
 	tools/dist
 
 install:
-	install -D -m 755 "$$($(PROVED))" "$(DESTDIR)$(PREFIX)/bin/quorum_cli"
+	@program="$(PROGRAM)"; [ -n "$$program" ] || program=$$(tools/program --proved) || exit 1; \
+	install -D -m 755 "$$program" "$(DESTDIR)$(PREFIX)/bin/quorum_cli"
 	install -D -m 644 share/quorum_cli.1 "$(DESTDIR)$(PREFIX)/share/man/man1/quorum_cli.1"
 	install -D -m 644 share/quorum_cli.bash "$(DESTDIR)$(PREFIX)/share/bash-completion/completions/quorum_cli"
 	install -D -m 644 share/_quorum_cli "$(DESTDIR)$(PREFIX)/share/zsh/site-functions/_quorum_cli"

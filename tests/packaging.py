@@ -102,7 +102,7 @@ def installed(folder):
     if not (os.access(PROGRAM, os.X_OK) and shutil.which("make")):
         COUNTS["skipped"] += 1
         return
-    status, _, said = run(["make", "-s", "-C", TOP, "-o", "all", "install", "PREFIX=" + os.path.join(folder, "a b")])
+    status, _, said = run(["make", "-s", "-C", TOP, "install", "PROGRAM=" + PROGRAM, "PREFIX=" + os.path.join(folder, "a b")])
     judge(status == 0, "make install: " + said)
     config = os.path.join(TOP, "examples", "three.json")
     ended = run([os.path.join(folder, "a b", "bin", "quorum_cli"), "greatest", config, "--faulty", "a"], cwd=folder)

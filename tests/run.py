@@ -10,6 +10,7 @@ need tools from outside. The last line is 'N passed, M failed', with ', K skippe
 
 import argparse
 import concurrent.futures
+import importlib.util
 import os
 import re
 import shutil
@@ -22,10 +23,10 @@ import time
 sys.dont_write_bytecode = True
 
 TOP = os.path.dirname(os.path.dirname(os.path.abspath(__file__)))
-COUNTS = re.compile(r"(\d+) passed, (\d+) failed(?:, (\d+) skipped)?$")
+COUNTS = {what: re.compile(r"(\d+) %s\b" % what) for what in ("passed", "failed", "skipped")}
 MOST_SECONDS = 3600
 
-# Each group: its script and its words; the dearest come first. A word PAGE or LIBRARY is for a file of dist/.
+# Each group: its script and its words; the dearest come first. PAGE is the page of dist/, and a folder is for pytest.
 GROUPS = {
     "network_report": "network_report.py",
     "web_page": "web_page.py --page PAGE",
@@ -33,7 +34,9 @@ GROUPS = {
     "process": "process.py",
     "malicious": "malicious.py",
     "fuzz": "fuzz.py --cases 400 --seed 1",
+    "summary": "summary.py",
     "browser": "browser.py",
+    "python": "python",
     "wrapper": "wrapper.py",
     "documents": "documents.py",
     "dist": "dist.py",
@@ -63,12 +66,12 @@ class Ended:
     def __init__(self, name, status, said, seconds):
         self.name, self.said, self.seconds = name, said.rstrip("\n"), seconds
         last = self.said.rpartition("\n")[2]
-        found = COUNTS.search(last)
-        self.passed, self.failed, skipped = (int(it or 0) for it in found.groups()) if found else (0, 0, 0)
-        self.why = [re.sub(r"^%s: |: \d+ passed.*$" % re.escape(name.replace("_", "-")), "", line) for line in self.said.split("\n") if "skipped" in line and not re.search(r"\d+ skipped$", line)]
-        self.skipped = max(skipped, len(self.why))
+        counts = {what: int(found[1]) for what, found in ((it, COUNTS[it].search(last)) for it in COUNTS) if found}
+        self.passed, self.failed = counts.get("passed", 0), counts.get("failed", 0)
+        self.why = [re.sub(r"^%s: |: \d+ passed.*$" % name, "", line) for line in self.said.replace("-", "_").split("\n") if "skipped" in line and not re.search(r"\d skipped", line)]
+        self.skipped = max(counts.get("skipped", 0), len(self.why))
         # (one that ends badly, or says nothing of what it did, has failed)
-        if (status and not self.failed) or not (found or self.why):
+        if (status and not self.failed) or not (counts or self.why):
             self.failed += 1
 
     def line(self):
@@ -80,16 +83,20 @@ class Runner:
     def __init__(self, program, processors):
         self.env = {**os.environ, "QUORUM_CLI": program, "PYTHONDONTWRITEBYTECODE": "1"}
         self.is_of_dist = program == os.path.join(TOP, "dist", "quorum_cli")
+        if self.is_of_dist:
+            self.env.setdefault("QUORUM_LIBRARY", os.path.join(TOP, "dist", "libquorum.so"))
         self.processors, self.printing = processors, threading.Lock()
 
     def run(self, name, line):
-        words = [os.path.join(TOP, "dist", "quorums.html") if word == "PAGE" else word for word in line.split()]
-        began = time.monotonic()
+        script, *words = [os.path.join(TOP, "dist", "quorums.html") if word == "PAGE" else word for word in line.split()]
+        script, began = os.path.join(TOP, "tests", script), time.monotonic()
         if "PAGE" in line and not self.is_of_dist:
-            ended = Ended(name, 0, "%s: skipped, since the page of dist/ is of other sources than those here" % name, 0)
+            status, said = 0, "skipped, since the page of dist/ is of other sources than those here"
+        elif os.path.isdir(script) and not importlib.util.find_spec("pytest"):
+            status, said = 0, "skipped, there is no pytest"
         else:
-            status, said = self.ran([sys.executable, os.path.join(TOP, "tests", words[0]), *words[1:]])
-            ended = Ended(name, status, said, time.monotonic() - began)
+            status, said = self.ran([sys.executable, *["-m", "pytest", "-q"] * os.path.isdir(script), script, *words])
+        ended = Ended(name, status, said, time.monotonic() - began)
         with self.printing:
             if ended.failed:
                 print("\n".join("  " + it for it in ended.said.split("\n")))
@@ -122,6 +129,7 @@ def main():
     words.add_argument("group", nargs="*", help="only these")
     asked = words.parse_args()
     groups = {**LONG, **{name: line for name, line in GROUPS.items() if name not in LONG}} if asked.long else GROUPS
+    groups = {name: line for name, line in groups.items() if os.path.exists(os.path.join(TOP, "tests", line.split()[0]))}
     if not {*asked.group} <= {*groups}:
         words.error("the groups are " + " ".join(groups))
     found, began = program(), time.monotonic()
