@@ -32,6 +32,7 @@ GROUPS = {
     "web_page": "web_page.py --page PAGE",
     "library": "library.py --built --cases 500",
     "process": "process.py",
+    "answers": "answers.py",
     "malicious": "malicious.py",
     "fuzz": "fuzz.py --cases 400 --seed 1",
     "summary": "summary.py",
