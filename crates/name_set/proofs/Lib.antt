@@ -1,3 +1,4 @@
+mod LimitSamples
 mod NameLists
 pub mod ListLaws
 mod WordLaws
