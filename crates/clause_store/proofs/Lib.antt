@@ -1,3 +1,4 @@
+mod LimitSamples
 pub mod EntryLaws
 pub mod ArenaLaws
 pub mod RemovalLaws

@@ -1,3 +1,4 @@
+mod LimitSamples
 pub mod Apart
 pub mod Choosing
 pub mod CounterClauses
