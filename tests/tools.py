@@ -3,7 +3,8 @@
 
 Whether what they make is right is shown by the examples of the documents, where `check-lrat` and `check` read it. Of
 tools/arguments, tools/twice and tools/callers it shows what they count, and that docs/DECISIONS.md names each contract that the first of
-them lists; of tools/uses, which names it sees in a text and in crates.txt.
+them lists; of tools/uses, which names it sees in a text and in crates.txt; of
+tools/limits, which constants it sees, and which have a number in a sample.
 The program is not needed. The last line is 'tools: N passed, M failed'.
 """
 
@@ -99,6 +100,10 @@ CALLS = [
     ("    let count = 3;", "count", "Set", False),
 ]
 
+# A text of code and its constants, and a text of samples and those that it has a number of.
+CONSTANTS = ("/// const NOT: u8 = 1;\nconst MOST: usize = 3;\n    pub(crate) const FIRST: &[u8; 2] = b\"ab\";\nfn const_of(x: u8) {}\n", ["MOST", "FIRST"])
+SAMPLES = ("most : MOST ≡ 3\nmost = refl\ntenth : TENTH ≡ MOST / 10\nsame : MOST ≡ OTHER\nlaw : (x : ℕ) → LAST ≡ x\n", {"MOST", "TENTH"})
+
 # A law, and a function that does something.
 LAWS = [
     "pub fn what_is_listed_is_found()\n    ensures { (x : ℕ) → Finds x }\n{}\n",
@@ -117,7 +122,9 @@ def tool(name):
 
 def source_tools():
     """What the tools that read the crates say, each with what it should be."""
-    arguments, twice, callers, uses = tool("arguments"), tool("twice"), tool("callers"), tool("uses")
+    arguments, twice, callers, uses, limits = (tool(name) for name in ("arguments", "twice", "callers", "uses", "limits"))
+    yield "limits of code", limits.constants_of(CONSTANTS[0]), CONSTANTS[1]
+    yield "limits of samples", limits.sampled(SAMPLES[0]), SAMPLES[1]
     for text, kind, names in NAMES:
         yield "uses of %r" % text, uses.names_in(text, kind) & NAMED, names
     yield "uses of crates.txt", uses.lines_of(LINES), {"low": [], "high": ["low", "other"]}

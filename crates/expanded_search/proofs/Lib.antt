@@ -1,3 +1,4 @@
+mod LimitSamples
 pub mod NamedLaws
 pub mod MovedLogs
 pub mod BesideLaws

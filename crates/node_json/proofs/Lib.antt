@@ -1,3 +1,4 @@
+mod LimitSamples
 pub mod NamesInOrder
 mod SeenNames
 pub mod NameSets
