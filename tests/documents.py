@@ -17,13 +17,15 @@ NAMED = re.compile(r"`([a-z_0-9]+/(?:src|specs|proofs|must-fail)/[\w./]+)`((?:: 
 # Names as the code has them: words joined by `_` or `::`, or with a capital inside, or a file's name.
 CODED = re.compile(r"`((?:[A-Za-z]\w*::)*[A-Za-z]\w*(?:\.antt|\.rt|\.py|\.edit)?)`")
 # The most words of a document, so that it stays one that is read.
-BUDGETS = {"README.md": 940, "CHANGELOG.md": 370, "CONTRIBUTING.md": 1220, "docs/DECISIONS.md": 4500, "docs/DEFINITIONS.md": 3200, "docs/FORMATS.md": 6600, "docs/GLOSSARY.md": 300, "docs/GUIDE.md": 1800, "docs/LIBRARY.md": 600, "docs/MAP.md": 1800, "docs/PAGE.md": 600, "docs/PERFORMANCE.md": 2000, "docs/PROVED.md": 2500, "docs/PROVING.md": 1200, "docs/TESTING.md": 3500}
+BUDGETS = {"README.md": 940, "CHANGELOG.md": 370, "CONTRIBUTING.md": 1240, "docs/DECISIONS.md": 4650, "docs/DEFINITIONS.md": 3200, "docs/FORMATS.md": 6600, "docs/GLOSSARY.md": 300, "docs/GUIDE.md": 1800, "docs/LIBRARY.md": 600, "docs/MAP.md": 1830, "docs/PAGE.md": 600, "docs/PERFORMANCE.md": 2000, "docs/PROVED.md": 2550, "docs/TRUSTED.md": 700, "docs/PROVING.md": 1200, "docs/TESTING.md": 3500}
 # A sentence has fewer words than this.
 MOST_WORDS = 40
 # Words for which the documents have plainer ones: after, given, borrowed, the number of.
 UNUSUAL = re.compile(r"\b(behind|told|lent|so many)\b", re.I)
 # Names of the toolchain that the documents cite.
 FOREIGN = {"TheConstants"}
+# The document whose names of the toolchain tests/trusted.py compares with what a check says.
+TRUSTED = "docs/TRUSTED.md"
 PATH = re.compile(r"`((?:crates|docs|tools|tests|bench|examples|library|\.ci)/[\w./-]+)`")
 # What is built where a document names it.
 BUILT = {"crates/quorum_library/out/libquorum_library.a", "library/out"}
@@ -110,7 +112,7 @@ class Trial:
     def names(self, name, text):
         """Each name of the code, wherever it is cited, is there."""
         for cited in sorted(set(CODED.findall(text))):
-            if is_coded(cited) and cited not in FOREIGN:
+            if is_coded(cited) and cited not in FOREIGN and name != TRUSTED:
                 parts = [cited] if "." in cited else cited.split("::")
                 self.judge(all(part in self.words for part in parts), "%s names %s, which stands nowhere" % (name, cited))
 
