@@ -6,10 +6,9 @@ use Rattle.desk_io.specs.State.{DeskState}
 use Rattle.desk_io.specs.Faults.{Faults, CountedWhere}
 use Rattle.request_reading.specs.declared.status.Status.{Status}
 use Rattle.request_reading.specs.declared.status.Status.TheVariants.{ReadFault, WriteFault, Memory}
-use Rattle.request_reading.specs.Status.{is_answer, code_of}
+use Rattle.request_reading.specs.Status.{is_answer}
 use Rattle.request_reading.specs.Answers.{words_of}
 use Rattle.command_run.specs.Running.{Runs, RunsOnAny}
-use Rattle.command_run.specs.Ending.{EndsAs}
 
 no_answer : IsTrue (is_answer Memory) → ⊥
 no_answer is = let k : false ≡ true = is in cc
@@ -53,14 +52,13 @@ pub wanting_on_any : (words : List (List ℕ)) (old new : Faults) (status : Stat
 wanting_on_any words old new status is same = subst (λ (s : Status). RunsOnAny words old new s) (sym is) (subst (λ (f : Faults). RunsOnAny words old f Memory) (sym same) (at_once_on_any words old))
 
 -- a run of the words that were held, or of any words where none were
-pub ends : (given : Option (List (List ℕ))) (held : Result (Vec (String Global) Global) AllocError) (Ran : List (List ℕ) → Status → Type 0) (status : Status) (number : ℕ)
-    → IfOk held (λ words. given ≡ Some (words_of words.items)) → IfOk held (λ words. Ran (words_of words.items) status) → (IsErr held → (words : List (List ℕ)) → Ran words status)
-    → number ≡ code_of status → IfSome given (λ words. EndsAs (Ran words) number)
-ends None held Ran status number are ran none is = tt
-ends (Some words) (Ok v) Ran status number are ran none is =
+pub ends : (given : Option (List (List ℕ))) (held : Result (Vec (String Global) Global) AllocError) (Ran : List (List ℕ) → Type 0) → IfOk held (λ words. given ≡ Some (words_of words.items)) → IfOk held (λ words. Ran (words_of words.items))
+    → (IsErr held → (words : List (List ℕ)) → Ran words) → IfSome given Ran
+ends None held Ran are ran none = tt
+ends (Some words) (Ok v) Ran are ran none =
     let same : words_of v.items ≡ words = cc in
-    record { status = status; ran = subst (λ (w : List (List ℕ)). Ran w status) same ran; number_is = is }
-ends (Some words) (Err e) Ran status number are ran none is = record { status = status; ran = none refl words; number_is = is }
+    subst Ran same ran
+ends (Some words) (Err e) Ran are ran none = none refl words
 
 -- where no words were given none were held
 pub none_held : (given : Option (List (List ℕ))) (held : Result (Vec (String Global) Global) AllocError) → IfOk held (λ words. given ≡ Some (words_of words.items)) → IsNone given → IsErr held

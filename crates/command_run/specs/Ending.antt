@@ -1,5 +1,5 @@
 -- What the process ends with, by the words that it was given.
-use Rattle.std.specs.Prelude.{◌≡◌, ℕ, Bool, true, false, List, [], Option, Some, None, Result, Ok, Err, String, if◌then◌else◌}
+use Rattle.std.specs.Prelude.{ℕ, Bool, true, false, List, [], Option, Some, None, Result, Ok, Err, String, if◌then◌else◌}
 use Rattle.std.specs.IoError.{error_kind}
 use Rattle.std.specs.Vec.Iter.{into_iter_items}
 use Rattle.std.specs.declared.alloc.Global.{Global}
@@ -7,8 +7,6 @@ use Rattle.std.specs.declared.io.Error.{Error}
 use Rattle.std.specs.declared.io.ErrorKind.{ErrorKind}
 use Rattle.std.specs.declared.io.ErrorKind.TheVariants.{OutOfMemory}
 use Rattle.std.specs.declared.vec.IntoIter.{IntoIter}
-use Rattle.request_reading.specs.declared.status.Status.{Status}
-use Rattle.request_reading.specs.Status.{code_of}
 use Rattle.request_reading.specs.Answers.{words_of}
 
 -- there was no memory
@@ -20,9 +18,3 @@ is_memory kind = false
 abbrev pub words_given : Result (IntoIter (String Global) Global) Error → Option (List (List ℕ))
 words_given (Ok args) = Some (words_of (into_iter_items args))
 words_given (Err error) = if is_memory (error_kind error) then None else Some []
-
--- a run ended so, and the process ends with the number of its status
-pub record EndsAs (Ran : Status → Type 0) (number : ℕ) : Type 0 where
-  pub status : Status
-  pub ran : Ran status
-  pub number_is : number ≡ code_of status

@@ -10,5 +10,6 @@ pub mod Smallest
 pub mod Grouping
 pub mod Headline
 pub mod Running
+pub mod Ended
 pub mod Ending
 pub mod Edits

@@ -6,15 +6,17 @@ ghost use Rattle.std.specs.Process.{exit_status};
 ghost use Rattle.request_reading.specs.Status.{code_of};
 ghost use Rattle.request_reading.specs.Answers.{words_of};
 ghost use Rattle.command_run.specs.Running.{Runs, RunsOnAny};
-ghost use Rattle.command_run.specs.Ending.{EndsAs, is_memory, words_given};
+ghost use Rattle.command_run.specs.Ending.{is_memory, words_given};
+ghost use Rattle.command_run.specs.Ended.{desk_of, status_in, status_of};
 
 use crate::run;
-use desk_io::Desk;
+use desk_io::{Desk, RealDesk};
 use request_reading::Status;
 use std::alloc::{AllocError, Global};
 use std::env;
 use std::io::{self, ErrorKind};
-use std::process::ExitCode;
+use std::process::{ExitCode, Termination};
+use std::rt::Files;
 
 /// The words where the command line could not be read: want of memory, or none where one of them is not UTF-8.
 fn unread_words(alloc: Global, kind: ErrorKind) -> Result<Vec<String>, AllocError>
@@ -64,20 +66,54 @@ fn run_words<D: Desk>(
     }
 }
 
-/// All that the process does, over its arguments and a desk: `run` of these words, whose status is the exit status. Where one of
-/// them is not UTF-8 it is a run of no words, which puts out the usage text.
-pub fn end<D: Desk>(alloc: Global, args: io::Result<env::Args>, desk: &mut D) -> ExitCode
+/// How a run on a desk ended: its status, and the desk as the run left it. `end` alone makes one.
+#[derive(Drop)]
+pub struct Ended<D> {
+    status: Status,
+    desk: D,
+}
+
+/// What a process ends with. It is made of how a run on the machine's desk ended, and of nothing else.
+#[derive(Drop)]
+pub struct Exit {
+    status: Status,
+}
+
+impl<R: Files + Print> Ended<RealDesk<'_, R>> {
+    /// What the process ends with after it.
+    pub fn exit(self) -> Exit
+        ensures { status_in result ≡ status_of self.entry }
+    {
+        Exit {
+            status: self.status,
+        }
+    }
+}
+
+impl Termination for Exit {
+    /// The number of the status.
+    fn report<R: Eprint>(self, _rt: &R) -> ExitCode
+        ensures { exit_status result ≡ code_of (status_in self) }
+    {
+        ExitCode::from(self.status.code())
+    }
+}
+
+/// All that the process does, over its arguments and a desk: `run` of these words. Where one of them is not UTF-8 it is a run of no
+/// words, which puts out the usage text.
+pub fn end<D: Desk>(alloc: Global, args: io::Result<env::Args>, desk: D) -> Ended<D>
     ensures told { IsTrue D.tells → IfSome (words_given args) (λ words.
-        EndsAs (Runs words (D.state desk.old) (D.state desk.new)) (exit_status result)) }
+        Runs words (D.state desk) (D.state (desk_of result)) (status_of result)) }
     // Whatever the desk tells, the machine's too.
     ensures any { IfSome (words_given args) (λ words.
-        EndsAs (RunsOnAny words (D.faults desk.old) (D.faults desk.new)) (exit_status result)) }
+        RunsOnAny words (D.faults desk) (D.faults (desk_of result)) (status_of result)) }
     // Where there was no memory for the arguments, nothing is done.
-    ensures memory { IsNone (words_given args) → exit_status result ≡ code_of Status.Memory }
-    ensures untouched { IsNone (words_given args) → IsTrue D.tells → D.state desk.new ≡ D.state desk.old }
-    ensures uncounted { IsNone (words_given args) → D.faults desk.new ≡ D.faults desk.old }
+    ensures memory { IsNone (words_given args) → status_of result ≡ Status.Memory }
+    ensures untouched { IsNone (words_given args) → IsTrue D.tells → D.state (desk_of result) ≡ D.state desk }
+    ensures uncounted { IsNone (words_given args) → D.faults (desk_of result) ≡ D.faults desk }
 {
     let words = words(alloc, args);
-    let status = run_words(alloc, &words, desk);
-    ExitCode::from(status.code())
+    let mut desk = desk;
+    let status = run_words(alloc, &words, &mut desk);
+    Ended { status, desk }
 }

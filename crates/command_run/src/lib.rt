@@ -26,7 +26,7 @@ use crate::searching::search;
 use crate::solving::solve;
 use crate::trying::try_edits;
 use desk_io::Desk;
-pub use ending::end;
+pub use ending::{Ended, Exit, end};
 pub use request_reading::Status;
 use request_reading::{Asked, Early, ask_by_words};
 use std::alloc::{AllocError, Global};
