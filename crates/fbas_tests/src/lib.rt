@@ -10,11 +10,7 @@ mod configurations;
 #[cfg(test)]
 mod findings;
 #[cfg(test)]
-mod name_lists;
-#[cfg(test)]
 mod node_sets;
-#[cfg(test)]
-mod organisations;
 #[cfg(test)]
 mod plain;
 #[cfg(test)]

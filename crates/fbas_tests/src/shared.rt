@@ -8,7 +8,7 @@ use name_set::{Names, NodeSet};
 use node_json::read_config;
 use quorum_set::QuorumSet;
 use std::alloc::{AllocError, Global};
-use std::fmt::{Debug, Display};
+use std::fmt::Debug;
 use std::process::Abort;
 
 /// Fails the test where the values differ. It stands apart, so that the tests have no branches of it.
@@ -20,25 +20,6 @@ pub fn equal<T: PartialEq + Debug>(rt: &impl Abort, found: &T, want: &T, at: &st
 pub fn same(rt: &impl Abort, found: Result<String, AllocError>, want: &str) {
     let found = found.expect(rt, "memory");
     equal(rt, &found.as_str(), &want, "a text");
-}
-
-/// What is handed in by a row `INPUT => FOUND`, which is what has to be found of it.
-pub fn input_of(row: &str) -> &str {
-    match row.split_once(" => ") {
-        Some((input, _)) => input,
-        None => row,
-    }
-}
-
-fn printed<T: Display>(alloc: Global, value: &T) -> Result<String, AllocError> {
-    format!(in alloc; "{value}")
-}
-
-/// Fails the test where a value is printed as another text than its own.
-pub fn wants_printed<T: Display>(rt: &impl Abort, alloc: Global, rows: &[(T, &str)]) {
-    for (value, text) in rows {
-        same(rt, printed(alloc, value), text);
-    }
 }
 
 /// The nodes 0 to 3, each as a set of one. A set of more is their sum.
@@ -95,31 +76,4 @@ pub fn names_of(rt: &impl Abort, alloc: Global, list: &[&str], n: u32) -> Names
     let names = Names::of(list).expect(rt, "memory");
     assert!(rt; names.len() == n);
     names
-}
-
-fn push_numbered(
-    alloc: Global,
-    text: &mut String,
-    (front, back): (&str, &str),
-    number: u64,
-) -> Result<(), AllocError> {
-    text.push_str(&format!(in alloc; "{front}{number}{back}")?)
-}
-
-/// A text of a head, a piece for each number from 1 on and below `n`, and a tail. A piece has its number between the two sides, or 0
-/// where the pieces are alike.
-pub fn numbered(
-    alloc: Global,
-    (head, tail): (&str, &str),
-    sides: (&str, &str),
-    n: u64,
-    are_alike: bool,
-) -> Result<String, AllocError> {
-    let mut text = String::from_str(alloc, head)?;
-    for i in 1..n {
-        let number = if are_alike { 0 } else { i };
-        push_numbered(alloc, &mut text, sides, number)?;
-    }
-    text.push_str(tail)?;
-    Ok(text)
 }

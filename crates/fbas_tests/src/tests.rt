@@ -101,22 +101,6 @@ fn closure_of_name(system: &System, name: &str) -> Result<NodeSet, NameFault>
     }
 }
 
-// Whether the trust closure of the node is the list.
-fn closure_is(system: &System, name: &str, members: &str) -> Result<bool, NameFault> {
-    let closure = closure_of_name(system, name)?;
-    let want = set_of(system, members)?;
-    Ok(closure.same(&want))
-}
-
-// Fails the test where the trust closure of a node is not its list.
-fn wants_closures(rt: &impl Abort, alloc: Global, config: &str, closures: &[(&str, &str)]) {
-    let system = system_of(rt, alloc, config);
-    for (name, members) in closures {
-        equal(rt, &closure_is(&system, name, members), &Ok(true), name);
-    }
-    drop(system);
-}
-
 // The system restricted to the trust closure of the node, and the list cut to it.
 fn part_of(alloc: Global, system: &System, name: &str, list: &str) -> Option<(System, NodeSet)>
     ensures { IfSome result (λ r. length r.1 ≡ length r.0.sets) }
@@ -132,20 +116,6 @@ fn is_quorum(system: &System, list: &str, faulty: &NodeSet) -> Result<bool, Name
     requires { length faulty.now ≡ length system.now.sets }
 {
     Ok(system.is_quorum(&set_of(system, list)?, faulty))
-}
-
-static OF_TWO_PAIRS: [(&str, &str); 3] = [("a", "a,b"), ("d", "c,d"), ("bb", "bb")];
-
-#[test]
-fn a_closure_leaves_out_who_is_not_mentioned(rt: HostRuntime) {
-    wants_closures(&rt, rt.alloc(), TWO_PAIRS, &OF_TWO_PAIRS);
-}
-
-static OF_CHAIN: [(&str, &str); 3] = [("e", "a,b,c,d,e"), ("b", "a,b"), ("a", "a")];
-
-#[test]
-fn a_closure_goes_through_bad_thresholds(rt: HostRuntime) {
-    wants_closures(&rt, rt.alloc(), CHAIN, &OF_CHAIN);
 }
 
 // Whether the set is the list.
