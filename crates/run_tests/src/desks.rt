@@ -4,14 +4,13 @@
 //! functions of their own that return a text, and a test has no `?`.
 ghost use Rattle.std.specs.Prelude.{◌<◌};
 
-use crate::certificates::of_kind;
 use command_run::{Status, run};
 use desk_io::{Call, MemDesk};
 use std::alloc::{AllocError, Global};
 use std::process::Abort;
 use std::str::from_utf8;
 
-/// The files `config`, `cert` and `orgs`.
+/// The files `config`, `cert`, `orgs` and `script`.
 #[derive(Clone, Copy)]
 pub struct Files<'a> {
     pub config: &'a [u8],
@@ -52,23 +51,12 @@ impl<'a> Files<'a> {
     }
 }
 
-/// What a run leaves: its status, what is out, what the file `cert` holds, and what the file `c` does, if it was made.
+/// What a run leaves: its status, what is out, and what the file `cert` holds.
 #[derive(Drop)]
 pub struct Left {
     pub status: Status,
     pub out: Vec<u8>,
     pub cert: Vec<u8>,
-    pub made: Option<Vec<u8>>,
-}
-
-impl Left {
-    /// What the file `c` holds: nothing, if it was not made.
-    pub fn made(&self) -> &[u8] {
-        match &self.made {
-            Some(bytes) => bytes,
-            None => b"",
-        }
-    }
 }
 
 fn push_file(
@@ -82,8 +70,8 @@ fn push_file(
     Ok(())
 }
 
-/// How many bytes may be put in a run: more than the longest text of a test, the formula of half of two hundred.
-const ROOM: usize = 2_000_000;
+/// How many bytes may be put in a run: more than the longest text of a test.
+const ROOM: usize = 100_000;
 
 // The four files.
 fn files_of(alloc: Global, held: &Files) -> Result<Vec<(String, Vec<u8>)>, AllocError> {
@@ -100,14 +88,7 @@ fn push_word(alloc: Global, words: &mut Vec<String>, word: &str) -> Result<(), A
     Ok(())
 }
 
-// The file that may be created.
-fn creatable(alloc: Global) -> Result<Vec<String>, AllocError> {
-    let mut paths = Vec::new(alloc);
-    push_word(alloc, &mut paths, "c")?;
-    Ok(paths)
-}
-
-// A desk with the four files, which may create the file `c`, moves so many bytes at once and fails these calls.
+// A desk with the four files, which may create no other, moves so many bytes at once and fails these calls.
 fn desk(
     alloc: Global,
     held: &Files,
@@ -117,8 +98,7 @@ fn desk(
     requires { 0 < piece }
 {
     let files = files_of(alloc, held)?;
-    let may_create = creatable(alloc)?;
-    MemDesk::new(alloc, files, may_create, piece, ROOM, failing)
+    MemDesk::new(alloc, files, Vec::new(alloc), piece, ROOM, failing)
 }
 
 // The words of a line behind the program's name.
@@ -133,25 +113,11 @@ fn words(alloc: Global, line: &str) -> Result<Vec<String>, AllocError> {
     Ok(words)
 }
 
-// What the file `c` holds, if it was made.
-fn made(alloc: Global, desk: &MemDesk) -> Result<Option<Vec<u8>>, AllocError> {
-    match desk.file("c") {
-        Some(bytes) => Ok(Some(Vec::from_slice(alloc, bytes)?)),
-        None => Ok(None),
-    }
-}
-
 // What is left on the desk of a run that ended so.
 fn left_on(alloc: Global, desk: &MemDesk, status: Status) -> Result<Left, AllocError> {
     let out = Vec::from_slice(alloc, desk.out())?;
     let cert = Vec::from_slice(alloc, desk.file("cert").unwrap_or(b""))?;
-    let made = made(alloc, desk)?;
-    Ok(Left {
-        status,
-        out,
-        cert,
-        made,
-    })
+    Ok(Left { status, out, cert })
 }
 
 // It stands apart so that its contract is not carried into what is proved of its caller.
@@ -187,11 +153,6 @@ pub fn run_over(
     run_words(alloc, &words(alloc, line)?, held, piece, failing)
 }
 
-/// The bytes as a text.
-pub fn text_of(alloc: Global, bytes: &[u8]) -> Result<String, AllocError> {
-    String::from_str(alloc, from_utf8(bytes).unwrap_or("no text"))
-}
-
 /// What is said of a command line that ended so, with these bytes out.
 pub fn said(alloc: Global, line: &str, status: Status, out: &[u8]) -> Result<String, AllocError> {
     let text = from_utf8(out).unwrap_or("no text");
@@ -217,22 +178,6 @@ pub fn same(rt: &impl Abort, found: Result<String, AllocError>, want: Result<Str
     equal(rt, &found, &want);
 }
 
-/// Fails unless what is left of the command line is this status and this text.
-pub fn wants_left(
-    rt: &impl Abort,
-    alloc: Global,
-    line: &str,
-    left: &Left,
-    status: Status,
-    text: &str,
-) {
-    same(
-        rt,
-        said(alloc, line, left.status, &left.out),
-        said(alloc, line, status, text.as_bytes()),
-    );
-}
-
 /// Fails unless the command line ends with this status and this text, in pieces of 7 bytes.
 pub fn wants(rt: &impl Abort, alloc: Global, line: &str, held: &Files, status: Status, text: &str) {
     same(
@@ -242,64 +187,8 @@ pub fn wants(rt: &impl Abort, alloc: Global, line: &str, held: &Files, status: S
     );
 }
 
-/// Fails unless each command line ends with its status and its text, all over the same files.
-pub fn wants_each(rt: &impl Abort, alloc: Global, held: &Files, rows: &[(&str, Status, &str)]) {
-    for (line, status, text) in rows {
-        wants(rt, alloc, line, held, *status, text);
-    }
-}
-
-/// The same, each over a configuration of its own.
-pub fn wants_over(rt: &impl Abort, alloc: Global, rows: &[(&str, &str, Status, &str)]) {
-    for (config, line, status, text) in rows {
-        let held = Files::of(config.as_bytes());
-        wants(rt, alloc, line, &held, *status, text);
-    }
-}
-
 /// The line that checks the certificate.
 pub const CHECK: &str = "check config cert";
 
 /// The line that checks the certificate beside the organisations.
 pub const CHECK_BESIDE: &str = "check config cert --orgs orgs";
-
-/// Fails unless `check` of this certificate ends with this status and this text.
-pub fn wants_checked(
-    rt: &impl Abort,
-    alloc: Global,
-    config: &[u8],
-    cert: &[u8],
-    status: Status,
-    text: &str,
-) {
-    let held = Files::with_cert(config, cert);
-    wants(rt, alloc, CHECK, &held, status, text);
-}
-
-/// The same of a certificate that was made for the test.
-pub fn wants_made(
-    rt: &impl Abort,
-    alloc: Global,
-    config: &[u8],
-    cert: Result<String, AllocError>,
-    status: Status,
-    text: &str,
-) {
-    let cert = cert.expect(rt, "memory");
-    wants_checked(rt, alloc, config, cert.as_bytes(), status, text);
-}
-
-/// Fails unless `check` of each certificate of this kind, which has its body, ends with its status and its text. The digest is that of
-/// the configuration.
-pub fn wants_of_kind(
-    rt: &impl Abort,
-    alloc: Global,
-    (config, digest): (&str, &str),
-    kind: &str,
-    rows: &[(&str, Status, &str)],
-) {
-    for (body, status, text) in rows {
-        let cert = of_kind(alloc, digest, kind, body);
-        wants_made(rt, alloc, config.as_bytes(), cert, *status, text);
-    }
-}

@@ -1,35 +1,16 @@
-//! `run` over a desk in memory: the printed texts and statuses of worked cases, and that an answer comes at all.
+//! `run` over a desk in memory: what only such a desk shows. The printed texts and statuses of worked cases are rows of
+//! `tests/answers.py`, over the built program.
 #![tactic(auto)]
 
 #[cfg(test)]
-mod blocking;
-#[cfg(test)]
 mod certificates;
-#[cfg(test)]
-mod check_lrat;
-#[cfg(test)]
-mod checks;
 #[cfg(test)]
 mod desks;
 #[cfg(test)]
 mod failing;
 #[cfg(test)]
-mod groups;
-#[cfg(test)]
-mod least;
-#[cfg(test)]
-mod malicious;
-#[cfg(test)]
-mod questions;
-#[cfg(test)]
-mod quorums;
-#[cfg(test)]
-mod rat;
-#[cfg(test)]
-mod searches;
+mod pieces;
 #[cfg(test)]
 mod systems;
 #[cfg(test)]
-mod trials;
-#[cfg(test)]
-mod whatif;
+mod words;
