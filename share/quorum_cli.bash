@@ -6,28 +6,28 @@ _quorum_cli() {
     return
   fi
   case ${COMP_WORDS[1]} in
-    show) options='' ;;
-    closure) options='--node' ;;
-    greatest) options='--from --faulty --orgs --faulty-orgs' ;;
-    intersect) options='--budget --from --faulty --orgs --faulty-orgs' ;;
-    available) options='--set --from' ;;
-    dset) options='--set --from --budget' ;;
-    blocks) options='--set --from --faulty --orgs --faulty-orgs' ;;
-    vblocks) options='--node --set' ;;
-    splits) options='--set --budget --from --faulty --orgs --faulty-orgs' ;;
-    blocking) options='--budget --from --faulty --orgs --faulty-orgs' ;;
-    check) options='--orgs' ;;
-    export) options='--from --faulty --orgs --faulty-orgs' ;;
-    trial) options='--budget' ;;
-    check-lrat) options='--from --faulty --orgs --faulty-orgs' ;;
-    quorums) options='--budget --from --faulty --orgs --faulty-orgs' ;;
-    least) options='--budget --from --faulty --orgs --faulty-orgs' ;;
-    org-blocking) options='--orgs --from --faulty --faulty-orgs --budget' ;;
-    whatif) options='--set' ;;
+    show) options='--progress' ;;
+    closure) options='--node --progress' ;;
+    greatest) options='--from --faulty --orgs --faulty-orgs --progress' ;;
+    intersect) options='--budget --from --faulty --orgs --faulty-orgs --seconds --progress' ;;
+    available) options='--set --from --progress' ;;
+    dset) options='--set --from --budget --seconds --progress' ;;
+    blocks) options='--set --from --faulty --orgs --faulty-orgs --progress' ;;
+    vblocks) options='--node --set --progress' ;;
+    splits) options='--set --budget --from --faulty --orgs --faulty-orgs --seconds --progress' ;;
+    blocking) options='--budget --from --faulty --orgs --faulty-orgs --seconds --progress' ;;
+    check) options='--orgs --progress' ;;
+    export) options='--from --faulty --orgs --faulty-orgs --progress' ;;
+    trial) options='--budget --seconds --progress' ;;
+    check-lrat) options='--from --faulty --orgs --faulty-orgs --progress' ;;
+    quorums) options='--budget --from --faulty --orgs --faulty-orgs --seconds --progress' ;;
+    least) options='--budget --from --faulty --orgs --faulty-orgs --seconds --progress' ;;
+    org-blocking) options='--orgs --from --faulty --faulty-orgs --budget --seconds --progress' ;;
+    whatif) options='--set --progress' ;;
   esac
   case $before in
   --orgs) mapfile -t COMPREPLY < <(compgen -f -- "$word") ;;
-  --node|--from|--faulty|--faulty-orgs|--set|--budget) COMPREPLY=() ;;
+  --node|--from|--faulty|--faulty-orgs|--set|--budget|--seconds) COMPREPLY=() ;;
   *)
     if [[ $word == -* ]]; then
       mapfile -t COMPREPLY < <(compgen -W "$options" -- "$word")

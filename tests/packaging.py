@@ -107,7 +107,13 @@ def installed(folder):
     config = os.path.join(TOP, "examples", "three.json")
     ended = run([os.path.join(folder, "a b", "bin", "quorum_cli"), "greatest", config, "--faulty", "a"], cwd=folder)
     judge(ended == (0, "greatest b c\n", ""), "the installed program: %r" % (ended,))
-    for name in ("man/man1/quorum_cli.1", "bash-completion/completions/quorum_cli", "zsh/site-functions/_quorum_cli", "fish/vendor_completions.d/quorum_cli.fish"):
+    ended = run([os.path.join(folder, "a b", "bin", "quorum_cli"), "show", "nowhere"], cwd=folder)
+    judge(ended == (6, "", "quorum_cli: a file could not be read: there is no file nowhere\n"), "an installed program without its file: %r" % (ended,))
+    os.symlink(os.path.join("a b", "bin", "quorum_cli"), os.path.join(folder, "link"))
+    ended = run([os.path.join(folder, "link"), "--version"], cwd="/")
+    with open(os.path.join(TOP, "VERSION"), encoding="utf-8") as it:
+        judge(ended == (0, "quorum_cli %s" % it.read(), ""), "the installed program's version: %r" % (ended,))
+    for name in ("gemzulat/commands", "gemzulat/words.bash", "gemzulat/watch.bash", "man/man1/quorum_cli.1", "bash-completion/completions/quorum_cli", "zsh/site-functions/_quorum_cli", "fish/vendor_completions.d/quorum_cli.fish"):
         judge(os.path.isfile(os.path.join(folder, "a b", "share", name)), name + " is not installed")
 
 

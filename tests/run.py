@@ -44,6 +44,7 @@ GROUPS = {
     "random_scripts": "random_scripts.py",
     "examples": "examples.py",
     "packaging": "packaging.py",
+    "script": "script.py --cases 60",
     "tools": "tools.py",
 }
 # What --long runs in the place of the groups of these names, and besides.
