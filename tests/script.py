@@ -362,6 +362,41 @@ class Trial:
         self.judge("a kept file", self.run("intersect three mine --seconds 60"), (0, "intersects yes\n", SAYS + "mine was no certificate: kept as mine~\n"))
 
 
+    def taking_up(self):
+        """A part that was finished before is gone on with, where it is of the very question and is accepted."""
+        tree = self.path("noting")
+        shutil.copytree(self.real, tree)
+        self.write(self.path(tree, "libexec/gemzulat/quorum_cli"), '#!/bin/sh\necho "$*" >>"$LOG"\nexec "%s" "$@"\n' % self.program)
+        net = os.path.join(TOP, "examples", "network.json")
+        whole = self.run(["blocking", net, "set"])
+        orgs = os.path.join(TOP, "examples", "orgs.json")
+        for name, words, before, taken in [
+            ("a part of the question", ["blocking", net, "c"], ["blocking", net, "c"], True),
+            ("a part of organisations", ["org-blocking", net, "c", "--orgs", orgs], ["org-blocking", net, "c", "--orgs=" + orgs], True),
+            ("a part of another question", ["blocking", net, "c"], ["blocking", net, "c", "--faulty", "GAAA1"], False),
+            ("a part of another kind", ["quorums", net, "c"], ["blocking", net, "c"], False),
+            ("a part that is not accepted", ["blocking", net, "c"], None, False),
+        ]:
+            if before:
+                self.judge(name + ": before", self.run([*before, "--budget", "3"])[0], 2)
+            else:
+                self.run(["blocking", net, "c", "--budget", "3"])
+                self.write(os.path.join(self.here, "c"), self.read("c").replace("GBBB2 ", "", 1))
+            self.asked()
+            found = self.run([*words, "--seconds", "60"], tree=tree)
+            self.judge(name, found, self.run([*words[:2], "d", *words[3:]]))
+            asked = [it.split() for it in self.asked()]
+            self.judge(name + ": what is asked: %s" % asked, [it[0] for it in asked if it[0] != "check" and it[4] == "c"] == [words[0]] * (1 if taken else 2), True)
+        self.run(["blocking", net, "c", "--budget", "3"])
+        held = self.read("c")
+        self.judge("no time for more", (self.run(["blocking", net, "c", "--seconds", "0"], tree=tree), self.read("c") == held), ((2, "blocking unknown 3\n", ""), True))
+        self.run(["blocking", net, "c", "--budget", "3"])
+        self.judge("no more than it has", self.run(["blocking", net, "c", "--seconds", "60", "--budget", "2"], tree=tree), (2, "blocking unknown 2\n", ""))
+        self.judge("more than it has", self.run(["blocking", net, "c", "--seconds", "60", "--budget", "5"], tree=tree), (2, "blocking unknown 5\n", ""))
+        self.judge("all of it", self.run(["blocking", net, "c", "--seconds", "60"]), whole)
+        self.asked()
+
+
 def main():
     parser = argparse.ArgumentParser(description=__doc__.split("\n")[0])
     parser.add_argument("program", nargs="?", default=BUILT)
@@ -373,7 +408,7 @@ def main():
         return 0
     with tempfile.TemporaryDirectory() as folder:
         trial = Trial(folder, os.path.abspath(asked.program))
-        for step in (trial.words, trial.help, trial.limits, trial.parts, trial.interrupts, trial.progress, trial.real_questions):
+        for step in (trial.words, trial.help, trial.limits, trial.parts, trial.interrupts, trial.progress, trial.real_questions, trial.taking_up):
             step()
         trial.random_words(asked.cases, asked.seed)
     print("script: %d passed, %d failed" % (trial.passed, trial.failed))

@@ -219,9 +219,34 @@ ask_part() {
   [ "$1" != "$ceiling" ] && [ -z "$is_up" ]
 }
 
+# Takes up the part that lies in the certificate, where it is one of this very question: it has the header of a part without
+# work, and the program accepts it. That part is asked for into the file without a name.
+take_up() {
+  local head old line at
+  mapfile -t -n 6 old 2>/dev/null <"$cert"
+  { [ -f "$config" ] && [[ ${old[0]-}${old[4]-} == 'fbas-cert '*'kind partial'* ]]; } || return
+  words[cert_at]=/dev/fd/$held
+  words_for 0
+  words[cert_at]=$cert
+  answer=$("$program" "${asking[@]}") && return
+  mapfile -t -n 6 head 2>/dev/null <"/dev/fd/$held"
+  for at in "${!head[@]}"; do [ "${head[at]}" = end ] || [ "${head[at]}" = "${old[at]-}" ] || return; done
+  line=$("$program" check ${orgs:+--orgs="$orgs"} -- "$config" "$cert")
+  [ $? = 2 ] && [[ $line =~ ^accepted\ partial[a-z-]*\ ([0-9]+) && ${BASH_REMATCH[1]} -lt $ceiling ]] || return
+  units=${BASH_REMATCH[1]}
+  answer=${answer//unknown 0/unknown $units}
+  done_so_far="$units units$(figures)"
+}
+
+# The budget after this one, which is the greatest at last.
+more_than() {
+  local more=$(($1 < first_units / 4 ? first_units : 4 * $1))
+  echo $((more < ceiling ? more : ceiling))
+}
+
 # Asks in parts until there is an answer, or the time is up. The last part that was finished is the answer then.
 run_in_parts() {
-  local ceiling=${values[--budget]-$most_units} budget=0 answer='' is_up='' is_cut='' is_interrupted='' ended_by='' asking asked='' done_so_far='' name
+  local ceiling=${values[--budget]-$most_units} units=0 answer='' is_up='' is_cut='' is_interrupted='' ended_by='' asking asked='' done_so_far='' name
   now
   begun=$moment
   until=$((begun + $(microseconds "${seconds[0]}")))
@@ -229,10 +254,11 @@ run_in_parts() {
   trap stop_part USR1
   # shellcheck disable=SC2064
   for name in INT TERM HUP; do trap "interrupted $name" $name; done
-  while ask_part "$budget"; do
-    budget=$((budget == 0 ? first_units : 4 * budget))
-    budget=$((budget < ceiling ? budget : ceiling))
-  done
+  if ! take_up; then
+    answer=''
+    ask_part 0 || ceiling=0
+  fi
+  while [ "$units" -lt "$ceiling" ] && units=$(more_than "$units") && ask_part "$units"; do :; done
   trap '' USR1
   trap - INT TERM HUP
   give_answer
