@@ -1,8 +1,12 @@
 """The call of the shared library, by ctypes."""
 
+from __future__ import annotations
+
 import ctypes
+import functools
 import mmap
 import os
+from typing import Any, Callable, Iterable, Union
 
 # The library beside this file, or the one that the environment names.
 PATH = os.environ.get("QUORUM_LIBRARY") or os.path.join(os.path.dirname(os.path.abspath(__file__)), "libquorum.so")
@@ -10,7 +14,11 @@ PATH = os.environ.get("QUORUM_LIBRARY") or os.path.join(os.path.dirname(os.path.
 ROOM = 1 << 26
 NO_ROOM = 7
 # What is wanting if no room helps.
-NEVER = ctypes.c_size_t(-1).value
+NEVER: int = ctypes.c_size_t(-1).value
+FILES = ("config", "orgs", "script", "cert")
+
+Data = Union[bytes, bytearray, memoryview]
+Call = Callable[..., None]
 
 
 class End(ctypes.Structure):
@@ -19,19 +27,50 @@ class End(ctypes.Structure):
     _fields_ = [("status", ctypes.c_uint8), ("text", ctypes.c_size_t), ("cert", ctypes.c_size_t), ("wanting", ctypes.c_size_t)]
 
 
-def load(path=None):
+@functools.lru_cache(maxsize=None)
+def load(path: str | None = None) -> Call:
     """The call in a shared library."""
-    call = ctypes.CDLL(path or PATH).quorum_answer
+    call: Any = ctypes.CDLL(path or PATH).quorum_answer
     call.restype = None
     call.argtypes = [*[ctypes.c_char_p, ctypes.c_size_t] * 5, ctypes.c_void_p, ctypes.c_size_t, ctypes.POINTER(End)]
-    return call
+    return call  # type: ignore[no-any-return]
 
 
-def ask(call, words, files, room):
-    """The end, the text and the certificate of one call with so many bytes of room."""
-    given = []
-    for data in (words, *(files.get(name, b"") for name in ("config", "orgs", "script", "cert"))):
-        given += [bytes(data), len(data)]
+def as_bytes(name: str, value: object) -> bytes:
+    """The bytes of an argument; a TypeError with its name for another type."""
+    if not isinstance(value, (bytes, bytearray, memoryview)):
+        raise TypeError(f"{name} must be bytes, not {type(value).__name__}")
+    return bytes(value)
+
+
+def as_count(name: str, value: object) -> int:
+    """A number that is not negative; a TypeError with the argument's name for another type."""
+    if isinstance(value, bool) or not isinstance(value, int):
+        raise TypeError(f"{name} must be an int, not {type(value).__name__}")
+    if value < 0:
+        raise ValueError(f"{name} must not be negative")
+    return value
+
+
+def line_of(words: Iterable[str | bytes]) -> bytes:
+    """The words of a command line, a zero byte between two."""
+    if isinstance(words, (str, bytes)):
+        raise TypeError(f"words must be several words, not {type(words).__name__}")
+    found = []
+    for word in words:
+        if not isinstance(word, (str, bytes)):
+            raise TypeError(f"words must be str or bytes, not {type(word).__name__}")
+        found.append(word if isinstance(word, bytes) else word.encode())
+    if any(b"\0" in word for word in found):
+        raise ValueError("words must not have a zero byte")
+    return b"\0".join(found)
+
+
+def ask(call: Call, words: bytes, files: dict[str, bytes], room: int) -> tuple[End, bytes, bytes]:
+    """The end, the text and the certificate of one call with this many bytes of room."""
+    given: list[bytes | int] = []
+    for data in (words, *(files.get(name, b"") for name in FILES)):
+        given += [data, len(data)]
     held, end = mmap.mmap(-1, max(room, 1)), End()
     place = (ctypes.c_char * max(room, 1)).from_buffer(held)
     try:
@@ -42,20 +81,20 @@ def ask(call, words, files, room):
         held.close()
 
 
-def answer(words, config=b"", orgs=b"", script=b"", cert=b"", room=ROOM, call=None):
+def answer(words: Iterable[str | bytes], config: Data = b"", orgs: Data = b"", script: Data = b"", cert: Data = b"", room: int = ROOM, call: Call | None = None) -> tuple[int, bytes, bytes]:
     """The status, the text and the certificate, as bytes, of the words of a command line over files in memory.
 
     The words name the files config, orgs, script and cert, and what a search makes made: answer(["show", "config"], data). If the room
     is too small, a larger one is given. Raises MemoryError if there is no memory for the run or for the room.
     """
+    line, room = line_of(words), as_count("room", room)
+    files = {name: as_bytes(name, data) for name, data in zip(FILES, (config, orgs, script, cert))}
     call = call or load()
-    line = b"\0".join(word if isinstance(word, bytes) else word.encode() for word in words)
-    files = {"config": config, "orgs": orgs, "script": script, "cert": cert}
     while True:
         try:
             end, text, made = ask(call, line, files, room)
         except OSError as error:
-            raise MemoryError("no memory for a room of %d bytes" % room) from error
+            raise MemoryError(f"no memory for a room of {room} bytes") from error
         if end.status != NO_ROOM or end.wanting == NEVER:
             return end.status, text, made
         # the search begins anew, so the next room is ample

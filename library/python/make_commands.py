@@ -1,0 +1,115 @@
+#!/usr/bin/env python3
+"""Writes quorums/commands.py, a method for each command, from the usage text: library/python/make_commands.py [--check]
+
+The usage text is that of docs/FORMATS.md, which tests/examples.py holds against the program, and what a command is for is what
+tools/packaging says. With --check nothing is written, and the status is 1 where the file is not what would be written.
+"""
+
+from __future__ import annotations
+
+import importlib.machinery
+import importlib.util
+import os
+import re
+import sys
+
+HERE = os.path.dirname(os.path.abspath(__file__))
+TOP = os.path.dirname(os.path.dirname(HERE))
+sys.path.insert(0, HERE)
+
+from quorums import usage  # noqa: E402
+
+HEAD = '''"""A method for each command of the table. Made from the usage text by make_commands.py: do not edit."""
+
+from __future__ import annotations
+
+from typing import Optional
+
+from . import asking
+from .asking import Several
+from .binding import ROOM, Data
+from .replies import Answer
+from .worker import Stop
+
+
+class Commands:
+    """The commands of the program as methods."""
+
+    def ask(self, command: str, options: dict[str, object], second: Optional[Data] = None, timeout: Optional[float] = None, stop: Optional[Stop] = None) -> Answer:
+        raise NotImplementedError
+'''
+TYPES = {"NAME": "str", "NAMES": "Several", "IDS": "Several", "UNITS": "int"}
+SECOND = {"CERT": "certificate", "LRAT": "proof", "SCRIPT": "script"}
+
+
+def described() -> dict[str, str]:
+    """What each command is for, as tools/packaging has it."""
+    loader = importlib.machinery.SourceFileLoader("packaging_of_tools", os.path.join(TOP, "tools", "packaging"))
+    spec = importlib.util.spec_from_loader(loader.name, loader)
+    assert spec is not None
+    module = importlib.util.module_from_spec(spec)
+    sys.dont_write_bytecode = True
+    loader.exec_module(module)
+    return dict(module.COMMANDS)
+
+
+def usage_text() -> str:
+    """The usage text that docs/FORMATS.md has."""
+    with open(os.path.join(TOP, "docs", "FORMATS.md"), encoding="utf-8") as it:
+        found = re.search(r"^usage: quorum_cli COMMAND\n.*?(?=^```)", it.read(), re.M | re.S)
+    assert found is not None
+    return found[0]
+
+
+def signature(row: usage.Command) -> list[str]:
+    """The parameters of a method: the second file and what is needed by place or name, the others by name."""
+    first = [] if row.is_search or row.second is None else [f"{SECOND[row.second]}: Data"]
+    asked = [it for it in row.options if it.flag != "--orgs"]
+    first += [f"{it.argument}: {TYPES[it.place]}" for it in asked if it.needed]
+    rest = [f"{it.argument}: Optional[{TYPES[it.place]}] = None" for it in asked if not it.needed]
+    return [*first, "*", *rest, "timeout: Optional[float] = None", "stop: Optional[Stop] = None"]
+
+
+def doc(row: usage.Command, said: str, indent: str) -> str:
+    return f'{indent}"""{said[0].upper()}{said[1:]}.\n\n{indent}`{row.line}`\n{indent}"""\n'
+
+
+def options_of(row: usage.Command) -> str:
+    return "{%s}" % ", ".join(f'"{it.argument}": {it.argument}' for it in row.options if it.flag != "--orgs")
+
+
+def method(row: usage.Command, said: str) -> str:
+    second = "" if row.is_search or row.second is None else f"{SECOND[row.second]}, "
+    head = f"\n    def {row.method}(self, {', '.join(signature(row))}) -> Answer:\n"
+    return head + doc(row, said, "        ") + f'        return self.ask("{row.word}", {options_of(row)}, {second}timeout=timeout, stop=stop)\n'
+
+
+def function(row: usage.Command, said: str) -> str:
+    """A command that is about no configuration, but about a number."""
+    head = f"\n\ndef {row.method}(count: int, {', '.join(signature(row))}, room: int = ROOM) -> Answer:\n"
+    return head + doc(row, said, "    ") + f'    return asking.counted("{row.word}", count, {options_of(row)}, timeout, stop, room)\n'
+
+
+def made() -> str:
+    rows, said = usage.read(usage_text()), described()
+    methods = [method(it, said[it.word]) for it in rows.values() if it.files[0] == "CONFIG"]
+    functions = [function(it, said[it.word]) for it in rows.values() if it.files[0] != "CONFIG"]
+    return HEAD + "".join([*methods, *functions])
+
+
+def main() -> int:
+    path = os.path.join(HERE, "quorums", "commands.py")
+    text = made()
+    if "--check" in sys.argv[1:]:
+        with open(path, encoding="utf-8") as it:
+            if it.read() == text:
+                return 0
+        print("make_commands: quorums/commands.py is not that of the usage text: run library/python/make_commands.py")
+        return 1
+    with open(path, "w", encoding="utf-8") as it:
+        it.write(text)
+    return 0
+
+
+if __name__ == "__main__":
+    sys.exit(main())
