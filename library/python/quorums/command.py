@@ -196,9 +196,10 @@ class Question:
         except Refused:
             # (the command says so itself)
             return
-        groups = snapshot.groups("org" if by is None else by)
-        self.names = called(snapshot, [groups])
+        self.names = called(snapshot, [snapshot.given_groups()])
         if by is not None:
+            groups = snapshot.groups(by)
+            self.names = called(snapshot, [groups])
             self.orgs = groups.orgs
             self.files["orgs"] = {"by": by, "sha256": digest(self.orgs), "alone": len(groups.alone)}
             say_alone(groups, snapshot, asked.config)
@@ -272,9 +273,9 @@ def ask(asked: argparse.Namespace) -> int:
     if asked.row.files[0] != "CONFIG":
         asked.as_is = False
     question = Question(asked)
-    if asked.row.files[0] == "CONFIG":
-        question.read()
     try:
+        if asked.row.files[0] == "CONFIG":
+            question.read()
         answer = question.answer()
     except Refused as refused:
         return refuse(question, refused.status, refused.text)
@@ -294,7 +295,11 @@ def refuse(question: Question, status: int, text: str) -> int:
     """A refusal: the program's own words, or a document."""
     words = [question.row.word, *(it for it in asking.given(question.row, question.options))]
     document = outputs.refusal_document(question.row.word, words, question.noted(), status, text)
-    return put(outputs.as_json(document) if question.asked.json else text, status)
+    return put(outputs.as_json(document) if question.asked.json else lined(text), status)
+
+
+def lined(text: str) -> str:
+    return text if text.endswith("\n") or not text else text + "\n"
 
 
 def asked_of(asked: argparse.Namespace) -> summary.Asked:
@@ -313,7 +318,7 @@ def summarise(asked: argparse.Namespace) -> int:
         snapshot = Snapshot(data, orgs)
         found = summary.summary(data, orgs, questions, kept)
     except Refused as refused:
-        return put(refused.text if refused.text.endswith("\n") else refused.text + "\n", refused.status)
+        return put(lined(refused.text), refused.status)
     for by in questions.by:
         say_alone(snapshot.groups(by), snapshot, asked.config)
     if asked.certificates is not None:
@@ -342,7 +347,7 @@ def show_groups(asked: argparse.Namespace) -> int:
         snapshot = Snapshot(held(asked.config), held(asked.orgs))
         groups = snapshot.groups(asked.by)
     except Refused as refused:
-        return put(refused.text if refused.text.endswith("\n") else refused.text + "\n", refused.status)
+        return put(lined(refused.text), refused.status)
     say_alone(groups, snapshot, asked.config)
     if asked.output is not None:
         write(asked.output, groups.orgs)

@@ -167,9 +167,10 @@ class Drawn:
         for at, row in enumerate(self.rows):
             if row.get("fork") == word:
                 left, right = bounds(at, self.xs)
-                width = max(right - left, 1.5)
-                found.append(f"M{left:g} 0h{width:g}v100h-{width:g}z")
-        return f'<path d="{"".join(found)}" style="fill:{colour};fill-opacity:.25"/>' if found else ""
+                found.append((left, max(right - left, 2.5)))
+        whole = "".join(f"M{left:g} 0h{width:g}v100h-{width:g}z" for left, width in found)
+        edge = "".join(f"M{left:g} 97h{width:g}v3h-{width:g}z" for left, width in found)
+        return f'<path d="{whole}" style="fill:{colour};fill-opacity:.25"/><path d="{edge}" style="fill:{colour}"/>' if found else ""
 
     def links(self) -> Iterator[str]:
         """For each snapshot a strip with its numbers, which leads to its row."""
@@ -289,7 +290,7 @@ def now(rows: list[Row], drawn: list[Chart]) -> str:
         return ""
     cells = [("can fork", last.get("fork", ""))]
     cells += [(f"{chart.word.replace('_', ' ')}, {it.name}", last.get(it.column, "")) for chart in drawn[:-1] for it in chart.series]
-    tiles = "".join(f"<div><b>{html.escape(value)}</b><span>{html.escape(name)}</span></div>" for name, value in cells if value)
+    tiles = "".join(f"<div><b>{html.escape(value)}</b><span>{html.escape(name)}</span></div>" for name, value in cells if value not in ("", "not asked"))
     return f'<h2>{html.escape(last["date"] or last["file"])}, the last one</h2><div class="now">{tiles}</div>'
 
 
@@ -297,8 +298,7 @@ def page(rows: list[Row], table_path: str, page_path: str, reports: Optional[str
     """The page of a table's rows."""
     drawn, xs = charts(rows), places(rows)
     dates = [row["date"][:10] for row in rows if row["date"]]
-    span = f", {dates[0]} to {dates[-1]}" if dates else ""
-    title = f"{counted(len(rows), 'snapshot')}{span}"
+    title = counted(len(rows), "snapshot") + (f", {dates[0]} to {dates[-1]}" if dates else "")
     asked = sorted({row["asked"] for row in rows})
     head = f'<h1>{html.escape(title)}</h1>{verdict(rows)}<p>Each number is an answer of the proved program; its certificate is linked in the table below. Asked: {html.escape("; ".join(asked))}.</p>'
     body = head + now(rows, drawn) + "".join(Drawn(it, rows, xs).section() for it in drawn) + "<h2>All snapshots</h2>" + table(rows, Links(table_path, page_path, reports))
@@ -330,9 +330,9 @@ def plotted(pyplot: Any, chart: Chart, rows: list[Row]) -> Any:
         at = [x for x, row in zip(xs, rows) if row.get("fork") == word]
         if at:
             axes.plot(at, [0] * len(at), "|", color=colour, markersize=14, label=said)
-    axes.set_title(chart.title)
+    axes.set_title(chart.title, loc="left", pad=26)
     axes.set_ylim(bottom=0)
     axes.yaxis.get_major_locator().set_params(integer=True)
     axes.grid(True, alpha=0.3)
-    axes.legend()
+    axes.legend(loc="lower left", bbox_to_anchor=(0, 1), ncol=6, frameon=False, borderaxespad=0.2, handlelength=1.4)
     return figure

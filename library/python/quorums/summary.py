@@ -114,8 +114,8 @@ def tier(found: dict[str, dict[str, Any]], groups: dict[str, Groups]) -> dict[st
     by = {}
     for name, it in groups.items():
         inside = set(nodes)
-        of = sorted("org:" + group for group, keys in it.members.items() if inside & set(keys))
-        by[name] = of + ["node:" + key for key in nodes if key in set(it.alone)]
+        of = ["org:" + group for group, keys in it.members.items() if inside & set(keys)]
+        by[name] = sorted([*of, *("node:" + key for key in inside & set(it.alone))])
     return {"status": "known", "size": len(nodes), "nodes": nodes, "by": by}
 
 
@@ -129,8 +129,8 @@ def answers(snapshot: Snapshot, asked: Asked, kept: Kept) -> dict[str, Any]:
     questions = Questions(config, asked, kept)
     if asked.central:
         questions.view = snapshot.central(tuple(map(str, questions.ask("greatest")["greatest"])))
-    closure = snapshot.keys if questions.view is None else list(map(str, questions.ask("closure", node=questions.view)["closure"]))
     greatest = list(map(str, questions.ask("greatest")["greatest"]))
+    closure = snapshot.keys if questions.view is None else list(map(str, questions.ask("closure", node=questions.view)["closure"]))
     inside = set(greatest)
     lists = {"blocking": questions.found("blocking", listed)}
     tiers = {"blocking": lists["blocking"]}
