@@ -29,7 +29,7 @@ function certificate(asked, { answer, checked }, digest) {
 
 // The command of the program that asks the same.
 function command(asked) {
-  const files = { config: called.config, made: `${asked.trial ? 'trial' : base()}.cert`, cert: called.cert, script: 'edits.script' };
+  const files = { config: asked.byFile ? `${base()}-now.json` : called.config, made: `${asked.trial ? 'trial' : base()}.cert`, cert: called.cert, script: 'edits.script' };
   const quoted = (word) => (/^[\w.,=/:@+-]+$/.test(word) ? word : `'${word.replaceAll("'", "'\\''")}'`);
   const orgs = (word) => (word === '--orgs=orgs' ? `--orgs=${called.orgs ?? 'orgs.json'}` : word);
   return `quorum_cli ${asked.words.map((word, at) => quoted((at && at < 3 && files[word]) || orgs(word))).join(' ')}`;
@@ -41,7 +41,8 @@ function ownWords(asked, { answer }) {
   const same = make('pre', { id: 'command', tabindex: '0', 'aria-label': 'The command' }, command(asked));
   const made = asked.words.includes('--orgs=orgs') && !files.orgs;
   const orgs = made ? said(save('Save the organisations as they were asked about', 'orgs.json', asked.about.orgs)) : '';
-  return fold(`The program’s own words, status ${answer.status}`, false, printed, whole, make('p', { class: 'small' }, 'The same by the program:'), same, orgs);
+  const now = asked.byFile ? said('It is about the file in which those that are down agree with nobody. ', nowLink()) : '';
+  return fold(`The program’s own words, status ${answer.status}`, false, printed, whole, make('p', { class: 'small' }, 'The same by the program:'), same, orgs, now);
 }
 
 // The nodes of the answer with their keys.

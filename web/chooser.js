@@ -24,7 +24,7 @@ class Chooser {
 
   choices() {
     const said = this.filter.value.trim().toLowerCase(), fits = (...texts) => texts.some((text) => text.toLowerCase().includes(said));
-    const orgs = this.network.orgs.filter((org) => org.keys.length && fits(org.name, org.id)), keys = this.network.keys.filter((key) => fits(this.network.name(key), key));
+    const orgs = this.network.orgs.filter((org) => org.keys.length && fits(org.name, org.id, org.domain)), keys = this.network.keys.filter((key) => fits(this.network.name(key), key));
     return [
       ...orgs.map((org) => [this.orgs, org.id, org.name, counted(org.keys.length, 'node')]),
       ...this.network.sorted(keys).map((key) => [this.keys, key, this.network.name(key), this.network.orgOf.get(key)?.name ?? '']),

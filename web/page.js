@@ -28,10 +28,11 @@ const takes = (option) => usage.get(row()?.word)?.options.has(option);
 // Which fields the chosen question has.
 function showFields() {
   const { word, set, help } = row(), { trial, second, options } = usage.get(word);
-  const shown = { ...Object.fromEntries([...options].map((it) => [it, true])), organisations: trial, script: second === 'SCRIPT', leaves: second === 'SCRIPT' };
+  const shown = { ...Object.fromEntries([...options].map((it) => [it, true])), now: row().now && network.down().length > 0, organisations: trial, script: second === 'SCRIPT', leaves: second === 'SCRIPT' };
   for (const field of document.querySelectorAll('[data-option]')) field.hidden = !shown[field.dataset.option];
   $('set').querySelector('legend').textContent = set ?? SILENT;
   $('help').textContent = help;
+  $('now-says').textContent = `${counted(network.down().length, 'validator')} that the file marks as down: silent`;
 }
 
 function fillQuestions() {
@@ -50,8 +51,7 @@ function nodeOptions(first) {
 }
 
 function showOrganisations() {
-  const without = network.orgs.filter((org) => !org.keys.length).length;
-  const warning = without && files.config ? strong(`. None of the keys of ${counted(without, 'organisation')} is in the file of nodes. Is it the same network?`, 'warn') : '';
+  const warning = network.lost() && files.config ? strong(`. ${network.lost()} of ${network.listed} validators are not in ${called.config}. Is it the same network?`, 'warn') : '';
   $('orgs-says').replaceChildren(`${called.orgs}: ${counted(network.orgs.length, 'organisation')}`, warning, ' ', forgetting());
 }
 
@@ -87,7 +87,8 @@ function put(which, name, bytes) {
   called[which] = name;
   if (which === 'cert') $('cert-says').textContent = `${name}: ${counted(bytes.length, 'byte')}`;
   else showNetwork();
-  if (which === 'config') $('question').value = 'intersect';
+  if (which === 'config') $('question').value = 'summary';
+  if (which === 'config') $('now').checked = false;
   if (which === 'cert') $('question').value = textOf(bytes.subarray(0, 10)) === 'fbas-cert ' ? 'check' : 'check-lrat';
 }
 
@@ -159,8 +160,10 @@ function commonWords() {
 function question() {
   const { word } = row(), { trial, second, options } = usage.get(word), common = commonWords();
   const value = (option, id = option) => (options.has(option) ? $(id).value.trim() : '');
-  const makes = second === 'CERT' && word !== 'check', set = options.has('set') ? silent.all() : [];
-  const asked = { row: row(), common, makes, trial, set, lying: options.has('faulty') ? lying.all() : [], node: value('node'), from: value('from'), budget: value('budget') };
+  const makes = second === 'CERT' && word !== 'check', isNow = !!row().now && $('now').checked && network.down().length > 0;
+  const set = options.has('set') ? [...new Set([...silent.all(), ...(isNow && row().now === 'set' ? network.down() : [])])].sort() : [];
+  const byFile = isNow && row().now === 'file' && !row().run;
+  const asked = { row: row(), common, makes, trial, isNow, byFile, set, lying: options.has('faulty') ? lying.all() : [], node: value('node'), from: value('from'), budget: value('budget') };
   const words = [word, trial ? $('organisations').value.trim() : 'config'];
   if (second) words.push(makes ? 'made' : second === 'SCRIPT' ? 'script' : 'cert');
   if (options.has('node')) words.push(`--node=${asked.node}`);
@@ -168,7 +171,7 @@ function question() {
   words.push(...common);
   if (asksByOrgs(word) && !words.includes('--orgs=orgs')) words.push('--orgs=orgs');
   if (asked.budget) words.push(`--budget=${asked.budget}`);
-  return { ...asked, words, about: { ...files, orgs: orgsBytes(), script: bytesOf($('script').value) } };
+  return { ...asked, words, about: { ...files, ...(byFile ? { config: bytesOf(network.nowText()) } : {}), orgs: orgsBytes(), script: bytesOf($('script').value) } };
 }
 
 function missing({ words, trial, about }) {
@@ -237,16 +240,29 @@ async function ask() {
   const old = saved.splice(0);
   busy(true);
   $('status').textContent = `Asked: ${asked.row.ask}`;
-  const steps = stepsOf(asked), at = (name) => `${steps.findIndex((it) => it.name === name) + 1} of ${steps.length}`;
+  const steps = asked.row.run ? [] : stepsOf(asked), at = (name) => `${steps.findIndex((it) => it.name === name) + 1} of ${steps.length}`;
   try {
+    if (asked.row.run) {
+      const found = await asked.row.run(asked, (at) => { busy.phase = `Answering: ${at}`; });
+      if (turn === current) show(asked, {}, found, null);
+      if (turn === current) busy(false);
+      return;
+    }
     const done = await asker.ask(steps, asked.about, (name) => { busy.phase = PHASES[name] ?? `Step ${at(name)}`; });
     const found = await shownAs(asked, done), digest = done.answer?.cert.length ? await sha256(done.answer.cert) : null;
     if (turn === current) show(asked, done, found, digest);
   } catch (why) {
-    if (turn === current) failed(why.message);
+    if (turn === current) await ended(asked, why);
   }
   for (const url of old) URL.revokeObjectURL(url);
   if (turn === current) busy(false);
+}
+
+// A question of several that was refused is shown as if it had been asked alone.
+async function ended(asked, why) {
+  if (!why.end) return failed(why.message);
+  const { end, words } = why, lines = linesOf(textOf(end.text));
+  show({ ...asked, row: COMMANDS.find((it) => it.word === words[0]) ?? asked.row, words, makes: false }, { answer: end }, tellRefusal(end.status, lines), null);
 }
 
 function failed(why) {
@@ -261,9 +277,9 @@ function failed(why) {
 async function shownAs(asked, done) {
   if (asked.row.steps) {
     const about = await seen(asked, { from: asked.from, faulty: [] });
-    return { ...asked.row.tell(done, { network, greatest: about.greatest }), painted: about };
+    return { ...asked.row.tell(done, { network, greatest: about.greatest, from: asked.from }), painted: about };
   }
-  const { answer } = done, lines = linesOf(textOf(answer.text)), of = { network, files: asked.about, lying: asked.lying, node: asked.node, greatest: [] };
+  const { answer } = done, lines = linesOf(textOf(answer.text)), of = { network, files: asked.about, lying: asked.lying, node: asked.node, from: asked.from, greatest: [] };
   if (asked.trial && answer.status <= 2) return asked.row.tell(lines, of);
   const view = asked.row.word === 'check' && answer.status <= 2 ? tellCheck(lines, of).view : null;
   const about = asked.about.config ? await seen(asked, view) : { greatest: [], within: null };
@@ -275,11 +291,13 @@ async function shownAs(asked, done) {
 // All that stands under an answer.
 function bodyOf(asked, done, found, digest) {
   const whose = asked.from ? `, as ${network.name(asked.from)} sees it` : '';
-  const about = make('p', { class: 'asked' }, asked.row.ask, asked.trial ? '' : make('span', { class: 'small' }, ` ${called.config}${whose}`));
-  if (asked.row.steps) return [about, verdict(found), timed(Object.values(done)), keysOf(found)];
+  const when = asked.isNow ? ', as things are now' : '';
+  const about = make('p', { class: 'asked' }, asked.row.ask, asked.trial ? '' : make('span', { class: 'small' }, ` ${called.config}${whose}${when}`));
+  if (asked.row.run && found.ends) return [about, verdict(found), keptOf(found), timed(found.ends), keysOf(found)];
+  if (asked.row.steps) return [about, misfit(asked), verdict(found), timed(Object.values(done)), keysOf(found)];
   const saves = found.saves ? said(save(`Save it (${size(done.answer.text.length)})`, `${base()}.${found.saves}`, done.answer.text)) : '';
   const again = found.again ? againWithMore() : '', times = timed([done.answer, done.checked]);
-  return [about, verdict(found), again, saves, ...certificate(asked, done, digest), times, ownWords(asked, done), keysOf(found)];
+  return [about, misfit(asked), verdict(found), again, saves, ...certificate(asked, done, digest), times, ownWords(asked, done), keysOf(found)];
 }
 
 function show(asked, done, found, digest) {

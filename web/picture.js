@@ -16,12 +16,21 @@ class Paint {
   constructor(sets) {
     for (const [name] of CIRCLES) this[name] = new Set(sets[name]);
     this.marked = new Set(sets.marked);
+    this.down = new Set(sets.down);
+    this.unknown = new Set(sets.unknown);
     this.markedAs = sets.markedAs ?? '';
     this.within = sets.within ? new Set(sets.within) : null;
   }
 
   circle(key) {
+    const [kind, letter, says] = this.place(key);
+    if (!this.down.has(key)) return [kind, letter, says];
+    return letter ? [kind, letter, `${says}, down`] : [`${kind} down`, '–', `${says}, down`];
+  }
+
+  place(key) {
     for (const [name, kind, letter, says] of CIRCLES) if (this[name].has(key)) return [kind, letter, says];
+    if (this.unknown.has(key)) return ['n u', '?', 'of which the quorum set is not known'];
     return this.within && !this.within.has(key) ? ['x', '', 'outside of what is asked about'] : ['n', '', 'in no quorum'];
   }
 
@@ -47,14 +56,14 @@ function drawnNode(network, paint, key, captioned) {
 }
 
 function drawnBox(network, paint, title, keys, captioned) {
-  const rank = (key) => ('nx'.includes(paint.circle(key)[0]) ? 1 : 0);
+  const rank = (key) => ('nx'.includes(paint.place(key)[0][0]) ? 1 : 0);
   const shown = network.sorted(keys).sort((a, b) => rank(a) - rank(b));
   return make('div', { class: `org${captioned ? '' : ' rest'}` }, make('h3', { class: 'node' }, title), make('ul', {}, shown.map((key) => drawnNode(network, paint, key, captioned))));
 }
 
 function legend(network, paint) {
-  const there = new Map(network.keys.map((key) => [paint.circle(key)[0], paint.circle(key)]));
-  const rows = ['lie', 'still', 'one', 'two', 'q', 'n', 'x'].filter((kind) => there.has(kind)).map((kind) => make('li', {}, dot(kind, there.get(kind)[1]), there.get(kind)[2]));
+  const state = (key) => (paint.place(key)[1] ? paint.place(key) : paint.circle(key)), there = new Map(network.keys.map((key) => [state(key)[0], state(key)]));
+  const rows = ['lie', 'still', 'one', 'two', 'q', 'q down', 'n', 'n down', 'n u', 'x', 'x down'].filter((kind) => there.has(kind)).map((kind) => make('li', {}, dot(kind, there.get(kind)[1]), there.get(kind)[2]));
   if (network.keys.some((key) => paint.marked.has(key))) rows.push(make('li', {}, dot('', '', true), paint.markedAs));
   return make('ul', { class: 'legend' }, rows);
 }

@@ -1,30 +1,22 @@
 // What an answer says, in an operator's words. Each of these takes an answer's lines and what it is about, and gives a mood (good, bad or
 // open), a heading, what stands below it, and the sets that the picture paints.
 
-const MOST_NAMED = 12, MOST_LISTED = 60, MOST_EDITS = 500;
+const MOST_LISTED = 60, MOST_EDITS = 500;
 
 const told = (mood, head, more = [], sets = {}) => ({ mood, head, more, sets });
-const counted = (number, what) => `${number} ${what}${number === 1 ? '' : 's'}`;
-const namesIn = (line) => (line ?? '').split(' ').slice(1);
-const linesOf = (text) => text.split('\n').slice(0, -1);
 const upper = (text) => text[0].toUpperCase() + text.slice(1);
 const others = (count) => (count > 0 ? said(`And ${count} others: all are in the program’s own words below.`) : '');
 
 const node = (network, key) => named(network.name(key), key);
 
-// Nodes by their names, or if they are many by their organisations.
-function nodes(network, keys) {
-  if (!keys.length) return ['nobody'];
-  if (keys.length <= MOST_NAMED) return between(network.sorted(keys).map((key) => node(network, key)));
-  const own = new Set(keys), parts = [];
-  for (const org of network.orgs) {
-    const held = org.keys.filter((key) => own.has(key) && network.orgOf.get(key) === org);
-    if (held.length) parts.push(named(`${held.length === org.keys.length ? 'all' : held.length} of ${org.name}`));
-  }
-  const outside = keys.filter((key) => !network.orgOf.has(key)).length;
-  if (outside && parts.length) parts.push(`${outside} of no organisation`);
-  return [counted(keys.length, 'node'), ...(parts.length ? [' (', ...between(parts), ')'] : [])];
+// Parts of a text as they are shown, organisations and nodes by their names.
+function shownParts(network, parts) {
+  const orgs = new Map(network.orgs.map((org) => [`org:${org.id}`, org])), keyOf = (text) => text.slice(text.indexOf(':') + 1);
+  return parts.map((part) => (typeof part === 'string' ? part : orgs.has(part.text) ? named(orgs.get(part.text).name, orgs.get(part.text).id) : node(network, keyOf(part.text))));
 }
+
+// Nodes by their names, or if they are many by their organisations.
+const nodes = (network, keys) => shownParts(network, nodesSaid(network, keys));
 
 // Who lies: whole organisations by their names, and the other nodes.
 function lies({ network, lying }) {
@@ -42,26 +34,32 @@ function undecided(units) {
   return { ...told('open', 'Not decided.', [said(`The budget of ${units} units is spent. ${text}`)]), again: true };
 }
 
-const noQuorum = (...more) => told('bad', 'There is no quorum: nothing is ever agreed on.', more);
+// There is none, or none is known where quorum sets are not.
+function noQuorum({ network }, ...more) {
+  const unknown = network.unknown().length;
+  if (!unknown) return told('bad', 'There is no quorum: nothing is ever agreed on.', more);
+  return told('open', 'No quorum is known.', [said(`The quorum sets of ${counted(unknown, 'node')} are not known: these count as agreeing with nobody.`), ...more]);
+}
 
 // Two quorums that share no node.
-function pair({ network }, lines) {
+function pair({ network, greatest }, lines) {
   const [first, second] = lines.map(namesIn);
   const one = said(strong('One: '), nodes(network, first)), other = said(strong('The other: '), nodes(network, second));
-  return { more: [one, other, ...apart(network, first, second)], sets: { first, second } };
+  return { more: [one, other, ...apart(network, greatest, first, second)], sets: { first, second } };
 }
 
 // Of two quorums, one for which nobody else waits.
-function apart(network, ...both) {
+function apart(network, greatest, ...both) {
   const alone = both.find((keys) => keys.length && !keys.some((key) => network.named.has(key)));
   if (!alone) return [];
   const text = `${alone.length === 1 ? ' stands' : ' stand'} in no other node’s quorum set: nobody waits for what would be split off here.`;
-  return [said(nodes(network, alone), text), asAnother(network)];
+  return [said(nodes(network, alone), text), asAnother(network, greatest)];
 }
 
-// A button that asks the same as the node sees it that most name, which leaves out those on whom it does not depend.
-function asAnother(network) {
-  const key = network.mostNamed(), button = make('button', { type: 'button' }, `Ask as ${network.name(key)} sees it`);
+// A button that asks the same as that node of the greatest quorum sees it which most name: without those on whom it does not depend.
+function asAnother(network, greatest) {
+  if (!greatest.length) return '';
+  const key = network.mostNamed(greatest), button = make('button', { type: 'button' }, `Ask as ${network.name(key)} sees it`);
   button.onclick = () => askAs(key);
   return make('p', {}, button);
 }
@@ -73,9 +71,10 @@ function tellIntersect(lines, of) {
     const { more, sets } = pair(of, lines.slice(1, 3));
     return told('bad', 'It can fork.', [whileLying(of, 'two quorums share no node: each can agree on a ledger of its own.'), ...more], sets);
   }
-  if (!of.greatest.length) return noQuorum(said('So no two quorums are disjoint, and that says nothing.'));
+  if (!of.greatest.length) return noQuorum(of, said('So no two quorums are disjoint, and that says nothing.'));
   const none = 'every two quorums share a node, so while no node lies no two groups agree on different ledgers.';
   const some = 'every two quorums still share a node that does not, so no two groups agree on different ledgers.';
+  if (of.from) return told('open', `As ${of.network.name(of.from)} sees it, it cannot fork.`, [whileLying(of, of.lying.length ? some : none), said('Of the other nodes of the file this says nothing.')]);
   return told('good', 'It cannot fork.', [whileLying(of, of.lying.length ? some : none)]);
 }
 
@@ -87,8 +86,6 @@ function tellSplits(lines, of) {
   return told('bad', 'They can fork it by lying.', [said('They tell each of two quorums what it waits for, and the two share no other node.'), ...more], sets);
 }
 
-// The sets of a list, the smallest first.
-const setsIn = (lines) => lines.filter((line) => /^set( |$)/.test(line)).map(namesIn).sort((a, b) => a.length - b.length);
 const noOthers = (text) => said(`${text} The certificate shows that there are no others.`);
 
 // A list of sets of nodes, and how they read by organisation.
@@ -114,7 +111,7 @@ const QUORUMS = ['minimal quorum', 'The nodes of each can agree on their own, an
 function tellList(lines, of, tell, none) {
   const [, word, units] = lines[0].split(' ');
   if (word === 'unknown') return undecided(units);
-  return of.greatest.length ? tell() : noQuorum(said(none));
+  return of.greatest.length ? tell() : noQuorum(of, said(none));
 }
 
 const NOTHING_TO_STOP = 'So there is nothing to stop.';
@@ -136,7 +133,7 @@ function tellOrgSets(lines, { network }) {
 function tellLeast(lines, of) {
   const [, word, units] = lines[0].split(' ');
   if (word === 'unknown') return undecided(units);
-  if (word === 'none') return noQuorum();
+  if (word === 'none') return noQuorum(of);
   const keys = namesIn(lines[1]), own = keys.length === 1 ? 'its' : 'their';
   return told('open', `${counted(keys.length, 'node')} can agree on ${own} own, and no fewer.`, [said('One such quorum: ', nodes(of.network, keys))], { marked: keys, markedAs: 'in one smallest quorum' });
 }
@@ -155,7 +152,7 @@ const UNMET = 'without a slice';
 function tellAvailable(lines, of) {
   if (lines[0] === 'available yes') return told('good', 'All others go on without them.', [said('Each of the others has a slice left.')]);
   const unmet = namesIn(lines[1]), has = unmet.length === 1 ? ' has' : ' have';
-  const rest = '. Who depends on these in turn is not listed. Nodes without a quorum set never go on.';
+  const rest = '. Who depends on these in turn is not listed. A node whose quorum set is not known counts as one without a slice.';
   return told('bad', 'Not all others go on.', [said(counted(unmet.length, 'node'), has, ' no slice left: ', nodes(of.network, unmet), rest)], { marked: unmet, markedAs: UNMET });
 }
 
@@ -173,7 +170,7 @@ function tellDset(lines, of) {
 
 function tellVblocks(lines, of) {
   const name = of.network.name(of.node);
-  const can = 'They have a node in each of its slices (a v-blocking set): if all fall silent it agrees on nothing. Of a node without slices this is always so.';
+  const can = 'They have a node in each of its slices (a v-blocking set): if all fall silent it agrees on nothing. Of a node without slices, or whose quorum set is not known, this is always so.';
   const cannot = 'A slice of it is left. Whether the nodes of that slice go on is another question.';
   if (lines[0] === 'vblocks yes') return told('bad', `They can stop ${name}.`, [said(can)]);
   return told('good', `They cannot stop ${name} by themselves.`, [said(cannot)]);
@@ -181,7 +178,7 @@ function tellVblocks(lines, of) {
 
 function tellGreatest(lines, of) {
   const keys = namesIn(lines[0]), left = of.network.keys.length - keys.length;
-  if (!keys.length) return noQuorum();
+  if (!keys.length) return noQuorum(of);
   const rest = left ? `The other ${left} can agree with nobody.` : 'That is every node of the file.';
   return told('open', `${counted(keys.length, 'node')} can agree.`, [said('The greatest quorum: ', nodes(of.network, keys)), said(rest)], { greatest: keys });
 }

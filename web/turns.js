@@ -34,12 +34,12 @@ function turnSilent(of, org, done) {
 function tellTurns(done, of) {
   const orgs = asTurns(of.network);
   if (!orgs.length) return told('open', 'No organisations are known.', [said('Give their file, or a file of nodes with home domains.')]);
-  if (!of.greatest.length) return noQuorum();
+  if (!of.greatest.length) return noQuorum(of);
   const forks = orgs.filter((org) => done[`${org.id} lies`].status === 1).length, stops = orgs.filter((org) => done[`${org.id} silent`].status === 0).length;
   const many = (count) => (count === 0 ? 'None' : count === orgs.length ? 'Each' : String(count));
   const head = `${many(forks)} of ${counted(orgs.length, 'organisation')} can fork it by lying; ${many(stops).toLowerCase()} can stop it alone.`;
   const rows = orgs.map((org, at) => [named(org.name, org.id), turnLies(of, `${org.id} lies`, done, `${base()}-lying-${at + 1}.cert`), turnSilent(of, org, done)]);
   const nobody = said('If nobody lies, can it fork? ', turnLies(of, 'nobody lies', done, `${base()}-intersect.cert`));
   const whole = table('Each organisation in turn', ['Organisation', 'If it lies, can the network fork?', 'If it falls silent'], rows, 'turns');
-  return told(forks || stops || done['nobody lies'].status === 1 ? 'bad' : 'good', head, [nobody, whole]);
+  return told(forks || stops || done['nobody lies'].status === 1 ? 'bad' : of.from ? 'open' : 'good', head, [nobody, whole]);
 }

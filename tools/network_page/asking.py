@@ -3,17 +3,23 @@
 import hashlib
 import os
 import shlex
+import shutil
 import subprocess
 import sys
 import time
 
 # The statuses of the program that are no answer, in words.
 NO_ANSWER = {6: "a file could not be read", 7: "an output could not be written", 8: "there was not enough memory"}
-KIND = {"yes": "refutation", "no": "pair", "unknown": "partial"}
+# A search begins with so many units, and has four times as many in each next run: at most a third is done twice.
+FIRST_BUDGET, MOST_BUDGET = 4000, 1_000_000
 
 
 class Failed(Exception):
     """The program gave no answer, or did not accept its own certificate."""
+
+
+class OutOfTime(Exception):
+    """A run was ended as its time was up."""
 
 
 class View:
@@ -26,18 +32,15 @@ class View:
     def words(self):
         return ["--from=" + self.node] if self.node is not None else []
 
-    def file(self, name):
-        """What the certificate of a question is called."""
-        return "from-" + name if self.node is not None else name
-
 
 class Certificate:
     """A file that `check` has accepted, with what `check` said of it and the words that made it."""
 
-    def __init__(self, path, accepted, command):
+    def __init__(self, path, accepted, command, about):
         self.name = os.path.basename(path)
         self.accepted = accepted
         self.command = command
+        self.about = about
         with open(path, "rb") as it:
             held = it.read()
         self.digest = hashlib.sha256(held).hexdigest()
@@ -45,69 +48,152 @@ class Certificate:
 
 
 class Verdict:
-    """Whether every two quorums share a node: `yes`, `no`, `unknown` (with the units) or `too-large` (with the variables)."""
+    """Whether every two quorums share a node: `yes`, `no` or `unknown`, with the units that were spent, or why it was not asked."""
 
-    def __init__(self, view, word, number=None, first=(), second=(), certificate=None):
+    def __init__(self, view, word, first=(), second=(), work="", certificate=None):
         self.view = view
         self.word = word
-        self.number = number
         self.first = first
         self.second = second
+        self.work = work
         self.certificate = certificate
 
 
 class Blocking:
-    """The minimal blocking sets with their certificate: all of them, or where so many units were spent some of those found."""
+    """The minimal blocking sets with their certificate: all of them, or some of those found until so many units were spent."""
 
-    def __init__(self, sets, found, units, certificate):
+    def __init__(self, sets, found, work, certificate):
         self.sets = sets
         self.found = found
-        self.units = units
+        self.work = work
         self.certificate = certificate
 
     def is_whole(self):
-        return self.units is None
+        return self.work is None
+
+
+class Clock:
+    """The time that a question may take, and all of them."""
+
+    def __init__(self, question, in_all):
+        self.question = question
+        self.in_all = in_all
+        self.began = time.monotonic()
+        self.ended = False
+        self.at_work = ""
+
+    def spent(self):
+        return time.monotonic() - self.began
+
+    def until(self):
+        """When a question that begins now has to be answered."""
+        if self.ended:
+            return 0.0
+        return min(time.monotonic() + self.question, self.began + self.in_all)
+
+    def is_up(self):
+        return self.ended or self.spent() >= self.in_all
+
+
+class Searched:
+    """What a search came to: its status and lines, with the budget of the run that gave them; or with no status that there was no time for any."""
+
+    def __init__(self, status, lines, budget, took):
+        self.status = status
+        self.lines = lines
+        self.budget = budget
+        self.took = took
+
+    def work(self):
+        """With how much work it was not answered."""
+        if self.status is None:
+            return "no time was left for it"
+        if self.status == 9:
+            return "the formula would have %s variables, more than the program takes" % self.lines[0].split(" ")[1]
+        return "within %s units" % format(int(self.lines[0].split(" ")[2]), ",") + (", %.0f s" % self.took if self.took >= 1 else "")
 
 
 class Program:
     """The program on one configuration."""
 
-    def __init__(self, path, config, orgs, beside, budget):
+    def __init__(self, path, config, orgs, beside, budget, clock):
         self.path = path
         self.config = config
         self.orgs = orgs
         self.beside = beside
-        self.budget = budget
+        self.budget = budget if budget is not None else MOST_BUDGET
+        self.clock = clock
+        self.prefix = ""
         self.certificates = []
         self.commands = []
-        self.began = time.monotonic()
-        self.known = None
+        self.unanswered = []
+        self.named = set()
+
+    def on(self, name, text):
+        """The program on another configuration, which is written beside; what it leaves has that name before its own."""
+        other = Program.__new__(Program)
+        other.__dict__ = {**self.__dict__, "config": self.beside.written(self.prefix + name + ".json", text), "prefix": self.prefix + name + "-"}
+        return other
+
+    # What it is at.
 
     def say(self, text):
-        """Progress, on standard error."""
-        print("network-report: %5.1f s  %s" % (time.monotonic() - self.began, text), file=sys.stderr, flush=True)
+        """The question that is at work, on standard error."""
+        self.clock.at_work = text
+        self.clear()
+        print("network-report: %5.1f s  %s" % (self.clock.spent(), text), file=sys.stderr, flush=True)
 
-    def run(self, *words):
-        """The status and the lines of one run; statuses that are no answer fail."""
+    def tick(self, budget, began):
+        """On a terminal, the line of a search that takes longer."""
+        if sys.stderr.isatty():
+            text = "network-report: %5.1f s  %s: %s units, %.0f s" % (self.clock.spent(), self.clock.at_work, format(budget, ","), time.monotonic() - began)
+            sys.stderr.write("\r\x1b[K" + text[: shutil.get_terminal_size().columns - 1])
+            sys.stderr.flush()
+
+    @staticmethod
+    def clear():
+        if sys.stderr.isatty():
+            sys.stderr.write("\r\x1b[K")
+
+    # Runs.
+
+    def run(self, *words, until=None, budget=0):
+        """The status and the lines of one run; statuses that are no answer fail, and a run past its time is ended."""
+        began = time.monotonic()
         try:
-            ended = subprocess.run([self.path, *words], stdin=subprocess.DEVNULL, stdout=subprocess.PIPE, stderr=subprocess.PIPE)
-        except OSError as why:
+            # (a session of its own, which Ctrl-C at the terminal does not reach)
+            running = subprocess.Popen([self.path, *words], stdin=subprocess.DEVNULL, stdout=subprocess.PIPE, stderr=subprocess.PIPE, start_new_session=True)
+        except (OSError, ValueError) as why:
             raise Failed("the program could not be run: %s" % why) from None
-        text = ended.stdout.decode("ascii", "replace")
-        if ended.returncode not in (0, 1, 2, 3, 4, 5, 9, 10):
-            raise Failed("`%s` gave no answer: %s" % (words[0], NO_ANSWER.get(ended.returncode, ended.stderr.decode("utf-8", "replace").strip())))
-        return ended.returncode, text.split("\n")[:-1]
+        try:
+            while True:
+                try:
+                    text, error = running.communicate(timeout=0.5)
+                    break
+                except subprocess.TimeoutExpired:
+                    if until is not None and (time.monotonic() >= until or self.clock.ended):
+                        raise OutOfTime from None
+                    if budget:
+                        self.tick(budget, began)
+        finally:
+            end(running)
+        text = text.decode("ascii", "replace")
+        if running.returncode not in (0, 1, 2, 3, 4, 5, 9, 10):
+            raise Failed("`%s` gave no answer: %s" % (words[0], NO_ANSWER.get(running.returncode, error.decode("utf-8", "replace").strip())))
+        return running.returncode, text.split("\n")[:-1]
 
-    def answer(self, *words):
+    def answer(self, *words, **how):
         """The status and the lines of an answer; a refusal fails with the program's own line."""
-        status, lines = self.run(*words)
+        status, lines = self.run(*words, **how)
         if status in (3, 4, 5, 10):
             raise Failed("`%s` was refused: %s" % (words[0], lines[0] if lines else status))
         return status, lines
 
     def noted(self, *words):
         """An answer whose command the page shows."""
-        self.commands.append(self.shown(words))
+        command = self.shown(words)
+        if command not in self.commands:
+            self.commands.append(command)
         return self.answer(*words)
 
     def shown(self, words):
@@ -122,20 +208,18 @@ class Program:
             return option + os.path.join(self.beside.name, os.path.basename(path))
         return option + os.path.basename(path) if path in (self.config, self.orgs) else word
 
-    def knows(self, command):
-        """Whether the program has a command, by its usage text."""
-        if self.known is None:
-            self.known = {line.split(" ")[0] for line in self.run()[1][1:]}
-        return command in self.known
+    # Questions without a certificate.
 
     def closure(self, node):
         """The trust closure of a node."""
-        self.say("the node %s" % node)
         return self.listed("closure", self.config, "--node=" + node)
 
     def show(self):
         self.say("reading the configuration")
         return self.noted("show", self.config)[1]
+
+    def greatest(self, view):
+        return self.listed("greatest", self.config, *view.words())
 
     def listed(self, *words):
         """The names on the one line that the command prints."""
@@ -152,49 +236,96 @@ class Program:
     def v_blocks(self, node, keys):
         return self.answer("vblocks", self.config, "--node=" + node, "--set=" + ",".join(keys))[0] == 0
 
-    def searched(self, *words):
-        extra = ["--budget=" + self.budget] if self.budget is not None else []
-        return [*words, *extra]
+    def retired(self, keys, name, scripted):
+        """The greatest quorum of the whole file at first, and after each of the scripted keys has retired."""
+        script = self.beside.script(self.prefix + name, ["retire " + key for key in scripted])
+        lines = self.noted("whatif", self.config, script, "--set=" + ",".join(keys))[1]
+        return [line.split(" ")[1:] for line in lines if line.split(" ")[0] == "greatest"]
+
+    # Searches.
+
+    def cert_name(self, view, name):
+        """What the certificate of a question is called: of a second node's view another name."""
+        stem = self.prefix + ("from-" if view.node is not None else "") + name
+        at, held = 1, stem
+        while held in self.named:
+            at, held = at + 1, "%s-%d" % (stem, at + 1)
+        self.named.add(held)
+        return held
+
+    def searched(self, kinds, view, faulty, name, words, *more):
+        """What a search came to within its time, its certificate as `check` accepts it, and the sets in that. What an earlier run left is taken, or gone on with."""
+        path = self.beside.certificate(self.cert_name(view, name))
+        words = [words[0], self.config, path, *words[1:], *view.words()]
+        held = self.left_over(kinds, view, faulty, path, words[0], *more)
+        if held is None or (held[0].status == 2 and held[0].budget < self.budget):
+            ended = self.with_budgets(words, held[0].budget * 4 if held else FIRST_BUDGET)
+            if ended.status in kinds:
+                held = ended, self.accepted(path, kinds[ended.status], view, faulty, *more)
+            elif held is None or ended.status is not None:
+                held = ended, None
+        ended, lines = held
+        if ended.status not in (0, 1):
+            self.unanswered.append((self.clock.at_work, words[0], ended.work()))
+        if lines is None:
+            return ended, None, []
+        self.certificates.append(Certificate(path, lines[0], self.shown([*words, "--budget=%d" % ended.budget]), self.here(self.config)))
+        return ended, self.certificates[-1], [line.split(" ")[1:] for line in lines[3:]]
+
+    def with_budgets(self, words, budget):
+        """The last run that ended in time, each with four times as many units as the one before."""
+        began, until, ended = time.monotonic(), self.clock.until(), Searched(None, [], 0, 0.0)
+        while ended.status is None or (ended.status == 2 and ended.budget < self.budget):
+            budget = min(budget, self.budget)
+            try:
+                if time.monotonic() >= until:
+                    break
+                status, lines = self.answer(*words, "--budget=%d" % budget, until=until, budget=budget)
+            except OutOfTime:
+                break
+            ended = Searched(status, lines, budget, time.monotonic() - began)
+            budget *= 4
+        self.clear()
+        return ended
+
+    def left_over(self, kinds, view, faulty, path, command, *more):
+        """What an earlier run left under this name, if `check` accepts it of this very question."""
+        if not self.beside.left(path):
+            return None
+        for status, kind in kinds.items():
+            try:
+                lines = self.accepted(path, kind, view, faulty, *more)
+            except Failed:
+                continue
+            number = int(lines[0].split(" ")[2]) if status == 2 else self.budget
+            told = {0: lines, 1: [lines[0], *lines[3:5]], 2: ["%s unknown %d" % (command, number)]}
+            return Searched(status, told[status], number, 0.0), lines
+        os.unlink(path)
+        return None
 
     def intersect(self, view, name, org=None):
         """The verdict with its certificate, which is checked, and checked to be about this view and these faulty nodes."""
-        path = self.beside.certificate(view.file(name))
         lying = [] if org is None else ["--orgs=" + self.orgs, "--faulty-orgs=" + org.id] if self.orgs is not None else ["--faulty=" + ",".join(org.keys)]
-        words = self.searched("intersect", self.config, path, *view.words(), *lying)
-        status, lines = self.answer(*words)
-        if status == 9:
-            return Verdict(view, "too-large", lines[0].split(" ")[1])
-        word = lines[0].split(" ")[1]
-        sets = [line.split(" ")[1:] for line in lines[1:3]] if word == "no" else [(), ()]
-        number = lines[0].split(" ")[2] if word == "unknown" else None
-        certificate, _ = self.checked(path, KIND[word], view, org.keys if org is not None else (), words)
-        return Verdict(view, word, number, *sets, certificate=certificate)
+        ended, certificate, _ = self.searched({0: "refutation", 1: "pair", 2: "partial"}, view, org.keys if org is not None else (), name, ["intersect", *lying])
+        if ended.status == 0:
+            return Verdict(view, "yes", certificate=certificate)
+        if ended.status == 1:
+            return Verdict(view, "no", *(line.split(" ")[1:] for line in ended.lines[1:3]), certificate=certificate)
+        return Verdict(view, "unknown", work=ended.work(), certificate=certificate)
 
     def blocking(self, view, name, most):
         """The minimal blocking sets as `check` accepts them; where the units were spent, the smallest ones of those found."""
-        path = self.beside.certificate(view.file(name))
-        words = self.searched("blocking", self.config, path, *view.words())
-        status, lines = self.answer(*words)
-        certificate, sets = self.checked(path, "blocking" if status == 0 else "partial-blocking", view, (), words)
-        if status == 0:
+        ended, certificate, sets = self.searched({0: "blocking", 2: "partial-blocking"}, view, (), name, ["blocking"])
+        if ended.status == 0:
             return Blocking(sets, len(sets), None, certificate)
-        found = self.found_in(path)
-        return Blocking([keys for keys in found[:most] if self.is_minimal(view, keys)], len(found), lines[0].split(" ")[2], certificate)
+        found = self.found_in(self.beside.path(certificate.name)) if certificate else []
+        return Blocking([keys for keys in found[:most] if self.is_minimal(view, keys)], len(found), ended.work(), certificate)
 
     def blocking_groups(self, view, name, orgs):
         """The minimal blocking sets of organisations, and of nodes of none, as `check` accepts them; None where the units were spent."""
-        path = self.beside.certificate(view.file(name))
         given = "--orgs=" + (self.orgs if self.orgs is not None else self.beside.organisations(orgs))
-        words = self.searched("org-blocking", self.config, path, given, *view.words())
-        status, _ = self.answer(*words)
-        certificate, sets = self.checked(path, "org-blocking" if status == 0 else "partial-org-blocking", view, (), words, given)
-        return (sets, certificate) if status == 0 else None
-
-    def retired(self, keys, name, scripted):
-        """The greatest quorum of the whole file at first, and after each of the scripted keys has retired."""
-        script = self.beside.script(name, ["retire " + key for key in scripted])
-        lines = self.noted("whatif", self.config, script, "--set=" + ",".join(keys))[1]
-        return [line.split(" ")[1:] for line in lines if line.split(" ")[0] == "greatest"]
+        ended, certificate, sets = self.searched({0: "org-blocking", 2: "partial-org-blocking"}, view, (), name, ["org-blocking", given], given)
+        return (sets, certificate) if ended.status == 0 else None
 
     @staticmethod
     def found_in(path):
@@ -206,14 +337,15 @@ class Program:
         """Whether the keys stop every agreement, and without any one of them they do not."""
         return self.blocks(view, keys)[0] and not any(self.blocks(view, [it for it in keys if it != key])[0] for key in keys)
 
-    def checked(self, path, kind, view, faulty, words, *more):
-        """The certificate and the sets of it, where `check` accepts it as one of this kind, for this view and for exactly these faulty nodes."""
+    def accepted(self, path, kind, view, faulty, *more):
+        """The lines of `check`, which has to accept a certificate as one of this kind, for this view and for exactly these faulty nodes."""
         status, lines = self.run("check", self.config, path, *more)
         wanted = [" ".join(["from", *([view.node] if view.node is not None else [])]), " ".join(["faulty", *sorted(set(faulty) & view.keys)])]
         if status not in (0, 2) or lines[0].split(" ")[:2] != ["accepted", kind] or lines[1:3] != wanted:
             raise Failed("the certificate %s is not accepted: %s" % (os.path.basename(path), " / ".join(lines[:3])))
-        self.certificates.append(Certificate(path, lines[0], self.shown(words)))
-        return self.certificates[-1], [line.split(" ")[1:] for line in lines[3:]]
+        return lines
+
+    # The program itself.
 
     def file(self):
         """The program itself: if this is the script of a repository, the one that it runs."""
@@ -240,6 +372,17 @@ class Program:
             folder = os.path.dirname(folder)
         with open(os.path.join(folder, "VERSION"), encoding="utf-8") as it:
             return it.read().strip()
+
+
+def end(running):
+    """Ends a run that still goes on; the script of this repository hands the signal to its program."""
+    if running.poll() is None:
+        running.terminate()
+        try:
+            running.communicate(timeout=10)
+        except subprocess.TimeoutExpired:
+            running.kill()
+            running.communicate()
 
 
 def yes_or_names(answered):

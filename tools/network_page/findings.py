@@ -1,4 +1,4 @@
-"""Asks what the page says, question by question."""
+"""Asks what the page says, question by question. The page of the browser asks the same in web/summary.js."""
 
 import itertools
 
@@ -10,25 +10,38 @@ MOST_OF_PART = 10
 MOST_ASKED = 600
 
 
-class OrgTurn:
-    """One organisation in turn: lying (its keys faulty), and silent (its keys failed)."""
+class Forks:
+    """Whether the validators of the file can fork: `no`, `yes` or `networks` with two disjoint quorums, `undecided` or `none` (there is no quorum); which watchers could be split off; the verdicts that say so."""
 
-    def __init__(self, org, lies, stops, goes_on, unmet):
+    def __init__(self, word, verdicts, split=()):
+        self.word = word
+        self.verdicts = verdicts
+        self.split = split
+        pair = verdicts[-1] if verdicts and verdicts[-1].word == "no" else None
+        self.first = pair.first if pair else ()
+        self.second = pair.second if pair else ()
+
+
+class Turn:
+    """One organisation in turn: lying (its keys faulty), and silent (its keys failed). What its lies do: `no`, `yes`, `elsewhere` (among validators outside the view), `undecided`, or None, not asked."""
+
+    def __init__(self, org, word, verdicts, split, stops, goes_on, unmet):
         self.org = org
-        self.lies = lies
+        self.word = word
+        self.verdicts = verdicts
+        self.split = split
         self.stops = stops
         self.goes_on = goes_on
         self.unmet = unmet
 
 
 class Together:
-    """The minimal sets of organisations that do a thing, where the key of a node of none stands for itself. All of them, or those of at most so many organisations. A certificate is that of these sets, or that of the sets of nodes from which they follow."""
+    """The minimal sets of organisations that do a thing, where the key of a node of none stands for itself. All of them, or those of at most so many organisations. A certificate is that of these sets."""
 
-    def __init__(self, sets, most, certificate=None, from_nodes=False):
+    def __init__(self, sets, most, certificate=None):
         self.sets = sorted(sets, key=len)
         self.most = most
         self.certificate = certificate
-        self.from_nodes = from_nodes
 
 
 class Leaving:
@@ -59,22 +72,26 @@ class OwnNode:
         self.v_blocking = v_blocking
 
 
-class Found:
-    """All that the program answered, for the page. The first view is what the page is about, a second one the whole file."""
+class Part:
+    """All that the program answered of one view: of one's own node, of a network of the file, or of the whole file."""
 
-    def __init__(self, views):
-        self.views = views
-        self.greatest = []
-        self.verdicts = []
+    def __init__(self, view, greatest):
+        self.view = view
+        self.greatest = greatest
+        self.verdict = None
+        self.orgs = []
         self.turns = []
         self.stopping = None
+        self.down = []
+        self.stopped = False
+        self.stopping_now = None
         self.leaving = []
         self.blocking = None
         self.own = None
 
     def forks(self):
-        """Whether two quorums of the first view share no node, though no node lies."""
-        return bool(self.verdicts) and self.verdicts[0].word == "no"
+        """Whether two quorums of the view share no node, though no node lies."""
+        return self.verdict is not None and self.verdict.word == "no"
 
     def marked(self):
         """A set that stops the network, for the picture."""
@@ -86,71 +103,122 @@ class Found:
         return [], ""
 
 
-def views_of(program, network, node, closure):
-    """What the questions are about: what the node depends on, or with none given the node that most quorum sets name; and the whole file, where that is more."""
-    whole = View(None, network.keys)
-    asked = node if node is not None else network.most_named()
-    if asked is None:
-        return [whole]
-    keys = closure if closure is not None else program.closure(asked)
-    return [whole] if len(keys) == len(network.keys) else [View(asked, keys), whole]
+class Found:
+    """All that the program answered, for the page."""
+
+    def __init__(self):
+        self.greatest = []
+        self.validators = set()
+        self.networks = []
+        self.forks = None
+        self.parts = []
+        self.is_now = False
 
 
-def find(program, network, node, closure):
-    found = Found(views_of(program, network, node, closure))
-    view = found.views[0]
+def find(program, network, node, closure, is_now):
+    """What the page says. As things are now, all is asked with the nodes that are down as silent; both margins are asked in any case."""
+    found = Found()
+    now = program.on("now", network.now_text()) if network.down() else None
+    found.is_now = is_now and now is not None
+    asked, whole = now if found.is_now else program, View(None, network.keys)
     program.say("the greatest quorum")
-    found.greatest = program.listed("greatest", program.config, *view.words())
-    if program.knows("intersect"):
-        program.say("whether every two quorums share a node")
-        found.verdicts = until_fork(program, found.views, "intersect")
-    orgs = [org for org in network.orgs if set(org.keys) & view.keys]
-    for at, org in enumerate(orgs):
-        program.say("organisation %d of %d: %s" % (at + 1, len(orgs), org.name))
-        found.turns.append(turn_of(program, found, org))
-    if program.knows("blocking"):
-        program.say("the minimal blocking sets")
-        found.blocking = program.blocking(view, "blocking", MOST_OF_PART)
-    program.say("organisations that stop the network together")
-    found.stopping = stopping(program, network, found, orgs)
-    if program.knows("whatif"):
-        program.say("each organisation leaving")
-        found.leaving = [leaving(program, network, found, org) for org in orgs]
+    found.greatest = asked.greatest(whole)
+    found.validators = network.validators(found.greatest)
+    found.networks = network.networks(found.greatest)
+    found.parts = [Part(view, asked.greatest(view)) for view in views_of(asked, network, found, node, closure, whole)]
+    program.say("whether it can fork")
+    found.forks = forks(asked, network, found, whole)
+    for part in found.parts:
+        fill(program, asked, now, network, found, part, whole)
     if node is not None:
         program.say("what the node depends on")
-        found.own = own_node(program, found, orgs, node, closure)
+        found.parts[0].own = own_node(asked, found.parts[0], node, closure)
     return found
 
 
-def until_fork(program, views, name, org=None):
-    """The verdict of each view, up to the first that forks: each later view has the same two quorums."""
-    verdicts = []
-    for view in views:
-        verdicts.append(program.intersect(view, name, org))
-        if verdicts[-1].word == "no":
-            break
-    return verdicts
+def views_of(program, network, found, node, closure, whole):
+    """What the questions are about: what the own node depends on, and if none is given, or the file is of several networks, what the node of each of these depends on that most others name."""
+    nodes = [network.most_named(keys) for keys in found.networks] if len(found.networks) > 1 else [network.most_named(found.greatest)] if found.greatest and node is None else []
+    views = [view_of(network, whole, node, closure)] if node is not None else []
+    for at in nodes:
+        if not any(at in view.keys for view in views):
+            views.append(view_of(network, whole, at, program.closure(at)))
+    return views or [whole]
 
 
-def turn_of(program, found, org):
-    """Of lies only those views are asked about that do not fork without them."""
-    forks = {verdict.view for verdict in found.verdicts if verdict.word == "no"}
-    views = [view for view in found.views if view not in forks] if found.verdicts and not found.forks() else []
-    view = found.views[0]
-    stops, goes_on = program.blocks(view, org.keys, program.noted)
-    return OrgTurn(org, until_fork(program, views, "faulty-" + org.mark, org), stops, goes_on, program.available(view, org.keys)[1])
+def view_of(network, whole, node, keys):
+    return whole if len(keys) == len(network.keys) else View(node, keys)
 
 
-def stopping(program, network, found, orgs):
-    """By the certified list of sets of organisations; by that of the sets of nodes, where it is whole and no node is in two organisations; else by asking."""
-    listed = program.blocking_groups(found.views[0], "org-blocking", network.orgs) if orgs and program.knows("org-blocking") else None
-    if listed is not None:
-        by_id = {"org:" + org.id: org for org in network.orgs}
-        return Together([frozenset(by_id.get(text, text.partition(":")[2]) for text in texts) for texts in listed[0] if texts], None, listed[1])
-    if found.blocking is None or not found.blocking.is_whole() or sum(len(org.keys) for org in network.orgs) > len(network.org_of):
-        return together(orgs, lambda keys: program.blocks(found.views[0], keys)[0])
-    called = {frozenset(network.org_of.get(key, key) for key in keys) for keys in found.blocking.sets if keys}
-    return Together(least_of(called), None, found.blocking.certificate, True)
+def forks(program, network, found, whole, org=None):
+    """Whether the validators can fork, while one organisation lies. A quorum of watchers alone is none of theirs: then they are asked about as a file of their own."""
+    name = "intersect" if org is None else "faulty-" + org.mark
+    if not found.greatest and org is None:
+        return Forks("none", [])
+    verdicts = [program.intersect(whole, name, org)]
+    if verdicts[0].word == "no":
+        if len(found.networks) > 1 and org is None:
+            return Forks("networks", verdicts)
+        if not all(set(keys) & found.validators for keys in (verdicts[0].first, verdicts[0].second)):
+            among = program.on("validators", network.validators_text(found.validators, found.is_now))
+            verdicts.append(among.intersect(View(None, found.validators), name, org))
+    word = {"yes": "no", "no": "yes"}.get(verdicts[-1].word, "undecided")
+    return Forks(word, verdicts, split_off(program, network, found, org) if word == "no" and len(verdicts) > 1 else ())
+
+
+def split_off(program, network, found, org):
+    """The watchers that can agree with nobody but those that lie: all but these fail, and a slice is left."""
+    lying = set(org.keys) if org is not None else set()
+    unmet = program.available(View(None, network.keys), sorted(found.validators - lying))[1]
+    return sorted(set(network.keys) - found.validators - lying - set(unmet))
+
+
+def fill(program, asked, now, network, found, part, whole):
+    """All questions of one view."""
+    view = part.view
+    if part.greatest:
+        part.verdict = asked.intersect(view, "intersect") if view is not whole else found.forks.verdicts[0]
+    part.orgs = [org for org in network.orgs if set(org.keys) & view.keys]
+    for at, org in enumerate(part.orgs):
+        program.say("organisation %d of %d: %s" % (at + 1, len(part.orgs), org.name))
+        part.turns.append(turn_of(asked, network, found, part, org, whole))
+    program.say("organisations that stop the network together")
+    part.stopping = stopping(program, network, part) if part.greatest or found.is_now else None
+    part.down = [key for key in network.down() if key in view.keys]
+    if part.down and part.stopping is not None:
+        program.say("organisations that stop it as things are now")
+        part.stopped = not now.greatest(view)
+        part.stopping_now = None if part.stopped else stopping(now, network, part)
+    if part.greatest:
+        program.say("each organisation leaving")
+        then = part.stopping_now if found.is_now and part.down else part.stopping
+        part.leaving = [leaving(asked, network, part, then, org) for org in part.orgs]
+        program.say("the minimal blocking sets")
+        part.blocking = asked.blocking(view, "blocking", MOST_OF_PART)
+
+
+def turn_of(program, network, found, part, org, whole):
+    """Lies are not asked about where it forks without them, and those in the whole file only if there is one network."""
+    stops, goes_on = program.blocks(part.view, org.keys, program.noted)
+    word, verdicts, split = None, [], ()
+    if part.greatest and not part.forks():
+        if part.view is not whole:
+            verdicts = [program.intersect(part.view, "faulty-" + org.mark, org)]
+            word = {"yes": "no", "no": "yes"}.get(verdicts[0].word, "undecided")
+        if word in (None, "no") and found.forks.word not in ("yes", "networks"):
+            file = forks(program, network, found, whole, org)
+            verdicts, split = verdicts + file.verdicts, file.split
+            word = "elsewhere" if word == "no" and file.word == "yes" else file.word
+    return Turn(org, word, verdicts, split, stops, goes_on, program.available(part.view, org.keys)[1])
+
+
+def stopping(program, network, part):
+    """By the certified list of sets of organisations, else by asking."""
+    listed = program.blocking_groups(part.view, "org-blocking", network.orgs)
+    if listed is None:
+        return together(program, part.orgs, lambda keys: program.blocks(part.view, keys)[0])
+    by_id = {"org:" + org.id: org for org in network.orgs}
+    return Together([frozenset(by_id.get(text, text.partition(":")[2]) for text in texts) for texts in listed[0] if texts], None, listed[1])
 
 
 def least_of(sets):
@@ -158,35 +226,35 @@ def least_of(sets):
     return [some for some in sets if not any(other < some for other in sets)]
 
 
-def leaving(program, network, found, org):
-    """What the whole file's greatest quorum has of the first view is the greatest quorum of that, since nobody in it depends on anybody outside."""
+def leaving(program, network, part, stopping, org):
+    """What the whole file's greatest quorum has of the view is the greatest quorum of that, since nobody in it depends on anybody outside."""
     scripted = [key for key in org.keys if network.sets.get(key)]
-    quorums = [set(keys) & found.views[0].keys for keys in program.retired(org.keys, "leaving-" + org.mark, scripted)]
-    return Leaving(org, quorums, stopping_without(found.stopping, org))
+    quorums = [set(keys) & part.view.keys for keys in program.retired(org.keys, "leaving-" + org.mark, scripted)]
+    return Leaving(org, quorums, stopping_without(stopping, org))
 
 
 def stopping_without(stopping, org):
     """The sets that stop the network once an organisation has left: those that stop it together with that one."""
     sets = least_of({some - {org} for some in stopping.sets} - {frozenset()})
     if stopping.most is None:
-        return Together(sets, None, stopping.certificate, stopping.from_nodes)
+        return Together(sets, None, stopping.certificate)
     return Together([some for some in sets if len(some) < stopping.most], stopping.most - 1) if stopping.most > 1 else None
 
 
-def together(orgs, holds):
-    """The minimal sets of organisations for whose keys a question holds, of one, of two and so on, as far as few enough are asked about."""
+def together(program, orgs, holds):
+    """The minimal sets of organisations for whose keys a question holds, of one, of two and so on, as far as few enough are asked about and there is time."""
     found, asked = [], 0
     for size in range(1, len(orgs) + 1):
         left = [some for some in itertools.combinations(orgs, size) if not any(set(it) <= set(some) for it in found)]
         asked += len(left)
-        if asked > MOST_ASKED:
+        if asked > MOST_ASKED or program.clock.is_up():
             return Together(found, size - 1)
         found += [frozenset(some) for some in left if holds(sorted(set().union(*(org.keys for org in some))))]
     return Together(found, None)
 
 
-def own_node(program, found, orgs, node, closure):
-    unmet_by = [turn.org for turn in found.turns if node in turn.unmet]
-    goes_on_without = [turn.org for turn in found.turns if node in turn.goes_on]
-    others = [org for org in orgs if node not in org.keys]
-    return OwnNode(node, closure, unmet_by, goes_on_without, together(others, lambda keys: program.v_blocks(node, keys)))
+def own_node(program, part, node, closure):
+    unmet_by = [turn.org for turn in part.turns if node in turn.unmet]
+    goes_on_without = [turn.org for turn in part.turns if node in turn.goes_on]
+    others = [org for org in part.orgs if node not in org.keys]
+    return OwnNode(node, closure, unmet_by, goes_on_without, together(program, others, lambda keys: program.v_blocks(node, keys)))

@@ -2,7 +2,13 @@
 
 import hashlib
 import json
+import re
+import unicodedata
 import urllib.parse
+
+MOST_LETTERS = 60
+# What turns, hides or has no letter of its own: shown as an escape.
+UNSEEN = {"Cc", "Cf", "Cs", "Co", "Zl", "Zp"}
 
 
 class Organisation:
@@ -10,7 +16,7 @@ class Organisation:
 
     def __init__(self, at, its_id, name, keys):
         self.id = its_id
-        self.name = name if isinstance(name, str) and name else its_id
+        self.name = name
         self.keys = sorted(keys)
         self.mark = "%02d-%s" % (at + 1, self.id)
 
@@ -39,36 +45,87 @@ class Network:
         with open(config, "rb") as it:
             text = it.read()
         self.digest = hashlib.sha256(text).hexdigest()
-        elements = json.loads(text)
-        self.sets = {it["publicKey"]: QuorumSet(it["quorumSet"]) if it.get("quorumSet") else None for it in elements}
-        self.keys = sorted(set(self.sets).union(*(it.named() for it in self.sets.values() if it)))
+        self.elements = json.loads(text)
+        self.sets = {it["publicKey"]: QuorumSet(it["quorumSet"]) if it.get("quorumSet") else None for it in self.elements}
+        self.mentions = {key: held.named() if held else set() for key, held in self.sets.items()}
+        self.keys = sorted(set(self.sets).union(*self.mentions.values()))
         self.named = self.how_often_named()
         self.place = {key: at for at, key in enumerate(self.keys)}
-        self.names = names_of(elements, self.keys)
+        self.names = names_of(self.elements, self.keys)
         self.has_orgs_file = orgs is not None
-        self.orgs = read_orgs(orgs, set(self.keys)) if orgs is not None else self.by_domain(elements)
+        self.listed = 0
+        self.orgs = self.read_orgs(orgs) if orgs is not None else self.by_domain()
         self.org_of = {key: org for org in reversed(self.orgs) for key in org.keys}
 
     def how_often_named(self):
         """Of each key that stands in another node's quorum set, in how many of them. The other nodes are watchers: nobody waits for them."""
         often = {}
-        for own, held in self.sets.items():
-            for key in held.named() - {own} if held else ():
+        for own, mentioned in self.mentions.items():
+            for key in mentioned - {own}:
                 often[key] = often.get(key, 0) + 1
         return often
 
-    def most_named(self):
-        """The key that most quorum sets name, if one does."""
-        return min(self.named, key=lambda key: (-self.named[key], key), default=None)
+    def most_named(self, keys):
+        """The key of these that most quorum sets name."""
+        return min(keys, key=lambda key: (-self.named.get(key, 0), key), default=None)
 
-    def by_domain(self, elements):
+    def watchers(self):
+        """The nodes that no other node's quorum set names."""
+        return [key for key in self.keys if key not in self.named]
+
+    def validators(self, greatest):
+        """The nodes that others name; where none of those can agree on anything, all."""
+        return set(self.named) if set(self.named) & set(greatest) else set(self.keys)
+
+    def unknown(self):
+        """The nodes without a quorum set: they have none, or it is not known."""
+        return [key for key in self.keys if not self.sets.get(key)]
+
+    def has_marks(self):
+        """Whether the file says of its nodes which are down."""
+        return any(isinstance(it.get(word), bool) for it in self.elements for word in ("isValidating", "active"))
+
+    def down(self):
+        """The nodes that others name and the file marks as down; a watcher need not validate."""
+        return sorted(it["publicKey"] for it in self.elements if it["publicKey"] in self.named and (it.get("isValidating") is False or it.get("active") is False))
+
+    def networks(self, greatest):
+        """The parts of a greatest quorum that depend on nobody outside of them, each a quorum: the sinks of who names whom. A watcher that waits for itself alone is none, where others are validators."""
+        left, found = set(greatest), []
+        after = {key: self.mentions.get(key, set()) & left for key in left}
+        before = {key: set() for key in left}
+        for key in left:
+            for other in after[key]:
+                before[other].add(key)
+        while left:
+            at, inside, back = min(left), None, set()
+            while inside != back:
+                inside = reached(at, after)
+                back = reached(at, before) & inside
+                at = min(inside - back, default=at)
+            found.append(sorted(inside))
+            left -= reached(at, before)
+        return sorted(keys for keys in found if set(keys) & self.validators(greatest))
+
+    def read_orgs(self, path):
+        with open(path, "rb") as it:
+            elements = json.load(it)
+        own, self.listed = set(self.keys), len(set().union(*(it.get("validators") or [] for it in elements)))
+        called = [next((shown(text) for text in (it.get("name"), it.get("homeDomain")) if is_text(text)), shown(it["id"])) for it in elements]
+        names = [name if called.count(name) == 1 else "%s (%s)" % (name, short(shown(it["id"]))) for name, it in zip(called, elements)]
+        return [Organisation(at, it["id"], names[at], set(it.get("validators") or []) & own) for at, it in enumerate(elements)]
+
+    def by_domain(self):
         """The nodes that quorum sets name, by the home domain that each says of itself."""
         domains = {}
-        for it in elements:
-            domain = it.get("homeDomain")
-            if isinstance(domain, str) and domain.strip() and it["publicKey"] in self.named:
-                domains.setdefault(domain.strip()[:60], []).append(it["publicKey"])
-        return [Organisation(at, id_of(domain), domain, domains[domain]) for at, domain in enumerate(sorted(domains))]
+        for it in self.elements:
+            if is_text(it.get("homeDomain")) and it["publicKey"] in self.named:
+                domains.setdefault(shown(it["homeDomain"]), []).append(it["publicKey"])
+        return [Organisation(at, id_of(domain, at), domain, domains[domain]) for at, domain in enumerate(sorted(domains))]
+
+    def lost(self):
+        """How many validators of the file of organisations are no nodes."""
+        return self.listed - len(self.org_of) if self.has_orgs_file else 0
 
     def outside(self):
         """The keys that no organisation has."""
@@ -82,17 +139,56 @@ class Network:
             having.setdefault(held.same_as() if held else "", (held, []))[1].append(key)
         return sorted(having.values(), key=lambda it: (-len(it[1]), it[1]))
 
+    def validators_text(self, validators, is_now):
+        """The validators as a configuration of their own: they depend on nobody else."""
+        return self.text_of(validators, self.down() if is_now else ())
 
-def id_of(domain):
+    def now_text(self):
+        """The configuration in which the nodes that are down have thresholds that nobody meets, so no quorum has them; who depends on whom is the same."""
+        return self.text_of(self.sets, self.down())
+
+    def text_of(self, keys, down):
+        nodes = [(it["publicKey"], it.get("quorumSet") or None) for it in self.elements if it["publicKey"] in keys]
+        return json.dumps([{"publicKey": key, "quorumSet": never(tree) if key in down else tree} for key, tree in nodes], separators=(",", ":"), ensure_ascii=False)
+
+
+def never(tree):
+    """A quorum set with the same entries and one more wanted."""
+    return {**tree, "threshold": 1 + len(tree.get("validators") or []) + len(tree.get("innerQuorumSets") or [])} if tree else None
+
+
+def reached(start, after):
+    """The keys to which steps lead from one, itself among them."""
+    found, waiting = {start}, [start]
+    while waiting:
+        more = after[waiting.pop()] - found
+        found |= more
+        waiting += more
+    return found
+
+
+def is_text(it):
+    return isinstance(it, str) and shown(it) != ""
+
+
+def shown(name):
+    """A name as it is shown: short, and with an escape for each sign that turns or hides what stands beside it."""
+    return "".join(escape(sign) if unicodedata.category(sign) in UNSEEN else sign for sign in name[:MOST_LETTERS]).strip()
+
+
+def escape(sign):
+    return "\\u%04x" % ord(sign) if ord(sign) < 0x10000 else "\\u{%x}" % ord(sign)
+
+
+def natural(name):
+    """By which names are sorted: numbers in them count as numbers."""
+    return [(0, int(part), "") if part.isdigit() and part.isascii() else (1, 0, part) for part in re.split("([0-9]+)", name.lower()) if part]
+
+
+def id_of(domain, at):
     """A home domain as the id of an organisation, for which it may have signs that a name lacks, or be too long."""
     text = urllib.parse.quote(domain, safe="")
-    return text if len(text) <= 128 else hashlib.sha256(domain.encode()).hexdigest()
-
-
-def read_orgs(path, keys):
-    with open(path, "rb") as it:
-        elements = json.load(it)
-    return [Organisation(at, it["id"], it.get("name"), set(it.get("validators") or []) & keys) for at, it in enumerate(elements)]
+    return text if len(text) <= 128 else "domain-%d" % (at + 1)
 
 
 def short(key):
@@ -102,11 +198,7 @@ def short(key):
 
 def names_of(elements, keys):
     """What each key is called: its `name` where it has one of its own, with the key's ends where two have the same."""
-    given = {}
-    for element in elements:
-        name = element.get("name")
-        if isinstance(name, str) and name.strip():
-            given[element["publicKey"]] = name.strip()[:60]
+    given = {it["publicKey"]: shown(it["name"]) for it in elements if is_text(it.get("name"))}
     often = {}
     for name in given.values():
         often[name] = often.get(name, 0) + 1

@@ -2,29 +2,39 @@
 
 import html
 
+from network_page.network import natural
+
 # Above so many nodes of no organisation their circles have no names below them; who points at one is told.
 MOST_NAMED = 36
 
 
 class Paint:
-    """What is told of the nodes: who is in the greatest quorum, in a disjoint pair, in a set that stops the network, and who is outside of what is asked about."""
+    """What is told of the nodes: who is in the greatest quorum, who is down, in a disjoint pair, in a set that stops the network, and who is outside of what is asked about."""
 
-    def __init__(self, greatest, verdict, marked, marked_as, within):
+    def __init__(self, greatest, verdict, marked, marked_as, within, down=(), unknown=()):
         self.greatest = set(greatest)
         self.first = set(verdict.first) if verdict else set()
         self.second = set(verdict.second) if verdict else set()
         self.marked = set(marked)
         self.marked_as = marked_as
         self.within = within
+        self.down = set(down)
+        self.unknown = set(unknown)
 
     def kind(self, key):
         """The class of the circle, the letter in it, and what both say."""
+        kind, letter, says = self.place(key)
+        return (kind, letter, says) if key not in self.down else (kind, letter, says + ", down") if letter else (kind + " down", "–", says + ", down")
+
+    def place(self, key):
         if key in self.first:
             return "one", "1", "in one quorum of the two"
         if key in self.second:
             return "two", "2", "in the other quorum of the two"
         if key in self.greatest:
             return "q", "", "in the greatest quorum"
+        if key in self.unknown:
+            return "n u", "?", "of which the quorum set is not known"
         return ("n", "", "in no quorum") if key in self.within else ("x", "", "outside, as nobody of those depends on it")
 
     def says(self, key):
@@ -52,7 +62,7 @@ def node(network, paint, key, named):
 
 
 def box(network, paint, title, keys, named):
-    shown = sorted(keys, key=lambda key: (paint.kind(key)[0] in "nx", network.names[key]))
+    shown = sorted(keys, key=lambda key: (paint.place(key)[0][0] in "nx", natural(network.names[key])))
     return '<div class="org%s"><h3>%s</h3><ul>%s</ul></div>' % ("" if named else " rest", html.escape(title), "".join(node(network, paint, key, named) for key in shown))
 
 
@@ -60,8 +70,9 @@ def legend(network, paint):
     """What the circles mean, of those that are there."""
     rows = {}
     for key in network.keys:
-        rows.setdefault(paint.kind(key)[0], '<span class="dot %s" aria-hidden="true">%s</span>%s' % paint.kind(key))
-    shown = [rows[kind] for kind in ("one", "two", "q", "n", "x") if kind in rows]
+        state = paint.place(key) if paint.place(key)[1] else paint.kind(key)
+        rows.setdefault(state[0], '<span class="dot %s" aria-hidden="true">%s</span>%s' % state)
+    shown = [rows[kind] for kind in ("one", "two", "q", "q down", "n", "n down", "n u", "x", "x down") if kind in rows]
     if paint.marked:
         shown.append('<span class="dot q ring" aria-hidden="true"></span>%s' % html.escape(paint.marked_as))
     return '<ul class="legend">%s</ul>' % "".join("<li>%s</li>" % row for row in shown)

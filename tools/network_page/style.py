@@ -18,10 +18,11 @@ a{color:inherit;text-decoration-color:var(--soft)}summary{cursor:pointer}.certif
 .org h3{font-size:.87em;margin:0 0 .4em;overflow-wrap:anywhere}.org ul{list-style:none;margin:0;padding:0;display:flex;flex-wrap:wrap;gap:.45em .3em}
 .org li{width:62px;text-align:center;font-size:.72em;line-height:1.25;overflow-wrap:anywhere}.rest li{width:auto}.rest li .dot{width:14px;height:14px;margin:0;line-height:11px;font-size:9px}
 .dot{display:block;width:22px;height:22px;margin:2px auto 7px;border-radius:50%;border:1.5px solid var(--soft);background:var(--n);font:700 11px/19px system-ui,sans-serif;color:#fff;text-align:center;-webkit-print-color-adjust:exact;print-color-adjust:exact}
-.q{background:var(--q)}.one{background:var(--one)}.two{background:var(--two)}.x{border-style:dashed;opacity:.75}.ring{box-shadow:0 0 0 2px var(--box),0 0 0 4.5px var(--ring)}
+.q{background:var(--q)}.u{color:var(--soft)}.down{border:2px dashed var(--bad);color:var(--ink)}.q.down{color:#fff}.node{unicode-bidi:isolate}.one{background:var(--one)}.two{background:var(--two)}.x{border-style:dashed;opacity:.75}.ring{box-shadow:0 0 0 2px var(--box),0 0 0 4.5px var(--ring)}
 .legend{list-style:none;padding:0;display:flex;flex-wrap:wrap;gap:.3em 1.4em;font-size:.85em}.legend .dot{display:inline-block;vertical-align:middle;width:15px;height:15px;margin:0 .7em 0 5px;line-height:13px;font-size:9px}.legend .ring{margin-right:1em}
 .hidden{position:absolute;width:1px;height:1px;overflow:hidden;clip-path:inset(50%);white-space:nowrap}
 @media screen and (max-width:700px){.orgs{grid-template-columns:repeat(2,1fr)}.summary{grid-template-columns:1fr}.summary dd{margin-bottom:.4em}th,td{padding-right:.4em}.facts th{width:32%}main{padding:0 .7em}.keys{table-layout:fixed}.keys th,.keys td{overflow-wrap:anywhere}.keys thead th{font-size:.72em;width:22%}.keys thead th:nth-child(2){width:26%}.keys thead th:nth-child(3){width:18%}.keys .key{font-size:9.5px;white-space:normal}}
+.verdict p{margin:.2em 0}.summary+h3{margin-top:1.2em}
 @media print{:root{color-scheme:light}body{font-size:10px}main{max-width:none;margin:0;padding:0}nav,a.small,details:not([open]){display:none}.summary{grid-template-columns:max-content 1fr}.orgs li{width:44px}
 h1,h2,h3,h2+p{break-after:avoid}tr,li,.verdict,.summary,.org{break-inside:avoid}thead{display:table-header-group}a{text-decoration:none}code,pre,.key,.keys .key{font-size:8px}.keys th,.keys td{padding:0 .5em 0 0;line-height:1.35}
 .verdict,.summary,.org{-webkit-print-color-adjust:exact;print-color-adjust:exact}}

@@ -9,7 +9,7 @@ import sys
 import tempfile
 
 # What the files of this tool are called: one that an earlier run left is stale. Other files of the folder are kept.
-MADE = re.compile(r"(from-)?(intersect|blocking|org-blocking|faulty-[A-Za-z0-9._-]+)\.cert|leaving-[A-Za-z0-9._-]+\.script|organisations\.json")
+MADE = re.compile(r"(now-)?(validators-)?(from-)?(intersect|blocking|org-blocking|faulty-[A-Za-z0-9._-]+)(-\d+)?\.cert|(now-)?leaving-[A-Za-z0-9._-]+\.script|(organisations|now|(now-)?validators)\.json")
 
 
 class BadPage(ValueError):
@@ -19,38 +19,67 @@ class BadPage(ValueError):
 class Beside:
     """A page and its certificates in the making, which are taken away where they do not take the place of the old ones."""
 
-    def __init__(self, page, read):
+    def __init__(self, page, read, data=None):
         """Refuses, before anything is asked, a page in the place of a file that is read, whatever it is called."""
-        if os.path.isdir(page):
-            raise BadPage("%s is a folder: -o names the page itself, as report.html" % page)
-        for path in read:
-            if path is not None and os.path.exists(page) and os.path.exists(path) and os.path.samefile(page, path):
-                raise BadPage("-o %s is the file that is read as %s: the page would take its place" % (page, path))
+        for out, option in ((page, "-o"), (data, "--json")):
+            if out is None:
+                continue
+            if os.path.isdir(out):
+                raise BadPage("%s is a folder: %s names the file itself, as report.%s" % (out, option, "html" if out == page else "json"))
+            for path in read:
+                if path is not None and os.path.exists(out) and os.path.exists(path) and os.path.samefile(out, path):
+                    raise BadPage("%s %s is the file that is read as %s: the page would take its place" % (option, out, path))
+        if data is not None and os.path.realpath(data) == os.path.realpath(page):
+            raise BadPage("-o and --json name the same file")
         self.page = page
+        self.data = data
         stem = os.path.splitext(page)[0]
         self.name = os.path.basename(stem) + "-certificates"
         self.folder = os.path.realpath(stem + "-certificates")
-        self.part = self.text = None
+        self.part = None
+        self.texts = {}
 
     def __enter__(self):
         for it in (signal.SIGINT, signal.SIGTERM, signal.SIGHUP):
-            signal.signal(it, lambda number, _: sys.exit(128 + number))
+            # (a run that was told to outlive its terminal does so)
+            if signal.getsignal(it) != signal.SIG_IGN:
+                signal.signal(it, lambda number, _: sys.exit(128 + number))
         self.part = tempfile.mkdtemp(prefix=os.path.basename(self.folder) + ".", dir=os.path.dirname(self.folder))
-        handle, self.text = tempfile.mkstemp(prefix=os.path.basename(self.page) + ".", dir=os.path.dirname(os.path.abspath(self.page)))
-        os.close(handle)
+        for path in filter(None, (self.page, self.data)):
+            handle, self.texts[path] = tempfile.mkstemp(prefix=os.path.basename(path) + ".", dir=os.path.dirname(os.path.abspath(path)))
+            os.close(handle)
         return self
 
     def __exit__(self, *_):
         shutil.rmtree(self.part, ignore_errors=True)
-        if os.path.exists(self.text):
-            os.unlink(self.text)
+        for text in self.texts.values():
+            if os.path.exists(text):
+                os.unlink(text)
+
+    def path(self, name):
+        """Where a file of that name is in the making."""
+        return os.path.join(self.part, name)
 
     def place(self, name, ending):
-        return os.path.join(self.part, re.sub(r"[^A-Za-z0-9._-]", "_", name)[:80] + ending)
+        return self.path(re.sub(r"[^A-Za-z0-9._-]", "_", name)[:80] + ending)
 
     def certificate(self, name):
         """Where the certificate of this name is written."""
         return self.place(name, ".cert")
+
+    def left(self, path):
+        """Puts what an earlier run left under this name in its place, and says whether there was anything."""
+        old = os.path.join(self.folder, os.path.basename(path))
+        if not os.path.isfile(old):
+            return False
+        shutil.copyfile(old, path)
+        return True
+
+    def written(self, name, text):
+        """Writes a file of this name, and says where."""
+        with open(self.path(name), "w", encoding="utf-8") as it:
+            it.write(text)
+        return self.path(name)
 
     def script(self, name, lines):
         """Writes a script of edits, and says where."""
@@ -61,17 +90,16 @@ class Beside:
 
     def organisations(self, orgs):
         """Writes organisations that stand in no file, and says where."""
-        path = self.place("organisations", ".json")
-        with open(path, "w", encoding="utf-8") as it:
-            json.dump([{"id": org.id, "name": org.name, "validators": org.keys} for org in orgs], it, ensure_ascii=False, indent=1)
-            it.write("\n")
-        return path
+        text = json.dumps([{"id": org.id, "name": org.name, "validators": org.keys} for org in orgs], ensure_ascii=False, indent=1)
+        return self.written("organisations.json", text + "\n")
 
-    def exchange(self, text):
-        """Puts the certificates and then the page in the place of the old ones; what of those is stale goes."""
-        with open(self.text, "w", encoding="utf-8") as it:
-            it.write(text)
-        os.chmod(self.text, 0o666 & ~mask())
+    def exchange(self, texts):
+        """Puts the certificates and then the page and its data in the place of the old ones; what of those is stale goes."""
+        for path, text in zip((self.page, self.data), texts):
+            if path is not None:
+                with open(self.texts[path], "w", encoding="utf-8") as it:
+                    it.write(text)
+                os.chmod(self.texts[path], 0o666 & ~mask())
         os.makedirs(self.folder, exist_ok=True)
         made = os.listdir(self.part)
         for name in made:
@@ -79,7 +107,8 @@ class Beside:
         for name in set(os.listdir(self.folder)) - set(made):
             if MADE.fullmatch(name):
                 os.unlink(os.path.join(self.folder, name))
-        os.replace(self.text, self.page)
+        for path in filter(None, (self.data, self.page)):
+            os.replace(self.texts[path], path)
 
 
 def mask():
