@@ -9,9 +9,11 @@ import html
 import html.parser
 import json
 import os
+import pty
 import re
 import shlex
 import shutil
+import signal
 import subprocess
 import sys
 import tempfile
@@ -43,6 +45,10 @@ ABOUT_OTHERS = '#!/bin/sh\nif [ "$1" = check ]; then "%s" "$@" | sed "s/^faulty.
 
 # The program, with a line for each command in the file LOG, where searches wait.
 LOGGING = '#!/bin/sh\necho "$1" >>"%s"\nif [ "$1" = intersect ] && [ -e "%s" ]; then sleep 60; fi\nexec "%s" "$@"\n'
+
+
+# The program, with a line for each run in the file LOG; searches for a fork wait as long as SLOW is there.
+WAITING = '#!/bin/sh\necho "$@" >>"%s"\nif [ "$1" = intersect ] && [ -e "%s" ]; then exec sleep 60; fi\nexec "%s" "$@"\n'
 
 
 def contents(folder):
@@ -191,7 +197,7 @@ class Trial:
         rows = self.leaving(NETWORK, page)
         self.judge("each that leaves", rows == [[name, "6 of the other 6 nodes go on", "2 sets: each of %s alone" % others] for name, others in (("Alder", "Beech, Cedar"), ("Beech", "Alder, Cedar"), ("Cedar", "Alder, Beech"))], rows)
         lines = {
-            "Can it fork?": "It cannot fork. The quorum sets of 1 node are not known, 0 of which others name: these count as agreeing with nobody.",
+            "Can it fork?": "It cannot fork. Quorum sets that are not known: of 1 node, 0 of them named by others. These count as agreeing with nobody.",
             "As one node sees it": "As gaaa1 sees it, it cannot fork.",
             "If one organisation lies?": "Each of 3 organisations can fork it: Alder, Beech, Cedar.",
             "Who can stop it?": "3 sets: any 2 of these 3 together: Alder, Beech, Cedar. By single nodes: 27 sets, the smallest of 4.",
@@ -212,7 +218,7 @@ class Trial:
         self.judge("a page for a watcher", status == 0 and page is not None, error)
         if page is not None:
             self.loads_nothing(page)
-            self.says("its quorum set is not known", page, {"Whose view": "This page speaks for watcher, whose quorum set is not known.", "Can it fork?": "It cannot fork. The quorum sets of 1 node are not known, 0 of which others name: these count as agreeing with nobody.", "Your node": "The quorum set of watcher is not known, so nothing is known of what it agrees on."})
+            self.says("its quorum set is not known", page, {"Whose view": "This page speaks for watcher, whose quorum set is not known.", "Can it fork?": "It cannot fork. Quorum sets that are not known: of 1 node, 0 of them named by others. These count as agreeing with nobody.", "Your node": "The quorum set of watcher is not known, so nothing is known of what it agrees on."})
             self.judge("unknown is not no", "no quorum:" not in page and "never agrees" not in page)
 
     def one_needed(self):
@@ -244,7 +250,7 @@ class Trial:
             return
         self.loads_nothing(page)
         self.certificates_of_domains(config, page)
-        self.says("organisations by home domain, of nodes that are named", page, {"Can it fork?": "It cannot fork.", "If one organisation lies?": "None of 3 organisations can fork it. Of 1 watcher, on whom nobody depends, some could be split off by a.example (1)."})
+        self.says("organisations by home domain, of nodes that are named", page, {"Can it fork?": "It cannot fork.", "If one organisation lies?": "Of 3 organisations none can fork it. Of 1 watcher, on whom nobody depends, some could be split off by a.example (1)."})
         wanted = ["Of 1 watcher, on whom nobody depends, 1 could be split off: <a", "among the nodes that others name", "5 of 6 nodes"]
         self.judge("who would be split off", all(text in page for text in wanted) and '<span class="bad">Yes' not in page and "w.example" not in page, [text for text in wanted if text not in page])
 
@@ -301,6 +307,96 @@ class Trial:
         os.makedirs(os.path.dirname(copy))
         status, error, page = self.run(NETWORK, program=shutil.copy(PROGRAM, copy))
         self.judge("what is not proved", status == 0 and "Nothing on this page is proved" in page and "contract is proved" not in page, error)
+
+    def shown_names(self):
+        """Signs that turn or hide a name stand as escapes; organisations of one name are told apart, and one without a name goes by its domain."""
+        nodes = [{"publicKey": it, "name": "\u202e%s\u2066\ufeff\x07" % it, "quorumSet": {"threshold": 2, "validators": ["a", "b", "c"]}} for it in "abc"]
+        orgs = [{"id": "one", "name": "Same", "validators": ["a"]}, {"id": "two", "name": "Same", "validators": ["b"]}, {"id": "three", "homeDomain": "c.example\u200b", "validators": ["c"]}]
+        status, error, page = self.run(self.written("turned.json", json.dumps(nodes)), "--orgs", self.written("turned-orgs.json", json.dumps(orgs)))
+        self.judge("a page of turned names", status == 0 and page is not None, error)
+        if page is not None:
+            self.judge("no sign that turns", not re.search("[\u200b-\u200f\u202a-\u202e\u2060-\u206f\ufeff\x07]", page) and "\\u202ea\\u2066\\ufeff\\u0007" in page)
+            self.judge("organisations apart", all(text in page for text in ("Same (one)", "Same (two)", "c.example\\u200b")))
+
+    def as_things_are(self):
+        """With a node that is down both margins are said, and --now asks all with it as silent."""
+        nodes = [{"publicKey": it, "isValidating": it != "a", "quorumSet": {"threshold": 3, "validators": list("abcd")}} for it in "abcd"]
+        config = self.written("down.json", json.dumps(nodes))
+        for words, left in ((), 4), (["--now"], 3):
+            status, error, page = self.run(config, *words, "--json", self.path("down-data.json"))
+            self.judge("a page with a node that is down", status == 0 and page is not None, error)
+            if page is None:
+                return
+            self.loads_nothing(page)
+            margins = {"Who can stop it?": "6 sets: any 2 of these 4 together: a, b, c, d." + ("" if words else " By single nodes: 6 sets, the smallest of 2."), "As things are now": "Down: 1 of 4 validators here, a. Beyond these it is stopped by 3 sets: each of b, c, d alone."}
+            self.says("both margins", page, margins)
+            self.judge("asked as things are", ("Asked as things are now" in page) == bool(words) and "quorum_cli greatest %s" % ("page-certificates/now.json" if words else "down.json") in page)
+            with open(self.path("down-data.json"), encoding="utf-8") as it:
+                self.judge("data beside it", len(json.load(it)["parts"][0]["greatest"]) == left)
+
+    def by_the_clock(self):
+        """Questions end when their time is up; what is there and accepted is taken by the next run, and what is not is asked again."""
+        log, slow, page = self.path("words"), self.path("waits"), self.path("page.html")
+        program = self.written("waiting", WAITING % (log, slow, PROGRAM), 0o755)
+        self.written("waits", "")
+        began = time.monotonic()
+        shutil.rmtree(self.path("page-certificates"), ignore_errors=True)
+        status, error, text = self.run(NETWORK, "--orgs", ORGS, "--seconds", "1", "--seconds-in-all", "4", program=program)
+        self.judge("a page in time", status == 0 and text is not None and time.monotonic() - began < 60, (error, time.monotonic() - began))
+        self.judge("what was not answered", text is not None and "It is not decided whether it can fork." in text and "whether it can fork (<code>intersect</code>): no time was left for it" in text, error)
+        os.remove(slow)
+        asked = lambda: [line.split(" ") for line in open(log).read().split("\n") if line]  # noqa: E731
+        status, error, text = self.run(NETWORK, "--orgs", ORGS, program=program)
+        self.judge("goes on", status == 0 and "It cannot fork." in text, error)
+        held = contents(self.path("page-certificates"))
+        os.remove(log)
+        status, error, again = self.run(NETWORK, "--orgs", ORGS, program=program)
+        self.judge("takes what is there", status == 0 and not {words[0] for words in asked()} & {"intersect", "blocking", "org-blocking"} and contents(self.path("page-certificates")) == held, asked())
+        plain = lambda it: re.sub(r"--budget=\d+|\d{4}-\d\d-\d\d \d\d:\d\d UTC", "", it)  # noqa: E731
+        self.judge("and says the same", plain(again) == plain(text))
+        for name, content in (("from-blocking.cert", b"fbas-cert 2\n"), ("intersect.cert", held["from-intersect.cert"])):
+            with open(self.path("page-certificates/" + name), "wb") as it:
+                it.write(content)
+        os.remove(log)
+        status, error, again = self.run(NETWORK, "--orgs", ORGS, program=program)
+        self.judge("asks again what is not accepted", status == 0 and [words[0] for words in asked() if words[0] in ("intersect", "blocking")] == ["intersect", "blocking"] and contents(self.path("page-certificates")) == held, error)
+        self.run(NETWORK, "--orgs", ORGS, "--budget", "60", program=program)
+        self.a_part(log, program, asked)
+        self.interrupted(program, page)
+
+    def a_part(self, log, program, asked):
+        """A part of a list is gone on with: with four times its units."""
+        shutil.rmtree(self.path("page-certificates"), ignore_errors=True)
+        self.run(NETWORK, "--orgs", ORGS, "--budget", "20", program=program)
+        os.remove(log)
+        status, error, _ = self.run(NETWORK, "--orgs", ORGS, program=program)
+        self.judge("goes on with a part", status == 0 and "--budget=80" in [words[-1] for words in asked() if words[0] == "blocking"], asked())
+
+    def interrupted(self, program, page):
+        """Ctrl-C on a terminal ends the searches, and the page is written; the second ends at once. A hangup leaves all as it was, unless it is ignored."""
+        for signals, wanted in ([signal.SIGINT], 0), ([signal.SIGINT, signal.SIGINT], 130), ([signal.SIGHUP], 129):
+            shutil.rmtree(self.path("page-certificates"), ignore_errors=True)
+            self.written("waits", "")
+            before = sorted(os.listdir(self.folder))
+            ours, theirs = pty.openpty()
+            running = subprocess.Popen([TOOL, NETWORK, "-o", page, "--program", program], stdout=theirs, stderr=theirs)
+            os.close(theirs)
+            told = b""
+            while b"whether it can fork: 4,000 units" not in told:
+                told += os.read(ours, 4096)
+            os.remove(self.path("waits"))
+            for it in signals:
+                running.send_signal(it)
+                time.sleep(0.01)
+            try:
+                while os.read(ours, 4096):
+                    pass
+            except OSError:
+                pass
+            status = running.wait(60)
+            os.close(ours)
+            left = sorted(set(os.listdir(self.folder)) - set(before) - {"page-certificates"})
+            self.judge("interrupted by %s" % [it.name for it in signals], status == wanted and not left and os.path.isdir(self.path("page-certificates")) == (wanted == 0), (status, left))
 
     def nothing_unchecked(self):
         for name, text in (("refusing", REFUSING % PROGRAM), ("about-others", ABOUT_OTHERS % (PROGRAM, PROGRAM))):
@@ -377,6 +473,9 @@ def main():
         trial.spent()
         trial.odd_names()
         trial.two_apart()
+        trial.shown_names()
+        trial.as_things_are()
+        trial.by_the_clock()
         trial.unproved()
         trial.nothing_unchecked()
         trial.refusals()

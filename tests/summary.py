@@ -76,11 +76,11 @@ def uncrawled():
 
 # Of each network the words, what the summary has to say and what it may not, and what may stand nowhere on the page.
 FOUR = {
-    "uniform": (uniform, [], ["It cannot fork.", "The quorum sets of 1 node are not known, 1 of which others name", "4 sets: each of Org 2, Org 3, Org 4, Org 5 alone", "1 of 5 validators here are down: a1."], ["nothing is ever agreed", "There is no quorum", "never agrees"]),
+    "uniform": (uniform, [], ["It cannot fork.", "Quorum sets that are not known: of 1 node, 1 of them named by others.", "4 sets: each of Org 2, Org 3, Org 4, Org 5 alone", "Down: 1 of 5 validators here, a1. Beyond these it is stopped by 4 sets: each of Org 2, Org 3, Org 4, Org 5 alone."], ["nothing is ever agreed", "There is no quorum", "never agrees"]),
     "uniform-node": (uniform, ["a1"], ["This page speaks for a1, whose quorum set is not known.", "It cannot fork.", "The quorum set of a1 is not known, so nothing is known of what it agrees on."], ["never agrees", "nothing is ever agreed"]),
-    "halves": (halves, [], ["It can fork: it is 2 networks that do not depend on one another. e", " against ", "6 sets: any 2 of these 4 together: East 1, East 2, East 3, East 4.", "6 sets: any 2 of these 4 together: West 1, West 2, West 3, West 4."], ["It cannot fork", "None can fork", "would be split off", "could be split off"]),
-    "held-up": (held_up, [], ["It cannot fork.", "11 sets: Kettle Bank alone; or any 2 of these 5 together: Vault 1, Vault 2, Vault 3, Vault 4, Vault 5.", "By single nodes: 13 sets, the smallest of 2."], ["here are down", "not known"]),
-    "uncrawled": (uncrawled, [], ["It cannot fork.", "The quorum sets of 41 nodes are not known, 1 of which others name: these count as agreeing with nobody.", "3 sets: any 2 of these 3 together: Ash, Birch, Cherry."], ["never agrees", "nothing is ever agreed", "There is no quorum", "here are down"]),
+    "halves": (halves, [], ["It can fork: it is 2 networks that do not depend on one another. e", " against ", "6 sets: any 2 of these 4 together: East 1, East 2, East 3, East 4.", "6 sets: any 2 of these 4 together: West 1, West 2, West 3, West 4."], ["It cannot fork", "none can fork it", "would be split off", "could be split off"]),
+    "held-up": (held_up, [], ["It cannot fork.", "11 sets: Kettle Bank alone; or any 2 of these 5 together: Vault 1, Vault 2, Vault 3, Vault 4, Vault 5.", "By single nodes: 13 sets, the smallest of 2."], ["Down: ", "not known"]),
+    "uncrawled": (uncrawled, [], ["It cannot fork.", "Quorum sets that are not known: of 41 nodes, 1 of them named by others. These count as agreeing with nobody.", "3 sets: any 2 of these 3 together: Ash, Birch, Cherry."], ["never agrees", "nothing is ever agreed", "There is no quorum", "Down: "]),
     "uncrawled-node": (uncrawled, ["u07"], ["This page speaks for u07, whose quorum set is not known.", "It cannot fork."], ["never agrees", "in no quorum"]),
 }
 

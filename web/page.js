@@ -303,7 +303,7 @@ function bodyOf(asked, done, found, digest) {
 function show(asked, done, found, digest) {
   $('answer-body').replaceChildren(...bodyOf(asked, done, found, digest).filter(Boolean));
   $('answer').hidden = false;
-  if (found.painted) $('drawing').replaceChildren(...draw(network, new Paint(found.painted)));
+  if (found.painted) $('drawing').replaceChildren(...draw(network, new Paint({ down: network.down(), unknown: network.unknown(), ...found.painted })));
   $('picture').hidden = !found.painted || !network.keys.length;
   $('status').textContent = `Answered: ${found.head}`;
   $('answer').scrollIntoView({ block: 'nearest' });

@@ -24,8 +24,7 @@ class Paint {
 
   circle(key) {
     const [kind, letter, says] = this.place(key);
-    if (!this.down.has(key)) return [kind, letter, says];
-    return letter ? [kind, letter, `${says}, down`] : [`${kind} down`, '–', `${says}, down`];
+    return this.down.has(key) ? [`${kind} down`, letter || '–', `${says}, down`] : [kind, letter, says];
   }
 
   place(key) {
@@ -62,8 +61,9 @@ function drawnBox(network, paint, title, keys, captioned) {
 }
 
 function legend(network, paint) {
-  const state = (key) => (paint.place(key)[1] ? paint.place(key) : paint.circle(key)), there = new Map(network.keys.map((key) => [state(key)[0], state(key)]));
-  const rows = ['lie', 'still', 'one', 'two', 'q', 'q down', 'n', 'n down', 'n u', 'x', 'x down'].filter((kind) => there.has(kind)).map((kind) => make('li', {}, dot(kind, there.get(kind)[1]), there.get(kind)[2]));
+  const there = new Map(network.keys.map((key) => [paint.place(key)[0], paint.place(key)]));
+  const rows = ['lie', 'still', 'one', 'two', 'q', 'n', 'n u', 'x'].filter((kind) => there.has(kind)).map((kind) => make('li', {}, dot(kind, there.get(kind)[1]), there.get(kind)[2]));
+  if (network.keys.some((key) => paint.down.has(key))) rows.push(make('li', {}, dot('down', '–'), 'down, as the file marks it'));
   if (network.keys.some((key) => paint.marked.has(key))) rows.push(make('li', {}, dot('', '', true), paint.markedAs));
   return make('ul', { class: 'legend' }, rows);
 }

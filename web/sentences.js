@@ -18,7 +18,7 @@ const SENTENCES = {
     "networks": ["bad", "It can fork: it is {count|networks} that do not depend on one another. {first|nodes} against {second|nodes}."],
     "undecided": ["warn", "It is not decided whether it can fork."],
     "split": ["warn", "Of {of|watchers}, on whom nobody depends, {count} could be split off: {keys|nodes}."],
-    "unknown": ["warn", "The quorum sets of {count|nodes} are not known, {named} of which others name: these count as agreeing with nobody."]
+    "unknown": ["warn", "Quorum sets that are not known: of {count|nodes}, {named} of them named by others. These count as agreeing with nobody."]
   },
   "seen": {
     "label": "As one node sees it",
@@ -34,10 +34,10 @@ const SENTENCES = {
     "forked": ["", "It forks without that."],
     "unknown": ["", "No organisations are known."],
     "nowhere": ["warn", "Not asked: no organisation has a validator here."],
-    "nobody": ["good", "None of {of|organisations} can fork it."],
-    "nobody-here": ["", "None of {of|organisations} can fork this part of it."],
+    "nobody": ["good", "Of {of|organisations} none can fork it."],
+    "nobody-here": ["", "Of {of|organisations} none can fork this part of it."],
     "each": ["bad", "Each of {of|organisations} can fork it: {orgs|orgs}."],
-    "some": ["bad", "{count} of {of|organisations} can fork it: {orgs|orgs}."],
+    "some": ["bad", "Of {of|organisations} {count} can fork it: {orgs|orgs}."],
     "elsewhere": ["bad", "Among validators outside this view these can: {orgs|orgs}."],
     "undecided": ["warn", "Not decided: {orgs|orgs}."],
     "split": ["warn", "Of {of|watchers}, on whom nobody depends, some could be split off by {orgs|counts}."]
@@ -54,11 +54,11 @@ const SENTENCES = {
   "now": {
     "label": "As things are now",
     "none": ["", "No validator is marked as down."],
-    "down": ["warn", "{count} of {of|validators} here are down: {keys|nodes}."],
+    "down": ["warn", "Down: {count} of {of|validators} here, {keys|nodes}."],
     "stopped": ["bad", "Without these it has stopped: no quorum is left."],
-    "sets": ["", "Beyond these stop it: {sets|sets}."],
-    "alone": ["bad", "Beyond these stop it: {sets|sets}."],
-    "found": ["warn", "Beyond these stop it: {sets|sets}. More than {most} together were not asked about."],
+    "sets": ["", "Beyond these it is stopped by {sets|sets}."],
+    "alone": ["bad", "Beyond these it is stopped by {sets|sets}."],
+    "found": ["warn", "Beyond these it is stopped by {sets|sets}. More than {most} together were not asked about."],
     "open": ["warn", "Beyond these none of {most} together stops it; more were not asked about."]
   },
   "node": {

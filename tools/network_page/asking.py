@@ -298,7 +298,7 @@ class Program:
             except Failed:
                 continue
             number = int(lines[0].split(" ")[2]) if status == 2 else self.budget
-            told = {0: lines, 1: [lines[0], *lines[3:5]], 2: ["%s unknown %d" % (command, number)]}
+            told = {0: lines, 1: [lines[0], *self.pair_in(path)], 2: ["%s unknown %d" % (command, number)]}
             return Searched(status, told[status], number, 0.0), lines
         os.unlink(path)
         return None
@@ -326,6 +326,12 @@ class Program:
         given = "--orgs=" + (self.orgs if self.orgs is not None else self.beside.organisations(orgs))
         ended, certificate, sets = self.searched({0: "org-blocking", 2: "partial-org-blocking"}, view, (), name, ["org-blocking", given], given)
         return (sets, certificate) if ended.status == 0 else None
+
+    @staticmethod
+    def pair_in(path):
+        """The two sets of a pair, which `check` does not print again."""
+        with open(path, encoding="ascii") as it:
+            return [line for line in it.read().split("\n") if line.startswith(("first ", "second "))]
 
     @staticmethod
     def found_in(path):

@@ -232,7 +232,7 @@ class Page:
     def lie(self, turn, verdict):
         where = self.seen(verdict)[0].lower() + self.seen(verdict)[1:]
         if verdict.word == "yes":
-            text = '<span class="good">No</span>, %s' % where if turn.word == "no" else "No, %s" % where
+            text = '<span class="good">No</span>, %s' % where if turn.word == self.found.forks.word == "no" else "No, %s" % where
         elif verdict.word == "no" and turn.word == "no":
             text = '<span class="warn">Watchers alone</span>, %s' % where
         elif verdict.word == "no":

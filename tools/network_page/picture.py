@@ -24,7 +24,7 @@ class Paint:
     def kind(self, key):
         """The class of the circle, the letter in it, and what both say."""
         kind, letter, says = self.place(key)
-        return (kind, letter, says) if key not in self.down else (kind, letter, says + ", down") if letter else (kind + " down", "–", says + ", down")
+        return (kind + " down", letter or "–", says + ", down") if key in self.down else (kind, letter, says)
 
     def place(self, key):
         if key in self.first:
@@ -70,9 +70,10 @@ def legend(network, paint):
     """What the circles mean, of those that are there."""
     rows = {}
     for key in network.keys:
-        state = paint.place(key) if paint.place(key)[1] else paint.kind(key)
-        rows.setdefault(state[0], '<span class="dot %s" aria-hidden="true">%s</span>%s' % state)
-    shown = [rows[kind] for kind in ("one", "two", "q", "q down", "n", "n down", "n u", "x", "x down") if kind in rows]
+        rows.setdefault(paint.place(key)[0], '<span class="dot %s" aria-hidden="true">%s</span>%s' % paint.place(key))
+    shown = [rows[kind] for kind in ("one", "two", "q", "n", "n u", "x") if kind in rows]
+    if paint.down:
+        shown.append('<span class="dot down" aria-hidden="true">–</span>down, as the file marks it')
     if paint.marked:
         shown.append('<span class="dot q ring" aria-hidden="true"></span>%s' % html.escape(paint.marked_as))
     return '<ul class="legend">%s</ul>' % "".join("<li>%s</li>" % row for row in shown)
