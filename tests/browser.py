@@ -174,20 +174,19 @@ class Trial:
         """The first lines say what the program answers to whoever asks it without the page."""
         with open(page, encoding="utf-8") as it:
             text = it.read()
-        lines = [html.unescape(re.sub(r"<[^>]*>", "", line)) for line in re.findall(r"<dd>(.*?)</dd>", text)]
+        lines = {label: html.unescape(re.sub(r"<[^>]*>", "", line)) for label, line in re.findall(r"<dt>(.*?)</dt><dd>(.*?)</dd>", text)}
         node = node if node is not None else re.search(r"quorum_cli intersect \S+ \S+ --from=(\w+)", text).group(1)
         with open(orgs, encoding="utf-8") as it:
             keys = {org["name"]: org["validators"] for org in json.load(it)}
         forks, _ = self.asked("intersect", config, self.path("asked.cert"), "--from", node)
         lying = [org for org in keys if self.asked("intersect", config, self.path("asked.cert"), "--from", node, "--faulty", ",".join(keys[org]))[0] == 1]
-        self.judge(name + ": can it fork", lines[0].split(",")[0] == {0: "No", 1: "Yes"}.get(forks), (lines, forks))
-        said = lines[1].split("; ")[0]
-        self.judge(name + ": with one lying", said.endswith(": " + ", ".join(lying)) if lying else said == "None can fork it", (lines, lying))
-        first = lines[2].split("; ")[0]
-        least = self.least(config, node, keys)
-        self.judge(name + ": who can stop it", first == together(least), (lines, least))
+        self.judge(name + ": can it fork", lines["Can it fork?"].startswith({0: "It cannot fork.", 1: "It can fork"}.get(forks)), (lines, forks))
+        said = "Each of %d organisations can fork it: " % len(keys) if len(lying) == len(keys) else "Of %d organisations %d can fork it: " % (len(keys), len(lying))
+        self.judge(name + ": with one lying", lines["If one organisation lies?"].startswith(said + ", ".join(lying) + "." if lying else "Of %d organisations none can fork it." % len(keys)), (lines, lying))
+        stopping = self.stopping(config, node, keys)
+        self.judge(name + ": who can stop it", lines["Who can stop it?"].split(". ")[0].rstrip(".") == together(stopping), (lines, stopping))
         inside = node in self.asked("greatest", config, "--from", node)[1].split()[1:]
-        self.judge(name + ": the node", lines[3].startswith("none was given") or ("is in the greatest quorum" in lines[3]) == inside, lines)
+        self.judge(name + ": the node", "Your node" not in lines or ("is in the greatest quorum" in lines["Your node"]) == inside, lines)
         self.leaving(name, text, config, node, keys)
 
     def leaving(self, name, text, config, node, keys):
@@ -202,20 +201,21 @@ class Trial:
             right = goes_on.startswith("%d of the other %d nodes go on" % (len(left), others)) if left else goes_on.startswith("No, it stops once")
             self.judge("%s: %s leaves" % (name, org), right, (goes_on, left))
             rest = {other: keys[other] for other in keys if other != org}
-            wanted = together(self.least(config, node, rest, keys[org]), len(rest)) if left else "it has stopped"
+            wanted = together(self.stopping(config, node, rest, keys[org])) if left else "it has stopped"
             self.judge("%s: once %s has left" % (name, org), then == wanted, (then, wanted))
 
     def asked(self, *words):
         ended = subprocess.run([PROGRAM, *words], stdout=subprocess.PIPE, timeout=3000)
         return ended.returncode, ended.stdout.decode()
 
-    def least(self, config, node, keys, gone=()):
-        """The smallest sets of organisations that stop the network once these keys are gone, as one node sees it."""
+    def stopping(self, config, node, keys, gone=()):
+        """All minimal sets of organisations that stop the network once these keys are gone, as one node sees it."""
+        found = []
         for size in range(1, len(keys) + 1):
-            found = [some for some in itertools.combinations(keys, size) if self.asked("blocks", config, "--from", node, "--set", ",".join(sum((keys[org] for org in some), [*gone])))[0] == 0]
-            if found:
-                return found
-        return []
+            for some in itertools.combinations(keys, size):
+                if not any(set(it) <= set(some) for it in found) and self.asked("blocks", config, "--from", node, "--set", ",".join(sum((keys[org] for org in some), [*gone])))[0] == 0:
+                    found.append(some)
+        return found
 
     def page(self, name, page):
         self.judge(name + " is small enough", os.path.getsize(page) < MOST_BYTES, os.path.getsize(page))
@@ -241,20 +241,19 @@ class Trial:
         self.judge(name + " printed", 1 <= sheets <= MOST_SHEETS, sheets)
 
 
-def together(least, others=None):
-    """How the page says that these smallest sets stop the network, if so many others are left."""
-    if not least:
-        return "nobody"
-    every, size = sorted(set().union(*least)), len(least[0])
-    ending = " alone" if size == 1 else " together"
-    if len(least) == 1:
-        return " and ".join(sorted(least[0])) + ending
-    if len(least) < math.comb(len(every), size):
-        shown = sorted(" and ".join(sorted(some)) for some in least)
-        return ", or ".join(shown[:3]) + (", or one of %d other sets of %d" % (len(shown) - 3, size) if len(shown) > 3 else ending)
-    if len(every) == others:
-        return "each of the %d others alone" % others if size == 1 else "any %d of the %d others together" % (size, others)
-    return "each of %s alone" % ", ".join(every) if size == 1 else "any %d of these %d organisations together: %s" % (size, len(every), ", ".join(every))
+def together(sets):
+    """How the page says that these sets stop the network."""
+    parts = []
+    for size in sorted(set(map(len, sets))):
+        some = [it for it in sets if len(it) == size]
+        every = sorted(set().union(*some), key=str.lower)
+        if len(every) == size:
+            parts.append(" and ".join(every) + (" alone" if size == 1 else " together"))
+        elif len(some) < math.comb(len(every), size):
+            parts.append(", or ".join(" and ".join(it) for it in sorted(sorted(it, key=str.lower) for it in some)) + " together")
+        else:
+            parts.append("each of %s alone" % ", ".join(every) if size == 1 else "any %d of these %d together: %s" % (size, len(every), ", ".join(every)))
+    return ("%d sets: " % len(sets) if len(sets) > 1 else "") + "; or ".join(parts)
 
 
 def tried(folder, chromium):

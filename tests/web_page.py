@@ -5,7 +5,7 @@
 
 Status, text and certificate of each question are the program's, byte for byte: in node on the examples, on files that are refused
 and on networks of tests/watchers.py; in Chromium as an operator asks, by file field and by a real drop, each certificate saved by
-its link. Also tried: the guide's story, stopping, want of memory, a file of 16 MiB, that nothing leaves the page, its own digest,
+its link. Also tried: the guide's story, the summary of the four networks of tests/summary.py, the switch to things as they are now, stopping, want of memory, a file of 16 MiB, that nothing leaves the page, its own digest,
 names that act as markup, three widths, the dark, the keyboard, and what a screen reader hears. --page takes a page that was made,
 --data more networks (NAME.json, NAME-orgs.json), --pictures keeps screenshots. The last line is 'web_page: N passed, M failed',
 or says what was skipped since it is not installed.
@@ -32,6 +32,7 @@ sys.dont_write_bytecode = True
 
 import browser  # noqa: E402
 import chosen  # noqa: E402
+import summary  # noqa: E402
 import watchers  # noqa: E402
 
 TOP = os.path.dirname(os.path.dirname(os.path.abspath(__file__)))
@@ -274,6 +275,15 @@ class Tab(browser.Browser):
         self.js("$('ask').click()")
         self.wait("%s && ((document.body.dataset.answers ?? '0') !== %s || !$('trouble').hidden || !!document.querySelector('#head')?.textContent.match(/^(Stopped|There is no answer)/))" % (SHOWN, json.dumps(before)), seconds)
 
+    def alone(self, question):
+        """One question in place of the summary that is asked first."""
+        self.choose(question)
+        self.ask()
+
+    def summary(self):
+        """The lines of the summary: labels, and what is said."""
+        return "\n".join(self.js("[...document.querySelectorAll('.summary dt, .summary dd')].map(it => it.textContent)"))
+
     def head(self):
         return self.js("document.querySelector('#head')?.textContent ?? ''")
 
@@ -357,7 +367,7 @@ class Trial:
         _, usage, _ = by_program([], {}, self.folder)
         commands = {line.split(" ")[0] for line in usage.decode().split("\n")[1:-1]} - {"COMMON:"}
         offered = set(self.tab.js("[...$('question').options].map(it => it.value)"))
-        self.judge("each command is offered, and one more question", offered == commands | {"turns"}, offered ^ commands)
+        self.judge("each command is offered, and two more questions", offered == commands | {"turns", "summary"}, offered ^ commands)
 
     # Questions beside the program.
 
@@ -367,6 +377,8 @@ class Trial:
         tab.show(self.page)
         tab.give("orgs", orgs)
         tab.give("config", config)
+        self.judge(name + ": in short", "Who can stop it?" in tab.summary() and tab.head().startswith(("It cannot fork", "It can fork")), tab.head())
+        tab.alone("intersect")
         self.beside(name + ", given", files)
         found = json.loads(files[os.path.basename(orgs)])
         keys = set(tab.js("network.keys"))
@@ -457,12 +469,19 @@ class Trial:
         files = {"network.json": held(EXAMPLES, "network.json"), "orgs.json": held(EXAMPLES, "orgs.json")}
         self.judge("the example is the one of the guide", tab.js("sha256(files.config)") == hashlib.sha256(files["network.json"]).hexdigest())
         self.judge("the story: it cannot fork", tab.head() == "It cannot fork.", tab.head())
+        wanted = ["Each of 3 organisations can fork it: Alder, Beech, Cedar.", "3 sets: any 2 of these 3 together: Alder, Beech, Cedar. By single nodes: 27 sets, the smallest of 4."]
+        self.judge("the story: in short", all(text in tab.summary() for text in wanted), tab.summary())
+        self.judge("the story: with its certificates", tab.js("document.querySelectorAll('#answer details a[download]').length") == 7, tab.answer())
+        self.picture("summary")
+        tab.alone("intersect")
+        self.judge("the story: by one question", tab.head() == "It cannot fork.", tab.head())
         self.beside("the story", files)
         alder, beech, cedar = (["G%s%d" % (name * 3, at) for at in (1, 2, 3)] for name in "ABC")
         steps = [
             ("show", {}, "10 nodes.", ["108 entries", "1 without a quorum set"]),
             ("greatest", {}, "9 nodes can agree.", ["gaaa1, gaaa2, gaaa3, gbbb1"]),
-            ("intersect", {"from": "GAAA1"}, "It cannot fork.", ["as gaaa1 sees it"]),
+            ("intersect", {"from": "GAAA1"}, "As gaaa1 sees it, it cannot fork.", ["as gaaa1 sees it"]),
+            ("summary", {"from": "GAAA1"}, "It cannot fork.", ["gaaa1 is in the greatest quorum. It goes on whichever other organisation is silent. Its slices are all met by Beech and Cedar together."]),
             ("intersect", {"faulty": ["alder"]}, "It can fork.", ["If Alder lies, two quorums share no node", "gbbb1, gbbb2", "gccc1, gccc2"]),
             ("intersect", {"faulty": ["GAAA1"]}, "It can fork.", ["gaaa2, gbbb1, gbbb2", "gaaa3, gccc1, gccc2"]),
             ("splits", {"set": ["GAAA1", "GAAA2"]}, "They can fork it by lying.", ["gbbb1, gbbb2"]),
@@ -484,6 +503,8 @@ class Trial:
             tab.ask()
             said = tab.answer()
             self.judge("the story: %s" % question, tab.head() == head and all(text in said for text in texts), (tab.head(), said[:500]))
+            if question == "summary":
+                continue
             self.beside("the story", {**files, "edits.script": held(EXAMPLES, "leaving.script")} if question == "whatif" else files)
         drawn = lambda kind: tab.js("[...document.querySelectorAll('#drawing li .dot.%s')].length" % kind)  # noqa: E731
         tab.choose("intersect", faulty=["alder"])
@@ -513,6 +534,7 @@ class Trial:
                 tab.wait(" && ".join("called.%s === '%s'" % ("orgs" if name == "orgs.json" else "config", name) for name in group))
             tab.wait("document.body.dataset.answers >= '1' && " + SHOWN)
             self.judge("dropped: %s" % some, tab.head() == "It cannot fork.", tab.head())
+            tab.alone("intersect")
             cert = self.beside("dropped", files)
         path = written(cert, self.folder, "dropped.cert")
         before = tab.js("document.body.dataset.answers")
@@ -541,6 +563,48 @@ class Trial:
         tab.wait("network.hasOrgsFile && " + SHOWN)
         tab.js("$('orgs-says').querySelector('button').click()")
         self.judge("organisations taken away", tab.js("!network.hasOrgsFile && network.orgs[0].id") == "franklin.example", tab.js("network.orgs.map(it => it.id)"))
+
+    def four(self):
+        """The four networks of which a summary once said what is not so."""
+        tab = self.tab
+        for name, (made, node, has, lacks) in summary.FOUR.items():
+            nodes, orgs = made()
+            paths = [written(json.dumps(held).encode(), self.folder, "%s-%s.json" % (name, file)) for held, file in ((orgs, "orgs"), (nodes, "nodes"))]
+            tab.show(self.page)
+            tab.drop(paths)
+            tab.wait("called.config && document.body.dataset.answers === '1' && " + SHOWN)
+            if node:
+                tab.choose("summary", **{"from": node[0]})
+                tab.ask()
+            for text in has:
+                self.judge("%s says: %s" % (name, text), text in tab.summary(), tab.summary())
+            for text in lacks:
+                self.judge("%s does not say: %s" % (name, text), text not in tab.answer(), tab.answer())
+            red = tab.js("[document.querySelector('#answer .verdict').className, document.querySelectorAll('#answer .good').length]")
+            self.judge("%s: what is red, and what is green" % name, red == ["verdict bad", 0] if name == "halves" else red[0] == "verdict good", red)
+            for width, wide in (("phone", 360), ("desk", 1280)):
+                tab.call("Emulation.setDeviceMetricsOverride", width=wide, height=900, deviceScaleFactor=1, mobile=wide < 500)
+                self.fits("%s, %s" % (name, width))
+                self.picture("%s-%s" % (name, width))
+
+    def as_things_are(self):
+        """The switch: with those that are down in a set, or about a file in which they agree with nobody."""
+        tab, (nodes, orgs) = self.tab, summary.uniform()
+        nodes[0]["quorumSet"] = nodes[1]["quorumSet"]
+        tab.show(self.page)
+        tab.drop([written(json.dumps(held).encode(), self.folder, name) for held, name in ((orgs, "orgs.json"), (nodes, "five.json"))])
+        tab.wait("called.config && document.body.dataset.answers === '1' && " + SHOWN)
+        self.judge("both margins", "10 sets: any 2 of these 5 together" in tab.summary() and "Down: 1 of 5 validators here, a1. Beyond these it is stopped by 4 sets: each of Org 2, Org 3, Org 4, Org 5 alone." in tab.summary(), tab.summary())
+        files = {"five.json": held(self.folder, "five.json"), "orgs.json": held(self.folder, "orgs.json")}
+        for question, fields, head in (("blocks", {"set": ["a2"]}, "They stop it."), ("greatest", {}, "4 nodes can agree."), ("blocking", {}, "4 minimal blocking sets."), ("vblocks", {"node": "a2", "set": ["a3"]}, "They can stop a2.")):
+            tab.choose(question, **fields)
+            tab.js("$('now').checked = true")
+            tab.ask()
+            self.judge("as things are now: " + question, tab.head() == head, tab.head())
+            now = tab.saved("The file as things are now")
+            self.beside("as things are now", {**files, "five-now.json": now} if now else files)
+        tab.choose("closure", node="a2")
+        self.judge("no switch where it says nothing", tab.js("document.querySelector('[data-option=now]').hidden"))
 
     # What may go wrong.
 
@@ -579,6 +643,7 @@ class Trial:
         tab.give("config", written(whole, self.folder, "large.json"))
         self.judge("a file of 16 MiB", tab.head() == "It cannot fork.", tab.head())
         print("web_page: a file of 16 MiB with %d skipped objects: %.1f s in all; %s" % (count, time.monotonic() - began, tab.js("$('times').textContent")))
+        tab.alone("intersect")
         self.beside("16 MiB", {"large.json": whole})
         tab.give("config", written(whole + b" ", self.folder, "longer.json"))
         self.judge("one byte more", tab.head() == "The file is refused." and "config too-long" in tab.answer(), tab.head())
@@ -719,6 +784,7 @@ class Trial:
         tab.js("$('example').focus()")
         tab.key("Enter", 13, "\r")
         tab.wait("document.body.dataset.answers === '1' && " + SHOWN)
+        tab.js("$('question').value = 'intersect'; $('question').dispatchEvent(new Event('change'))")
         tab.key("Tab", 9)
         self.judge("keys: then the question", focus() == "question", focus())
         tab.key("Tab", 9)
@@ -791,7 +857,7 @@ class Trial:
 
 def in_chromium(judge, tab, asked, page, module, networks, folder):
     trial = Trial(judge, tab, page, module, folder, asked.pictures)
-    parts = [trial.itself, trial.story, trial.proofs, trial.dropped, trial.example_left, trial.refused, trial.markup, trial.closed, trial.keyboard, trial.heard, lambda: trial.widths(*networks[0])]
+    parts = [trial.itself, trial.story, trial.proofs, trial.dropped, trial.four, trial.as_things_are, trial.example_left, trial.refused, trial.markup, trial.closed, trial.keyboard, trial.heard, lambda: trial.widths(*networks[0])]
     parts += [lambda it=it: trial.network(os.path.basename(it[0]), *it) for it in networks]
     parts += [trial.large, trial.short_of_memory, trial.stopped]
     if asked.data and os.path.exists(os.path.join(asked.data, "network-large.json")):

@@ -14,7 +14,7 @@ const SENTENCES = {
     "none": ["bad", "There is no quorum: nothing is ever agreed on."],
     "none-known": ["warn", "No quorum is known."],
     "no": ["good", "It cannot fork."],
-    "yes": ["bad", "It can fork, though no node lies: {first|nodes} against {second|nodes}."],
+    "yes": ["bad", "It can fork, though no node lies. {first|nodes} against {second|nodes}."],
     "networks": ["bad", "It can fork: it is {count|networks} that do not depend on one another. {first|nodes} against {second|nodes}."],
     "undecided": ["warn", "It is not decided whether it can fork."],
     "split": ["warn", "Of {of|watchers}, on whom nobody depends, {count} could be split off: {keys|nodes}."],

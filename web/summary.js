@@ -126,7 +126,7 @@ async function viewsOf(questions, network, found, node) {
   return views.length ? views : [found.whole];
 }
 
-const FORKING = { yes: 'no', no: 'yes', unknown: 'undecided' };
+const FORK_OF = { yes: 'no', no: 'yes', unknown: 'undecided' };
 
 // Whether the validators can fork, while one organisation lies. A quorum of watchers alone is none of theirs: then they are asked about as
 // a file of their own.
@@ -139,7 +139,7 @@ async function forksOf(questions, network, found, org = null) {
     verdict = await questions.on('validators', network.validatorsText(found.validators, found.isNow)).intersect(found.whole, org);
     if (verdict.word === 'yes') split = await splitOff(questions, network, found, org);
   }
-  return { ...verdict, word: FORKING[verdict.word], split, whole };
+  return { ...verdict, word: FORK_OF[verdict.word], split, whole };
 }
 
 // The watchers that can agree with nobody but those that lie: all but these fail, and a slice is left.
@@ -168,7 +168,7 @@ async function turnOf(questions, network, found, part, org) {
   const left = await questions.left(part.view, org.keys);
   let word = null, split = [];
   if (part.greatest.length && part.verdict.word !== 'no') {
-    if (part.view !== found.whole) word = FORKING[(await questions.intersect(part.view, org)).word];
+    if (part.view !== found.whole) word = FORK_OF[(await questions.intersect(part.view, org)).word];
     if ((word === null || word === 'no') && !['yes', 'networks'].includes(found.forks.word)) {
       const file = await forksOf(questions, network, found, org);
       word = word === 'no' && file.word === 'yes' ? 'elsewhere' : file.word;
@@ -263,7 +263,7 @@ function seenLines(network, found, { view, own, verdict }) {
   const node = own ? own.key : view.node;
   if (node === null || (!own && found.parts.length === 1 && ['no', 'none'].includes(found.forks.word))) return [];
   if (!verdict) return [says('seen', network.unknown().some((key) => view.keys.includes(key)) ? 'none-known' : 'none', { node })];
-  return [says('seen', FORKING[verdict.word], { node, ...(verdict.word === 'no' ? { first: verdict.first, second: verdict.second } : {}) })];
+  return [says('seen', FORK_OF[verdict.word], { node, ...(verdict.word === 'no' ? { first: verdict.first, second: verdict.second } : {}) })];
 }
 
 function liesLines(network, found, part) {

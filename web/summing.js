@@ -18,7 +18,7 @@ const MOODS = { good: 'good', bad: 'bad', warn: 'open' };
 function tellSummary(found) {
   const data = summaryOf(network, found), saying = new Saying(network, called), [first] = data.parts;
   const { mood, parts } = saying.sentence(SENTENCES.fork[forkOf(data).say], forkOf(data));
-  const head = parts.map((part) => (typeof part === 'string' ? part : saying.name(part.text))).join('');
+  const [head] = parts.map((part) => (typeof part === 'string' ? part : saying.name(part.text))).join('').split(/(?<=\.) /);
   if (data.parts.length === 1) return { mood: MOODS[mood], head, more: [linesShown(saying, [...data.lines, ...first.lines])] };
   const each = data.parts.flatMap((part, at) => [make('h4', {}, headingOf(found, at)), linesShown(saying, part.lines)]);
   return { mood: MOODS[mood], head, more: [linesShown(saying, data.lines), each] };
