@@ -1,8 +1,9 @@
 // All of it in short: what is asked, which sentences of web/sentences.js are said, and how what stands in them is put into words. The
 // report asks, decides and says the same (tools/network_page: findings.py, summary.py, sentences.py); tests/summary.py holds both together.
 
-// So many sets of organisations are asked about where their list is not whole; so many units are spent on a list if no budget is given.
-const MOST_ASKED = 600, MOST_LIST_UNITS = 100000;
+// So many sets of organisations are asked about where their list is not whole. So many units are spent on that list, and on one of nodes, if no
+// budget is given: a unit of the second takes longer.
+const MOST_ASKED = 600, ORG_UNITS = 20000, NODE_UNITS = 1000;
 // So many nodes are named one by one, more of them by their organisations; so many sets one by one, more of them by their number.
 const MOST_NAMED = 12, MOST_SETS = 30;
 
@@ -89,12 +90,12 @@ class Questions {
 
   // All minimal blocking sets of organisations, and of nodes of none; null if they were not all found.
   async groups(view) {
-    const { status, lines } = await this.searched('org-blocking', ['org-blocking', 'config', 'made', '--orgs=orgs', ...this.from(view), ...this.spent(MOST_LIST_UNITS)], '--orgs=orgs');
+    const { status, lines } = await this.searched('org-blocking', ['org-blocking', 'config', 'made', '--orgs=orgs', ...this.from(view), ...this.spent(ORG_UNITS)], '--orgs=orgs');
     return status === 0 ? setsIn(lines).filter((some) => some.length) : null;
   }
 
   async nodeSets(view) {
-    const { status, lines } = await this.searched('blocking', ['blocking', 'config', 'made', ...this.from(view), ...this.spent(MOST_LIST_UNITS)]);
+    const { status, lines } = await this.searched('blocking', ['blocking', 'config', 'made', ...this.from(view), ...this.spent(NODE_UNITS)]);
     return status === 0 ? setsIn(lines) : null;
   }
 }
