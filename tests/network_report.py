@@ -440,7 +440,7 @@ class Trial:
         os.mkdir(folder)
         words = [TOOL, NETWORK, "-o", os.path.join(folder, "it.html"), "--program"]
         subprocess.run([*words, program], stderr=subprocess.DEVNULL, timeout=600)
-        for name in ("faulty-09-gone.cert", "notes.txt"):
+        for name in ("faulty-09-gone.cert", "notes.txt", "intersect.cert"):
             with open(os.path.join(folder, "it-certificates", name), "w") as it:
                 it.write("kept, or not")
         before = contents(folder)
