@@ -14,13 +14,14 @@ import tempfile
 import threading
 
 TOP = os.path.dirname(os.path.dirname(os.path.abspath(__file__)))
-BUILT = chosen.PROGRAM
 
 sys.path.append(os.path.join(TOP, "bench"))
 import chosen
 import plain_checker
 import replacing
 import trials
+
+BUILT = chosen.PROGRAM
 
 USAGE = """usage: quorum_cli COMMAND
 show CONFIG
