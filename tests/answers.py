@@ -3,7 +3,7 @@
 
 Each row is data. The expected values come from the definitions by hand, and digests from sha256sum. Each row runs in a folder of
 its own with the files config, cert, orgs and script, of which those that the row lacks are empty. What a search writes is checked,
-beside the same organisations. QUORUM_CLI names another program. Its last line is 'answers: N passed, M failed'.
+beside the same organisations. Its last line is 'answers: N passed, M failed'.
 """
 
 import collections
@@ -13,8 +13,8 @@ import sys
 import tempfile
 
 TOP = os.path.dirname(os.path.dirname(os.path.abspath(__file__)))
-PROGRAM = os.environ.get("QUORUM_CLI", os.path.join(TOP, "crates", "quorum_cli", "out", "quorum_cli"))
 
+import chosen
 from process import USAGE, organisations, sha256, system
 
 CHECK = "check config cert"
@@ -739,7 +739,7 @@ def held(path):
         return it.read()
 
 
-def main(program=PROGRAM):
+def main(program=chosen.PROGRAM):
     trial = Trial(program)
     for part in (questions, readings, searches, checks, scripts):
         for name, rows in part():
