@@ -30,10 +30,11 @@ choose_program() {
 # A choice is kept as a file: the kind, the program, the machine, and then all that it rests on, which has to be older than the file.
 # (What is not there is older, and what comes later is not.)
 is_kept() {
-  local lines file
-  { mapfile -t lines <"$choice"; } 2>/dev/null && [ ${#lines[@]} -gt 3 ] && [ "${lines[2]}" = "$machine" ] || return 1
-  for file in "${lines[@]:3}"; do [[ $choice -nt $top/$file ]] || return 1; done
-  kind=${lines[0]} program=$top/${lines[1]}
+  local files file its_kind its_path its_machine
+  { { read -r its_kind && read -r its_path && read -r its_machine && mapfile -t files; } <"$choice"; } 2>/dev/null || return 1
+  [ ${#files[@]} -gt 0 ] && [ "$its_machine" = "$machine" ] || return 1
+  for file in "${files[@]}"; do [[ $choice -nt $top/$file ]] || return 1; done
+  kind=$its_kind program=$top/$its_path
   [ -x "$program" ]
 }
 
