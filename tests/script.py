@@ -3,8 +3,8 @@
 
 usage: tests/script.py [PROGRAM] [--cases N] [--seed S]
 
-The tree is what `make install` puts into an empty folder, moved to another. It is tried with the built program, or the one that is
-handed in, and with a program that does nothing but wait and answer. Its last line is 'script: N passed, M failed'.
+The tree is what `make install` puts into an empty folder, moved to another. It is tried with the program that ./quorum_cli runs, or the
+one that is handed in, and with a program that does nothing but wait and answer. Its last line is 'script: N passed, M failed'.
 """
 
 import argparse
@@ -20,7 +20,9 @@ import tempfile
 import time
 
 TOP = os.path.dirname(os.path.dirname(os.path.abspath(__file__)))
-BUILT = os.path.join(TOP, "crates", "quorum_cli", "out", "quorum_cli")
+sys.path[:0] = [os.path.join(TOP, "tests")]
+import chosen
+
 SAYS = "quorum_cli: "
 INTERSECT = "intersect CONFIG CERT [COMMON] [--budget UNITS]"
 
@@ -112,10 +114,9 @@ class Trial:
     def __init__(self, folder, program):
         self.folder, self.passed, self.failed = folder, 0, 0
         first, self.real, self.slow = (os.path.join(folder, it) for it in ("first", "a tree", "slow"))
-        ended = subprocess.run(["make", "-s", "-C", TOP, "-o", "all", "install", "DESTDIR=" + first, "PREFIX=/usr"], stdout=subprocess.PIPE, stderr=subprocess.STDOUT)
+        ended = subprocess.run(["make", "-s", "-C", TOP, "install", "PROGRAM=" + program, "DESTDIR=" + first, "PREFIX=/usr"], stdout=subprocess.PIPE, stderr=subprocess.STDOUT)
         self.judge("make install", (ended.returncode, ended.stdout), (0, b""))
         shutil.move(os.path.join(first, "usr"), self.real)
-        shutil.copy(program, self.path(self.real, "libexec/gemzulat/quorum_cli"))
         shutil.copytree(self.real, self.slow)
         self.program = self.path(self.real, "libexec/gemzulat/quorum_cli")
         self.write(self.path(self.slow, "libexec/gemzulat/quorum_cli"), PROGRAM)
@@ -155,6 +156,8 @@ class Trial:
     def run(self, words, tree=None, cwd=None, program=None, limits="", **env):
         """The status, the output and standard error."""
         script = program or self.path(tree or self.real, "bin", "quorum_cli")
+        if tree == self.slow:
+            self.forget()
         started = [script, *self.words_of(words)] if not limits else ["bash", "-c", limits + '; exec "$0" "$@"', script, *self.words_of(words)]
         ended = subprocess.run(started, cwd=cwd or self.here, env=self.env(**env), stdin=subprocess.DEVNULL, stdout=subprocess.PIPE, stderr=subprocess.PIPE, timeout=60)
         return ended.returncode, ended.stdout.decode(), ended.stderr.decode()
@@ -262,7 +265,13 @@ class Trial:
             ended = subprocess.run(started, cwd=self.here, env=self.env(ENOUGH="0"), stdout=full, stderr=subprocess.PIPE, timeout=60)
         self.judge("a full output", (ended.returncode, ended.stderr.decode()), (7, SAYS + "an output could not be written: the standard output or c took no more\n"))
 
+    def forget(self):
+        """A part that was finished before would be gone on with."""
+        if os.path.exists(os.path.join(self.here, "c")):
+            os.remove(os.path.join(self.here, "c"))
+
     def start(self, words, terminal=None, **env):
+        self.forget()
         how = {"cwd": self.here, "env": self.env(**env), "stdin": subprocess.DEVNULL, "start_new_session": True}
         out = terminal if terminal is not None else subprocess.PIPE
         return subprocess.Popen([self.path(self.slow, "bin", "quorum_cli"), *words.split()], stdout=out, stderr=out, **how)
@@ -399,7 +408,7 @@ class Trial:
 
 def main():
     parser = argparse.ArgumentParser(description=__doc__.split("\n")[0])
-    parser.add_argument("program", nargs="?", default=BUILT)
+    parser.add_argument("program", nargs="?", default=chosen.PROGRAM)
     parser.add_argument("--cases", type=int, default=150)
     parser.add_argument("--seed", type=int, default=1)
     asked = parser.parse_args()

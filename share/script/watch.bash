@@ -230,6 +230,7 @@ take_up() {
   words[cert_at]=$cert
   answer=$("$program" "${asking[@]}") && return
   mapfile -t -n 6 head 2>/dev/null <"/dev/fd/$held"
+  [ ${#head[@]} = 6 ] || return
   for at in "${!head[@]}"; do [ "${head[at]}" = end ] || [ "${head[at]}" = "${old[at]-}" ] || return; done
   line=$("$program" check ${orgs:+--orgs="$orgs"} -- "$config" "$cert")
   [ $? = 2 ] && [[ $line =~ ^accepted\ partial[a-z-]*\ ([0-9]+) && ${BASH_REMATCH[1]} -lt $ceiling ]] || return
