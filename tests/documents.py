@@ -17,7 +17,7 @@ NAMED = re.compile(r"`([a-z_0-9]+/(?:src|specs|proofs|must-fail)/[\w./]+)`((?:: 
 # Names as the code has them: words joined by `_` or `::`, or with a capital inside, or a file's name.
 CODED = re.compile(r"`((?:[A-Za-z]\w*::)*[A-Za-z]\w*(?:\.antt|\.rt|\.py|\.edit)?)`")
 # The most words of a document, so that it stays one that is read.
-BUDGETS = {"README.md": 940, "docs/ANALYSTS.md": 900, "CHANGELOG.md": 370, "CONTRIBUTING.md": 1240, "docs/DECISIONS.md": 4650, "docs/DEFINITIONS.md": 3200, "docs/FORMATS.md": 6600, "docs/GLOSSARY.md": 300, "docs/GUIDE.md": 1800, "docs/LIBRARY.md": 620, "docs/MAP.md": 1830, "docs/PAGE.md": 600, "docs/PERFORMANCE.md": 2000, "docs/PROVED.md": 2550, "docs/TRUSTED.md": 700, "docs/PROVING.md": 1200, "docs/TESTING.md": 3500}
+BUDGETS = {"README.md": 940, "docs/ANALYSTS.md": 900, "CHANGELOG.md": 410, "CONTRIBUTING.md": 1240, "docs/DECISIONS.md": 4650, "docs/DEFINITIONS.md": 3200, "docs/FORMATS.md": 6640, "docs/GLOSSARY.md": 300, "docs/GUIDE.md": 1970, "docs/LIBRARY.md": 620, "docs/MAP.md": 1830, "docs/PAGE.md": 600, "docs/PERFORMANCE.md": 2000, "docs/PROVED.md": 2550, "docs/TRUSTED.md": 700, "docs/PROVING.md": 1200, "docs/TESTING.md": 3500}
 # A sentence has fewer words than this.
 MOST_WORDS = 40
 # Words for which the documents have plainer ones: after, given, borrowed, the number of.
