@@ -4,6 +4,7 @@ import hashlib
 import os
 import shlex
 import shutil
+import signal
 import subprocess
 import sys
 import time
@@ -381,14 +382,16 @@ class Program:
 
 
 def end(running):
-    """Ends a run that still goes on; the script of this repository hands the signal to its program."""
-    if running.poll() is None:
-        running.terminate()
-        try:
-            running.communicate(timeout=10)
-        except subprocess.TimeoutExpired:
-            running.kill()
-            running.communicate()
+    """Ends a run that still goes on, with all that it has started."""
+    for it in (signal.SIGTERM, signal.SIGKILL):
+        if running.poll() is None:
+            os.killpg(running.pid, it)
+            try:
+                running.wait(timeout=10)
+            except subprocess.TimeoutExpired:
+                pass
+    for pipe in (running.stdout, running.stderr):
+        pipe.close()
 
 
 def yes_or_names(answered):

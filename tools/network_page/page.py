@@ -410,7 +410,8 @@ class Page:
     def certified(self, it):
         """A certificate with what `check` says of it, its size and digest, and the command that makes it."""
         place = escaped(urllib.parse.quote("%s/%s" % (self.program.beside.name, it.name)))
-        return '<a href="%s">%s</a>: <code>%s</code>, %d bytes<br>SHA-256 <code>%s</code><br><code>%s</code>' % (place, escaped(it.name), escaped(it.accepted), it.size, it.digest, escaped(it.command))
+        about = "" if it.about == os.path.basename(self.program.config) else " about <code>%s</code>" % escaped(it.about)
+        return '<a href="%s">%s</a>: <code>%s</code>%s, %d bytes<br>SHA-256 <code>%s</code><br><code>%s</code>' % (place, escaped(it.name), escaped(it.accepted), about, it.size, it.digest, escaped(it.command))
 
     def keys(self):
         paint = self.paint()
