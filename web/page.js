@@ -230,6 +230,18 @@ function busy(is) {
   busy.timer = setInterval(tick, 100);
 }
 
+// A question that is asked in steps known before, and its answer.
+async function answered(asked) {
+  const steps = stepsOf(asked), at = (name) => `${steps.findIndex((it) => it.name === name) + 1} of ${steps.length}`;
+  const done = await asker.ask(steps, asked.about, (name) => { busy.phase = PHASES[name] ?? `Step ${at(name)}`; });
+  return { done, found: await shownAs(asked, done), digest: done.answer?.cert.length ? await sha256(done.answer.cert) : null };
+}
+
+// One whose later steps hang on the earlier ones.
+async function ranThrough(asked) {
+  return { done: {}, found: await asked.row.run(asked, (at) => { busy.phase = `Answering: ${at}`; }), digest: null };
+}
+
 async function ask() {
   const asked = question(), lack = missing(asked), turn = ++current;
   trouble(lack ?? '');
@@ -240,16 +252,8 @@ async function ask() {
   const old = saved.splice(0);
   busy(true);
   $('status').textContent = `Asked: ${asked.row.ask}`;
-  const steps = asked.row.run ? [] : stepsOf(asked), at = (name) => `${steps.findIndex((it) => it.name === name) + 1} of ${steps.length}`;
   try {
-    if (asked.row.run) {
-      const found = await asked.row.run(asked, (at) => { busy.phase = `Answering: ${at}`; });
-      if (turn === current) show(asked, {}, found, null);
-      if (turn === current) busy(false);
-      return;
-    }
-    const done = await asker.ask(steps, asked.about, (name) => { busy.phase = PHASES[name] ?? `Step ${at(name)}`; });
-    const found = await shownAs(asked, done), digest = done.answer?.cert.length ? await sha256(done.answer.cert) : null;
+    const { done, found, digest } = asked.row.run ? await ranThrough(asked) : await answered(asked);
     if (turn === current) show(asked, done, found, digest);
   } catch (why) {
     if (turn === current) await ended(asked, why);
