@@ -25,6 +25,8 @@ sys.dont_write_bytecode = True
 TOP = os.path.dirname(os.path.dirname(os.path.abspath(__file__)))
 COUNTS = {what: re.compile(r"(\d+) %s\b" % what) for what in ("passed", "failed", "skipped")}
 MOST_SECONDS = 3600
+# A group interrupts what it runs, and that heeds it also where this script was begun with signals ignored (nohup, a job in the background).
+HEEDING = ["env", "--default-signal=HUP,INT,TERM"]
 
 # Each group: its script and its words; the dearest come first. PAGE is the page of dist/, and a folder is for pytest.
 GROUPS = {
@@ -97,7 +99,7 @@ class Runner:
         elif os.path.isdir(script) and not importlib.util.find_spec("pytest"):
             status, said = 0, "skipped, there is no pytest"
         else:
-            status, said = self.ran([sys.executable, *["-m", "pytest", "-q"] * os.path.isdir(script), script, *words])
+            status, said = self.ran([*HEEDING, sys.executable, *["-m", "pytest", "-q"] * os.path.isdir(script), script, *words])
         ended = Ended(name, status, said, time.monotonic() - began)
         with self.printing:
             if ended.failed:
