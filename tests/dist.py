@@ -128,7 +128,7 @@ class Trial:
             ("a proof", lambda: self.write("crates/low/proofs/Words.antt", "another")),
             ("a crate that the program does not stand on", lambda: self.write("crates/other/src/lib.rt", "another")),
             ("its line", lambda: self.write("crates.txt", CRATES.replace("other: low", "other:"))),
-            ("a file that rt does not read", lambda: self.write("crates/low/src/.lib.rt.swp", "")),
+            ("a hidden file", lambda: self.write("crates/low/src/.lib.rt", "")),
         ]:
             self.later()
             act()

@@ -122,7 +122,7 @@ sum_of_sources() {
   for crate; do for part in "${parts[@]}"; do [ ! -d "crates/$crate/$part" ] || folders+=("crates/$crate/$part"); done; done
   {
     grep -E "^($*)[ :]" crates.txt
-    find "${folders[@]}" -type f \( -name '*.rt' -o -name '*.antt' \) -print0 | LC_ALL=C sort -z | xargs -0 sha256sum
+    find "${folders[@]}" -type f ! -name '.*' \( -name '*.rt' -o -name '*.antt' \) -print0 | LC_ALL=C sort -z | xargs -0 sha256sum
   } 2>/dev/null | sha256sum
 }
 
