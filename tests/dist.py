@@ -6,6 +6,8 @@ a checkout that cannot be written, several first calls at once, other machines. 
 """
 
 import hashlib
+import importlib.machinery
+import importlib.util
 import os
 import shutil
 import subprocess
@@ -245,6 +247,17 @@ class Trial:
             self.judge("what they leave", os.listdir(self.path("out/choice")), ["first"])
         self.runs("after them", "dist")
 
+    def same_sum(self):
+        """The script sums up the sources of this repository as tools/dist does."""
+        loader = importlib.machinery.SourceFileLoader("tools_dist", os.path.join(TOP, "tools", "dist"))
+        tool = importlib.util.module_from_spec(importlib.util.spec_from_loader("tools_dist", loader))
+        loader.exec_module(tool)
+        crates = tool.Crates()
+        names = crates.below("quorum_cli")
+        script = 'top=$1; shift; . "$top/share/script/program.bash"; sum_of_sources "$@"'
+        summed = subprocess.run(["bash", "-c", script, "bash", TOP, *names], stdout=subprocess.PIPE).stdout.decode()
+        self.judge("the sum of the program's sources", summed, crates.sum(names, tool.DECIDING) + "  -\n")
+
     def read_only(self):
         """A checkout that cannot be written answers all the same, each time."""
         shutil.rmtree(self.path("out"))
@@ -263,7 +276,7 @@ class Trial:
 def main():
     with tempfile.TemporaryDirectory() as folder:
         trial = Trial(folder)
-        for step in (trial.released, trial.moved_on, trial.changed, trial.machines, trial.choosing, trial.built, trial.at_once, trial.read_only):
+        for step in (trial.released, trial.moved_on, trial.changed, trial.machines, trial.choosing, trial.built, trial.at_once, trial.read_only, trial.same_sum):
             step()
     print("dist: %d passed, %d failed" % (trial.passed, trial.failed))
     return 1 if trial.failed else 0
