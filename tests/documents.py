@@ -152,7 +152,7 @@ class Trial:
         fields = [(TYPES[kind], name) for name, kind in re.findall(r"pub (\w+): (\w+),", code)]
         struct = re.search(r"typedef struct quorum_end \{(.*?)\}", header, re.S)[1]
         self.judge(re.findall(r"(?m)^ *(\w+) (\w+);", struct) == fields, "library/quorum.h has other fields than QuorumEnd")
-        bound = re.search(r"_fields_ = \[(.*)\]", text_of("library/python/quorums/binding.py"))[1]
+        bound = re.search(r"_fields_ = \[(.*?)\]\n", text_of("library/python/quorums/binding.py"), re.S)[1]
         python = [("uint8_t" if kind == "uint8" else kind, name) for name, kind in re.findall(r'\("(\w+)", ctypes\.c_(\w+)\)', bound)]
         self.judge(python == fields, "library/python/quorums/binding.py has other fields than QuorumEnd")
         wanted = []

@@ -23,7 +23,14 @@ def held(*names: str) -> bytes:
 
 def metadata(project: dict[str, Any], version: str) -> str:
     """The METADATA of the wheel: what pyproject.toml says."""
-    lines = ["Metadata-Version: 2.1", f"Name: {project['name']}", f"Version: {version}", f"Summary: {project['description']}", f"License: {project['license']['text']}", f"Requires-Python: {project['requires-python']}"]
+    lines = [
+        "Metadata-Version: 2.1",
+        f"Name: {project['name']}",
+        f"Version: {version}",
+        f"Summary: {project['description']}",
+        f"License: {project['license']['text']}",
+        f"Requires-Python: {project['requires-python']}",
+    ]
     for extra, wanted in project["optional-dependencies"].items():
         lines += [f"Provides-Extra: {extra}", *(f'Requires-Dist: {it}; extra == "{extra}"' for it in wanted)]
     return "".join(line + "\n" for line in lines)
@@ -38,13 +45,22 @@ def build_wheel(wheel_directory: str, config_settings: object = None, metadata_d
     if not os.path.exists(os.path.join(HERE, "quorums", "libquorum.so")):
         raise SystemExit("libquorum.so is not here: run tools/library, and install library/out/python")
     project = tomllib.loads(held("pyproject.toml").decode())["project"]
-    version, tag = held("VERSION").decode().strip(), "py3-none-" + sysconfig.get_platform().replace("-", "_").replace(".", "_")
-    files = {"quorums/" + name: held("quorums", name) for name in sorted(os.listdir(os.path.join(HERE, "quorums"))) if name.endswith(PARTS)}
+    version, tag = held("VERSION").decode().strip(), "py3-none-" + sysconfig.get_platform().replace("-", "_").replace(
+        ".", "_"
+    )
+    files = {
+        "quorums/" + name: held("quorums", name)
+        for name in sorted(os.listdir(os.path.join(HERE, "quorums")))
+        if name.endswith(PARTS)
+    }
     info = f"quorums-{version}.dist-info/"
     files[info + "METADATA"] = metadata(project, version).encode()
     files[info + "WHEEL"] = (WHEEL % tag).encode()
     files[info + "entry_points.txt"] = entry_points(project).encode()
-    lines = [f"{name},sha256={base64.urlsafe_b64encode(hashlib.sha256(data).digest()).rstrip(b'=').decode()},{len(data)}" for name, data in files.items()]
+    lines = [
+        f"{name},sha256={base64.urlsafe_b64encode(hashlib.sha256(data).digest()).rstrip(b'=').decode()},{len(data)}"
+        for name, data in files.items()
+    ]
     files[info + "RECORD"] = "".join(line + "\n" for line in [*lines, info + "RECORD,,"]).encode()
     name = f"quorums-{version}-{tag}.whl"
     with zipfile.ZipFile(os.path.join(wheel_directory, name), "w", zipfile.ZIP_DEFLATED) as it:

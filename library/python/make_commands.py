@@ -1,7 +1,9 @@
 #!/usr/bin/env python3
-"""Writes quorums/commands.py, a method for each command, from the usage text: library/python/make_commands.py [--check]
+"""Writes quorums/commands.py, a method for each command, from the usage text: library/python/make_commands.py
+[--check]
 
-The usage text is that of docs/FORMATS.md, which tests/examples.py holds against the program, and what a command is for is what
+The usage text is that of docs/FORMATS.md, which tests/examples.py holds against the program, and what a command is
+for is what
 tools/packaging says. With --check nothing is written, and the status is 1 where the file is not what would be written.
 """
 
@@ -35,7 +37,14 @@ from .worker import Stop
 class Commands:
     """The commands of the program as methods."""
 
-    def ask(self, command: str, options: dict[str, object], second: Optional[Data] = None, timeout: Optional[float] = None, stop: Optional[Stop] = None) -> Answer:
+    def ask(
+        self,
+        command: str,
+        options: dict[str, object],
+        second: Optional[Data] = None,
+        timeout: Optional[float] = None,
+        stop: Optional[Stop] = None,
+    ) -> Answer:
         raise NotImplementedError
 '''
 TYPES = {"NAME": "str", "NAMES": "Several", "IDS": "Several", "UNITS": "int"}
@@ -70,24 +79,35 @@ def signature(row: usage.Command) -> list[str]:
     return [*first, "*", *rest, "timeout: Optional[float] = None", "stop: Optional[Stop] = None"]
 
 
+def over_lines(head: str, parts: list[str], tail: str, indent: str) -> str:
+    """What stands in brackets, a part a line."""
+    return f"{indent}{head}\n" + "".join(f"{indent}    {it},\n" for it in parts) + f"{indent}{tail}\n"
+
+
 def doc(row: usage.Command, said: str, indent: str) -> str:
     return f'{indent}"""{said[0].upper()}{said[1:]}.\n\n{indent}`{row.line}`\n{indent}"""\n'
 
 
-def options_of(row: usage.Command) -> str:
-    return "{%s}" % ", ".join(f'"{it.argument}": {it.argument}' for it in row.options if it.flag != "--orgs")
+def options_of(row: usage.Command, indent: str) -> str:
+    """The statement that puts the arguments together."""
+    named = [f'"{it.argument}": {it.argument}' for it in row.options if it.flag != "--orgs"]
+    if not named:
+        return f"{indent}options: dict[str, object] = {{}}\n"
+    return over_lines("options: dict[str, object] = {", named, "}", indent)
 
 
 def method(row: usage.Command, said: str) -> str:
-    second = "" if row.is_search or row.second is None else f"{SECOND[row.second]}, "
-    head = f"\n    def {row.method}(self, {', '.join(signature(row))}) -> Answer:\n"
-    return head + doc(row, said, "        ") + f'        return self.ask("{row.word}", {options_of(row)}, {second}timeout=timeout, stop=stop)\n'
+    inside, second = " " * 8, "" if row.is_search or row.second is None else f"{SECOND[row.second]}, "
+    head = over_lines(f"def {row.method}(", ["self", *signature(row)], ") -> Answer:", "    ")
+    asked = f'{inside}return self.ask("{row.word}", options, {second}timeout=timeout, stop=stop)\n'
+    return "\n" + head + doc(row, said, inside) + options_of(row, inside) + asked
 
 
 def function(row: usage.Command, said: str) -> str:
     """A command that is about no configuration, but about a number."""
-    head = f"\n\ndef {row.method}(count: int, {', '.join(signature(row))}, room: int = ROOM) -> Answer:\n"
-    return head + doc(row, said, "    ") + f'    return asking.counted("{row.word}", count, {options_of(row)}, timeout, stop, room)\n'
+    head = over_lines(f"def {row.method}(", ["count: int", *signature(row), "room: int = ROOM"], ") -> Answer:", "")
+    asked = f'    return asking.counted("{row.word}", count, options, timeout, stop, room)\n'
+    return "\n\n" + head + doc(row, said, "    ") + options_of(row, "    ") + asked
 
 
 def made() -> str:

@@ -3,8 +3,10 @@
 
     tests/python/drifting.py FOLDER COUNT [EQUAL] [SEED]
 
-Seven to nine organisations of three validators and watchers beside them, some 150 nodes. From day to day watchers come and go and change
-whom they trust, validators stop and start, and now and then an organisation joins or leaves or a threshold is mistaken. EQUAL of
+Six to eight organisations of three validators and watchers beside them, some 150 nodes. From day to day watchers come
+and go and change
+whom they trust, validators stop and start, and now and then an organisation joins or leaves or a threshold is
+mistaken. EQUAL of
 the snapshots have the quorum sets of the day before: half of these the same bytes, the others with other statistics.
 """
 
@@ -31,7 +33,7 @@ def quorum_set(threshold, validators=(), inner=()):
 class Network:
     """A network that changes from day to day."""
 
-    def __init__(self, seed, watchers=125, organisations=8):
+    def __init__(self, seed, watchers=125, organisations=7):
         self.random = random.Random(seed)
         self.count = 0
         self.orgs = [self.organisation() for _ in range(organisations)]
@@ -44,11 +46,21 @@ class Network:
         name = f"organisation {self.count}"
         country, isp = self.random.choice(COUNTRIES), self.random.choice(ISPS)
         # (most have all validators in one country)
-        return {"name": name, "keys": [key(f"{name} {at}") for at in range(3)], "country": [self.random.choice(COUNTRIES) if self.random.random() < 0.2 else country for _ in range(3)], "isp": isp}
+        return {
+            "name": name,
+            "keys": [key(f"{name} {at}") for at in range(3)],
+            "country": [self.random.choice(COUNTRIES) if self.random.random() < 0.2 else country for _ in range(3)],
+            "isp": isp,
+        }
 
     def watcher(self):
         self.count += 1
-        return {"key": key(f"watcher {self.count}"), "kind": self.random.randrange(3), "seed": self.random.random(), "country": self.random.choice([*COUNTRIES, None])}
+        return {
+            "key": key(f"watcher {self.count}"),
+            "kind": self.random.randrange(3),
+            "seed": self.random.random(),
+            "country": self.random.choice([*COUNTRIES, None]),
+        }
 
     def drift(self):
         """One day."""
@@ -57,9 +69,9 @@ class Network:
             self.watchers.pop(self.random.randrange(len(self.watchers)))
         for _ in range(self.random.randrange(4) if len(self.watchers) < 130 else 0):
             self.watchers.append(self.watcher())
-        if draw() < 0.02 and len(self.orgs) < 9:
+        if draw() < 0.02 and len(self.orgs) < 8:
             self.orgs.append(self.organisation())
-        if draw() < 0.02 and len(self.orgs) > 7:
+        if draw() < 0.02 and len(self.orgs) > 6:
             self.orgs.pop(self.random.randrange(len(self.orgs)))
         self.mistaken = self.random.randrange(2, 4) if draw() < 0.02 else self.mistaken if draw() < 0.7 else None
         self.down = {it for org in self.orgs for it in org["keys"] if draw() < 0.03}
@@ -84,17 +96,40 @@ class Network:
         found = []
         for org in self.orgs:
             for at, own in enumerate(org["keys"]):
-                found.append(self.node(own, f"{org['name']} {at + 1}", org["country"][at], noise, self.usual(), isp=org["isp"], homeDomain=org["name"].replace(" ", "") + ".example", organizationId=hashlib.sha256(org["name"].encode()).hexdigest()[:32], isValidating=own not in self.down))
+                found.append(
+                    self.node(
+                        own,
+                        f"{org['name']} {at + 1}",
+                        org["country"][at],
+                        noise,
+                        self.usual(),
+                        isp=org["isp"],
+                        homeDomain=org["name"].replace(" ", "") + ".example",
+                        organizationId=hashlib.sha256(org["name"].encode()).hexdigest()[:32],
+                        isValidating=own not in self.down,
+                    )
+                )
         for it in self.watchers:
             found.append(self.node(it["key"], None, it["country"], noise, self.wanted(it), isValidating=False))
         return found
 
     @staticmethod
     def node(own, name, country, noise, wanted, **more):
-        return {"publicKey": own, "name": name, "active": True, "geoData": {"countryCode": country} if country else {}, "statistics": {"active24HoursPercentage": noise}, "quorumSet": wanted, **more}
+        return {
+            "publicKey": own,
+            "name": name,
+            "active": True,
+            "geoData": {"countryCode": country} if country else {},
+            "statistics": {"active24HoursPercentage": noise},
+            "quorumSet": wanted,
+            **more,
+        }
 
     def organisations(self):
-        return [{"id": hashlib.sha256(it["name"].encode()).hexdigest()[:32], "name": it["name"], "validators": it["keys"]} for it in self.orgs]
+        return [
+            {"id": hashlib.sha256(it["name"].encode()).hexdigest()[:32], "name": it["name"], "validators": it["keys"]}
+            for it in self.orgs
+        ]
 
 
 def put(path, held):

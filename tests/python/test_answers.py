@@ -27,7 +27,13 @@ def test_yes_no_and_unknown(three):
     assert three.intersect(faulty=["a"]).yes is False
     unknown = three.intersect(budget=0)
     assert (unknown.yes, unknown.value, unknown.known, unknown.units) == (None, None, False, 0)
-    assert (three.available("a").yes, three.dset(["a"]).yes, three.blocks(["a", "b"]).yes, three.vblocks("a", ["b"]).yes, three.splits("a").yes) == (True, False, True, False, True)
+    assert (
+        three.available("a").yes,
+        three.dset(["a"]).yes,
+        three.blocks(["a", "b"]).yes,
+        three.vblocks("a", ["b"]).yes,
+        three.splits("a").yes,
+    ) == (True, False, True, False, True)
     assert trial(2).yes is True
 
 
@@ -45,7 +51,11 @@ def test_values_by_command(three, network):
     assert three.closure("a").value == ("a", "b", "c")
     assert three.greatest(faulty="a,b").value == ("c",)
     assert three.show().value == {"nodes": 3, "entries": 9, "unset": 0}
-    assert network.org_blocking().value == (("org:alder", "org:beech"), ("org:alder", "org:cedar"), ("org:beech", "org:cedar"))
+    assert network.org_blocking().value == (
+        ("org:alder", "org:beech"),
+        ("org:alder", "org:cedar"),
+        ("org:beech", "org:cedar"),
+    )
     assert Quorums(example("two.json")).check_lrat(example("two.lrat")).value.startswith("verified\n")
 
 
@@ -189,9 +199,27 @@ def test_a_process_that_is_lost_is_said():
         Quorums(LONG).quorums(stop=stop, budget=4000000000)
 
 
+STARTS_A_LONG_CALL = """
+import os, subprocess, sys, threading, time
+from quorums import Quorums
+network = Quorums(sys.stdin.buffer.read())
+threading.Thread(target=lambda: network.quorums(timeout=600, budget=4000000000), daemon=True).start()
+time.sleep(1.5)
+children = subprocess.run(["pgrep", "-P", str(os.getpid()), "-f", "quorums.worker"], stdout=subprocess.PIPE)
+print(children.stdout.decode(), flush=True)
+os._exit(0)
+"""
+
+
 def test_a_process_ends_with_the_one_that_started_it():
-    code = "import sys, threading, time, os\nfrom quorums import Quorums, worker\nthreading.Thread(target=lambda: Quorums(sys.stdin.buffer.read()).quorums(timeout=600, budget=4000000000), daemon=True).start()\ntime.sleep(1.5)\nimport subprocess\nprint(subprocess.run(['pgrep', '-P', str(os.getpid()), '-f', 'quorums.worker'], stdout=subprocess.PIPE).stdout.decode(), flush=True)\nos._exit(0)\n"
-    ran = subprocess.run([sys.executable, "-c", code], input=LONG, stdout=subprocess.PIPE, timeout=60, env={**__import__("os").environ, "PYTHONPATH": PACKAGE})
+    code = STARTS_A_LONG_CALL
+    ran = subprocess.run(
+        [sys.executable, "-c", code],
+        input=LONG,
+        stdout=subprocess.PIPE,
+        timeout=60,
+        env={**__import__("os").environ, "PYTHONPATH": PACKAGE},
+    )
     child = int(ran.stdout.split()[0])
     for _ in range(50):
         if not alive(child):
@@ -210,8 +238,19 @@ def alive(process):
 
 def test_the_table_is_that_of_the_usage_text():
     rows = usage.commands()
-    assert {it.line for it in rows.values()} == {line for line in answer([])[1].decode().splitlines()[1:] if not line.startswith("COMMON")}
-    assert [it.word for it in rows.values() if it.is_search] == ["intersect", "dset", "splits", "blocking", "trial", "quorums", "least", "org-blocking"] or set(rows) > {"splitting"}
+    assert {it.line for it in rows.values()} == {
+        line for line in answer([])[1].decode().splitlines()[1:] if not line.startswith("COMMON")
+    }
+    assert [it.word for it in rows.values() if it.is_search] == [
+        "intersect",
+        "dset",
+        "splits",
+        "blocking",
+        "trial",
+        "quorums",
+        "least",
+        "org-blocking",
+    ] or set(rows) > {"splitting"}
     assert rows["org-blocking"].option("--orgs").needed and not rows["intersect"].option("--orgs").needed
 
 

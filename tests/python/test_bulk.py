@@ -1,9 +1,7 @@
 """Many snapshots: the same rows and certificates however they are asked, and none lost or doubled."""
 
-import csv
 import json
 import os
-import random
 import signal
 import subprocess
 import sys
@@ -93,7 +91,13 @@ def test_each_certificate_is_accepted(one):
 
 def test_equal_snapshots_are_asked_once(folder, tmp_path, monkeypatch):
     asked = []
-    monkeypatch.setattr(bulk, "local", lambda tasks, questions, jobs: ((asked.append(it.key), (it.key, bulk.row_of(it.data, it.orgs, questions)))[1] for it in tasks))
+    monkeypatch.setattr(
+        bulk,
+        "local",
+        lambda tasks, questions, jobs: (
+            (asked.append(it.key), (it.key, bulk.row_of(it.data, it.orgs, questions)))[1] for it in tasks
+        ),
+    )
     bulk.rows([folder], str(tmp_path / "t.csv"), ASKED)
     assert len(asked) == len(set(asked)) == 8
 
@@ -105,11 +109,26 @@ def test_more_processes_give_the_same_bytes(folder, one, tmp_path):
 
 
 def command(folder, table, *more):
-    return [sys.executable, "-m", "quorums", "bulk", folder, "-o", table, "--by", "org,country", "--budget", "2000", *more]
+    return [
+        sys.executable,
+        "-m",
+        "quorums",
+        "bulk",
+        folder,
+        "-o",
+        table,
+        "--by",
+        "org,country",
+        "--budget",
+        "2000",
+        *more,
+    ]
 
 
 def workers_of(process):
-    found = subprocess.run(["pgrep", "-P", str(process), "-f", "quorums.worker"], stdout=subprocess.PIPE).stdout.split()
+    found = subprocess.run(
+        ["pgrep", "-P", str(process), "-f", "quorums.worker"], stdout=subprocess.PIPE
+    ).stdout.split()
     return [int(it) for it in found]
 
 
@@ -142,7 +161,12 @@ def test_a_run_that_is_ended_goes_on(folder, one, tmp_path):
     # (a row that was cut is none)
     with open(table + ".part", "a", encoding="utf-8") as it:
         it.write('{"date": "2022-01-')
-    assert subprocess.run(command(folder, table, "--jobs", "1", "--resume"), env=ENVIRONMENT, stderr=subprocess.PIPE).returncode == 0
+    assert (
+        subprocess.run(
+            command(folder, table, "--jobs", "1", "--resume"), env=ENVIRONMENT, stderr=subprocess.PIPE
+        ).returncode
+        == 0
+    )
     assert held(table) == held(one) and not os.path.exists(table + ".part")
 
 
@@ -150,7 +174,9 @@ def test_resuming_asks_nothing_that_is_there(folder, one, tmp_path, monkeypatch)
     table = str(tmp_path / "table.csv")
     with open(one, "rb") as it, open(table, "wb") as to:
         to.write(it.read())
-    monkeypatch.setattr(bulk, "local", lambda tasks, questions, jobs: (pytest.fail(f"{it.key} is asked") for it in tasks))
+    monkeypatch.setattr(
+        bulk, "local", lambda tasks, questions, jobs: (pytest.fail(f"{it.key} is asked") for it in tasks)
+    )
     bulk.rows([folder], table, ASKED, resume=True)
     assert held_table(table) == held_table(one)
 
@@ -169,7 +195,15 @@ def test_two_runs_do_not_write_one_table(folder, tmp_path):
 
 
 def test_dates_of_names():
-    for name, date in (("nodes-2024-03-05.json", "2024-03-05"), ("20240305.json", "2024-03-05"), ("x/2024-03-05T12-30-00Z.json", "2024-03-05T12:30:00"), ("2024-03-05_1230.json", "2024-03-05T12:30:00"), ("nodes.json", ""), ("2024-13-05.json", ""), ("99991234567.json", "")):
+    for name, date in (
+        ("nodes-2024-03-05.json", "2024-03-05"),
+        ("20240305.json", "2024-03-05"),
+        ("x/2024-03-05T12-30-00Z.json", "2024-03-05T12:30:00"),
+        ("2024-03-05_1230.json", "2024-03-05T12:30:00"),
+        ("nodes.json", ""),
+        ("2024-13-05.json", ""),
+        ("99991234567.json", ""),
+    ):
         assert tables.date_of(name) == date
 
 
@@ -181,7 +215,11 @@ def test_a_table_as_a_frame(one):
     assert frame["date"].iloc[0] == pandas.Timestamp("2022-01-01") and frame["date"].isna().sum() == 1
     for row, (_, found) in zip(rows, frame.iterrows()):
         known = row["blocking_smallest"].isdecimal()
-        assert (found["blocking_smallest"] == int(row["blocking_smallest"])) if known else pandas.isna(found["blocking_smallest"])
+        assert (
+            (found["blocking_smallest"] == int(row["blocking_smallest"]))
+            if known
+            else pandas.isna(found["blocking_smallest"])
+        )
         assert found["blocking_smallest_status"] == ("known" if known else row["blocking_smallest"])
         assert pandas.isna(found["fork"]) if row["fault"] else found["fork"] == (row["fork"] == "yes")
         if not row["fault"] and row["splitting_smallest"] == "not asked":
@@ -190,19 +228,34 @@ def test_a_table_as_a_frame(one):
 
 # ---- a cluster of dask.distributed, as processes on this machine
 
+
 class Cluster:
     """A scheduler and some workers."""
 
     def __init__(self, place, count):
         self.place, self.file = place, str(place / "scheduler.json")
-        self.scheduler = self.start("distributed.cli.dask_scheduler", "--port", "0", "--no-dashboard", "--scheduler-file", self.file)
+        self.scheduler = self.start(
+            "distributed.cli.dask_scheduler", "--port", "0", "--no-dashboard", "--scheduler-file", self.file
+        )
         for _ in range(300):
             if os.path.exists(self.file):
                 break
             time.sleep(0.1)
         with open(self.file, encoding="utf-8") as it:
             self.address = json.load(it)["address"]
-        self.workers = [self.start("distributed.cli.dask_worker", self.address, "--nthreads", "1", "--no-nanny", "--no-dashboard", "--local-directory", str(place)) for _ in range(count)]
+        self.workers = [
+            self.start(
+                "distributed.cli.dask_worker",
+                self.address,
+                "--nthreads",
+                "1",
+                "--no-nanny",
+                "--no-dashboard",
+                "--local-directory",
+                str(place),
+            )
+            for _ in range(count)
+        ]
 
     def start(self, module, *words):
         code = f"import sys; sys.argv[0] = '{module}'; from {module} import main; main()"
@@ -252,6 +305,16 @@ def test_a_worker_of_a_cluster_that_is_killed_loses_no_row(folder, one, tmp_path
 def test_a_scheduler_that_cannot_be_reached_is_one_line(folder, tmp_path):
     pytest.importorskip("distributed")
     for address in ("tcp://127.0.0.1:1", "nonsense://x", ""):
-        ran = subprocess.run(command(folder, str(tmp_path / "t.csv"), "--scheduler", address), env=ENVIRONMENT, stdout=subprocess.PIPE, stderr=subprocess.PIPE, timeout=120)
+        ran = subprocess.run(
+            command(folder, str(tmp_path / "t.csv"), "--scheduler", address),
+            env=ENVIRONMENT,
+            stdout=subprocess.PIPE,
+            stderr=subprocess.PIPE,
+            timeout=120,
+        )
         lines = ran.stderr.decode().splitlines()
-        assert ran.returncode == 6 and len(lines) == 1 and lines[0].startswith(f"quorums: the scheduler {address} cannot be reached"), lines
+        assert (
+            ran.returncode == 6
+            and len(lines) == 1
+            and lines[0].startswith(f"quorums: the scheduler {address} cannot be reached")
+        ), lines

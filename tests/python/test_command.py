@@ -10,7 +10,7 @@ import subprocess
 import sys
 
 import pytest
-from conftest import PACKAGE, TOP, as_json, example, flat, node
+from conftest import PACKAGE, TOP, as_json, example, flat
 
 from quorums import usage
 from quorums.command import main
@@ -53,16 +53,37 @@ def test_names_keys_and_tables(run):
 def test_every_command_of_the_table(run):
     """Each row can be asked, and says what the program says."""
     values = {"--node": "a", "--set": "a", "--orgs": "examples/groups.json"}
-    files = {"CONFIG": "examples/three.json", "N": "2", "CERT": "examples/pair.cert", "LRAT": "examples/two.lrat", "SCRIPT": "examples/leaving.script"}
-    from quorums import Refused, binding
+    files = {
+        "CONFIG": "examples/three.json",
+        "N": "2",
+        "CERT": "examples/pair.cert",
+        "LRAT": "examples/two.lrat",
+        "SCRIPT": "examples/leaving.script",
+    }
+    from quorums import binding
 
     for row in usage.commands().values():
         places = [files[it] for it in (row.files[:1] if row.is_search else row.files)]
         options = [it for option in row.options if option.needed for it in (option.flag, values[option.flag])]
         status, out, _ = run(row.word, *places, *options, "--keys")
-        inside = {"examples/three.json": "config", "examples/groups.json": "orgs", "examples/pair.cert": "cert", "examples/two.lrat": "cert", "examples/leaving.script": "script"}
-        plain = [row.word, *(inside.get(it, it) for it in places), *["made"] * row.is_search, *(inside.get(it, it) for it in options)]
-        second = {} if row.is_search or row.second is None else {"script" if row.second == "SCRIPT" else "cert": open(places[1], "rb").read()}
+        inside = {
+            "examples/three.json": "config",
+            "examples/groups.json": "orgs",
+            "examples/pair.cert": "cert",
+            "examples/two.lrat": "cert",
+            "examples/leaving.script": "script",
+        }
+        plain = [
+            row.word,
+            *(inside.get(it, it) for it in places),
+            *["made"] * row.is_search,
+            *(inside.get(it, it) for it in options),
+        ]
+        second = (
+            {}
+            if row.is_search or row.second is None
+            else {"script" if row.second == "SCRIPT" else "cert": open(places[1], "rb").read()}
+        )
         wanted = binding.answer(plain, example("three.json"), orgs=example("groups.json"), **second)
         assert (status, out) == (wanted[0], wanted[1].decode()), row.word
 
@@ -71,16 +92,32 @@ def test_a_document(run):
     status, out, _ = run("intersect", "examples/three.json", "t.cert", "--faulty", "a", "--json")
     document = json.loads(out)
     assert (status, document["status"], document["schema"], document["value"]) == (1, 1, "quorums/answer/1", False)
-    assert document["certificate"] == {"path": "t.cert", "sha256": digest("t.cert"), "bytes": os.path.getsize("t.cert")}
-    assert document["files"]["config"] == {"path": "examples/three.json", "sha256": digest("examples/three.json"), "as_is": False}
+    assert document["certificate"] == {
+        "path": "t.cert",
+        "sha256": digest("t.cert"),
+        "bytes": os.path.getsize("t.cert"),
+    }
+    assert document["files"]["config"] == {
+        "path": "examples/three.json",
+        "sha256": digest("examples/three.json"),
+        "as_is": False,
+    }
     assert document["text"] == "intersects no\nfirst b\nsecond c\n"
     assert document["lines"][1] == {"word": "first", "values": ["b"]}
     status, out, _ = run("check", "examples/three.json", "t.cert", "--json")
     assert (status, json.loads(out)["value"]) == (0, "pair")
     status, out, _ = run("least", "examples/three.json", "--json")
-    assert json.loads(out)["lines"][0] == {"word": "least", "values": [2]} and json.loads(out)["certificate"]["path"] is None
+    assert (
+        json.loads(out)["lines"][0] == {"word": "least", "values": [2]}
+        and json.loads(out)["certificate"]["path"] is None
+    )
     status, out, _ = run("blocking", "examples/three.json", "--budget", "1", "--json")
-    assert (status, json.loads(out)["known"], json.loads(out)["units"], json.loads(out)["value"]) == (2, False, 1, None)
+    assert (status, json.loads(out)["known"], json.loads(out)["units"], json.loads(out)["value"]) == (
+        2,
+        False,
+        1,
+        None,
+    )
     status, out, _ = run("greatest", "examples/three.json", "--faulty", "zz", "--json")
     assert (status, json.loads(out)["status"], json.loads(out)["text"]) == (3, 3, "usage unknown-name --faulty 1\n")
 
@@ -99,7 +136,7 @@ def test_documents_are_of_the_schema(run):
         ["greatest", "examples/network.json", "--from", "zz"],
         ["trial", "2"],
         ["summary", "examples/network.json", "--orgs", "examples/orgs.json"],
-        ["summary", "examples/network.json", "--budget", "1", "--by", "country,isp", "--central"],
+        ["summary", "examples/network.json", "--budget", "1", "--by", "country,isp", "--whole"],
         ["groups", "examples/network.json", "--by", "country"],
     ):
         _, out, _ = run(*words, "--json")
@@ -109,13 +146,23 @@ def test_documents_are_of_the_schema(run):
 
 
 def test_sets_by_groups_are_one_word(run):
-    status, out, said = run("blocking", "examples/network.json", "b.cert", "--by", "org", "--orgs", "examples/orgs.json")
+    status, out, said = run(
+        "blocking", "examples/network.json", "b.cert", "--by", "org", "--orgs", "examples/orgs.json"
+    )
     assert (status, out, said) == (0, "org-blocking 3\nset Alder, Beech\nset Alder, Cedar\nset Beech, Cedar\n", "")
     # (the certificate speaks of the file that was made, which lies beside it)
-    assert run("check", "examples/network.json", "b.cert", "--orgs", "b.cert.orgs.json", "--keys")[1].startswith("accepted org-blocking 3\n")
+    assert run("check", "examples/network.json", "b.cert", "--orgs", "b.cert.orgs.json", "--keys")[1].startswith(
+        "accepted org-blocking 3\n"
+    )
     status, out, said = run("blocking", "examples/network.json", "--by", "country")
-    assert (status, out.splitlines()[0], said) == (0, "org-blocking 27", "quorums: no node of examples/network.json is in a group by country: each stands alone\n")
-    status, out, said = run("intersect", "examples/network.json", "--by", "org", "--orgs", "examples/orgs.json", "--faulty-orgs", "alder")
+    assert (status, out.splitlines()[0], said) == (
+        0,
+        "org-blocking 27",
+        "quorums: no node of examples/network.json is in a group by country: each stands alone\n",
+    )
+    status, out, said = run(
+        "intersect", "examples/network.json", "--by", "org", "--orgs", "examples/orgs.json", "--faulty-orgs", "alder"
+    )
     assert (status, out.splitlines()[0]) == (1, "intersects no")
 
 
@@ -132,24 +179,34 @@ def test_as_is(run, tmp_path):
 
 
 def test_a_summary_in_lines_and_its_certificates(run):
-    status, out, said = run("summary", "examples/network.json", "--orgs", "examples/orgs.json", "--certificates", "kept")
+    status, out, said = run(
+        "summary", "examples/network.json", "--orgs", "examples/orgs.json", "--certificates", "kept"
+    )
     assert (status, said) == (0, "")
     assert "can fork: no\n" in out and "blocking by org: 3 minimal, the smallest of 2: Alder, Beech\n" in out
     status, out, _ = run("summary", "examples/network.json", "--orgs", "examples/orgs.json", "--json")
     document = json.loads(out)
     certificate = document["fork"]["certificate"]
     assert digest(f"kept/{certificate}.cert") == certificate
-    assert run("check", f"kept/{document['config']}.json", f"kept/{certificate}.cert", "--keys")[:2] == (0, "accepted refutation\nfrom\nfaulty\n")
+    assert run("check", f"kept/{document['config']}.json", f"kept/{certificate}.cert", "--keys")[:2] == (
+        0,
+        "accepted refutation\nfrom\nfaulty\n",
+    )
     status, table, _ = run("summary", "examples/network.json", "--orgs", "examples/orgs.json", "--csv")
     assert next(csv.DictReader(io.StringIO(table)))["blocking_by_org_smallest"] == "2"
 
 
 def test_groups(run):
-    status, out, _ = run("groups", "examples/network.json", "--by", "org", "--orgs", "examples/orgs.json", "-o", "made.json")
+    status, out, _ = run(
+        "groups", "examples/network.json", "--by", "org", "--orgs", "examples/orgs.json", "-o", "made.json"
+    )
     assert (status, out) == (0, "Alder: 3\nBeech: 3\nCedar: 3\nin none: 1\n")
     with open("made.json", encoding="utf-8") as it:
         assert [row["id"] for row in json.load(it)] == ["alder", "beech", "cedar"]
-    assert run("groups", "examples/network.json", "--by", "isValidator", "--csv")[1] == "group,name,nodes\nfalse,false,1\ntrue,true,9\n"
+    assert (
+        run("groups", "examples/network.json", "--by", "isValidator", "--csv")[1]
+        == "group,name,nodes\nfalse,false,1\ntrue,true,9\n"
+    )
 
 
 @pytest.mark.parametrize(
@@ -169,10 +226,18 @@ def test_groups(run):
         (("show", "nowhere.json"), 6, "a file could not be read: nowhere.json: No such file or directory"),
         (("show", "examples"), 6, "a file could not be read: examples: Is a directory"),
         (("check", "examples/three.json", "nowhere.cert"), 6, "nowhere.cert"),
-        (("intersect", "examples/three.json", "no/t.cert"), 7, "no/t.cert could not be written: No such file or directory"),
-        (("intersect", "examples/three.json", "examples/two.json"), 7, "examples/two.json is no certificate: it stays as it is"),
+        (
+            ("intersect", "examples/three.json", "no/t.cert"),
+            7,
+            "no/t.cert could not be written: No such file or directory",
+        ),
+        (
+            ("intersect", "examples/three.json", "examples/two.json"),
+            7,
+            "examples/two.json is no certificate: it stays as it is",
+        ),
         (("summary", "examples/three.json", "--by", "org,,isp"), 3, "--by takes names of members"),
-        (("summary", "examples/three.json", "--from", "a", "--central"), 3, "not allowed with"),
+        (("summary", "examples/three.json", "--from", "a", "--whole"), 3, "not allowed with"),
         (("bulk", "examples", "-o", "no/table.csv"), 7, "No such file or directory"),
         (("bulk", "examples", "-o", "t.csv", "--jobs", "0"), 3, "--jobs"),
         (("bulk", "examples", "-o", "t.csv", "--dates", "examples/pair.cert"), 3, "has no file,date on line 1"),
@@ -198,7 +263,11 @@ def test_a_fault_is_one_line_with_its_status(run, words, status, said):
         (("reduce", "examples/orgs.json"), 4, "config bad-key 0\n"),
         (("summary", "examples/three.json", "--orgs", "examples/three.json"), 4, "orgs bad-org 0\n"),
         (("summary", "examples/three.json", "--from", "z"), 3, "usage unknown-name --from 1\n"),
-        (("blocking", "examples/three.json", "--by", "quorumSet"), 4, "quorumSet of a is no text, number or truth value\n"),
+        (
+            ("blocking", "examples/three.json", "--by", "quorumSet"),
+            4,
+            "quorumSet of a is no text, number or truth value\n",
+        ),
         (("check", "examples/two.json", "examples/pair.cert"), 5, "refused digest"),
     ],
 )
@@ -217,5 +286,10 @@ def test_a_question_ends_after_its_seconds(run, tmp_path):
 
 
 def test_a_closed_output_is_said():
-    ran = subprocess.run([sys.executable, "-m", "quorums", "show", f"{EXAMPLES}/three.json"], env={**os.environ, "PYTHONPATH": PACKAGE}, stdout=open("/dev/full", "wb"), stderr=subprocess.PIPE)
+    ran = subprocess.run(
+        [sys.executable, "-m", "quorums", "show", f"{EXAMPLES}/three.json"],
+        env={**os.environ, "PYTHONPATH": PACKAGE},
+        stdout=open("/dev/full", "wb"),
+        stderr=subprocess.PIPE,
+    )
     assert (ran.returncode, ran.stderr) == (7, b"quorums: an output could not be written: No space left on device\n")

@@ -27,7 +27,10 @@ def examples():
 
 def matches(wanted, found):
     """Whether the lines are those of the document, in which `..` stands for what is left out."""
-    pattern = "".join(r"(?:.*\n)*" if it == ".." else re.escape(it[:-2]) + r".*\n" if it.endswith("..") else re.escape(it) + r"\n" for it in wanted)
+    pattern = "".join(
+        r"(?:.*\n)*" if it == ".." else re.escape(it[:-2]) + r".*\n" if it.endswith("..") else re.escape(it) + r"\n"
+        for it in wanted
+    )
     return re.fullmatch(pattern, found) is not None
 
 
@@ -49,15 +52,35 @@ def test_the_examples(place):
     for language, text, wanted in examples():
         if language == "python":
             pytest.importorskip("pandas")
-            ended = subprocess.run([sys.executable, "-c", text], cwd=place, env=environment, stdout=subprocess.PIPE, stderr=subprocess.STDOUT, timeout=300)
+            ended = subprocess.run(
+                [sys.executable, "-c", text],
+                cwd=place,
+                env=environment,
+                stdout=subprocess.PIPE,
+                stderr=subprocess.STDOUT,
+                timeout=300,
+            )
             assert ended.returncode == 0, ended.stdout.decode()
             assert all(it in ended.stdout.decode() for it in ("alder", "['org:alder', 'org:beech']", "2024-01-03"))
         elif not (" jq " in text and not shutil.which("jq")):
-            ended = subprocess.run(["bash", "-c", text], cwd=place, env=environment, stdin=subprocess.DEVNULL, stdout=subprocess.PIPE, stderr=subprocess.PIPE, timeout=300)
+            ended = subprocess.run(
+                ["bash", "-c", text],
+                cwd=place,
+                env=environment,
+                stdin=subprocess.DEVNULL,
+                stdout=subprocess.PIPE,
+                stderr=subprocess.PIPE,
+                timeout=300,
+            )
             assert matches(wanted, ended.stdout.decode()), (text, ended.stdout.decode(), ended.stderr.decode())
         ran += 1
     assert ran >= 15
 
 
 def test_an_example_that_prints_something_else_is_seen():
-    assert matches(["a", ".."], "a\nb\nc\n") and matches(["a.."], "ab\n") and not matches(["a"], "b\n") and not matches([], "a\n")
+    assert (
+        matches(["a", ".."], "a\nb\nc\n")
+        and matches(["a.."], "ab\n")
+        and not matches(["a"], "b\n")
+        and not matches([], "a\n")
+    )

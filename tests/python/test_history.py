@@ -15,7 +15,8 @@ ASKED = Asked(("org", "country"), budget=2000)
 
 
 class Read(html.parser.HTMLParser):
-    """What a page has: the cells of each row, the titles of the strips of each chart, and all that is linked or loaded."""
+    """What a page has: the cells of each row, the titles of the strips of each chart, and all that is linked or
+    loaded."""
 
     def __init__(self, text):
         super().__init__()
@@ -79,7 +80,15 @@ def test_the_numbers_are_those_of_the_table(made):
     read = Read(text_of(page))
     assert [f"s{at}" for at in range(len(rows))] == [it for it in read.rows if it]
     shown = {column for _, column, _ in history_page.table_columns(rows)}
-    assert {"fork", "top_tier", "top_tier_by_org", "smallest_quorum", "blocking_smallest", "blocking_by_country_smallest", "splitting_by_org_smallest"} <= shown
+    assert {
+        "fork",
+        "top_tier",
+        "top_tier_by_org",
+        "smallest_quorum",
+        "blocking_smallest",
+        "blocking_by_country_smallest",
+        "splitting_by_org_smallest",
+    } <= shown
     for at, row in enumerate(rows):
         found = read.rows[f"s{at}"]
         if row["fault"]:

@@ -32,20 +32,35 @@ def test_silent_nodes_are_in_no_quorum():
 
 def test_groups_by_members():
     nodes = [
-        node("a", 1, ["a"], isp="Amazon.com, Inc.", geoData={"countryCode": "DE"}, organizationId="o1", homeDomain="x.example", ledgerVersion=22),
+        node(
+            "a",
+            1,
+            ["a"],
+            isp="Amazon.com, Inc.",
+            geoData={"countryCode": "DE"},
+            organizationId="o1",
+            homeDomain="x.example",
+            ledgerVersion=22,
+        ),
         node("b", 1, ["a"], isp="Amazon.com, Inc.", geoData={"countryCode": None}, ledgerVersion=21),
         node("c", 1, ["a"], geoData=None, isp="", ledgerVersion=21),
     ]
     snapshot = Snapshot(as_json(nodes))
     isp = snapshot.groups("isp")
-    assert (isp.members, isp.names, isp.alone) == ({"Amazon.com%2C%20Inc.": ("a", "b")}, {"Amazon.com%2C%20Inc.": "Amazon.com, Inc."}, ("c",))
+    assert (isp.members, isp.names, isp.alone) == (
+        {"Amazon.com%2C%20Inc.": ("a", "b")},
+        {"Amazon.com%2C%20Inc.": "Amazon.com, Inc."},
+        ("c",),
+    )
     assert snapshot.groups("country").members == {"DE": ("a",)}
     assert snapshot.groups("country").alone == ("b", "c")
     assert snapshot.groups("org").members == {"o1": ("a",)}
     assert snapshot.groups("homeDomain").members == {"x.example": ("a",)}
     assert snapshot.groups("ledgerVersion").members == {"22": ("a",), "21": ("b", "c")}
     assert snapshot.groups("geoData.countryCode").members == {"DE": ("a",)}
-    assert json.loads(isp.orgs) == [{"id": "Amazon.com%2C%20Inc.", "name": "Amazon.com, Inc.", "validators": ["a", "b"]}]
+    assert json.loads(isp.orgs) == [
+        {"id": "Amazon.com%2C%20Inc.", "name": "Amazon.com, Inc.", "validators": ["a", "b"]}
+    ]
     assert Quorums(as_json(nodes), orgs=isp.orgs).org_blocking().sets
 
 
@@ -57,7 +72,13 @@ def test_ids_are_those_of_the_program():
 
 
 def test_names_that_could_mislead_are_escaped_and_told_apart():
-    nodes = [node("a", 1, ["a"], name="one"), node("b", 1, ["a"], name="one"), node("c", 1, ["a"], name="x\u202ey\n"), node("d", 1, ["a"], name=" "), node("e", 1, ["a"], name=7)]
+    nodes = [
+        node("a", 1, ["a"], name="one"),
+        node("b", 1, ["a"], name="one"),
+        node("c", 1, ["a"], name="x\u202ey\n"),
+        node("d", 1, ["a"], name=" "),
+        node("e", 1, ["a"], name=7),
+    ]
     assert Snapshot(as_json(nodes)).names() == {"a": "one (a)", "b": "one (b)", "c": "x\\u202ey\\n"}
 
 

@@ -17,6 +17,7 @@ KEYS = "abcdefg"
 
 # ---- random networks
 
+
 def random_set(draw, keys, depth):
     validators = draw.sample(keys, draw.randint(0, min(len(keys), 5)))
     inner = [random_set(draw, keys, depth - 1) for _ in range(draw.randint(0, 2))] if depth else []
@@ -31,7 +32,10 @@ def random_network(draw):
     alike = draw.random() < 0.6
     nodes = []
     for key in keys:
-        held = {"publicKey": key, "quorumSet": None if draw.random() < 0.1 else draw.choice(shared) if alike else random_set(draw, keys, 1)}
+        held = {
+            "publicKey": key,
+            "quorumSet": None if draw.random() < 0.1 else draw.choice(shared) if alike else random_set(draw, keys, 1),
+        }
         if draw.random() < 0.7:
             held["geoData"] = {"countryCode": draw.choice(["DE", "US", "a b,c%"])}
         if draw.random() < 0.3:
@@ -40,11 +44,15 @@ def random_network(draw):
             held["organizationId"] = draw.choice(["A", "B"])
         nodes.append(held)
     draw.shuffle(nodes)
-    orgs = [{"id": it, "validators": draw.sample([*keys, "stranger"], draw.randint(0, min(3, len(keys))))} for it in draw.sample("ABCD", draw.randint(1, 4))]
+    orgs = [
+        {"id": it, "validators": draw.sample([*keys, "stranger"], draw.randint(0, min(3, len(keys))))}
+        for it in draw.sample("ABCD", draw.randint(1, 4))
+    ]
     return nodes, orgs if draw.random() < 0.5 else None
 
 
 # ---- the same by trying all sets, each a frozen set of keys
+
 
 def subsets(some):
     some = sorted(some)
@@ -52,7 +60,9 @@ def subsets(some):
 
 
 def satisfied(held, inside):
-    count = sum(it in inside for it in held["validators"]) + sum(satisfied(it, inside) for it in held["innerQuorumSets"])
+    count = sum(it in inside for it in held["validators"]) + sum(
+        satisfied(it, inside) for it in held["innerQuorumSets"]
+    )
     # (a threshold of 0 has no choice)
     return held["threshold"] > 0 and count >= held["threshold"]
 
@@ -89,7 +99,9 @@ def groups_of(nodes, orgs, by, part):
         for it in nodes:
             value = it.get("geoData", {}).get("countryCode") if by == "country" else it.get("organizationId")
             if value is not None:
-                members.setdefault(value.replace("%", "%25").replace(" ", "%20").replace(",", "%2C"), set()).add(it["publicKey"])
+                members.setdefault(value.replace("%", "%25").replace(" ", "%20").replace(",", "%2C"), set()).add(
+                    it["publicKey"]
+                )
     inside = set().union(*members.values()) if members else set()
     alone = sorted(it["publicKey"] for it in nodes if it["publicKey"] not in inside)
     whole = {"org:" + it: keys & part for it, keys in members.items()}
@@ -101,14 +113,19 @@ def tried(nodes, orgs, asked):
     """The values of a summary by trying all sets."""
     keys = {it["publicKey"] for it in nodes}
     silent = {it["publicKey"] for it in nodes if asked.as_is and it.get("isValidating") is False}
-    sets = {it["publicKey"]: it["quorumSet"] for it in nodes if it["quorumSet"] is not None and it["publicKey"] not in silent}
+    sets = {
+        it["publicKey"]: it["quorumSet"]
+        for it in nodes
+        if it["quorumSet"] is not None and it["publicKey"] not in silent
+    }
 
     def quorums_in(part):
         return [it for it in subsets(part) if it and all(key in sets and satisfied(sets[key], it) for key in it)]
 
-    view = asked.from_node
-    if asked.central:
-        greatest = frozenset().union(*quorums_in(keys))
+    view, of_file = asked.from_node, quorums_in(keys)
+    in_file = frozenset().union(*of_file)
+    if view is None and not asked.whole:
+        greatest = in_file
         named = {key: sum(key in mentioned(it["quorumSet"]) for it in nodes if it["publicKey"] != key) for key in keys}
         view = min(greatest, key=lambda key: (-named[key], key)) if greatest else None
     part = keys if view is None else closure(sets, view)
@@ -118,14 +135,20 @@ def tried(nodes, orgs, asked):
     tier = frozenset().union(*least)
     found = {
         "view": view,
-        "nodes": {"number": len(part), "quorum": len(greatest), "outside": sorted(part - greatest)},
+        "nodes": {
+            "number": len(keys),
+            "in_view": len(part),
+            "quorum": len(greatest),
+            "outside": sorted(keys - in_file),
+        },
         "fork": any(not one & other for one in quorums for other in quorums),
+        "file_fork": any(not one & other for one in of_file for other in of_file),
         "tier": sorted(tier),
         "least": min(map(len, least), default=None),
         "blocking": {"node": blocking(quorums, {it: {it} for it in part})},
         "groups": {},
         "tier_by": {},
-        "quorums": set(quorums),
+        "quorums": set(of_file),
         "smallest": least,
     }
     for by in asked.by:
@@ -140,16 +163,22 @@ def compare(found, wanted):
     assert found["view"] == wanted["view"]
     assert found["nodes"] == wanted["nodes"]
     assert found["groups"] == wanted["groups"]
-    fork = found["fork"]
-    assert (fork["status"], fork["value"]) == ("known", wanted["fork"])
-    if wanted["fork"]:
-        one, other = frozenset(fork["first"]), frozenset(fork["second"])
-        assert not one & other and {one, other} <= wanted["quorums"]
+    for name in ("fork", "file_fork"):
+        fork = found[name]
+        assert (fork["status"], fork["value"]) == ("known", wanted[name])
+        if wanted[name]:
+            one, other = frozenset(fork["first"]), frozenset(fork["second"])
+            assert not one & other and {one, other} <= wanted["quorums"]
     least = found["smallest_quorum"]
     assert (least["status"], least["size"]) == ("known", wanted["least"])
     assert least["size"] is None and least["set"] is None or frozenset(least["set"]) in wanted["smallest"]
     tier = found["top_tier"]
-    assert (tier["status"], tier["size"], tier["nodes"], tier["by"]) == ("known", len(wanted["tier"]), wanted["tier"], wanted["tier_by"])
+    assert (tier["status"], tier["size"], tier["nodes"], tier["by"]) == (
+        "known",
+        len(wanted["tier"]),
+        wanted["tier"],
+        wanted["tier_by"],
+    )
     assert set(found["blocking"]) == set(wanted["blocking"])
     for by, sets in wanted["blocking"].items():
         listed = found["blocking"][by]
@@ -162,13 +191,14 @@ def test_every_value_beside_trying_all_sets():
     draw = random.Random(75)
     for number in range(COUNT):
         nodes, orgs = random_network(draw)
-        view = {1: {"from_node": nodes[0]["publicKey"]}, 2: {"central": True}}.get(number % 3, {})
+        view = {1: {"from_node": nodes[0]["publicKey"]}, 2: {"whole": True}}.get(number % 3, {})
         asked = Asked(("org", "country"), as_is=number % 2 == 1, **view)
         data, given = as_json(nodes), b"" if orgs is None else json.dumps(orgs).encode()
         kept = Kept()
         found = summary(data, given, asked, kept)
         compare(found, tried(nodes, orgs, asked))
-        assert {"asked": found["asked"], "in_file": found["in_file"]["nodes"]} == {"asked": asked.text(), "in_file": len(nodes)}
+        silent = sum(it.get("isValidating") is False for it in nodes)
+        assert found["in_file"] == {"without_set": sum(it["quorumSet"] is None for it in nodes), "silent": silent}
         row = cells(found)
         assert [it for it in columns(asked) if it not in HEAD] == list(row)
         compare_row(row, found)
@@ -176,28 +206,46 @@ def test_every_value_beside_trying_all_sets():
 
 def compare_row(row, found):
     """The cells of the table are the values of the summary."""
-    assert row["fork"] == ("yes" if found["fork"]["value"] else "no")
-    assert (int(row["nodes"]), int(row["quorum"]), int(row["outside"])) == (found["nodes"]["number"], found["nodes"]["quorum"], len(found["nodes"]["outside"]))
+    for name in ("fork", "file_fork"):
+        assert row[name] == ("yes" if found[name]["value"] else "no")
+    counts = [found["nodes"][it] for it in ("number", "in_view", "quorum")]
+    assert [int(row[it]) for it in ("nodes", "in_view", "quorum", "outside")] == [
+        *counts,
+        len(found["nodes"]["outside"]),
+    ]
     assert int(row["top_tier"]) == found["top_tier"]["size"]
     assert row["smallest_quorum"] == str(found["smallest_quorum"]["size"]).replace("None", "none")
-    assert (int(row["blocking_smallest"]), int(row["blocking_number"])) == (found["blocking"]["node"]["smallest"], found["blocking"]["node"]["number"])
+    assert (int(row["blocking_smallest"]), int(row["blocking_number"])) == (
+        found["blocking"]["node"]["smallest"],
+        found["blocking"]["node"]["number"],
+    )
     for by in ("org", "country"):
-        assert (int(row[f"blocking_by_{by}_smallest"]), int(row[f"blocking_by_{by}_number"])) == (found["blocking"][by]["smallest"], found["blocking"][by]["number"])
-        assert (int(row[f"groups_by_{by}"]), int(row[f"alone_by_{by}"]), int(row[f"top_tier_by_{by}"])) == (found["groups"][by]["number"], len(found["groups"][by]["alone"]), len(found["top_tier"]["by"][by]))
+        assert (int(row[f"blocking_by_{by}_smallest"]), int(row[f"blocking_by_{by}_number"])) == (
+            found["blocking"][by]["smallest"],
+            found["blocking"][by]["number"],
+        )
+        assert (int(row[f"groups_by_{by}"]), int(row[f"alone_by_{by}"]), int(row[f"top_tier_by_{by}"])) == (
+            found["groups"][by]["number"],
+            len(found["groups"][by]["alone"]),
+            len(found["top_tier"]["by"][by]),
+        )
 
 
 def test_each_certificate_is_accepted_over_what_is_kept():
     from quorums import Quorums
 
     kept = Kept()
-    found = summary(example("network.json"), example("orgs.json"), Asked(("org",), central=True), kept)
+    found = summary(example("network.json"), example("orgs.json"), Asked(("org",)), kept)
     config = kept.files[found["config"] + ".json"]
     wanted = {"fork": "refutation", "smallest_quorum": "least"}
     for name, kind in wanted.items():
         assert Quorums(config).check(kept.files[found[name]["certificate"] + ".cert"]).kind == kind
     assert Quorums(config).check(kept.files[found["blocking"]["node"]["certificate"] + ".cert"]).kind == "blocking"
     orgs = kept.files[found["blocking"]["org"]["orgs"] + ".orgs.json"]
-    assert Quorums(config, orgs=orgs).check(kept.files[found["blocking"]["org"]["certificate"] + ".cert"]).kind == "org-blocking"
+    assert (
+        Quorums(config, orgs=orgs).check(kept.files[found["blocking"]["org"]["certificate"] + ".cert"]).kind
+        == "org-blocking"
+    )
 
 
 def test_unknown_is_said_and_not_left_out():
@@ -207,7 +255,10 @@ def test_unknown_is_said_and_not_left_out():
     assert (found["blocking"]["node"]["status"], found["blocking"]["node"]["units"]) == ("unknown", 1)
     assert found["top_tier"] == {"status": "unknown"}
     row = cells(found)
-    assert {row[it] for it in ("fork", "top_tier", "top_tier_by_org", "smallest_quorum", "blocking_smallest", "blocking_number")} == {"unknown"}
+    assert {
+        row[it]
+        for it in ("fork", "top_tier", "top_tier_by_org", "smallest_quorum", "blocking_smallest", "blocking_number")
+    } == {"unknown"}
 
 
 def test_the_time_of_a_question_is_bounded():

@@ -14,7 +14,8 @@ Value = Union[None, int, Several]
 
 
 class Refused(ValueError):
-    """The question, a file or a certificate is refused: `status` is 3, 4, 5, 6, 7 or 10, and `text` says the first fault."""
+    """The question, a file or a certificate is refused: `status` is 3, 4, 5, 6, 7 or 10, and `text` says the first
+    fault."""
 
     def __init__(self, status: int, text: str) -> None:
         super().__init__(text.strip().partition("\n")[0] or f"status {status}")
@@ -35,7 +36,9 @@ def spelled(name: str, place: str, value: object) -> str:
     if isinstance(value, str):
         return value
     if place == "NAME" or isinstance(value, (bytes, bytearray, memoryview)) or not isinstance(value, Iterable):
-        raise TypeError(f"{name} must be {'a str' if place == 'NAME' else 'a str or several'}, not {type(value).__name__}")
+        raise TypeError(
+            f"{name} must be {'a str' if place == 'NAME' else 'a str or several'}, not {type(value).__name__}"
+        )
     names = list(value)
     for it in names:
         if not isinstance(it, str):
@@ -44,7 +47,8 @@ def spelled(name: str, place: str, value: object) -> str:
 
 
 def given(command: usage.Command, options: Mapping[str, object]) -> list[str]:
-    """The words of a command's options. Raises TypeError for an argument that it does not take, and for one that is missing."""
+    """The words of a command's options. Raises TypeError for an argument that it does not take, and for one that is
+    missing."""
     words = []
     for name in options:
         if not command.takes(name):
@@ -66,13 +70,17 @@ def row(word: str) -> usage.Command:
     return found
 
 
-def answered(command: str, words: list[str], timeout: Optional[float], stop: Optional[worker.Stop], **files: Any) -> Answer:
+def answered(
+    command: str, words: list[str], timeout: Optional[float], stop: Optional[worker.Stop], **files: Any
+) -> Answer:
     """What is answered to the words, in a process of its own if it may be ended."""
     if timeout is None and stop is None:
         status, text, made = binding.answer(words, **files)
     else:
         asked = [files.get(name, b"") for name in ("config", "orgs", "script", "cert")]
-        status, text, made = worker.run("answer", words, *asked, files.get("room", binding.ROOM), timeout=timeout, stop=stop)
+        status, text, made = worker.run(
+            "answer", words, *asked, files.get("room", binding.ROOM), timeout=timeout, stop=stop
+        )
     if status == MEMORY:
         raise MemoryError("the run wants more memory than there is")
     if status == TOO_LARGE:
@@ -82,7 +90,14 @@ def answered(command: str, words: list[str], timeout: Optional[float], stop: Opt
     return Answer(command, tuple(words), status, text.decode(), made)
 
 
-def counted(command: str, count: int, options: dict[str, object], timeout: Optional[float], stop: Optional[worker.Stop], room: int) -> Answer:
+def counted(
+    command: str,
+    count: int,
+    options: dict[str, object],
+    timeout: Optional[float],
+    stop: Optional[worker.Stop],
+    room: int,
+) -> Answer:
     """What is answered to a command that is about a number, and writes a certificate."""
     words = [command, str(binding.as_count("count", count)), "made", *given(row(command), options)]
     return answered(command, words, timeout, stop, room=room)

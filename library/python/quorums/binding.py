@@ -24,7 +24,12 @@ Call = Callable[..., None]
 class End(ctypes.Structure):
     """How a question ended."""
 
-    _fields_ = [("status", ctypes.c_uint8), ("text", ctypes.c_size_t), ("cert", ctypes.c_size_t), ("wanting", ctypes.c_size_t)]
+    _fields_ = [
+        ("status", ctypes.c_uint8),
+        ("text", ctypes.c_size_t),
+        ("cert", ctypes.c_size_t),
+        ("wanting", ctypes.c_size_t),
+    ]
 
 
 @functools.lru_cache(maxsize=None)
@@ -81,10 +86,19 @@ def ask(call: Call, words: bytes, files: dict[str, bytes], room: int) -> tuple[E
         held.close()
 
 
-def answer(words: Iterable[str | bytes], config: Data = b"", orgs: Data = b"", script: Data = b"", cert: Data = b"", room: int = ROOM, call: Call | None = None) -> tuple[int, bytes, bytes]:
+def answer(
+    words: Iterable[str | bytes],
+    config: Data = b"",
+    orgs: Data = b"",
+    script: Data = b"",
+    cert: Data = b"",
+    room: int = ROOM,
+    call: Call | None = None,
+) -> tuple[int, bytes, bytes]:
     """The status, the text and the certificate, as bytes, of the words of a command line over files in memory.
 
-    The words name the files config, orgs, script and cert, and what a search makes made: answer(["show", "config"], data). If the room
+    The words name the files config, orgs, script and cert, and what a search makes made: answer(["show", "config"],
+    data). If the room
     is too small, a larger one is given. Raises MemoryError if there is no memory for the run or for the room.
     """
     line, room = line_of(words), as_count("room", room)

@@ -1,6 +1,7 @@
 """Many snapshots: a row of a table for each, and its certificates in a folder, by their digests.
 
-Each task is one file in, its row and its certificates out. It runs in processes here or on a cluster of dask.distributed, is done
+Each task is one file in, its row and its certificates out. It runs in processes here or on a cluster of
+dask.distributed, is done
 again where a worker is lost, and its row is written once, after the files that it names.
 """
 
@@ -67,14 +68,19 @@ class File:
 
 
 def files_of(paths: Iterable[str], orgs: Optional[str] = None, dates: Optional[dict[str, str]] = None) -> list[File]:
-    """The snapshots of folders and files, by date and path. In a folder these are all NAME.json, with NAME-orgs.json for organisations.
+    """The snapshots of folders and files, by date and path. In a folder these are all NAME.json, with NAME-orgs.json
+    for organisations.
 
     Raises OSError for a folder that cannot be read.
     """
     names: list[str] = []
     for path in paths:
         if os.path.isdir(path):
-            names += [os.path.join(path, it) for it in os.listdir(path) if it.endswith(".json") and not it.endswith("-orgs.json")]
+            names += [
+                os.path.join(path, it)
+                for it in os.listdir(path)
+                if it.endswith(".json") and not it.endswith("-orgs.json")
+            ]
         else:
             names.append(path)
     found = []
@@ -140,12 +146,16 @@ def cluster(tasks: Iterator[Task], asked: Asked, address: str) -> Answers:
     try:
         client = distributed.Client(address, timeout=REACHED, set_as_default=False)
     except (OSError, ValueError, TypeError, ImportError) as why:
-        raise Failed(6, f"the scheduler {address} cannot be reached: {str(why).strip() or type(why).__name__}") from None
+        raise Failed(
+            6, f"the scheduler {address} cannot be reached: {str(why).strip() or type(why).__name__}"
+        ) from None
     with client:
         most = 4 * max(1, sum(client.nthreads().values()))
         running = distributed.as_completed()
         for task in tasks:
-            running.add(client.submit(row_of, task.data, task.orgs, asked, key="quorums-row-" + task.key, retries=ATTEMPTS - 1))
+            running.add(
+                client.submit(row_of, task.data, task.orgs, asked, key="quorums-row-" + task.key, retries=ATTEMPTS - 1)
+            )
             if running.count() >= most:
                 yield gathered(distributed, next(running), address)
         for future in running:
@@ -226,8 +236,15 @@ class Progress:
     def say(self, now: float, end: bool = False) -> None:
         asked = self.rows - self.taken
         left = (now - self.began) / asked * (self.total - self.rows) if asked else 0
-        text = f"bulk: {self.rows} of {self.total} rows, {self.faults} with a fault, " + (f"{now - self.began:.0f} s" if end else f"some {left:.0f} s left")
-        print(f"\r{text}\033[K" if sys.stderr.isatty() else text, end="" if sys.stderr.isatty() and not end else "\n", file=sys.stderr, flush=True)
+        text = f"bulk: {self.rows} of {self.total} rows, {self.faults} with a fault, " + (
+            f"{now - self.began:.0f} s" if end else f"some {left:.0f} s left"
+        )
+        print(
+            f"\r{text}\033[K" if sys.stderr.isatty() else text,
+            end="" if sys.stderr.isatty() and not end else "\n",
+            file=sys.stderr,
+            flush=True,
+        )
 
     def end(self) -> None:
         if not self.quiet:
@@ -251,7 +268,11 @@ class Run:
         rows = journal.rows()
         if self.resume and os.path.exists(self.table):
             rows += tables.read(self.table)
-        return {(row["file"], row["sha256"], row["orgs_sha256"]): row for row in rows if row["asked"] == self.asked.text() and row["sha256"]}
+        return {
+            (row["file"], row["sha256"], row["orgs_sha256"]): row
+            for row in rows
+            if row["asked"] == self.asked.text() and row["sha256"]
+        }
 
     def add(self, journal: Journal, head: Row, cells: Row) -> None:
         """Writes a row."""
@@ -261,9 +282,17 @@ class Run:
         self.progress.row(row, False)
 
     def tasks(self, journal: Journal, before: dict[tuple[str, str, str], Row]) -> Iterator[Task]:
-        """What is to be asked. On the way the rows are written that need no asking: faults, and what has been asked."""
+        """What is to be asked. On the way the rows are written that need no asking: faults, and what has been
+        asked."""
         for file in self.files:
-            head = {"date": file.date, "file": file.path, "sha256": "", "orgs_sha256": "", "asked": self.asked.text(), "fault": ""}
+            head = {
+                "date": file.date,
+                "file": file.path,
+                "sha256": "",
+                "orgs_sha256": "",
+                "asked": self.asked.text(),
+                "fault": "",
+            }
             try:
                 data, orgs = held(file.path), held(file.orgs)
                 head.update({"sha256": digest(data), "orgs_sha256": digest(orgs) if orgs else ""})
@@ -304,8 +333,19 @@ class Run:
         return self.rows
 
 
-def rows(paths: Iterable[str], table: str, asked: Asked = Asked(), jobs: Optional[int] = None, scheduler: Optional[str] = None, orgs: Optional[str] = None, dates: Optional[dict[str, str]] = None, resume: bool = False, quiet: bool = True) -> list[Row]:
-    """Writes the table of the snapshots in folders and files, and gives its rows. Raises Failed or OSError where it cannot."""
+def rows(
+    paths: Iterable[str],
+    table: str,
+    asked: Asked = Asked(),
+    jobs: Optional[int] = None,
+    scheduler: Optional[str] = None,
+    orgs: Optional[str] = None,
+    dates: Optional[dict[str, str]] = None,
+    resume: bool = False,
+    quiet: bool = True,
+) -> list[Row]:
+    """Writes the table of the snapshots in folders and files, and gives its rows. Raises Failed or OSError where it
+    cannot."""
     run = Run(files_of(paths, orgs, dates), table, asked, resume, quiet)
     if scheduler is None:
         return run.run(lambda tasks: local(tasks, asked, jobs or len(os.sched_getaffinity(0))))

@@ -65,11 +65,15 @@ def add_command(parts: Any, row: usage.Command) -> None:
     if row.second is not None:
         words.add_argument("second", metavar=row.second, nargs="?" if row.is_search else None)
     for option in row.options:
-        words.add_argument(option.flag, dest=option.argument, metavar=option.place, required=option.needed and option.flag != "--orgs")
+        words.add_argument(
+            option.flag, dest=option.argument, metavar=option.place, required=option.needed and option.flag != "--orgs"
+        )
     if row.files[0] == "CONFIG":
         words.add_argument("--as-is", action="store_true", help="nodes with isValidating false are silent")
     if row.option("--orgs") is not None or "org-" + row.word in usage.commands():
-        words.add_argument("--by", metavar="GROUPS", help="org, country, isp, homeDomain or another member, in place of --orgs")
+        words.add_argument(
+            "--by", metavar="GROUPS", help="org, country, isp, homeDomain or another member, in place of --orgs"
+        )
     words.add_argument("--seconds", type=number(0, False), metavar="S", help="the most seconds")
     forms(words)
 
@@ -77,12 +81,28 @@ def add_command(parts: Any, row: usage.Command) -> None:
 def add_asked(words: argparse.ArgumentParser) -> None:
     """The words of what is asked of each network."""
     words.add_argument("--orgs", metavar="ORGS", help="the file of organisations")
-    words.add_argument("--by", metavar="GROUPS", default="org", help="several with commas: org, country, isp, homeDomain or another member (org)")
+    words.add_argument(
+        "--by",
+        metavar="GROUPS",
+        default="org",
+        help="several with commas: org, country, isp, homeDomain or another member (org)",
+    )
     words.add_argument("--as-is", action="store_true", help="nodes with isValidating false are silent")
     view = words.add_mutually_exclusive_group()
-    view.add_argument("--from", dest="from_node", metavar="NAME", help="as this node sees it")
-    view.add_argument("--central", action="store_true", help="as the node of the greatest quorum sees it that most others name")
-    words.add_argument("--budget", type=number(0, True), default=summary.BUDGET, metavar="UNITS", help=f"the most units of each search ({summary.BUDGET})")
+    view.add_argument(
+        "--from",
+        dest="from_node",
+        metavar="NAME",
+        help="as this node sees it (the node of the greatest quorum that most others name)",
+    )
+    view.add_argument("--whole", action="store_true", help="the whole file, with watchers on whom nobody depends")
+    words.add_argument(
+        "--budget",
+        type=number(0, True),
+        default=summary.BUDGET,
+        metavar="UNITS",
+        help=f"the most units of each search ({summary.BUDGET})",
+    )
     words.add_argument("--seconds", type=number(0, False), metavar="S", help="the most seconds of each search")
 
 
@@ -91,11 +111,16 @@ def parser() -> Parser:
     parts = words.add_subparsers(dest="command", metavar="COMMAND", parser_class=Parser)
     for row in usage.commands().values():
         add_command(parts, row)
+    words.set_defaults(known=parts.choices)
     it = parts.add_parser("summary", help="all that is asked of a network, as data", allow_abbrev=False)
     it.set_defaults(run=summarise)
     it.add_argument("config", metavar="CONFIG")
     add_asked(it)
-    it.add_argument("--certificates", metavar="FOLDER", help="where certificates and the files that they speak of are put, by their digests")
+    it.add_argument(
+        "--certificates",
+        metavar="FOLDER",
+        help="where certificates and the files that they speak of are put, by their digests",
+    )
     forms(it)
     it = parts.add_parser("groups", help="the file of organisations by a member", allow_abbrev=False)
     it.set_defaults(run=show_groups)
@@ -122,10 +147,14 @@ def parser() -> Parser:
     it.set_defaults(run=history)
     it.add_argument("table", metavar="TABLE")
     it.add_argument("-o", dest="page", metavar="PAGE", required=True, help="the page to write, as history.html")
-    it.add_argument("--reports", metavar="FOLDER", help="pages of single snapshots, NAME.html each, to which the points lead")
+    it.add_argument(
+        "--reports", metavar="FOLDER", help="pages of single snapshots, NAME.html each, to which the points lead"
+    )
     it.add_argument("--plots", metavar="FOLDER", help="the plots as SVG and PNG too; needs matplotlib")
     it = parts.add_parser("schema", help="the JSON schema of the documents", allow_abbrev=False)
-    it.set_defaults(run=lambda asked: put(resources.files(__package__).joinpath("schema.json").read_text(encoding="utf-8")))
+    it.set_defaults(
+        run=lambda asked: put(resources.files(__package__).joinpath("schema.json").read_text(encoding="utf-8"))
+    )
     return words
 
 
@@ -233,7 +262,10 @@ class Question:
         asked = self.asked
         if self.row.files[0] != "CONFIG":
             return {}
-        files: dict[str, Any] = {"config": {"path": asked.config, "sha256": digest(self.config), "as_is": asked.as_is}, **self.files}
+        files: dict[str, Any] = {
+            "config": {"path": asked.config, "sha256": digest(self.config), "as_is": asked.as_is},
+            **self.files,
+        }
         if self.orgs and "orgs" not in files:
             files["orgs"] = {"path": asked.orgs, "sha256": digest(self.orgs)}
         if self.second is not None:
@@ -285,7 +317,10 @@ def ask(asked: argparse.Namespace) -> int:
         raise Wrong(UNKNOWN, str(late)) from None
     certificate = question.keep(answer)
     if asked.json:
-        return put(outputs.as_json(outputs.answer_document(answer, question.noted(), question.names, certificate)), answer.status)
+        return put(
+            outputs.as_json(outputs.answer_document(answer, question.noted(), question.names, certificate)),
+            answer.status,
+        )
     if asked.csv:
         return put(outputs.answer_csv(answer, question.names), answer.status)
     return put(answer.text if asked.keys else outputs.text_lines(answer, question.names), answer.status)
@@ -307,7 +342,7 @@ def asked_of(asked: argparse.Namespace) -> summary.Asked:
     by = tuple(dict.fromkeys(it.strip() for it in asked.by.split(",")))
     if "" in by or "node" in by:
         raise Wrong(WORDS, "--by takes names of members, with commas between")
-    return summary.Asked(by, asked.as_is, asked.from_node, asked.central, asked.budget, asked.seconds)
+    return summary.Asked(by, asked.as_is, asked.from_node, asked.whole, asked.budget, asked.seconds)
 
 
 def summarise(asked: argparse.Namespace) -> int:
@@ -327,7 +362,13 @@ def summarise(asked: argparse.Namespace) -> int:
     if asked.json:
         return put(outputs.as_json({**found, "names": names, "folder": asked.certificates}))
     if asked.csv:
-        head = {"date": tables.date_of(asked.config), "file": asked.config, "sha256": found["sha256"], "orgs_sha256": digest(orgs) if orgs else "", "asked": questions.text()}
+        head = {
+            "date": tables.date_of(asked.config),
+            "file": asked.config,
+            "sha256": found["sha256"],
+            "orgs_sha256": digest(orgs) if orgs else "",
+            "asked": questions.text(),
+        }
         head.update({name: str(value) for name, value in zip(tables.HEAD[6:], found["in_file"].values())})
         return put(tables.as_text(tables.columns(questions), [{**head, **summary.cells(found)}]))
     return put(outputs.summary_text(found, summary.LISTS, {} if asked.keys else names))
@@ -354,7 +395,18 @@ def show_groups(asked: argparse.Namespace) -> int:
     rows = [(it, groups.names.get(it, it), len(keys)) for it, keys in sorted(groups.members.items())]
     if asked.json:
         members = [{"id": it, "name": name, "validators": list(groups.members[it])} for it, name, _ in rows]
-        return put(outputs.as_json({"schema": "quorums/groups/1", "by": asked.by, "sha256": digest(groups.orgs), "path": asked.output, "groups": members, "alone": list(groups.alone)}))
+        return put(
+            outputs.as_json(
+                {
+                    "schema": "quorums/groups/1",
+                    "by": asked.by,
+                    "sha256": digest(groups.orgs),
+                    "path": asked.output,
+                    "groups": members,
+                    "alone": list(groups.alone),
+                }
+            )
+        )
     if asked.csv:
         return put(outputs.as_csv(["group", "name", "nodes"], rows))
     lines = [f"{it if asked.keys else name}: {count}\n" for it, name, count in rows]
@@ -384,7 +436,17 @@ def many(asked: argparse.Namespace) -> int:
     """A row for each of many snapshots."""
     questions, dates = asked_of(asked), dates_of(asked.dates)
     try:
-        rows = bulk.rows(asked.paths, asked.table, questions, asked.jobs, asked.scheduler, asked.orgs, dates, asked.resume, quiet=False)
+        rows = bulk.rows(
+            asked.paths,
+            asked.table,
+            questions,
+            asked.jobs,
+            asked.scheduler,
+            asked.orgs,
+            dates,
+            asked.resume,
+            quiet=False,
+        )
     except bulk.Failed as failed:
         raise Wrong(failed.status, str(failed)) from None
     except tables.Faulty as faulty:
@@ -417,7 +479,7 @@ def history(asked: argparse.Namespace) -> int:
     return 0
 
 
-def near(argv: Sequence[str], parts: Sequence[str]) -> str:
+def near(argv: Sequence[str], parts: Iterable[str]) -> str:
     """The command that was meant, if one is near."""
     found = difflib.get_close_matches(argv[0], parts, 1) if argv else []
     return f": {found[0]} is one" if found else ""
@@ -427,9 +489,13 @@ def main(argv: Optional[Sequence[str]] = None) -> int:
     given = list(sys.argv[1:] if argv is None else argv)
     try:
         words = parser()
-        known = [it for action in words._subparsers._group_actions for it in action.choices] if words._subparsers else []  # type: ignore[union-attr]
+        known = words.get_default("known")
         if not given or not given[0].startswith("-") and given[0] not in known:
-            raise Wrong(WORDS, (f"no command is called {given[0]}{near(given, known)}" if given else "which command?") + " (quorums --help)")
+            raise Wrong(
+                WORDS,
+                (f"no command is called {given[0]}{near(given, known)}" if given else "which command?")
+                + " (quorums --help)",
+            )
         asked = words.parse_args(given)
         return int(asked.run(asked))
     except Wrong as wrong:
@@ -450,4 +516,3 @@ def main(argv: Optional[Sequence[str]] = None) -> int:
         return WRITTEN
     except KeyboardInterrupt:
         return 130
-

@@ -20,11 +20,14 @@ FIRST_UNITS, MOST_UNITS = 1000, 4_000_000_000
 class Quorums(Commands):
     """A network, by the bytes of its configuration; organisations are named by a second file.
 
-    A method is a command of quorum_cli, and gives an Answer. `faulty` are nodes that lie, `faulty_orgs` organisations whose nodes do, and
-    `from_node` is the node as which the network is seen. `nodes` is the set that is asked about. Names are given as one text, with
+    A method is a command of quorum_cli, and gives an Answer. `faulty` are nodes that lie, `faulty_orgs` organisations
+    whose nodes do, and
+    `from_node` is the node as which the network is seen. `nodes` is the set that is asked about. Names are given as
+    one text, with
     commas, or as several. `budget` is the most units of a search (1,000,000).
 
-    With `timeout` or `stop` a call runs in a process of its own, which is ended after that many seconds (TimeoutError), or as soon as
+    With `timeout` or `stop` a call runs in a process of its own, which is ended after that many seconds
+    (TimeoutError), or as soon as
     another thread says `stop.end()` (Ended).
 
     Raises Refused for what is refused, TooLarge, MemoryError, and TypeError for an argument of another type.
@@ -34,8 +37,16 @@ class Quorums(Commands):
         self.config, self.orgs = binding.as_bytes("config", config), binding.as_bytes("orgs", orgs)
         self.room = binding.as_count("room", room)
 
-    def ask(self, command: str, options: dict[str, object], second: Optional[binding.Data] = None, timeout: Optional[float] = None, stop: Optional[Stop] = None) -> Answer:
-        """What is answered to a command of the table; `second` is the file that it reads beside the configuration, if it reads one."""
+    def ask(
+        self,
+        command: str,
+        options: dict[str, object],
+        second: Optional[binding.Data] = None,
+        timeout: Optional[float] = None,
+        stop: Optional[Stop] = None,
+    ) -> Answer:
+        """What is answered to a command of the table; `second` is the file that it reads beside the configuration,
+        if it reads one."""
         row = asking.row(command)
         words, files = [command, "config"], {"config": self.config, "orgs": self.orgs}
         if row.is_search:
@@ -43,14 +54,19 @@ class Quorums(Commands):
         elif row.second is not None:
             name = "script" if row.second == "SCRIPT" else "cert"
             words.append(name)
-            files[name] = binding.as_bytes({"SCRIPT": "script", "LRAT": "proof"}.get(row.second, "certificate"), second)
+            files[name] = binding.as_bytes(
+                {"SCRIPT": "script", "LRAT": "proof"}.get(row.second, "certificate"), second
+            )
         words += asking.given(row, options)
         if self.wants_orgs(row, options):
             words.append("--orgs=orgs")
         return asking.answered(command, words, timeout, stop, room=self.room, **files)
 
-    def ask_in_time(self, command: str, options: dict[str, object], seconds: float, stop: Optional[Stop] = None) -> Answer:
-        """What a search finds within some seconds: it is asked with budgets that grow fourfold, and the last answer is the one that came in time.
+    def ask_in_time(
+        self, command: str, options: dict[str, object], seconds: float, stop: Optional[Stop] = None
+    ) -> Answer:
+        """What a search finds within some seconds: it is asked with budgets that grow fourfold, and the last answer
+        is the one that came in time.
 
         Raises TimeoutError if not even the first one did.
         """
@@ -60,7 +76,9 @@ class Quorums(Commands):
         budget = min(FIRST_UNITS, most)
         while True:
             try:
-                found = self.ask(command, {**options, "budget": budget}, timeout=max(0.0, until - time.monotonic()), stop=stop)
+                found = self.ask(
+                    command, {**options, "budget": budget}, timeout=max(0.0, until - time.monotonic()), stop=stop
+                )
             except TimeoutError:
                 if found is None:
                     raise TimeoutError(f"not answered in {seconds} s") from None
@@ -74,10 +92,16 @@ class Quorums(Commands):
         orgs = row.option("--orgs")
         if orgs is None:
             return False
-        return orgs.needed or options.get("faulty_orgs") is not None or bool(self.orgs) and row.option("--faulty-orgs") is None
+        return (
+            orgs.needed
+            or options.get("faulty_orgs") is not None
+            or bool(self.orgs)
+            and row.option("--faulty-orgs") is None
+        )
 
     def frame(self) -> pandas.DataFrame:
-        """The nodes as a pandas DataFrame, by their keys: what is published of each, and whether it is in the greatest quorum."""
+        """The nodes as a pandas DataFrame, by their keys: what is published of each, and whether it is in the
+        greatest quorum."""
         from .snapshots import node_frame
 
         return node_frame(self)

@@ -21,7 +21,9 @@ def text_lines(answer: Answer, names: dict[str, str]) -> str:
     """The lines of an answer with names, which may have spaces, so that commas stand between."""
     lines = []
     for head, rest in answer.lines:
-        joined = ", ".join(named(it, names) for it in rest) if head in NAMES else " ".join(named(it, names) for it in rest)
+        joined = (
+            ", ".join(named(it, names) for it in rest) if head in NAMES else " ".join(named(it, names) for it in rest)
+        )
         lines.append(f"{head} {joined}".rstrip())
     return "".join(line + "\n" for line in lines)
 
@@ -36,14 +38,19 @@ def as_csv(header: list[str], rows: Iterable[Iterable[Any]]) -> str:
 
 def answer_csv(answer: Answer, names: dict[str, str]) -> str:
     """A row for each word of an answer: its line, the line's first word, the word, and its name."""
-    return as_csv(["line", "word", "value", "name"], [(at, head, value, names.get(str(value), "")) for at, head, value in answer.table()])
+    return as_csv(
+        ["line", "word", "value", "name"],
+        [(at, head, value, names.get(str(value), "")) for at, head, value in answer.table()],
+    )
 
 
 def as_json(document: dict[str, Any]) -> str:
     return json.dumps(document, indent=1) + "\n"
 
 
-def answer_document(answer: Answer, files: dict[str, Any], names: dict[str, str], certificate: Optional[dict[str, Any]]) -> dict[str, Any]:
+def answer_document(
+    answer: Answer, files: dict[str, Any], names: dict[str, str], certificate: Optional[dict[str, Any]]
+) -> dict[str, Any]:
     """An answer as data: what was asked of which files, what was answered, and the names of the keys that it has."""
     said = {str(word) for _, rest in answer.lines for word in rest}
     return {
@@ -64,7 +71,20 @@ def answer_document(answer: Answer, files: dict[str, Any], names: dict[str, str]
 
 def refusal_document(command: str, words: list[str], files: dict[str, Any], status: int, text: str) -> dict[str, Any]:
     """A question that is not answered, as data."""
-    return {"schema": ANSWER_SCHEMA, "command": command, "words": words, "files": files, "status": status, "known": False, "value": None, "units": None, "lines": [], "text": text, "certificate": None, "names": {}}
+    return {
+        "schema": ANSWER_SCHEMA,
+        "command": command,
+        "words": words,
+        "files": files,
+        "status": status,
+        "known": False,
+        "value": None,
+        "units": None,
+        "lines": [],
+        "text": text,
+        "certificate": None,
+        "names": {},
+    }
 
 
 def why_unknown(found: dict[str, Any]) -> str:
@@ -88,21 +108,48 @@ def list_text(name: str, by: str, found: dict[str, Any], called: dict[str, str])
     return f"{head}: {found['number']} minimal, the smallest of {found['smallest']}: {joined(first, called)}"
 
 
+def fork_text(fork: dict[str, Any], quorum: int, called: dict[str, str]) -> str:
+    """Whether it can fork, with two quorums that share no node."""
+    if fork["status"] != "known":
+        return why_unknown(fork)
+    if not fork["value"]:
+        return "no" if quorum else "no, there is no quorum"
+    return f"yes: {joined(fork['first'], called)} / {joined(fork['second'], called)}"
+
+
 def summary_text(found: dict[str, Any], lists: Iterable[str], called: dict[str, str]) -> str:
     """A summary in some lines."""
     nodes, fork, tier, least = found["nodes"], found["fork"], found["top_tier"], found["smallest_quorum"]
-    seen = "" if found["view"] is None else f", as {named(found['view'], called)} sees it"
-    lines = [f"nodes: {nodes['number']}{seen}; {nodes['quorum']} in the greatest quorum, {len(nodes['outside'])} outside"]
-    lines.append(f"silent: {found['in_file']['silent']} by the file")
-    lines += [f"groups by {by}: {it['number']}; {len(it['alone'])} nodes in none" for by, it in found["groups"].items()]
-    if fork["status"] == "known":
-        lines.append("can fork: " + (f"yes: {joined(fork['first'], called)} / {joined(fork['second'], called)}" if fork["value"] else "no" if nodes["quorum"] else "no, there is no quorum"))
-    else:
-        lines.append("can fork: " + why_unknown(fork))
+    lines = [
+        f"nodes: {nodes['number']}; {len(nodes['outside'])} outside the greatest quorum; "
+        f"{found['in_file']['silent']} silent by the file"
+    ]
+    if found["view"] is not None:
+        lines.append(
+            f"view: {named(found['view'], called)}, and the {nodes['in_view']} nodes on whom it depends; "
+            f"{nodes['quorum']} in their greatest quorum"
+        )
+    lines += [
+        f"groups by {by}: {it['number']}; {len(it['alone'])} of the nodes in none"
+        for by, it in found["groups"].items()
+    ]
+    lines.append("can fork: " + fork_text(fork, nodes["quorum"], called))
+    if found["view"] is not None:
+        lines.append("whole file can fork: " + fork_text(found["file_fork"], nodes["quorum"], called))
     known = tier["status"] == "known"
-    lines.append("top tier: " + (f"{tier['size']} nodes" + "".join(f"; {len(it)} by {by}" for by, it in tier["by"].items()) if known else str(tier["status"])))
+    lines.append(
+        "top tier: "
+        + (
+            f"{tier['size']} nodes" + "".join(f"; {len(it)} by {by}" for by, it in tier["by"].items())
+            if known
+            else str(tier["status"])
+        )
+    )
     if least["status"] == "known":
-        lines.append("smallest quorum: " + ("none" if least["size"] is None else f"{least['size']}: {joined(least['set'], called)}"))
+        lines.append(
+            "smallest quorum: "
+            + ("none" if least["size"] is None else f"{least['size']}: {joined(least['set'], called)}")
+        )
     else:
         lines.append("smallest quorum: " + why_unknown(least))
     lines += [list_text(name, by, it, called) for name in lists for by, it in found[name].items()]

@@ -27,15 +27,20 @@ def typed(line: list[str]) -> tuple[Word, ...]:
     if head in NAMES or head in ("repeated", "c"):
         return tuple(rest)
     names = 2 if head == "threshold" else 0
-    return tuple(int(word) if at >= names and word.isascii() and word.isdigit() else word for at, word in enumerate(rest))
+    return tuple(
+        int(word) if at >= names and word.isascii() and word.isdigit() else word for at, word in enumerate(rest)
+    )
 
 
 class Answer:
-    """What was answered to a command: its status, its text, the certificate of a search as bytes, and what they say as values."""
+    """What was answered to a command: its status, its text, the certificate of a search as bytes, and what they say
+    as values."""
 
     def __init__(self, command: str, words: tuple[str, ...], status: int, text: str, certificate: bytes) -> None:
         self.command, self.words, self.status, self.text, self.certificate = command, words, status, text, certificate
-        self.lines: list[tuple[str, tuple[Word, ...]]] = [(line.split(" ")[0], typed(line.split(" "))) for line in text.splitlines()]
+        self.lines: list[tuple[str, tuple[Word, ...]]] = [
+            (line.split(" ")[0], typed(line.split(" "))) for line in text.splitlines()
+        ]
 
     def all(self, word: str) -> list[tuple[Word, ...]]:
         """The other words of each line that begins with this one."""
@@ -68,7 +73,8 @@ class Answer:
 
     @property
     def kind(self) -> str:
-        """What kind of certificate `check` accepted, as `pair` (a network that can fork) or `refutation` (one that cannot)."""
+        """What kind of certificate `check` accepted, as `pair` (a network that can fork) or `refutation` (one that
+        cannot)."""
         return str(self["accepted"][0])
 
     @property
@@ -89,7 +95,8 @@ class Answer:
 
     @property
     def value(self) -> Value:
-        """What was answered: True, False, names, sets, numbers, the kind of a certificate, or the text. None for unknown, and for a smallest set where there is none."""
+        """What was answered: True, False, names, sets, numbers, the kind of a certificate, or the text. None for
+        unknown, and for a smallest set where there is none."""
         if self.command in VERDICTS:
             return self.yes
         if self.command == "check":

@@ -15,7 +15,8 @@ from .network import Quorums
 if TYPE_CHECKING:
     import pandas
 
-# The members that the groups of these names are made from; any other name is a member itself, with dots from an object into it.
+# The members that the groups of these names are made from; any other name is a member itself, with dots from an
+# object into it.
 MEMBERS = {"org": "organizationId", "country": "geoData.countryCode", "isp": "isp", "homeDomain": "homeDomain"}
 # An id of the program has at most this many bytes, none of them a space, a comma or beyond ASCII.
 MOST_ID = 128
@@ -45,7 +46,8 @@ def group_id(text: str) -> str:
 
 @dataclass(frozen=True)
 class Groups:
-    """The nodes by a member: the file of organisations that says so, how many groups there are, and who has no such member."""
+    """The nodes by a member: the file of organisations that says so, how many groups there are, and who has no such
+    member."""
 
     by: str
     orgs: bytes
@@ -80,11 +82,21 @@ class Snapshot:
         With `as_is` the silent nodes have no quorum set, so that no quorum has one of them.
         """
         silent = set(self.silent()) if as_is else set()
-        return compact([{"publicKey": it["publicKey"], "quorumSet": None if it["publicKey"] in silent else read_set(it.get("quorumSet"))} for it in self.nodes])
+        return compact(
+            [
+                {
+                    "publicKey": it["publicKey"],
+                    "quorumSet": None if it["publicKey"] in silent else read_set(it.get("quorumSet")),
+                }
+                for it in self.nodes
+            ]
+        )
 
     def names(self) -> dict[str, str]:
         """What each node is called: its name, with its key if another has that name too; without one the key."""
-        named = {it["publicKey"]: it["name"] for it in self.nodes if isinstance(it.get("name"), str) and it["name"].strip()}
+        named = {
+            it["publicKey"]: it["name"] for it in self.nodes if isinstance(it.get("name"), str) and it["name"].strip()
+        }
         count = collections.Counter(named.values())
         return {key: shown(name) if count[name] == 1 else f"{shown(name)} ({key})" for key, name in named.items()}
 
@@ -100,7 +112,8 @@ class Snapshot:
         return found if isinstance(found, str) else json.dumps(found)
 
     def groups(self, by: str) -> Groups:
-        """The groups by `org`, `country`, `isp`, `homeDomain` or any other member; by `org` those of the file of organisations, if there is one."""
+        """The groups by `org`, `country`, `isp`, `homeDomain` or any other member; by `org` those of the file of
+        organisations, if there is one."""
         if by == "org" and self.given:
             return self.given_groups()
         members: dict[str, list[str]] = {}
@@ -113,14 +126,18 @@ class Snapshot:
                 members.setdefault(value, []).append(node["publicKey"])
         made = [{"id": group_id(value), "name": value, "validators": members[value]} for value in sorted(members)]
         names = {group_id(value): shown(value) for value in members}
-        return Groups(by, compact(made), names, {group_id(value): tuple(keys) for value, keys in members.items()}, tuple(alone))
+        return Groups(
+            by, compact(made), names, {group_id(value): tuple(keys) for value, keys in members.items()}, tuple(alone)
+        )
 
     def given_groups(self) -> Groups:
         """The groups of the file of organisations, without the members that only people read."""
         made = [{"id": it["id"], "validators": it.get("validators") or []} for it in self.given]
         known = set(self.keys)
         members = {it["id"]: tuple(key for key in it["validators"] if key in known) for it in made}
-        names = {it["id"]: shown(it["name"]) for it in self.given if isinstance(it.get("name"), str) and it["name"].strip()}
+        names = {
+            it["id"]: shown(it["name"]) for it in self.given if isinstance(it.get("name"), str) and it["name"].strip()
+        }
         inside = {key for keys in members.values() for key in keys}
         return Groups("org", compact(made), names, members, tuple(key for key in self.keys if key not in inside))
 
@@ -132,7 +149,8 @@ class Snapshot:
         return count
 
     def central(self, greatest: tuple[str, ...]) -> Optional[str]:
-        """The node inside the greatest quorum that the quorum sets of most other nodes name, the first of these by its key."""
+        """The node inside the greatest quorum that the quorum sets of most other nodes name, the first of these by
+        its key."""
         count = self.named()
         return min(greatest, key=lambda key: (-count[key], key)) if greatest else None
 
@@ -141,7 +159,11 @@ def read_set(held: Optional[dict[str, Any]]) -> Optional[dict[str, Any]]:
     """A quorum set with the members that are read."""
     if held is None:
         return None
-    return {"threshold": held["threshold"], "validators": held.get("validators") or [], "innerQuorumSets": [read_set(it) for it in held.get("innerQuorumSets") or []]}
+    return {
+        "threshold": held["threshold"],
+        "validators": held.get("validators") or [],
+        "innerQuorumSets": [read_set(it) for it in held.get("innerQuorumSets") or []],
+    }
 
 
 def mentioned(held: Optional[dict[str, Any]]) -> Iterator[str]:
@@ -162,6 +184,20 @@ def node_frame(network: Quorums) -> pandas.DataFrame:
     rows = []
     for node in snapshot.nodes:
         key, held = node["publicKey"], node.get("quorumSet")
-        row = {"key": key, "name": names.get(key), **{by: groups[by].get(key) for by in MEMBERS}, "validating": node.get("isValidating")}
-        rows.append({**row, "threshold": None if held is None else held["threshold"], "named_by": named[key], "in_greatest": key in greatest})
-    return pandas.DataFrame(rows, columns=["key", "name", *MEMBERS, "validating", "threshold", "named_by", "in_greatest"]).set_index("key")
+        row = {
+            "key": key,
+            "name": names.get(key),
+            **{by: groups[by].get(key) for by in MEMBERS},
+            "validating": node.get("isValidating"),
+        }
+        rows.append(
+            {
+                **row,
+                "threshold": None if held is None else held["threshold"],
+                "named_by": named[key],
+                "in_greatest": key in greatest,
+            }
+        )
+    return pandas.DataFrame(
+        rows, columns=["key", "name", *MEMBERS, "validating", "threshold", "named_by", "in_greatest"]
+    ).set_index("key")

@@ -16,7 +16,7 @@ if TYPE_CHECKING:
 
 Row = dict[str, str]
 
-HEAD = ("date", "file", "sha256", "orgs_sha256", "asked", "fault", "in_file", "without_set", "silent")
+HEAD = ("date", "file", "sha256", "orgs_sha256", "asked", "fault", "without_set", "silent")
 # What is no count among the columns.
 TEXTS = {"date", "file", "sha256", "orgs_sha256", "asked", "fault", "config", "view"}
 # A date in a file's name, and the time after it if there is one.
@@ -29,7 +29,20 @@ class Faulty(ValueError):
 
 def columns(asked: Asked) -> list[str]:
     """The columns of a table, in order."""
-    found = [*HEAD, "config", "view", "nodes", "quorum", "outside", "fork", "fork_certificate", "top_tier"]
+    found = [
+        *HEAD,
+        "config",
+        "view",
+        "nodes",
+        "in_view",
+        "quorum",
+        "outside",
+        "fork",
+        "fork_certificate",
+        "file_fork",
+        "file_fork_certificate",
+        "top_tier",
+    ]
     for by in asked.by:
         found += [f"top_tier_by_{by}", f"groups_by_{by}", f"alone_by_{by}"]
     found += ["smallest_quorum", "smallest_quorum_certificate"]
@@ -82,7 +95,8 @@ def is_text(column: str) -> bool:
 def frame(path: str) -> pandas.DataFrame:
     """The table as a pandas DataFrame: dates as dates, numbers as numbers, and whether it can fork as a truth value.
 
-    Where a number or truth value is missing, the column of the same name with `_status` has the word that says why: `unknown`, `none`,
+    Where a number or truth value is missing, the column of the same name with `_status` has the word that says why:
+    `unknown`, `none`,
     `not asked` or `refused`; else it has `known`, or nothing in the row of a fault.
     """
     import pandas
@@ -90,7 +104,7 @@ def frame(path: str) -> pandas.DataFrame:
     table = pandas.read_csv(path, dtype=str, keep_default_na=False)
     for column in [it for it in table.columns if not is_text(it)]:
         cells = table[column]
-        if column == "fork":
+        if column in ("fork", "file_fork"):
             values = cells.map({"yes": True, "no": False}).astype("boolean")
         else:
             values = pandas.to_numeric(cells, errors="coerce").astype("Int64")

@@ -62,7 +62,9 @@ def row(line: str, common: list[tuple[str, str]]) -> Command:
     bare = re.sub(r"\[[^]]*\]", "", line)
     options = [Option(flag, place, True) for flag, place in OPTION.findall(bare)]
     for inside in re.findall(r"\[([^]]*)\]", line):
-        options += [Option(flag, place, False) for flag, place in (common if inside == "COMMON" else OPTION.findall(inside))]
+        options += [
+            Option(flag, place, False) for flag, place in (common if inside == "COMMON" else OPTION.findall(inside))
+        ]
     return Command(line.split()[0], tuple(OPTION.sub("", bare).split()[1:]), tuple(options), line)
 
 

@@ -59,7 +59,9 @@ class Worker:
     def __init__(self) -> None:
         path = os.pathsep.join([os.path.dirname(PACKAGE), *filter(None, [os.environ.get("PYTHONPATH")])])
         words = [sys.executable, "-P", "-c", "from quorums.worker import main; main()"]
-        self.process = subprocess.Popen(words, stdin=subprocess.PIPE, stdout=subprocess.PIPE, bufsize=0, env={**os.environ, "PYTHONPATH": path})
+        self.process = subprocess.Popen(
+            words, stdin=subprocess.PIPE, stdout=subprocess.PIPE, bufsize=0, env={**os.environ, "PYTHONPATH": path}
+        )
 
     def kill(self) -> None:
         self.process.kill()
@@ -73,7 +75,8 @@ class Worker:
                 it.close()
 
     def call(self, name: str, arguments: tuple[Any, ...], until: float | None = None) -> Any:
-        """The value of a task; raises what it raised, TimeoutError, or Lost. After these two the process is of no more use."""
+        """The value of a task; raises what it raised, TimeoutError, or Lost. After these two the process is of no
+        more use."""
         data = pickle.dumps((name, arguments))
         source, sink = self.process.stdout, self.process.stdin
         assert source is not None and sink is not None
@@ -93,7 +96,11 @@ class Worker:
 
     def why(self) -> str:
         status = self.process.wait()
-        return f"the process of the call ended by signal {-status}" if status < 0 else f"the process of the call ended with status {status}"
+        return (
+            f"the process of the call ended by signal {-status}"
+            if status < 0
+            else f"the process of the call ended with status {status}"
+        )
 
 
 class Idle:
@@ -121,7 +128,8 @@ IDLE = Idle()
 
 
 def run(name: str, *arguments: Any, timeout: float | None = None, stop: Stop | None = None) -> Any:
-    """The value of a task in a process of its own. Raises TimeoutError after `timeout` seconds, Ended if `stop` ends it, Lost, and what the task raises."""
+    """The value of a task in a process of its own. Raises TimeoutError after `timeout` seconds, Ended if `stop`
+    ends it, Lost, and what the task raises."""
     if timeout is not None and (isinstance(timeout, bool) or not isinstance(timeout, (int, float))):
         raise TypeError(f"timeout must be a number of seconds, not {type(timeout).__name__}")
     if stop is not None and not isinstance(stop, Stop):
@@ -225,4 +233,3 @@ def main() -> None:
     sink = os.fdopen(os.dup(1), "wb", buffering=0)
     os.dup2(2, 1)
     serve(os.fdopen(os.dup(0), "rb", buffering=0), sink)
-
