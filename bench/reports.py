@@ -22,7 +22,7 @@ REPORTS = os.path.join(TOP, "docs", "reports")
 BUDGET = "10000"
 KINDS = [*watchers.KINDS, "split"]
 # The pictures: the first so many pixels of a page.
-PICTURES = {"network": 840, "split": 1085}
+PICTURES = {"network": 905, "split": 1085}
 
 
 def report(page, config, orgs, *words):

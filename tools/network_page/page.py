@@ -146,8 +146,8 @@ class Page:
         view = part.view
         if view.node is None:
             return "Each answer is about all %s of the file." % counted(len(self.network.keys), "node")
-        often = ", which %s name" % counted(self.network.named[view.node], "other") if part.own is None and view.node in self.network.named else ""
-        return "Who can stop it is asked as %s%s, sees it: with all on whom it depends, also through others, %d of %s." % (self.names.node(view.node), often, len(view.keys), counted(len(self.network.keys), "node"))
+        often = ", which %s name," % counted(self.network.named[view.node], "other") if part.own is None and view.node in self.network.named else ""
+        return "Who can stop it is asked as %s%s sees it: with all on whom it depends, also through others, %d of %s." % (self.names.node(view.node), often, len(view.keys), counted(len(self.network.keys), "node"))
 
     # The summary.
 
