@@ -66,7 +66,7 @@ ticking() {
       until=''
       kill -USR1 $$
     elif is_watched; then
-      rewrite "$(progress)"
+      rewrite "$(progress 2>/dev/null)"
     fi
   done
 }
@@ -186,7 +186,8 @@ stop_part() {
   is_up=1 came=stop
   [ -n "$child" ] && [ -n "$answer" ] || return 0
   kill -STOP "$child" 2>/dev/null
-  while [ "$state" != T ] && [ $((tries += 1)) -lt 1000 ]; do read -r _ _ state _ 2>/dev/null <"/proc/$child/stat" || return 0; done
+  # (on a busy machine it takes a while to stop; one that the disk holds up is writing)
+  while read -r _ _ state _ 2>/dev/null <"/proc/$child/stat" && [ "$state" != T ] && [ $((tries += 1)) -lt 300 ]; do sleep 0.01; done
   if [ "$state" = T ] && ! [ -s "/dev/fd/$held" ] && ! open_at "$cert.part" >/dev/null && ! open_at "$cert" >/dev/null; then
     is_cut=1
     kill -KILL "$child"
@@ -237,6 +238,14 @@ take_up() {
   units=${BASH_REMATCH[1]}
   answer=${answer//unknown 0/unknown $units}
   done_so_far="$units units$(figures)"
+  status=2
+}
+
+# Whether a part may be asked; the first is whatever the time.
+has_time_for_first() { [ -z "$ended_by" ]; }
+has_time() {
+  now
+  [ "$moment" -lt "$until" ] && [ -z "$is_up$ended_by" ]
 }
 
 # The budget after this one, which is the greatest at last.
@@ -257,9 +266,11 @@ run_in_parts() {
   for name in INT TERM HUP; do trap "interrupted $name" $name; done
   if ! take_up; then
     answer=''
-    ask_part 0 || ceiling=0
+    # (before it is known whose part lies there, nothing takes its place)
+    [ -z "$is_interrupted" ] || ended_by=INT
+    has_time_for_first && ask_part 0 || ceiling=0
   fi
-  while [ "$units" -lt "$ceiling" ] && units=$(more_than "$units") && ask_part "$units"; do :; done
+  while [ "$units" -lt "$ceiling" ] && has_time && units=$(more_than "$units") && ask_part "$units"; do :; done
   trap '' USR1
   trap - INT TERM HUP
   give_answer
@@ -274,7 +285,7 @@ give_answer() {
   *)
     [ -z "$is_cut" ] || status=2
     last_line
-    if [ -n "$is_cut" ]; then printf '%s\n' "$answer" 2>/dev/null || status=7; else pour; fi
+    if [ "$status" = 2 ]; then printf '%s\n' "$answer" 2>/dev/null || status=7; else pour; fi
     ;;
   esac
 }
