@@ -21,8 +21,12 @@ import subprocess
 import sys
 import tempfile
 
+sys.dont_write_bytecode = True
+
+import chosen  # noqa: E402
+
 TOP = os.path.dirname(os.path.dirname(os.path.abspath(__file__)))
-PROGRAM = os.environ.get("QUORUM_CLI", os.path.join(TOP, "crates", "quorum_cli", "out", "quorum_cli"))
+PROGRAM = chosen.PROGRAM
 TOOL = os.path.join(TOP, "tools", "network-report")
 IN_NODE = os.path.join(TOP, "tests", "web_summary.mjs")
 
