@@ -3,7 +3,7 @@
 
 // So many sets of organisations are asked about where their list is not whole. So many units are spent on that list, and on one of nodes, if no
 // budget is given: a unit of the second takes longer.
-const MOST_ASKED = 600, ORG_UNITS = 20000, NODE_UNITS = 1000;
+const MOST_ASKED = 600, ORG_UNITS = 5000, NODE_UNITS = 1000;
 // So many nodes are named one by one, more of them by their organisations; so many sets one by one, more of them by their number.
 const MOST_NAMED = 12, MOST_SETS = 30;
 
