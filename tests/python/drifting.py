@@ -65,7 +65,7 @@ class Network:
     def drift(self):
         """One day."""
         draw = self.random.random
-        for _ in range(self.random.randrange(4)):
+        for _ in range(self.random.randrange(min(4, len(self.watchers)))):
             self.watchers.pop(self.random.randrange(len(self.watchers)))
         for _ in range(self.random.randrange(4) if len(self.watchers) < 130 else 0):
             self.watchers.append(self.watcher())

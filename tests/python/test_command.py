@@ -190,7 +190,7 @@ def test_a_summary_in_lines_and_its_certificates(run):
     assert digest(f"kept/{certificate}.cert") == certificate
     assert run("check", f"kept/{document['config']}.json", f"kept/{certificate}.cert", "--keys")[:2] == (
         0,
-        "accepted refutation\nfrom\nfaulty\n",
+        "accepted refutation\nfrom GAAA1\nfaulty\n",
     )
     status, table, _ = run("summary", "examples/network.json", "--orgs", "examples/orgs.json", "--csv")
     assert next(csv.DictReader(io.StringIO(table)))["blocking_by_org_smallest"] == "2"
@@ -277,8 +277,8 @@ def test_a_refusal_is_the_programs_line(run, words, status, said):
 
 
 def test_a_question_ends_after_its_seconds(run, tmp_path):
-    (tmp_path / "large.json").write_bytes(as_json(flat(40, 25)))
-    status, out, said = run("quorums", "large.json", "q.cert", "--seconds", "2", "--budget", "4000000000")
+    (tmp_path / "large.json").write_bytes(as_json(flat(24, 13)))
+    status, out, said = run("quorums", "large.json", "q.cert", "--seconds", "10", "--budget", "4000000000")
     assert (status, said) == (2, "") and out.startswith("quorums unknown ")
     assert run("check", "large.json", "q.cert")[0] == 2
     status, out, said = run("quorums", "large.json", "--seconds", "0")

@@ -5,7 +5,7 @@ import os
 import re
 
 import pytest
-from conftest import as_json, flat, node
+from conftest import as_json, flat
 from drifting import make
 
 from quorums import bulk, history_page, tables
@@ -57,7 +57,7 @@ def made(tmp_path_factory):
     """A table of snapshots, one of which can fork, one of which is unknown and one of which is broken; its page."""
     place = tmp_path_factory.mktemp("history")
     make(str(place / "nodes"), 6, 1, watchers=5, organisations=7)
-    (place / "nodes" / "nodes-2022-03-01.json").write_bytes(as_json([node("a", 1, ["a"]), node("b", 1, ["b"])]))
+    (place / "nodes" / "nodes-2022-03-01.json").write_bytes(as_json(flat(4, 2)))
     (place / "nodes" / "nodes-2022-03-02.json").write_bytes(as_json(flat(24, 13)))
     (place / "nodes" / "nodes-2022-03-03 <b>.json").write_bytes(b"[")
     (place / "reports").mkdir()

@@ -14,7 +14,7 @@ if TYPE_CHECKING:
     import pandas
 
 # Units of the first search that has to end in time, and of the last one.
-FIRST_UNITS, MOST_UNITS = 1000, 4_000_000_000
+FIRST_UNITS, MOST_UNITS = 100, 4_000_000_000
 
 
 class Quorums(Commands):
