@@ -237,8 +237,8 @@ class Cluster:
         self.scheduler = self.start(
             "distributed.cli.dask_scheduler", "--port", "0", "--no-dashboard", "--scheduler-file", self.file
         )
-        for _ in range(300):
-            if os.path.exists(self.file):
+        for _ in range(1200):
+            if os.path.exists(self.file) and os.path.getsize(self.file):
                 break
             time.sleep(0.1)
         with open(self.file, encoding="utf-8") as it:
