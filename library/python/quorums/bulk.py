@@ -151,7 +151,7 @@ def cluster(tasks: Iterator[Task], asked: Asked, address: str) -> Answers:
         ) from None
     with client:
         most = 4 * max(1, sum(client.nthreads().values()))
-        running = distributed.as_completed()
+        running = distributed.as_completed(loop=client.loop)
         for task in tasks:
             running.add(
                 client.submit(row_of, task.data, task.orgs, asked, key="quorums-row-" + task.key, retries=ATTEMPTS - 1)
