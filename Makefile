@@ -26,7 +26,7 @@ install:
 	install -D -m 755 "$$program" "$(DESTDIR)$(PREFIX)/libexec/gemzulat/quorum_cli"
 	install -D -m 755 quorum_cli "$(DESTDIR)$(PREFIX)/bin/quorum_cli"
 	install -d "$(DESTDIR)$(PREFIX)/share/gemzulat"
-	install -m 644 VERSION share/script/commands share/script/watch.bash share/script/words.bash "$(DESTDIR)$(PREFIX)/share/gemzulat"
+	install -m 644 VERSION share/script/commands share/script/organisations.bash share/script/organisations.py share/script/watch.bash share/script/words.bash "$(DESTDIR)$(PREFIX)/share/gemzulat"
 	install -D -m 644 share/quorum_cli.1 "$(DESTDIR)$(PREFIX)/share/man/man1/quorum_cli.1"
 	install -D -m 644 share/quorum_cli.bash "$(DESTDIR)$(PREFIX)/share/bash-completion/completions/quorum_cli"
 	install -D -m 644 share/_quorum_cli "$(DESTDIR)$(PREFIX)/share/zsh/site-functions/_quorum_cli"

@@ -64,6 +64,22 @@ NAMED = [
     ("intersect three nowhere/t", "", 7, "an output could not be written: there is no folder nowhere"),
     ("show bad", "config not-json", 4, ""),
     ("show three", "nodes 3\nentries 9\nunset 0", 0, ""),
+    ("greatest three --orgs misfit --faulty-orgs A", "greatest b c", 0, "3 of 5 validators of misfit are not in three"),
+    ("greatest three --orgs=misfit --faulty-orgs=alpha.org", "greatest b c", 0, "3 of 5 validators of misfit are not in three"),
+    ("greatest three --faulty-orgs B,Alpha --orgs misfit", "greatest c", 0, "3 of 5 validators of misfit are not in three"),
+    (
+        "greatest three --orgs misfit --faulty-orgs C",
+        "greatest a b c",
+        0,
+        "3 of 5 validators of misfit are not in three\nquorum_cli: --faulty-orgs deletes nobody: no validator of these organisations is in three",
+    ),
+    (
+        "greatest three --orgs misfit --faulty-orgs Beta",
+        "usage unknown-name --faulty-orgs 1",
+        3,
+        "3 of 5 validators of misfit are not in three\nquorum_cli: 'Beta', item 1 of --faulty-orgs, is no organisation of misfit",
+    ),
+    ("greatest three --orgs bad", "orgs not-json", 4, ""),
 ]
 
 # Words of the script's own, and what is said of them with status 3 and nothing printed.
@@ -107,7 +123,9 @@ def system(nodes, threshold):
     return "[%s]" % ",".join('{"publicKey":"%s","quorumSet":{"threshold":%d,"validators":[%s]}}' % (it, threshold, names) for it in nodes)
 
 
-FILES = {"three": system("abc", 2), "orgs": '[{"id":"A","validators":["a","b"]}]', "bad": "{"}
+MISFIT = """[{"id":"A","name":"Alpha","homeDomain":"alpha.org","validators":["a","x"]},{"id":"B","name":"Beta","validators":["b"]},
+{"id":"C","name":"Beta","validators":["y","z"]}]"""
+FILES = {"three": system("abc", 2), "orgs": '[{"id":"A","validators":["a","b"]}]', "misfit": MISFIT, "bad": "{"}
 
 
 class Trial:
