@@ -39,7 +39,7 @@ TOP = os.path.dirname(os.path.dirname(os.path.abspath(__file__)))
 PROGRAM = chosen.PROGRAM
 MAKER = os.path.join(TOP, "tools", "web-page")
 EXAMPLES = os.path.join(TOP, "examples")
-MOST_BYTES = 700_000
+MOST_BYTES = 750_000
 WIDTHS = {"phone": 360, "tablet": 768, "desk": 1280}
 MIB = 1 << 20
 SHOWN = "document.body?.dataset.state === 'idle'"
