@@ -63,8 +63,8 @@ def is_launcher(file):
 
 def keep_sums(crate):
     """Has rtlib's class of crates take each sum once, and anew after the toolchain has worked: so the end of a build sees what changed
-    on the way."""
-    crate.stamp = functools.cache(crate.stamp)
+    on the way. (A kit's rt may put its own method in the place of this one, and then calls it.)"""
+    kept = crate.stamp = functools.cache(crate.stamp)
 
     def then_anew(method):
         @functools.wraps(method)
@@ -72,7 +72,7 @@ def keep_sums(crate):
             try:
                 return method(*given, **named)
             finally:
-                crate.stamp.cache_clear()
+                kept.cache_clear()
 
         return worked
 
