@@ -1,10 +1,10 @@
 #!/usr/bin/env python3
 """The table of checking: `check` on long certificates, beside `sha256sum` of the same bytes.
 
-The first is the log of a search. The others are refutations of examples/two.json: two begin with the first lemma that is known of
-it ten million times, under rising ids, in the second of them each deleted, by a line of its own, when the next one has come, so
-that few are held at a time. In the last that lemma stands once, and after its conflict come 130,000,000 bytes of hints on the same
-line. Each figure is of the least of three runs.
+The first is the log of a search. The others are refutations of examples/two.json: two begin with the first lemma that
+is known of it ten million times, under rising ids, in the second of them each deleted, by a line of its own, when the
+next one has come, so that few are held at a time. In the last that lemma stands once, and after its conflict come
+130,000,000 bytes of hints on the same line. Each figure is of the least of three runs.
 """
 import hashlib
 import os
@@ -24,7 +24,7 @@ SEARCHED, SHORT = "random:80:8:5:1", "random:40:10:6:1"
 def write_head(cert):
     with open(CONFIG, "rb") as config:
         digest = hashlib.sha256(config.read()).hexdigest()
-    cert.write("fbas-cert 1\nconfig %s\nfrom\nfaulty\nkind refutation\nformula 8 %d\n" % (digest, CLAUSES))
+    cert.write(f"fbas-cert 1\nconfig {digest}\nfrom\nfaulty\nkind refutation\nformula 8 {CLAUSES}\n")
 
 
 def write_line(path, size):
@@ -44,10 +44,10 @@ def write_lemmas(path, lemmas, deletes):
         last = CLAUSES
         for step in range(lemmas):
             last += 1
-            cert.write("%d -1 0 7 6 3 4 2 0\n" % last)
+            cert.write(f"{last} -1 0 7 6 3 4 2 0\n")
             if deletes and step > 0:
-                cert.write("%d d %d 0\n" % (last, last - 1))
-        cert.write("%d 0 %d 1 10 8 0\nend\n" % (last + 1, last))
+                cert.write(f"{last} d {last - 1} 0\n")
+        cert.write(f"{last + 1} 0 {last} 1 10 8 0\nend\n")
 
 
 def write_log(program, config, cert, system):
@@ -59,8 +59,16 @@ def write_log(program, config, cert, system):
 def row(program, name, config, cert):
     checked = runs.least([program, "check", config, cert], 3)
     if not checked.text.startswith("accepted refutation"):
-        raise SystemExit("%s: %r" % (name, checked.text))
-    return runs.row([name, runs.megabytes(os.path.getsize(cert)), runs.seconds(checked), checked.memory, runs.beside(checked, runs.least(["sha256sum", cert], 3))])
+        raise SystemExit(f"{name}: {checked.text!r}")
+    return runs.row(
+        [
+            name,
+            runs.megabytes(os.path.getsize(cert)),
+            runs.seconds(checked),
+            checked.memory,
+            runs.beside(checked, runs.least(["sha256sum", cert], 3)),
+        ]
+    )
 
 
 def made(program, quick):

@@ -1,5 +1,6 @@
 #!/usr/bin/env python3
-"""Configurations in stellarbeat's shape that are slow to read or to answer: bench/configurations.py FOLDER writes them."""
+"""Configurations in stellarbeat's shape that are slow to read or to answer: bench/configurations.py FOLDER writes
+them."""
 import json
 import os
 import sys
@@ -7,11 +8,11 @@ import sys
 
 def key(number):
     """A key as long as Stellar's: 56 bytes, in an order that is not that of the numbers."""
-    return "G%07d" % ((number * 2654435761) % 10_000_019) + "A" * 48
+    return f"G{(number * 2654435761) % 10_000_019:07d}" + "A" * 48
 
 
 def ordered_key(number):
-    return "G%07d" % number + "A" * 48
+    return f"G{number:07d}" + "A" * 48
 
 
 def node(name, quorum_set):
@@ -26,7 +27,7 @@ def node(name, quorum_set):
 
 def short_key(number):
     """A key of four bytes, so that a million entries fit into 16 MiB."""
-    return "%04x" % (number * 40503 % 65536)
+    return f"{number * 40503 % 65536:04x}"
 
 
 def dense(nodes, entries, name):
@@ -72,11 +73,12 @@ def chain(nodes, name, step):
 
 
 def zigzag(nodes, entries):
-    """A chain whose next node stands in the upper and in the lower half of the names in turn, so that sweeps take out one each.
+    """A chain whose next node stands in the upper and in the lower half of the names in turn, so that sweeps take out
+    one each.
 
     The node at place i of the chain needs the one before it, named entries(i) times.
     """
-    name = [("%04x" % (nodes // 2 + i // 2 if i % 2 == 0 else i // 2)) for i in range(nodes)]
+    name = [f"{nodes // 2 + i // 2 if i % 2 == 0 else i // 2:04x}" for i in range(nodes)]
     out = [{"publicKey": name[0]}]
     for i in range(1, nodes):
         out.append(node(name[i], {"threshold": 1, "validators": [name[i - 1]] * entries(i), "innerQuorumSets": []}))
@@ -86,13 +88,17 @@ def zigzag(nodes, entries):
 def behind(nodes, share):
     """Each node needs one of the next `share` nodes by name, and the last has no quorum set.
 
-    So the nodes fall from the last to the first, each when all that it names have fallen, and those that name one that falls
-    are looked at again from the first of them on: all in vain but the last.
+    So the nodes fall from the last to the first, each when all that it names have fallen, and those that name one that
+    falls are looked at again from the first of them on: all in vain but the last.
     """
     out = []
     for v in range(nodes):
-        after = ["%04x" % w for w in range(v + 1, min(nodes, v + 1 + share))]
-        out.append(node("%04x" % v, {"threshold": 1, "validators": after, "innerQuorumSets": []}) if after else {"publicKey": "%04x" % v})
+        after = [f"{w:04x}" for w in range(v + 1, min(nodes, v + 1 + share))]
+        out.append(
+            node(f"{v:04x}", {"threshold": 1, "validators": after, "innerQuorumSets": []})
+            if after
+            else {"publicKey": f"{v:04x}"}
+        )
     return out
 
 
@@ -101,8 +107,9 @@ def write(path, nodes):
         json.dump(nodes, file, separators=(",", ":"))
 
 
-# The last node of zigzag-large has almost all of a million entries, each of zigzag-even has its share of them. Those that begin
-# with `most` have as many nodes as there may be: with ten entries each, with a million in all, in a chain, and looked at again in vain.
+# The last node of zigzag-large has almost all of a million entries, each of zigzag-even has its share of them. Those
+# that begin with `most` have as many nodes as there may be: with ten entries each, with a million in all, in a chain,
+# and looked at again in vain.
 FILES = {
     "half": lambda: dense(4096, 500_000, short_key),
     "whole": lambda: dense(4096, 1_000_000, short_key),

@@ -1,8 +1,9 @@
 #!/usr/bin/env python3
-"""The table of edits: what the scripts of `whatif` cost beyond reading, on generated systems. bench/edits.py [PROGRAM] prints it.
+"""The table of edits: what the scripts of `whatif` cost beyond reading, on generated systems. bench/edits.py [PROGRAM]
+prints it.
 
-What a script costs is the processor time of `whatif` with it less that with an empty script, which reads the same system and says
-what is so of it once; each is the least of three runs, and prints to /dev/null.
+What a script costs is the processor time of `whatif` with it less that with an empty script, which reads the same
+system and says what is so of it once; each is the least of three runs, and prints to /dev/null.
 """
 import os
 import sys
@@ -23,33 +24,34 @@ def names_of(system):
 def changing(system, count):
     """Edits of which each second one changes the greatest quorum.
 
-    Of each four the first takes a node out of it and the third brings the node back; the second names that node once more in an
-    inner quorum set of the next, and the fourth drops it there.
+    Of each four the first takes a node out of it and the third brings the node back; the second names that node once
+    more in an inner quorum set of the next, and the fourth drops it there.
     """
     names, out = names_of(system), []
     for turn in range(count // 4):
         at = 2 * turn % len(names)
         node, other, threshold = names[at], names[at + 1], system[at]["quorumSet"]["threshold"]
         out += [
-            "threshold %s . %d" % (node, TOO_HIGH),
-            "add %s .0 %s" % (other, node),
-            "threshold %s . %d" % (node, threshold),
-            "drop %s .0 %s" % (other, node),
+            f"threshold {node} . {TOO_HIGH}",
+            f"add {other} .0 {node}",
+            f"threshold {node} . {threshold}",
+            f"drop {other} .0 {node}",
         ]
     return out
 
 
 def keeping(system, count):
-    """Edits that change no answer: a name more and the same name less, and the threshold of an inner quorum set down and up."""
+    """Edits that change no answer: a name more and the same name less, and the threshold of an inner quorum set down
+    and up."""
     names, out = names_of(system), []
     for turn in range(count // 4):
         at = 2 * turn % len(names)
         node, other, threshold = names[at], names[at + 1], system[at]["quorumSet"]["innerQuorumSets"][0]["threshold"]
         out += [
-            "add %s .0 %s" % (node, other),
-            "threshold %s .0 %d" % (node, threshold - 1),
-            "threshold %s .0 %d" % (node, threshold),
-            "drop %s .0 %s" % (node, other),
+            f"add {node} .0 {other}",
+            f"threshold {node} .0 {threshold - 1}",
+            f"threshold {node} .0 {threshold}",
+            f"drop {node} .0 {other}",
         ]
     return out
 
@@ -58,7 +60,7 @@ def bringing(system, count, name):
     """Edits that bring a name each: in turn a node with a quorum set, and an entry of a quorum set."""
     names = names_of(system)
     new = [name(len(names) + at) for at in range(count)]
-    return ["add %s .0 %s" % (names[at % len(names)], it) if at % 2 else "declare " + it for at, it in enumerate(new)]
+    return [f"add {names[at % len(names)]} .0 {it}" if at % 2 else "declare " + it for at, it in enumerate(new)]
 
 
 def chained(nodes, name):
@@ -68,8 +70,9 @@ def chained(nodes, name):
 
 
 def toppling(system, count):
-    """Edits of the last node of a chain, which take all nodes out of the greatest quorum and bring them back in turn."""
-    return ["threshold %s . %d" % (names_of(system)[-1], at % 2 or 2) for at in range(count)]
+    """Edits of the last node of a chain, which take all nodes out of the greatest quorum and bring them back in
+    turn."""
+    return [f"threshold {names_of(system)[-1]} . {at % 2 or 2}" for at in range(count)]
 
 
 def small():
@@ -92,13 +95,18 @@ ROWS = [
     ("half change the quorum", large, lambda system: changing(system, 1_000)),
     ("none does", large, lambda system: keeping(system, 1_000)),
     ("each names a node", with_room, lambda system: bringing(system, 1_000, configurations.short_key)),
-    ("a chain falls or rises", lambda: chained(16_384, configurations.short_key), lambda system: toppling(system, 100)),
+    (
+        "a chain falls or rises",
+        lambda: chained(16_384, configurations.short_key),
+        lambda system: toppling(system, 100),
+    ),
 ]
 QUICK = 3
 
 
 def written(folder, row):
-    """Writes the system and the script of a row; gives their paths, how many edits there are, and a name of the system."""
+    """Writes the system and the script of a row; gives their paths, how many edits there are, and a name of the
+    system."""
     _, system_of, lines_of = row
     system = system_of()
     lines = lines_of(system)
@@ -112,7 +120,9 @@ def written(folder, row):
 def cost(program, config, script, names):
     """The run of a script, and the seconds that it takes beyond reading."""
     with open(os.devnull, "wb") as out:
-        ours, without = (runs.least([program, "whatif", config, it, "--set=" + names], 3, out) for it in (script, os.devnull))
+        ours, without = (
+            runs.least([program, "whatif", config, it, "--set=" + names], 3, out) for it in (script, os.devnull)
+        )
     return ours, max(0.0, ours.seconds - without.seconds)
 
 
@@ -124,7 +134,16 @@ def made(program, quick):
             config, script, count, name = written(folder, row)
             nodes, entries = reading.counted(config)
             ours, seconds = cost(program, config, script, name)
-            yield runs.row(["{:,}".format(count), row[0], "{:,}".format(nodes), "{:,}".format(entries), "%.2f" % seconds, ours.memory])
+            yield runs.row(
+                [
+                    "{:,}".format(count),
+                    row[0],
+                    "{:,}".format(nodes),
+                    "{:,}".format(entries),
+                    f"{seconds:.2f}",
+                    ours.memory,
+                ]
+            )
 
 
 def main(program):

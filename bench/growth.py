@@ -26,14 +26,18 @@ def grid(axes, sizes, label):
     """The lines of the times, and the sizes below."""
     for power in range(axes.times[0], axes.times[1] + 1):
         y = axes.up(10**power)
-        yield f'<path d="M{LEFT} {y:.0f}H{WIDTH - RIGHT}" stroke="#ddd"/><text x="{LEFT - 8}" y="{y + 4:.0f}" text-anchor="end">{10.0**power:g} s</text>'
+        yield (
+            f'<path d="M{LEFT} {y:.0f}H{WIDTH - RIGHT}" stroke="#ddd"/><text x="{LEFT - 8}" y="{y + 4:.0f}"'
+            f' text-anchor="end">{10.0**power:g} s</text>'
+        )
     for size in sizes:
         yield f'<text x="{axes.across(size):.0f}" y="{HEIGHT - LOW + 18}" text-anchor="middle">{size}</text>'
     yield f'<text x="{(LEFT + WIDTH - RIGHT) / 2:.0f}" y="{HEIGHT - 4}" text-anchor="middle">{label}</text>'
 
 
 def line(axes, name, colour, points, y):
-    """A program's times up to the first that did not end, which is drawn at its limit, by a broken line; its name at a height."""
+    """A program's times up to the first that did not end, which is drawn at its limit, by a broken line; its name at a
+    height."""
     places = [(axes.across(size), axes.up(seconds)) for size, seconds, _ in points]
     whole = sum(1 for _, _, ended in points if ended)
     joined = " ".join("%.1f,%.1f" % it for it in places[:whole])
@@ -47,7 +51,8 @@ def line(axes, name, colour, points, y):
 
 
 def picture(title, label, lines):
-    """The picture of some programs' times: for each name the sizes, the seconds and whether the run ended, in order of size."""
+    """The picture of some programs' times: for each name the sizes, the seconds and whether the run ended, in order of
+    size."""
     cut = {}
     for name, points in lines.items():
         first = next((at for at, point in enumerate(points) if not point[2]), len(points))
@@ -58,7 +63,10 @@ def picture(title, label, lines):
     for name in sorted(cut, key=lambda it: axes.up(cut[it][-1][1])):
         heights[name] = last = max(axes.up(cut[name][-1][1]) + 4, last + 15)
     out = [
-        f'<svg xmlns="http://www.w3.org/2000/svg" viewBox="0 0 {WIDTH} {HEIGHT}" font-family="sans-serif" font-size="12">',
+        (
+            f'<svg xmlns="http://www.w3.org/2000/svg" viewBox="0 0 {WIDTH} {HEIGHT}" font-family="sans-serif"'
+            ' font-size="12">'
+        ),
         f"<title>{title}</title>",
         f'<rect width="{WIDTH}" height="{HEIGHT}" fill="#fff"/>',
         *grid(axes, sizes, label),

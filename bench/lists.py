@@ -1,9 +1,10 @@
 #!/usr/bin/env python3
 """The tables of lists and of `least` beside clasp (Debian's packages clasp and gringo).
 
-For blocking sets clasp enumerates the subset-minimal sets, of nodes or of organisations, that meet the quorums which our run has listed; for quorums the
-subset-minimal answer sets of the system as a logic program, and for `least` it minimizes over these. It proves nothing, and gringo's time is not counted. A row has single
-runs: processor time and largest memory of the list with its certificate, and of `check`. Both numbers of sets have to agree.
+For blocking sets clasp enumerates the subset-minimal sets, of nodes or of organisations, that meet the quorums which
+our run has listed; for quorums the subset-minimal answer sets of the system as a logic program, and for `least` it
+minimizes over these. It proves nothing, and gringo's time is not counted. A row has single runs: processor time and
+largest memory of the list with its certificate, and of `check`. Both numbers of sets have to agree.
 """
 import json
 import os
@@ -22,11 +23,11 @@ LIMIT = 300
 
 
 def quorum_set(threshold, validators, inner=()):
-    return {"threshold": threshold, "validators": ["n%03d" % v for v in validators], "innerQuorumSets": list(inner)}
+    return {"threshold": threshold, "validators": [f"n{v:03d}" for v in validators], "innerQuorumSets": list(inner)}
 
 
 def network(nodes, wanted):
-    return [{"publicKey": "n%03d" % v, "quorumSet": wanted} for v in range(nodes)]
+    return [{"publicKey": f"n{v:03d}", "quorumSet": wanted} for v in range(nodes)]
 
 
 def organisations(count, needed, size, threshold):
@@ -58,7 +59,7 @@ LEAST = {
 
 def owned(names, size):
     """Organisations of so many of the nodes each, in order."""
-    return [{"id": "o%04d" % (at // size), "validators": names[at : at + size]} for at in range(0, len(names), size)]
+    return [{"id": f"o{at // size:04d}", "validators": names[at : at + size]} for at in range(0, len(names), size)]
 
 
 def grouped(count, needed, size, threshold):
@@ -69,7 +70,7 @@ def grouped(count, needed, size, threshold):
 
 def apart(count, size):
     """Organisations that agree each by itself."""
-    names = ["n%05d" % v for v in range(count * size)]
+    names = [f"n{v:05d}" for v in range(count * size)]
     wanted = [{"threshold": size - 1, "validators": names[at : at + size]} for at in range(0, count * size, size)]
     return [{"publicKey": name, "quorumSet": wanted[v // size]} for v, name in enumerate(names)], owned(names, size)
 
@@ -84,7 +85,8 @@ ORGS = {
 
 
 class Listed:
-    """An answer with its certificate: the number that is printed, the runs, the units, and the quorums of the certificate."""
+    """An answer with its certificate: the number that is printed, the runs, the units, and the quorums of the
+    certificate."""
 
     def __init__(self, program, word, nodes, folder, orgs):
         config, cert, given = (os.path.join(folder, it) for it in ("config", "cert", "orgs"))
@@ -98,7 +100,7 @@ class Listed:
         self.check = runs.run([program, "check", config, cert, *more])
         said, again = self.run.text.splitlines(), self.check.text.splitlines()
         if again[:1] != ["accepted " + said[0]] or again[3:] != said[1:]:
-            raise SystemExit("check says %s" % again[:4])
+            raise SystemExit(f"check says {again[:4]}")
         self.sets, self.size = int(said[0].split()[1]), os.path.getsize(cert)
         self.units, self.quorums = 0, []
         with open(cert) as it:
@@ -110,8 +112,8 @@ class Listed:
 def hitting(names, quorums):
     """A logic program whose minimal answer sets are those that meet each quorum."""
     numbers = {name: i for i, name in enumerate(names)}
-    met = [":- " + ", ".join("not v(%d)" % numbers[name] for name in quorum) + "." for quorum in quorums]
-    return "\n".join(["{v(0..%d)}." % (len(names) - 1), "#show v/1.", *met])
+    met = [":- " + ", ".join(f"not v({numbers[name]})" for name in quorum) + "." for quorum in quorums]
+    return "\n".join([f"{{v(0..{len(names) - 1})}}.", "#show v/1.", *met])
 
 
 def logic(nodes):
@@ -122,17 +124,22 @@ def logic(nodes):
         at = len(sets)
         sets.append(None)
         inner = [name(it) for it in wanted.get("innerQuorumSets") or []]
-        entries = ["%d : in(%d)" % (i, numbers[it]) if it in numbers else None for i, it in enumerate(wanted.get("validators") or [])]
-        entries += ["%d : s(%d)" % (1000 + i, it) for i, it in enumerate(inner)]
+        entries = [
+            f"{i} : in({numbers[it]})" if it in numbers else None
+            for i, it in enumerate(wanted.get("validators") or [])
+        ]
+        entries += [f"{1000 + i} : s({it})" for i, it in enumerate(inner)]
         if 0 < wanted["threshold"] <= len(entries):
-            out.append("s(%d) :- #count { %s } >= %d." % (at, "; ".join(it for it in entries if it), wanted["threshold"]))
+            out.append(f"s({at}) :- #count {{ {'; '.join(it for it in entries if it)} }} >= {wanted['threshold']}.")
         return at
 
     for node in nodes:
         if node.get("quorumSet") is not None:
             text = json.dumps(node["quorumSet"], sort_keys=True)
             known[text] = known[text] if text in known else name(node["quorumSet"])
-            out.append("{in(%d)}. :- in(%d), not s(%d)." % (numbers[node["publicKey"]], numbers[node["publicKey"]], known[text]))
+            out.append(
+                f"{{in({numbers[node['publicKey']]})}}. :- in({numbers[node['publicKey']]}), not s({known[text]})."
+            )
     return "\n".join(out) + "\nany :- in(X). :- not any. #show in/1.\n"
 
 
@@ -140,9 +147,9 @@ def clasp(program, options, word, wanted):
     """Clasp's run on a logic program, which has to print the same number."""
     ground = subprocess.run(["gringo"], input=program, capture_output=True, text=True, check=True).stdout
     made = runs.run(["clasp", "0", "--quiet=2", *options], LIMIT, ground)
-    found = re.findall(r"^%s +: (\d+)" % word, made.text, re.M)[-1:]
+    found = re.findall(rf"^{word} +: (\d+)", made.text, re.M)[-1:]
     if made.ended and found != [str(wanted)]:
-        raise SystemExit("clasp finds %s and not %d" % (found, wanted))
+        raise SystemExit(f"clasp finds {found} and not {wanted}")
     return made
 
 
@@ -181,14 +188,33 @@ def listed(program, word, name, nodes, orgs=None):
     if not it.run.ended:
         return runs.row([name, "-", "-", runs.seconds(it.run), it.run.memory, "-", "-", "-"])
     its = beside(word, nodes, it, orgs) if runs.has("clasp") and runs.has("gringo") else None
-    cells = [name, "{:,}".format(it.sets), "{:,}".format(it.units), runs.seconds(it.run), it.run.memory, runs.megabytes(it.size), runs.seconds(it.check)]
+    cells = [
+        name,
+        "{:,}".format(it.sets),
+        "{:,}".format(it.units),
+        runs.seconds(it.run),
+        it.run.memory,
+        runs.megabytes(it.size),
+        runs.seconds(it.check),
+    ]
     return runs.row([*cells, runs.beside(it.run, its)])
 
 
 def made(program, quick):
     """The lines of the tables, one by one."""
     for word, systems in (("blocking", BLOCKING), ("org-blocking", ORGS), ("quorums", QUORUMS), ("least", LEAST)):
-        yield from runs.head(["`%s` of" % word, "nodes" if word == "least" else "sets", "units", "s", "MB", "certificate, MB", "`check`, s", "clasp, s"])
+        yield from runs.head(
+            [
+                f"`{word}` of",
+                "nodes" if word == "least" else "sets",
+                "units",
+                "s",
+                "MB",
+                "certificate, MB",
+                "`check`, s",
+                "clasp, s",
+            ]
+        )
         for name in list(systems)[: 1 if quick else None]:
             yield listed(program, word, name, *(systems[name] if word == "org-blocking" else (systems[name],)))
         yield ""

@@ -1,21 +1,22 @@
 #!/usr/bin/env python3
 """Times the checker of steps on generated logs, and measures a log in memory: bench/lrat.py [FOLDER] [ADDITIONS].
 
-Builds crates/lrat_bench (with its proofs, some minutes the first time), writes the logs into FOLDER, and prints for each
-the least processor time of three runs (other work on the machine hardly changes that) and the largest memory of a run.
+Builds crates/lrat_bench (with its proofs, some minutes the first time), writes the logs into FOLDER, and prints for
+each the least processor time of three runs (other work on the machine hardly changes that) and the largest memory of a
+run.
 
 A log's formula has GROUPS groups of clauses. A group has the variables x1 to x10 and y1 to y9 and the clauses
-`x1 x2 y1`, `-y1 x3 y2`, .., `-y8 x10 y9`, `-y9 x1 x2`. Lemma after lemma is the clause `x1 .. x10` of a group, the groups
-in turn: from its negation nine clauses of the group force y1 to y9, and the tenth hint is false, which is the last clause
-of the group or, later, the group's lemma before this one. So each addition has ten literals and ten hints.
+`x1 x2 y1`, `-y1 x3 y2`, .., `-y8 x10 y9`, `-y9 x1 x2`. Lemma after lemma is the clause `x1 .. x10` of a group, the
+groups in turn: from its negation nine clauses of the group force y1 to y9, and the tenth hint is false, which is the
+last clause of the group or, later, the group's lemma before this one. So each addition has ten literals and ten hints.
 
-In `definitions` each three lemmas define a new variable as the conjunction of two of the formula's, which are RAT steps: the
-first has no group, since no clause has the new variable yet, and the two others have one each.
+In `definitions` each three lemmas define a new variable as the conjunction of two of the formula's, which are RAT
+steps: the first has no group, since no clause has the new variable yet, and the two others have one each.
 
-Two more logs are as a partial certificate asks for them: no lemma is covered by a clause before it, and each is asked about.
-In `pairs` the formula says that x1 implies x2, x2 implies x3, and so on, and the lemmas are all other implications
-of them. In `sets` each of many groups has the clause `a1 .. a10`, and each ai is equivalent to its bi; the lemmas
-are the clause with some of its literals put for their equivalents, one more or less from lemma to lemma.
+Two more logs are as a partial certificate asks for them: no lemma is covered by a clause before it, and each is asked
+about. In `pairs` the formula says that x1 implies x2, x2 implies x3, and so on, and the lemmas are all other
+implications of them. In `sets` each of many groups has the clause `a1 .. a10`, and each ai is equivalent to its bi;
+the lemmas are the clause with some of its literals put for their equivalents, one more or less from lemma to lemma.
 """
 import os
 import subprocess
@@ -46,14 +47,15 @@ def words(numbers):
 
 
 def write(path, additions, kept):
-    """A log of this many additions. Where `kept` is a number, each lemma is deleted when so many others came after it."""
+    """A log of this many additions. Where `kept` is a number, each lemma is deleted when so many others came after
+    it."""
     groups = [group(number) for number in range(GROUPS)]
     with open(path, "w") as log:
         last = 0
         for _, clauses in groups:
             for clause in clauses:
                 last += 1
-                log.write("%d %s 0 0\n" % (last, words(clause)))
+                log.write(f"{last} {words(clause)} 0 0\n")
         given = last
         latest = [CLAUSES * (number + 1) for number in range(GROUPS)]
         for step in range(additions):
@@ -61,10 +63,10 @@ def write(path, additions, kept):
             lits, _ = groups[number]
             chain = range(CLAUSES * number + 1, CLAUSES * number + 10)
             last += 1
-            log.write("%d %s 0 %s %d 0\n" % (last, words(lits), words(chain), latest[number]))
+            log.write(f"{last} {words(lits)} 0 {words(chain)} {latest[number]} 0\n")
             latest[number] = last
             if kept is not None and step >= kept:
-                log.write("%d d %d 0\n" % (last, last - kept))
+                log.write(f"{last} d {last - kept} 0\n")
     return given
 
 
@@ -74,11 +76,11 @@ def write_lines(path, clauses, lemmas):
     with open(path, "w") as log:
         for clause in clauses:
             last += 1
-            log.write("%d %s 0 0\n" % (last, words(clause)))
+            log.write(f"{last} {words(clause)} 0 0\n")
         given = last
         for lits, hints in lemmas:
             last += 1
-            log.write("%d %s 0 %s 0\n" % (last, words(lits), words(hints)))
+            log.write(f"{last} {words(lits)} 0 {words(hints)} 0\n")
     return given, last - given
 
 
@@ -157,7 +159,7 @@ def run(path, arguments):
             _, status, usage = os.wait4(child.pid, 0)
             took = usage.ru_utime + usage.ru_stime
         if status != 0:
-            sys.exit("%s: the program ended with %d" % (path, status))
+            sys.exit(f"{path}: the program ended with {status}")
         best = took if best is None else min(best, took)
         most = max(most, usage.ru_maxrss // 1024)
     return best, most, " ".join(text.decode().split())
@@ -178,28 +180,33 @@ def main():
         reading, _, _ = run(path, [])
         checking, memory, text = run(path, [str(GROUPS * VARIABLES), str(given)])
         steps = sum(int(word) for word in text.split()[1:4:2])
-        print("| %s | %d | %s | %.2f s | %.2f s | %d | %d MB |"
-              % (name, os.path.getsize(path), text, reading, checking, steps / checking, memory))
+        print(
+            f"| {name} | {os.path.getsize(path)} | {text} | {reading:.2f} s | {checking:.2f} s |"
+            f" {int(steps / checking)} | {memory} MB |"
+        )
     path = os.path.join(folder, "definitions.lrat")
     variables, given = write_definitions(path, additions)
     reading, _, _ = run(path, [])
     checking, memory, text = run(path, [str(variables), str(given)])
     steps = sum(int(word) for word in text.split()[1:4:2])
-    print("| definitions | %d | %s | %.2f s | %.2f s | %d | %d MB |"
-          % (os.path.getsize(path), text, reading, checking, steps / checking, memory))
+    print(
+        f"| definitions | {os.path.getsize(path)} | {text} | {reading:.2f} s | {checking:.2f} s |"
+        f" {int(steps / checking)} | {memory} MB |"
+    )
     print()
-    print("| log | bytes | lemmas | reading and checking | and asking of each whether it is covered | largest memory |")
+    print(
+        "| log | bytes | lemmas | reading and checking | and asking of each whether it is covered | largest memory |"
+    )
     print("|---|---|---|---|---|---|")
     for name, write_log in [("pairs", write_pairs), ("sets", write_sets)]:
         path = os.path.join(folder, name + ".lrat")
         variables, given = write_log(path, additions)
         checking, _, _ = run(path, [str(variables), str(given)])
         asking, memory, text = run(path, [str(variables), str(given), "covers"])
-        print("| %s | %d | %s | %.2f s | %.2f s | %d MB |"
-              % (name, os.path.getsize(path), text, checking, asking, memory))
+        print(f"| {name} | {os.path.getsize(path)} | {text} | {checking:.2f} s | {asking:.2f} s | {memory} MB |")
     took, memory, text = run(os.devnull, ["log", str(additions)])
     print()
-    print("a log in memory, 20 literals and 100 hints a lemma: %s, %.2f s, %d MB" % (text, took, memory))
+    print(f"a log in memory, 20 literals and 100 hints a lemma: {text}, {took:.2f} s, {memory} MB")
 
 
 if __name__ == "__main__":

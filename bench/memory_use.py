@@ -1,5 +1,6 @@
 #!/usr/bin/env python3
-"""The table of memory: the program on the files of tests/memory.py without a limit, `show` beside `jq -c length`; and its stack.
+"""The table of memory: the program on the files of tests/memory.py without a limit, `show` beside `jq -c length`; and
+its stack.
 
 A run that takes no more than SMALL megabytes has no row.
 """
@@ -18,7 +19,7 @@ SMALL = 100
 
 def right(ended, answer, name):
     if (ended.status, ended.text) != answer:
-        raise SystemExit("%s: status %d, %r" % (name, ended.status, ended.text[:100]))
+        raise SystemExit(f"{name}: status {ended.status}, {ended.text[:100]!r}")
 
 
 def show(trial, name, data, text):
@@ -26,14 +27,16 @@ def show(trial, name, data, text):
     ended = memory.Ended([trial.program, "show", "config"], trial.folder)
     right(ended, (0, text), name)
     its = runs.run(["jq", "-c", "length", os.path.join(trial.folder, "config")])
-    return ended.memory, runs.row(["`show`, " + name, "%.0f" % ended.memory, "%.2f" % ended.time, its.memory, "%.2f" % its.seconds])
+    return ended.memory, runs.row(
+        ["`show`, " + name, f"{ended.memory:.0f}", f"{ended.time:.2f}", its.memory, f"{its.seconds:.2f}"]
+    )
 
 
 def check(trial, name, pieces, answer):
     trial.put("config", malicious.TWO)
     ended = memory.Ended([trial.program, "check", "config", "/dev/stdin"], trial.folder, pieces=pieces)
     right(ended, answer, name)
-    return ended.memory, runs.row(["`check`, " + name, "%.0f" % ended.memory, "%.2f" % ended.time, "-", "-"])
+    return ended.memory, runs.row(["`check`, " + name, f"{ended.memory:.0f}", f"{ended.time:.2f}", "-", "-"])
 
 
 def stack_line(trial):
@@ -41,8 +44,11 @@ def stack_line(trial):
     for size, less in zip(memory.STACKS, memory.STACKS[1:]):
         bad = trial.fails_under(less, rows)
         if bad:
-            return "Under a stack of %d kB every file is answered; under %d kB the system ends `%s`." % (size, less, " ".join(bad[0][0]))
-    return "Under a stack of %d kB every file is answered." % memory.STACKS[-1]
+            return (
+                f"Under a stack of {size} kB every file is answered; under {less} kB the system ends"
+                f" `{' '.join(bad[0][0])}`."
+            )
+    return f"Under a stack of {memory.STACKS[-1]} kB every file is answered."
 
 
 def measured(trial, quick):
@@ -61,5 +67,5 @@ def made(program, quick):
         trial = memory.Trial(folder, program)
         yield from (row for most, row in measured(trial, quick) if most > SMALL or quick)
         yield ""
-        yield "All others take at most %d MB." % SMALL
+        yield f"All others take at most {SMALL} MB."
         yield stack_line(trial)

@@ -1,8 +1,8 @@
 #!/usr/bin/env python3
 """Networks of organisations to time: bench/organisations.py KIND ARGUMENT .. > CONFIG.
 
-The kinds are the functions below, each with its arguments, all numbers. But where it is said, an organisation has three nodes, of
-which two are needed.
+The kinds are the functions below, each with its arguments, all numbers. But where it is said, an organisation has
+three nodes, of which two are needed.
 """
 import json
 import random
@@ -28,7 +28,9 @@ def two_thirds(count):
 
 def network(quorum_sets):
     """A configuration in which the nodes of the i-th organisation have the i-th of these quorum sets."""
-    return [{"publicKey": name, "quorumSet": quorum_set} for i, quorum_set in enumerate(quorum_sets) for name in members(i)]
+    return [
+        {"publicKey": name, "quorumSet": quorum_set} for i, quorum_set in enumerate(quorum_sets) for name in members(i)
+    ]
 
 
 def organisations(count):
@@ -37,7 +39,7 @@ def organisations(count):
 
 def flat(count, threshold):
     """So many nodes, each of which wants so many of all."""
-    names = ["t%04d" % i for i in range(count)]
+    names = [f"t{i:04d}" for i in range(count)]
     return [{"publicKey": name, "quorumSet": outer(threshold, [], names)} for name in names]
 
 
@@ -60,14 +62,16 @@ def rotated(count):
 
 
 def tiers(core, more):
-    """A core that wants two thirds of itself, and outer organisations that want the same and two of their own nodes."""
+    """A core that wants two thirds of itself, and outer organisations that want the same and two of their own
+    nodes."""
     sets = organisations(core + more)
     common = outer(two_thirds(core), sets[:core])
     return network([common] * core + [outer(2, [it, common]) for it in sets[core:]])
 
 
 def mixed(count, kinds, seed):
-    """So many kinds of quorum sets, with thresholds from two thirds up, each of which leaves out up to two organisations."""
+    """So many kinds of quorum sets, with thresholds from two thirds up, each of which leaves out up to two
+    organisations."""
     choice, sets, forms = random.Random(seed), organisations(count), []
     for kind in range(kinds):
         gone = set(choice.sample(range(count), choice.randint(0, 2)))
@@ -77,7 +81,8 @@ def mixed(count, kinds, seed):
 
 
 def sizes(count, seed):
-    """Organisations of one to seven nodes, of which a majority or two thirds are needed; all want two thirds of them."""
+    """Organisations of one to seven nodes, of which a majority or two thirds are needed; all want two thirds of
+    them."""
     choice = random.Random(seed)
     names = [members(i, choice.choice([1, 3, 3, 3, 4, 5, 7])) for i in range(count)]
     sets = [inner(it, choice.choice([len(it) // 2 + 1, two_thirds(len(it))])) for it in names]
@@ -105,5 +110,5 @@ def text(kind, *arguments):
 
 if __name__ == "__main__":
     if len(sys.argv) < 2 or sys.argv[1] not in KINDS:
-        raise SystemExit(__doc__.strip() + "\n" + "\n".join("%s: %s" % (name, it.__doc__) for name, it in KINDS.items()))
+        raise SystemExit(__doc__.strip() + "\n" + "\n".join(f"{name}: {it.__doc__}" for name, it in KINDS.items()))
     print(text(*sys.argv[1:]))

@@ -1,11 +1,12 @@
 #!/usr/bin/env python3
 """The table of parts: `check` of searches that a budget ended, each beside a whole one of about as many bytes.
 
-A part is asked of each lemma whether a held clause covers it, which a whole refutation is not, so the time of a byte is what the two
-are compared by. A figure of `check` is the least of three runs; of a run of more than a minute, that one. The searches take most of
-the time and leave 4 GB, so the certificates are kept in the folder PARTS, if that is set, and those there are taken. BESIDE names
-other programs that check the same certificates up to MOST_BESIDE lemmas, as "before=PATH"; each gets three columns. JOBS rows are
-made at a time, one without it; a run ends after LIMIT seconds of processor time.
+A part is asked of each lemma whether a held clause covers it, which a whole refutation is not, so the time of a byte
+is what the two are compared by. A figure of `check` is the least of three runs; of a run of more than a minute, that
+one. The searches take most of the time and leave 4 GB, so the certificates are kept in the folder PARTS, if that is
+set, and those there are taken. BESIDE names other programs that check the same certificates up to MOST_BESIDE lemmas,
+as "before=PATH"; each gets three columns. JOBS rows are made at a time, one without it; a run ends after LIMIT seconds
+of processor time.
 """
 import json
 import multiprocessing
@@ -58,7 +59,7 @@ class Searched:
         for _ in range(2 if least.seconds < LONG else 0):
             least = min(least, runs.run(words, LIMIT), key=lambda it: it.seconds)
         if least.ended and not least.text.startswith("accepted"):
-            raise SystemExit("%s by %s: %r" % (self.system, program, least.text))
+            raise SystemExit(f"{self.system} by {program}: {least.text!r}")
         return least
 
 
@@ -77,14 +78,14 @@ def lemmas_of(cert):
 def searched(program, system, budget, folder):
     """The search of a system up to a budget, or what an earlier run left of it."""
     command = "blocking" if system in lists.BLOCKING else "intersect"
-    stem = os.path.join(folder, "".join(it if it.isalnum() else "-" for it in "%s %d" % (system, budget)))
+    stem = os.path.join(folder, "".join(it if it.isalnum() else "-" for it in f"{system} {budget}"))
     config, cert = stem + ".json", stem + ".cert"
     with open(config, "w", encoding="utf-8") as it:
         it.write(json.dumps(lists.BLOCKING[system]) if command == "blocking" else trials.configuration(system))
     if not os.path.exists(cert):
         made = runs.run([program, command, config, cert + ".new", "--budget", str(budget)], 4 * 3600)
         if not made.ended:
-            raise SystemExit("%s: the search did not end" % system)
+            raise SystemExit(f"{system}: the search did not end")
         os.rename(cert + ".new", cert)
     return Searched(system, config, cert, *lemmas_of(cert), os.path.getsize(cert))
 
@@ -100,11 +101,17 @@ class Pair:
     def times(self, part_check, whole_check):
         """How many times as long as a byte of the whole one a byte of the part takes."""
         ratio = (part_check.seconds / self.part.size) / (whole_check.seconds / self.whole.size)
-        return "%s%.1f" % ("" if part_check.ended else "over ", ratio)
+        return f"{'' if part_check.ended else 'over '}{ratio:.1f}"
 
     def row(self):
         it = self.part
-        cells = [it.system, "{:,}".format(it.lemmas), "%.0f" % (it.literals / max(it.lemmas, 1)), runs.megabytes(it.size), runs.megabytes(self.whole.size)]
+        cells = [
+            it.system,
+            "{:,}".format(it.lemmas),
+            f"{it.literals / max(it.lemmas, 1):.0f}",
+            runs.megabytes(it.size),
+            runs.megabytes(self.whole.size),
+        ]
         for part_check, whole_check in self.checks:
             cells += [runs.seconds(part_check), runs.seconds(whole_check), self.times(part_check, whole_check)]
         cells += ["-"] * (3 * (1 + len(BESIDE) - len(self.checks)))
@@ -125,10 +132,14 @@ def growth_line(system, pairs):
     """How the time of each program grows from the smallest part of a system to the largest."""
     powers = []
     for at, name in enumerate(("`check`", *BESIDE)):
-        found = [(it.part.lemmas, it.checks[at][0].seconds) for it in pairs if it.part.system == system and at < len(it.checks) and it.checks[at][0].ended]
+        found = [
+            (it.part.lemmas, it.checks[at][0].seconds)
+            for it in pairs
+            if it.part.system == system and at < len(it.checks) and it.checks[at][0].ended
+        ]
         if len(found) > 1:
-            powers.append("%s as n^%.2f up to %s" % (name, growth.power(found), "{:,}".format(found[-1][0])))
-    return "On `%s` time grows: %s." % (system, ", ".join(powers))
+            powers.append(f"{name} as n^{growth.power(found):.2f} up to {'{:,}'.format(found[-1][0])}")
+    return f"On `{system}` time grows: {', '.join(powers)}."
 
 
 def made(program, quick):

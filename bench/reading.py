@@ -1,5 +1,6 @@
 #!/usr/bin/env python3
-"""The table of reading: `show` beside `jq -c length` on generated configurations, the least processor time of five runs."""
+"""The table of reading: `show` beside `jq -c length` on generated configurations, the least processor time of five
+runs."""
 import json
 import os
 import tempfile
@@ -12,6 +13,7 @@ FILES = ["whole", "long-keys", "zigzag-even", "behind"]
 
 def counted(path):
     """How many nodes a configuration has, and how many entries in all."""
+
     def entries(quorum_set):
         inner = quorum_set.get("innerQuorumSets") or []
         return len(quorum_set.get("validators") or []) + len(inner) + sum(map(entries, inner))
@@ -23,7 +25,9 @@ def counted(path):
 
 def made(program, quick):
     """The lines of the table, one by one."""
-    yield from runs.head(["file", "nodes", "entries", "MB", "`show`, s", "its memory, MB", "`jq`, s", "its memory, MB"])
+    yield from runs.head(
+        ["file", "nodes", "entries", "MB", "`show`, s", "its memory, MB", "`jq`, s", "its memory, MB"]
+    )
     with tempfile.TemporaryDirectory(dir=runs.MEMORY) as folder:
         names = FILES[:1] + FILES[-1:] if quick else FILES
         configurations.write_all(folder, names)
@@ -31,4 +35,14 @@ def made(program, quick):
             path = os.path.join(folder, name + ".json")
             ours, its = (runs.least(words) for words in ([program, "show", path], ["jq", "-c", "length", path]))
             sizes = ["{:,}".format(it) for it in counted(path)]
-            yield runs.row(["`%s`" % name, *sizes, runs.megabytes(os.path.getsize(path)), runs.seconds(ours), ours.memory, runs.beside(ours, its), its.memory])
+            yield runs.row(
+                [
+                    f"`{name}`",
+                    *sizes,
+                    runs.megabytes(os.path.getsize(path)),
+                    runs.seconds(ours),
+                    ours.memory,
+                    runs.beside(ours, its),
+                    its.memory,
+                ]
+            )

@@ -1,8 +1,8 @@
 #!/usr/bin/env python3
 """Makes the pages and pictures of docs/reports anew with the built program: bench/reports.py
 
-The page of examples/network.json with its certificates, and those of the networks of tests/watchers.py, whose certificates are
-not kept. The pictures need Chromium (Debian's package of that name). Wants some minutes.
+The page of examples/network.json with its certificates, and those of the networks of tests/watchers.py, whose
+certificates are not kept. The pictures need Chromium (Debian's package of that name). Wants some minutes.
 """
 
 import os
@@ -15,8 +15,8 @@ TOP = os.path.dirname(os.path.dirname(os.path.abspath(__file__)))
 sys.dont_write_bytecode = True
 sys.path.insert(0, os.path.join(TOP, "tests"))
 
-import browser  # noqa: E402
-import watchers  # noqa: E402
+import browser
+import watchers
 
 REPORTS = os.path.join(TOP, "docs", "reports")
 BUDGET = "10000"
@@ -26,7 +26,11 @@ PICTURES = {"network": 905, "split": 1085}
 
 
 def report(page, config, orgs, *words):
-    subprocess.run([browser.TOOL, config, "--orgs", orgs, *words, "-o", page, "--program", browser.PROGRAM], check=True, timeout=3000)
+    subprocess.run(
+        [browser.TOOL, config, "--orgs", orgs, *words, "-o", page, "--program", browser.PROGRAM],
+        check=True,
+        timeout=3000,
+    )
 
 
 def picture(chromium, name):
@@ -39,7 +43,13 @@ def picture(chromium, name):
 
 def main():
     examples = os.path.join(TOP, "examples")
-    report(os.path.join(REPORTS, "network.html"), os.path.join(examples, "network.json"), os.path.join(examples, "orgs.json"), "--node", "GAAA1")
+    report(
+        os.path.join(REPORTS, "network.html"),
+        os.path.join(examples, "network.json"),
+        os.path.join(examples, "orgs.json"),
+        "--node",
+        "GAAA1",
+    )
     with tempfile.TemporaryDirectory() as folder:
         for kind, (config, orgs) in watchers.write(folder, KINDS).items():
             page = os.path.join(folder, kind + ".html")

@@ -1,5 +1,6 @@
 #!/usr/bin/env python3
-"""A run of a program: what it prints, its processor time and its largest memory; and the cells of tables made of these."""
+"""A run of a program: what it prints, its processor time and its largest memory; and the cells of tables made of
+these."""
 import os
 import resource
 import shutil
@@ -10,7 +11,7 @@ from dataclasses import dataclass
 
 TOP = os.path.dirname(os.path.dirname(os.path.abspath(__file__)))
 sys.path.append(os.path.join(TOP, "tests"))
-import chosen  # noqa: E402
+import chosen
 
 PROGRAM = chosen.PROGRAM
 # a folder whose files lie in memory, if there is one
@@ -38,7 +39,9 @@ def run(words, limit=MOST_SECONDS, given="", out=None):
     with tempfile.TemporaryFile(dir=MEMORY) as source, tempfile.TemporaryFile(dir=MEMORY) as told:
         source.write(given.encode())
         source.seek(0)
-        child = subprocess.Popen(words, stdin=source, stdout=out or told, stderr=subprocess.DEVNULL, preexec_fn=bounded)
+        child = subprocess.Popen(
+            words, stdin=source, stdout=out or told, stderr=subprocess.DEVNULL, preexec_fn=bounded
+        )
         _, status, used = os.wait4(child.pid, 0)
         child.returncode = status
         told.seek(0)
@@ -57,25 +60,27 @@ def has(tool):
 
 # ---- cells
 
+
 def seconds(it):
     """A time in seconds, or that it did not end."""
     if not it.ended:
-        return "over %d" % it.limit
-    return "%.3f" % it.seconds if it.seconds < 0.1 else "%.2f" % it.seconds
+        return f"over {it.limit}"
+    return f"{it.seconds:.3f}" if it.seconds < 0.1 else f"{it.seconds:.2f}"
 
 
 def beside(ours, its):
-    """Another program's time, and in brackets how many times it ours is, unless one did not end or both are too short to compare."""
+    """Another program's time, and in brackets how many times it ours is, unless one did not end or both are too short
+    to compare."""
     if its is None:
         return "-"
     if max(ours.seconds, its.seconds) < 0.02 or not (ours.ended and its.ended):
         return seconds(its)
     ratio = ours.seconds / its.seconds
-    return "%s (%s)" % (seconds(its), "%.0f" % ratio if ratio >= 10 else "%.2g" % ratio)
+    return "%s (%s)" % (seconds(its), f"{ratio:.0f}" if ratio >= 10 else f"{ratio:.2g}")
 
 
 def megabytes(count):
-    return "%.1f" % (count / 1e6) if count < 10e6 else "%.0f" % (count / 1e6)
+    return f"{count / 1e6:.1f}" if count < 10e6 else f"{count / 1e6:.0f}"
 
 
 def row(cells):

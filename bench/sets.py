@@ -1,9 +1,9 @@
 #!/usr/bin/env python3
 """Times the calls of sets and of systems: bench/sets.py [FOLDER].
 
-Builds crates/sets_bench (with its proofs, some minutes the first time), and prints for each call of sets of 16,384 nodes, and
-for each call of the systems of `bench/configurations.py` that are written into FOLDER, the least processor time of three runs
-of many calls, of which what the rounds themselves cost, or the reading, is taken off.
+Builds crates/sets_bench (with its proofs, some minutes the first time), and prints for each call of sets of 16,384
+nodes, and for each call of the systems of `bench/configurations.py` that are written into FOLDER, the least processor
+time of three runs of many calls, of which what the rounds themselves cost, or the reading, is taken off.
 """
 import os
 import resource
@@ -13,7 +13,18 @@ import sys
 TOP = os.path.dirname(os.path.dirname(os.path.abspath(__file__)))
 CRATE = os.path.join(TOP, "crates", "sets_bench")
 PROGRAM = os.path.join(CRATE, "out", "sets_bench")
-FILES = ["whole", "chain-up", "chain-down", "zigzag-large", "zigzag-even", "behind", "most-few", "most-whole", "most-chain", "most-behind"]
+FILES = [
+    "whole",
+    "chain-up",
+    "chain-down",
+    "zigzag-large",
+    "zigzag-even",
+    "behind",
+    "most-few",
+    "most-whole",
+    "most-chain",
+    "most-behind",
+]
 CALLS = ["has", "least", "count", "meets", "minus", "join", "copy", "copy_from", "members"]
 ROUNDS = 1_000_000
 SYSTEM_ROUNDS = 10
@@ -40,13 +51,16 @@ def main():
     for call in CALLS:
         rounds = ROUNDS // 20 if call == "members" else ROUNDS
         took = spent([call, str(rounds)]) - spent(["nothing", str(rounds)])
-        print("| `%s` | %.1f ns |" % (call, took / rounds * 1e9))
+        print(f"| `{call}` | {took / rounds * 1e9:.1f} ns |")
     print("\n| file | reading | `greatest` | `blocks` | `closure` |\n|---|---|---|---|---|")
     for name in FILES:
         path = os.path.join(folder, name + ".json")
         reading = spent(["system", "nothing", "1"], path)
-        row = [(spent(["system", call, str(SYSTEM_ROUNDS)], path) - reading) / SYSTEM_ROUNDS for call in ["greatest", "blocks", "closure"]]
-        print("| %s.json | %.2f s | %s |" % (name, reading, " | ".join("%.2f ms" % (took * 1e3) for took in row)))
+        row = [
+            (spent(["system", call, str(SYSTEM_ROUNDS)], path) - reading) / SYSTEM_ROUNDS
+            for call in ["greatest", "blocks", "closure"]
+        ]
+        print("| %s.json | %.2f s | %s |" % (name, reading, " | ".join(f"{took * 1e3:.2f} ms" for took in row)))
 
 
 if __name__ == "__main__":

@@ -1,13 +1,15 @@
 #!/usr/bin/env python3
-"""Times the solver beside minisat, cadical and cryptominisat on the same formulas: bench/solver.py [FOLDER [NETWORKS]].
+"""Times the solver beside minisat, cadical and cryptominisat on the same formulas: bench/solver.py [FOLDER
+[NETWORKS]].
 
-Builds crates/solver_bench (with its proofs, some minutes the first time) and writes each formula as DIMACS text into FOLDER:
-those of trial configurations and of the networks in the folder NETWORKS (NAME.json; left out without the folder) as the
-program writes them, which is version 2; the same in version 1, in which each node has gates of its own; and random 3-SAT. For
-each it prints the processor time of one run of each program and its conflicts, ours being the lemmas with a literal; of random
-formulas the sums. A run ends after LIMIT seconds of processor time. Our time has the reading of the formula, the search and
-the check of the log; the others (Debian's packages) run with their own settings. Each model of ours is checked here, each
-refutation by the proved checker.
+Builds crates/solver_bench (with its proofs, some minutes the first time) and writes each formula as DIMACS text into
+FOLDER:
+those of trial configurations and of the networks in the folder NETWORKS (NAME.json; left out without the folder) as
+the program writes them, which is version 2; the same in version 1, in which each node has gates of its own; and random
+3-SAT. For each it prints the processor time of one run of each program and its conflicts, ours being the lemmas with a
+literal; of random formulas the sums. A run ends after LIMIT seconds of processor time. Our time has the reading of the
+formula, the search and the check of the log; the others (Debian's packages) run with their own settings. Each model of
+ours is checked here, each refutation by the proved checker.
 """
 import json
 import os
@@ -39,13 +41,14 @@ def limit():
 
 
 def timed(words, good):
-    """The output of a run, or None where it did not end in time, and its processor time. `good` are the statuses of answers."""
+    """The output of a run, or None where it did not end in time, and its processor time. `good` are the statuses of
+    answers."""
     before = resource.getrusage(resource.RUSAGE_CHILDREN)
     run = subprocess.run(words, capture_output=True, text=True, preexec_fn=limit)
     after = resource.getrusage(resource.RUSAGE_CHILDREN)
     seconds = after.ru_utime + after.ru_stime - before.ru_utime - before.ru_stime
     if run.returncode not in good and seconds < LIMIT - 1:
-        sys.exit("%s: the program ended with %d" % (words, run.returncode))
+        sys.exit(f"{words}: the program ended with {run.returncode}")
     return (run.stdout if run.returncode in good else None), seconds
 
 
@@ -61,11 +64,11 @@ def ours(path):
         return "did not end", None, seconds
     verdict = re.search(r"verdict (\w+)", output).group(1)
     if verdict == "Unsat" and "refuted true" not in output:
-        sys.exit("%s: the checker did not take the log" % path)
+        sys.exit(f"{path}: the checker did not take the log")
     if verdict == "Sat":
         model = set(map(int, output.split("\n")[1].split()))
         if not all(model.intersection(clause) for clause in clauses_of(path)):
-            sys.exit("%s: the model does not satisfy the formula" % path)
+            sys.exit(f"{path}: the model does not satisfy the formula")
     return verdict, int(re.search(r"lemmas (\d+)", output).group(1)), seconds
 
 
@@ -82,10 +85,15 @@ def other(name, path):
 def row(name, paths):
     answers = [ours(path) for path in paths]
     verdicts = sorted(set(answer[0] for answer in answers))
-    cells = [name, "/".join(verdicts), total(answer[1] for answer in answers), "%.2f s" % sum(answer[2] for answer in answers)]
+    cells = [
+        name,
+        "/".join(verdicts),
+        total(answer[1] for answer in answers),
+        f"{sum(answer[2] for answer in answers):.2f} s",
+    ]
     for solver in OTHERS:
         runs = [other(solver, path) for path in paths]
-        cells += [total(run[0] for run in runs), "%.2f s" % sum(run[1] for run in runs)]
+        cells += [total(run[0] for run in runs), f"{sum(run[1] for run in runs):.2f} s"]
     print("| " + " | ".join(str(cell) for cell in cells) + " |", flush=True)
 
 
@@ -95,18 +103,21 @@ def total(numbers):
 
 
 def trial(organisations):
-    """The trial configuration: three nodes each, of which two speak for the organisation; more than two thirds of all."""
-    inner = [{"threshold": 2, "validators": ["t%03d" % (3 * i + j) for j in range(3)]} for i in range(organisations)]
+    """The trial configuration: three nodes each, of which two speak for the organisation; more than two thirds of
+    all."""
+    inner = [{"threshold": 2, "validators": [f"t{3 * i + j:03d}" for j in range(3)]} for i in range(organisations)]
     quorum_set = {"threshold": organisations - (organisations - 1) // 3, "validators": [], "innerQuorumSets": inner}
-    return json.dumps([{"publicKey": "t%03d" % node, "quorumSet": quorum_set} for node in range(3 * organisations)]).encode()
+    return json.dumps(
+        [{"publicKey": f"t{node:03d}", "quorumSet": quorum_set} for node in range(3 * organisations)]
+    ).encode()
 
 
 def written(folder, name, config, version):
     """The formula of a configuration in a version, written by the plain checker of the tests."""
-    path = os.path.join(folder, "%s-%d.cnf" % (name, version))
+    path = os.path.join(folder, f"{name}-{version}.cnf")
     formula = plain_checker.Formula(plain_checker.system_of(config), set(), version)
     with open(path, "w") as file:
-        print("p cnf %d %d" % (formula.variables, len(formula.clauses)), file=file)
+        print(f"p cnf {formula.variables} {len(formula.clauses)}", file=file)
         for clause in formula.clauses:
             print(*clause, 0, file=file)
     return path
@@ -114,11 +125,11 @@ def written(folder, name, config, version):
 
 def random_formula(folder, seed):
     """A formula of three different variables a clause, each negated or not."""
-    path = os.path.join(folder, "random-%d.cnf" % seed)
+    path = os.path.join(folder, f"random-{seed}.cnf")
     choice = random.Random(seed)
     count = round(RANDOM_VARIABLES * RANDOM_RATIO)
     with open(path, "w") as file:
-        print("p cnf %d %d" % (RANDOM_VARIABLES, count), file=file)
+        print(f"p cnf {RANDOM_VARIABLES} {count}", file=file)
         for _ in range(count):
             variables = choice.sample(range(1, RANDOM_VARIABLES + 1), 3)
             print(*[x if choice.random() < 0.5 else -x for x in variables], 0, file=file)
@@ -129,15 +140,22 @@ def main():
     folder = sys.argv[1] if len(sys.argv) > 1 else "/tmp/solver_bench"
     os.makedirs(folder, exist_ok=True)
     subprocess.run(["rt", "run", "--", "2"], cwd=CRATE, check=True, capture_output=True)
-    print("| formula | answer | our lemmas | our time | " + " | ".join("%s: conflicts | time" % name for name in OTHERS) + " |")
+    print(
+        "| formula | answer | our lemmas | our time | "
+        + " | ".join(f"{name}: conflicts | time" for name in OTHERS)
+        + " |"
+    )
     print("|---" * (4 + 2 * len(OTHERS)) + "|")
     for version in sorted(ORGANISATIONS):
         for organisations in ORGANISATIONS[version]:
-            name = "%d organisations" % organisations
-            row("%s, version %d" % (name, version), [written(folder, "trial-%d" % organisations, trial(organisations), version)])
+            name = f"{organisations} organisations"
+            row(
+                f"{name}, version {version}",
+                [written(folder, f"trial-{organisations}", trial(organisations), version)],
+            )
         for name in NETWORKS if len(sys.argv) > 2 else []:
             with open(os.path.join(sys.argv[2], name + ".json"), "rb") as file:
-                row("%s, version %d" % (name, version), [written(folder, name, file.read(), version)])
+                row(f"{name}, version {version}", [written(folder, name, file.read(), version)])
     row("random 3-SAT", [random_formula(folder, seed) for seed in range(RANDOM_FORMULAS)])
 
 

@@ -14,10 +14,11 @@ The parts, with the minutes that each takes of one processor at rest:
     whatif    2   scripts of edits
     memory    4   memory beside jq, and the stack
 
-Without a part all are made, one after another. Each figure is the processor time of one run, or the least of several where its
-script says so; in brackets how many times another program's time ours is, in the same pass. Wants the program built by ./quorum_cli,
-and Debian's packages jq, minisat, cadical, cryptominisat, clasp and gringo; a solver that is missing has a `-`. With --quick a
-part has a few small rows, takes less than a minute, and is printed; no file is changed.
+Without a part all are made, one after another. Each figure is the processor time of one run, or the least of several
+where its script says so; in brackets how many times another program's time ours is, in the same pass. Wants the
+program built by ./quorum_cli, and Debian's packages jq, minisat, cadical, cryptominisat, clasp and gringo; a solver
+that is missing has a `-`. With --quick a part has a few small rows, takes less than a minute, and is printed; no file
+is changed.
 """
 import os
 import re
@@ -60,13 +61,18 @@ def machine():
     """The processor and how many there are."""
     names = re.findall(r"^model name\s*: (.*)$", text_of("/proc/cpuinfo"), re.M)
     name = re.sub(r"\(R\)|\(TM\)|\b(CPU|Processor)\b|@", "", names[0]) if names else os.uname().machine
-    return "%d × %s" % (os.cpu_count(), " ".join(name.split()))
+    return f"{os.cpu_count()} × {' '.join(name.split())}"
 
 
 def caption(part):
     """The command, the version, the day, the machine and its load."""
     return "`bench/tables.py %s`: version %s, %s, %s, load %.1f." % (
-        part, text_of(os.path.join(runs.TOP, "VERSION")).strip(), time.strftime("%Y-%m-%d"), machine(), os.getloadavg()[0])
+        part,
+        text_of(os.path.join(runs.TOP, "VERSION")).strip(),
+        time.strftime("%Y-%m-%d"),
+        machine(),
+        os.getloadavg()[0],
+    )
 
 
 def made(part, quick):
@@ -83,10 +89,10 @@ def made(part, quick):
 
 def put(part, text):
     """Puts the lines of a part into the document, between its two marks."""
-    marks = re.compile(r"(<!-- tables.py %s -->\n).*?(\n<!-- end -->)" % part, re.S)
+    marks = re.compile(rf"(<!-- tables.py {part} -->\n).*?(\n<!-- end -->)", re.S)
     document = text_of(DOCUMENT)
     if not marks.search(document):
-        raise SystemExit("docs/PERFORMANCE.md has no place for %s" % part)
+        raise SystemExit(f"docs/PERFORMANCE.md has no place for {part}")
     write(DOCUMENT, marks.sub(lambda found: found[1] + text + found[2], document))
 
 

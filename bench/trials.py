@@ -3,12 +3,13 @@
 
 usage: bench/trials.py [--limit SECONDS] [SYSTEM ..]      prints the table of these systems
 
-A SYSTEM is a number of organisations, whose configuration is the one that `trial` speaks of, or as a file above 100; a kind of
-bench/organisations.py with its arguments, as rotated:30; a network of tests/watchers.py, as watchers:seven; the path of a
-configuration; or random:NODES:SIZE:THRESHOLD:SEED, in which each node wants `threshold` of itself and `size - 1` others, drawn at
-random. A row has the lemmas learnt, the processor time and the largest memory of one run of the search with its certificate on a
-file in memory, and of `check`; then the time of each other solver (Debian's packages, their own settings) on the formula that
-`export` writes. A run ends after SECONDS of processor time. Answers that differ end the script with status 1.
+A SYSTEM is a number of organisations, whose configuration is the one that `trial` speaks of, or as a file above 100; a
+kind of bench/organisations.py with its arguments, as rotated:30; a network of tests/watchers.py, as watchers:seven;
+the path of a configuration; or random:NODES:SIZE:THRESHOLD:SEED, in which each node wants `threshold` of itself and
+`size - 1` others, drawn at random. A row has the lemmas learnt, the processor time and the largest memory of one run
+of the search with its certificate on a file in memory, and of `check`; then the time of each other solver (Debian's
+packages, their own settings) on the formula that `export` writes. A run ends after SECONDS of processor time. Answers
+that differ end the script with status 1.
 """
 import json
 import math
@@ -30,7 +31,11 @@ SEARCHES = (
     "random:60:8:5:1 random:70:8:5:1 random:80:8:5:1"
 ).split()
 # what the mean of the ratios to minisat is taken over
-RANDOM = ["random:%s:%d" % (form, seed) for form in ("40:10:6", "40:12:7", "50:10:6", "60:8:5", "70:8:5", "80:8:5") for seed in range(1, 5)]
+RANDOM = [
+    f"random:{form}:{seed}"
+    for form in ("40:10:6", "40:12:7", "50:10:6", "60:8:5", "70:8:5", "80:8:5")
+    for seed in range(1, 5)
+]
 NETWORKS = (
     "50 100 150 200 250 apart:30 beside:30 rotated:30 apart:60 tiers:50:50 mixed:40:5:1 flat:50:34 flat:100:67 "
     "flat:300:201 shuffled:16:16:1"
@@ -51,7 +56,7 @@ def is_trial(system):
 
 def trial(count):
     """The trial configuration of `count` organisations of three nodes, as the program's text."""
-    names = ["t%03d" % i for i in range(3 * count)]
+    names = [f"t{i:03d}" for i in range(3 * count)]
     inner = [{"innerQuorumSets": [], "threshold": 2, "validators": names[i : i + 3]} for i in range(0, 3 * count, 3)]
     common = {"innerQuorumSets": inner, "threshold": count - (count - 1) // 3, "validators": []}
     return json.dumps([{"publicKey": name, "quorumSet": common} for name in names], separators=(",", ":"))
@@ -60,8 +65,12 @@ def trial(count):
 def drawn(nodes, size, threshold, seed):
     """A configuration in which each node wants `threshold` of itself and `size - 1` others, drawn at random."""
     choice = random.Random(seed)
-    names = ["n%03d" % i for i in range(nodes)]
-    quorum_set = lambda name: {"threshold": threshold, "validators": sorted([name] + choice.sample([it for it in names if it != name], size - 1)), "innerQuorumSets": []}
+    names = [f"n{i:03d}" for i in range(nodes)]
+
+    def quorum_set(name):
+        others = choice.sample([it for it in names if it != name], size - 1)
+        return {"threshold": threshold, "validators": sorted([name, *others]), "innerQuorumSets": []}
+
     return json.dumps([{"publicKey": name, "quorumSet": quorum_set(name)} for name in names])
 
 
@@ -87,21 +96,26 @@ class Asked:
         with open(config, "w", encoding="utf-8") as it:
             it.write(configuration(system))
         self.system = system
-        self.search = runs.run([program, "trial", system, self.cert] if is_trial(system) else [program, "intersect", config, self.cert], limit)
+        self.search = runs.run(
+            [program, "trial", system, self.cert] if is_trial(system) else [program, "intersect", config, self.cert],
+            limit,
+        )
         self.check = runs.run([program, "check", config, self.cert], limit) if self.search.ended else self.search
         if self.search.ended and not self.check.text.startswith("accepted"):
-            raise SystemExit("%s: the certificate is not accepted: %r" % (system, self.check.text))
+            raise SystemExit(f"{system}: the certificate is not accepted: {self.check.text!r}")
         self.lemmas, self.size = self.counted()
         with open(cnf, "wb") as it:
             if not runs.run([program, "export", config], limit, out=it).ended:
-                raise SystemExit("%s: export did not end" % system)
+                raise SystemExit(f"{system}: export did not end")
         self.others = {name: self.asked(name, cnf, limit) if runs.has(SOLVERS[name][0]) else None for name in solvers}
 
     def counted(self):
         if not self.search.ended:
             return "-", 0
         with open(self.cert, "rb") as it:
-            lemmas = sum(1 for line in it if line[:1].isdigit() and b" d " not in line and line.split(b" ", 2)[1] != b"0")
+            lemmas = sum(
+                1 for line in it if line[:1].isdigit() and b" d " not in line and line.split(b" ", 2)[1] != b"0"
+            )
         return lemmas, os.path.getsize(self.cert)
 
     def asked(self, name, cnf, limit):
@@ -110,14 +124,21 @@ class Asked:
         verdict = re.search(r"\b(UN)?SATISFIABLE\b", made.text)
         ours = re.search(r"^intersects (yes|no)$", self.search.text, re.M)
         if made.ended and verdict and ours and bool(verdict.group(1)) != (ours.group(1) == "yes"):
-            raise SystemExit("%s: %s answers otherwise" % (self.system, name))
+            raise SystemExit(f"{self.system}: {name} answers otherwise")
         made.ended = made.ended and verdict is not None
         return made
 
     def row(self):
         answer = re.search(r"^intersects (\w+)", self.search.text, re.M)
         name = os.path.basename(self.system) + (" (no)" if answer and answer.group(1) == "no" else "")
-        cells = [name, self.lemmas, runs.seconds(self.search), self.search.memory, runs.megabytes(self.size), runs.seconds(self.check)]
+        cells = [
+            name,
+            self.lemmas,
+            runs.seconds(self.search),
+            self.search.memory,
+            runs.megabytes(self.size),
+            runs.seconds(self.check),
+        ]
         return runs.row(cells + [runs.beside(self.search, it) for it in self.others.values()])
 
 
@@ -127,7 +148,9 @@ def asked(program, system, solvers=SOLVERS, limit=LIMIT):
 
 
 def head():
-    return runs.head(["system", "lemmas", "s", "MB", "certificate, MB", "`check`, s", *(name + ", s" for name in SOLVERS)])
+    return runs.head(
+        ["system", "lemmas", "s", "MB", "certificate, MB", "`check`, s", *(name + ", s" for name in SOLVERS)]
+    )
 
 
 def point(size, it):
@@ -154,7 +177,10 @@ def mean_line(program, systems):
     if not ratios:
         return "Of the random systems none ended."
     mean, least, most = math.exp(sum(ratios) / len(ratios)), math.exp(min(ratios)), math.exp(max(ratios))
-    return "Over %d random systems of 40 to 80 nodes the geometric mean of our time to minisat's is %.2f (%.2f to %.2f)." % (len(ratios), mean, least, most)
+    return (
+        f"Over {len(ratios)} random systems of 40 to 80 nodes the geometric mean of our time to minisat's is"
+        f" {mean:.2f} ({least:.2f} to {most:.2f})."
+    )
 
 
 def searches(program, quick):
@@ -168,7 +194,11 @@ def searches(program, quick):
     yield mean_line(program, RANDOM[:2] if quick else RANDOM)
     random_ones = [it for it in found if re.fullmatch(r"random:\d+:8:5:1", it.system)]
     if len(random_ones) > 1:
-        yield "growth-random.svg", growth.picture("Time of a search of random systems by their nodes", "nodes, each of which wants 5 of 8", lines(random_ones))
+        yield "growth-random.svg", growth.picture(
+            "Time of a search of random systems by their nodes",
+            "nodes, each of which wants 5 of 8",
+            lines(random_ones),
+        )
 
 
 def growth_line(found):
@@ -176,8 +206,15 @@ def growth_line(found):
     if len(found) < 2:
         return "Of the trials fewer than two ended."
     counts = [int(it.system) for it in found]
-    powers = [growth.power(list(zip(counts, values))) for values in zip(*((it.lemmas, it.size, it.search.seconds) for it in found))]
-    return "From %d to %d organisations lemmas grow as n^%.1f, bytes as n^%.1f, time as n^%.1f." % (counts[0], counts[-1], *powers)
+    powers = [
+        growth.power(list(zip(counts, values)))
+        for values in zip(*((it.lemmas, it.size, it.search.seconds) for it in found))
+    ]
+    return "From %d to %d organisations lemmas grow as n^%.1f, bytes as n^%.1f, time as n^%.1f." % (
+        counts[0],
+        counts[-1],
+        *powers,
+    )
 
 
 def networks(program, quick):
@@ -190,7 +227,9 @@ def networks(program, quick):
     trials = [it for it in found if it.system.isdigit()]
     yield ""
     yield growth_line([it for it in trials if it.search.ended and int(it.system) >= (50 if quick else 100)])
-    yield "growth.svg", growth.picture("Time of a search by the number of organisations", "organisations of three nodes", lines(trials))
+    yield "growth.svg", growth.picture(
+        "Time of a search by the number of organisations", "organisations of three nodes", lines(trials)
+    )
 
 
 def main(words):

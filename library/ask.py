@@ -1,5 +1,6 @@
 #!/usr/bin/env python3
-"""A caller in Python: ask.py CONFIG [NODE..] asks whether the network can fork if these nodes lie, and has the certificate checked.
+"""A caller in Python: ask.py CONFIG [NODE..] asks whether the network can fork if these nodes lie, and has the
+certificate checked.
 
 The package is installed by `pip install dist/quorums-*.whl`.
 """
@@ -17,7 +18,7 @@ def main(path, *faulty):
     except Refused as refused:
         return refused
     if found.yes is False:
-        print("it can fork: %s / %s" % (" ".join(found["first"]), " ".join(found["second"])))
+        print(f"it can fork: {' '.join(found['first'])} / {' '.join(found['second'])}")
     else:
         print("it cannot fork" if found.yes else "not known")
     print("the checker: " + network.check(found.certificate).text.splitlines()[0])

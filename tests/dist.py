@@ -1,8 +1,9 @@
 #!/usr/bin/env python3
 """Which program ./quorum_cli runs: tried on a small repository with a stand-in for dist/ and for tools/first-build.
 
-That of dist/ as long as its sources are those that lie there and it is whole; else what is built, else what is compiled; what is said of it;
-a checkout that cannot be written, several first calls at once, other machines. Its last line is 'dist: N passed, M failed'.
+That of dist/ as long as its sources are those that lie there and it is whole; else what is built, else what is
+compiled; what is said of it; a checkout that cannot be written, several first calls at once, other machines. Its last
+line is 'dist: N passed, M failed'.
 """
 
 import hashlib
@@ -32,8 +33,14 @@ mkdir -p "$(dirname "$at")" "$(dirname "$note")"
 sed "s/which/$kind/" "{top}/which" >"$at.new" && chmod +x "$at.new" && mv "$at.new" "$at"
 printf '%s\\n' sum low quorum_cli >"$note"
 """
-REFUSED = "quorum_cli: dist/ was changed, and nothing of it is run: %s is not what dist/SHA256SUMS says. 'git checkout dist' restores it, QUORUM_CLI=built or unproved runs another\n"
-UNPROVED = "quorum_cli: nothing of this run is proved; a certificate that it writes is for the proved program to check later\n"
+REFUSED = (
+    "quorum_cli: dist/ was changed, and nothing of it is run: %s is not what dist/SHA256SUMS says. 'git checkout dist'"
+    " restores it, QUORUM_CLI=built or unproved runs another\n"
+)
+UNPROVED = (
+    "quorum_cli: nothing of this run is proved; a certificate that it writes is for the proved program to check"
+    " later\n"
+)
 PROVING = "make proves and builds the program, some 45 minutes on four processors"
 # What stands for the user who may write nothing.
 NOBODY = 65534
@@ -50,9 +57,9 @@ class Trial:
         shutil.copy(os.path.join(TOP, "quorum_cli"), self.path("quorum_cli"))
         self.write("crates.txt", CRATES)
         for name in ("low", "quorum_cli", "other"):
-            self.write("crates/%s/src/lib.rt" % name, "code of " + name)
-            self.write("crates/%s/specs/Words.antt" % name, "words of " + name)
-            self.write("crates/%s/proofs/Words.antt" % name, "proofs of " + name)
+            self.write(f"crates/{name}/src/lib.rt", "code of " + name)
+            self.write(f"crates/{name}/specs/Words.antt", "words of " + name)
+            self.write(f"crates/{name}/proofs/Words.antt", "proofs of " + name)
         self.write("which", PROGRAM.replace("{kind}", "which"))
         self.write("tools/first-build", FIRST_BUILD.replace("{top}", self.top), 0o755)
         self.release()
@@ -73,21 +80,35 @@ class Trial:
     def release(self, program=PROGRAM.replace("{kind}", "dist")):
         """Makes dist/ of the sources as they are."""
         lines = [line + "\n" for line in CRATES.splitlines() if line.partition(":")[0] in NAMES]
-        paths = ["crates/%s/%s" % (name, it) for name in NAMES for it in ("specs/Words.antt", "src/lib.rt")]
-        lines += ["%s  %s\n" % (digest(self.read(it)), it) for it in paths]
+        paths = [f"crates/{name}/{it}" for name in NAMES for it in ("specs/Words.antt", "src/lib.rt")]
+        lines += [f"{digest(self.read(it))}  {it}\n" for it in paths]
         self.write("dist/quorum_cli", program, 0o755)
         self.write("dist/libquorum.so", "a library")
-        self.write("dist/SOURCES", "version 9\ntoolchain a-kit logic 7\nneeds a good machine\nprogram %s %s\n" % (digest("".join(lines).encode()), " ".join(NAMES)))
+        self.write(
+            "dist/SOURCES",
+            (
+                "version 9\ntoolchain a-kit logic 7\nneeds a good machine\nprogram"
+                f" {digest(''.join(lines).encode())} {' '.join(NAMES)}\n"
+            ),
+        )
         self.sums()
 
     def sums(self):
         names = sorted({*os.listdir(self.path("dist"))} - {"SHA256SUMS"})
-        self.write("dist/SHA256SUMS", "".join("%s  %s\n" % (digest(self.read("dist/" + it)), it) for it in names))
+        self.write("dist/SHA256SUMS", "".join(f"{digest(self.read('dist/' + it))}  {it}\n" for it in names))
 
     def run(self, *words, before=(), **env):
         """The status, the output and standard error."""
         env = {"PATH": "/usr/bin:/bin", **env}
-        ended = subprocess.run([*before, self.path("quorum_cli"), *words], env=env, cwd="/", stdin=subprocess.DEVNULL, stdout=subprocess.PIPE, stderr=subprocess.PIPE, timeout=60)
+        ended = subprocess.run(
+            [*before, self.path("quorum_cli"), *words],
+            env=env,
+            cwd="/",
+            stdin=subprocess.DEVNULL,
+            stdout=subprocess.PIPE,
+            stderr=subprocess.PIPE,
+            timeout=60,
+        )
         return ended.returncode, ended.stdout.decode(), ended.stderr.decode()
 
     def calls(self):
@@ -103,16 +124,28 @@ class Trial:
             self.passed += 1
         else:
             self.failed += 1
-            print("dist: %s: found %r, wanted %r" % (name, found, wanted))
+            print(f"dist: {name}: found {found!r}, wanted {wanted!r}")
 
     def runs(self, name, kind, said="", calls=(), **env):
         """What runs, what is said the first time and no more the second, and what was built."""
         again = UNPROVED if kind == "compiled" else ""
-        self.judge(name, (self.run("show", "x", **env), self.calls()), ((0, kind + " show x\n", said + again), list(calls)))
-        self.judge(name + ", again", (self.run("show", "x", **env), self.calls()), ((0, kind + " show x\n", again), []))
+        self.judge(
+            name, (self.run("show", "x", **env), self.calls()), ((0, kind + " show x\n", said + again), list(calls))
+        )
+        self.judge(
+            name + ", again", (self.run("show", "x", **env), self.calls()), ((0, kind + " show x\n", again), [])
+        )
 
     def compiles(self, name, why):
-        self.runs(name, "compiled", "quorum_cli: dist/ is not run, since %s: the sources are compiled without proofs in its place; %s\n" % (why, PROVING), ["build --unproved"])
+        self.runs(
+            name,
+            "compiled",
+            (
+                f"quorum_cli: dist/ is not run, since {why}: the sources are compiled without proofs in its place;"
+                f" {PROVING}\n"
+            ),
+            ["build --unproved"],
+        )
         shutil.rmtree(self.path("out"))
 
     def later(self):
@@ -122,7 +155,10 @@ class Trial:
     def released(self):
         self.runs("the first call", "dist")
         self.judge("kept", os.listdir(self.path("out/choice")), ["first"])
-        said = "quorum_cli: dist/quorum_cli runs: proved by its makers, of the sources that lie here, and built by a-kit logic 7; make prove does so again and compares\n"
+        said = (
+            "quorum_cli: dist/quorum_cli runs: proved by its makers, of the sources that lie here, and built by a-kit"
+            " logic 7; make prove does so again and compares\n"
+        )
         self.judge("about it", self.run("--about"), (0, "", said))
         self.judge("no other words are the script's", self.run("--about", "x")[1], "dist --about x\n")
         for name, act in [
@@ -137,7 +173,8 @@ class Trial:
             self.runs(name, "dist")
 
     def moved_on(self):
-        """A letter of a source, a new one, one that is gone, a line of crates.txt: dist/ does not run, and does again when that is undone."""
+        """A letter of a source, a new one, one that is gone, a line of crates.txt: dist/ does not run, and does again
+        when that is undone."""
         for name, file, text in [
             ("a letter of the code", "crates/low/src/lib.rt", "code of loq"),
             ("a letter of the definitions", "crates/quorum_cli/specs/Words.antt", "words of quorum_clj"),
@@ -160,13 +197,23 @@ class Trial:
 
     def changed(self):
         """A file of dist/ that was changed: nothing runs."""
-        for name, text in [("quorum_cli", "#!/bin/sh\necho wrong >>'%s'\n" % self.path("ran")), ("libquorum.so", "another"), ("SOURCES", self.read("dist/SOURCES").decode() + "more\n")]:
+        for name, text in [
+            ("quorum_cli", f"#!/bin/sh\necho wrong >>'{self.path('ran')}'\n"),
+            ("libquorum.so", "another"),
+            ("SOURCES", self.read("dist/SOURCES").decode() + "more\n"),
+        ]:
             were = self.read("dist/" + name).decode()
             self.later()
             self.write("dist/" + name, text, 0o755)
-            self.judge("a changed " + name, (self.run("show", "x"), self.run("--about"), os.path.exists(self.path("ran")), self.calls()), (((70, "", REFUSED % name),) * 2) + (False, []))
+            self.judge(
+                "a changed " + name,
+                (self.run("show", "x"), self.run("--about"), os.path.exists(self.path("ran")), self.calls()),
+                (((70, "", REFUSED % name),) * 2) + (False, []),
+            )
             self.judge("asked for", self.run("show", "x", QUORUM_CLI="dist"), (70, "", REFUSED % name))
-            self.judge("another runs all the same", self.run("show", "x", QUORUM_CLI="unproved")[:2], (0, "compiled show x\n"))
+            self.judge(
+                "another runs all the same", self.run("show", "x", QUORUM_CLI="unproved")[:2], (0, "compiled show x\n")
+            )
             self.calls()
             self.write("dist/" + name, were, 0o755)
         os.remove(self.path("dist/libquorum.so"))
@@ -187,8 +234,16 @@ class Trial:
         why = "it is for x86-64 Linux and this machine is %s %s"
         for host, system in (("aarch64", "linux-gnu"), ("x86_64", "darwin23")):
             status, out, error = self.run("show", "x", HOSTTYPE=host, OSTYPE=system)
-            self.judge("another machine", (status, out, why % (host, system) in error, self.calls()), (0, "compiled show x\n", True, ["build --unproved"]))
-            self.judge("asked for dist", self.run("show", "x", HOSTTYPE=host, OSTYPE=system, QUORUM_CLI="dist"), (70, "", "quorum_cli: dist/quorum_cli is not run: %s\n" % (why % (host, system))))
+            self.judge(
+                "another machine",
+                (status, out, why % (host, system) in error, self.calls()),
+                (0, "compiled show x\n", True, ["build --unproved"]),
+            )
+            self.judge(
+                "asked for dist",
+                self.run("show", "x", HOSTTYPE=host, OSTYPE=system, QUORUM_CLI="dist"),
+                (70, "", f"quorum_cli: dist/quorum_cli is not run: {why % (host, system)}\n"),
+            )
             self.judge("this machine after it", self.run("show", "x"), (0, "dist show x\n", ""))
             shutil.rmtree(self.path("out"))
         self.release("#!/bin/sh\nkill -ILL $$\n")
@@ -200,25 +255,64 @@ class Trial:
         self.runs("one that runs", "dist")
 
     def choosing(self):
-        self.judge("built, where none is", (self.run("show", "x", QUORUM_CLI="built"), self.calls()), ((0, "built show x\n", ""), ["build "]))
-        self.judge("built, again", (self.run("show", "x", QUORUM_CLI="built"), self.calls()), ((0, "built show x\n", ""), []))
-        self.judge("about it", self.run("--about", QUORUM_CLI="built"), (0, "", "quorum_cli: crates/quorum_cli/out/quorum_cli runs: proved and built here\n"))
+        self.judge(
+            "built, where none is",
+            (self.run("show", "x", QUORUM_CLI="built"), self.calls()),
+            ((0, "built show x\n", ""), ["build "]),
+        )
+        self.judge(
+            "built, again", (self.run("show", "x", QUORUM_CLI="built"), self.calls()), ((0, "built show x\n", ""), [])
+        )
+        self.judge(
+            "about it",
+            self.run("--about", QUORUM_CLI="built"),
+            (0, "", "quorum_cli: crates/quorum_cli/out/quorum_cli runs: proved and built here\n"),
+        )
         for env in ({"QUORUM_CLI": "unproved"}, {"QUORUM_CLI_UNPROVED": "1"}):
-            self.judge("unproved by %s" % env, self.run("show", "x", **env), (0, "compiled show x\n", UNPROVED))
-        self.judge("about it", self.run("--about", QUORUM_CLI="unproved"), (0, "", "quorum_cli: out/unproved/quorum_cli runs: compiled here with checks, and nothing of it is proved; %s\n" % PROVING))
+            self.judge(f"unproved by {env}", self.run("show", "x", **env), (0, "compiled show x\n", UNPROVED))
+        self.judge(
+            "about it",
+            self.run("--about", QUORUM_CLI="unproved"),
+            (
+                0,
+                "",
+                (
+                    "quorum_cli: out/unproved/quorum_cli runs: compiled here with checks, and nothing of it is"
+                    f" proved; {PROVING}\n"
+                ),
+            ),
+        )
         self.judge("dist by its name", self.run("show", "x", QUORUM_CLI="dist"), (0, "dist show x\n", ""))
         self.judge("dist is the first", self.run("show", "x"), (0, "dist show x\n", ""))
         self.write("another", PROGRAM.replace("{kind}", "named"), 0o755)
         self.judge("a path", self.run("show", "x", QUORUM_CLI=self.path("another")), (0, "named show x\n", ""))
-        self.judge("about it", self.run("--about", QUORUM_CLI=self.path("another")), (0, "", "quorum_cli: %s runs, which QUORUM_CLI names: whether it is proved is not known here\n" % self.path("another")))
-        self.judge("another word", self.run("show", "x", QUORUM_CLI="dits"), (70, "", "quorum_cli: QUORUM_CLI is dist, built, unproved or the path of a program, and not dits\n"))
+        self.judge(
+            "about it",
+            self.run("--about", QUORUM_CLI=self.path("another")),
+            (
+                0,
+                "",
+                (
+                    f"quorum_cli: {self.path('another')} runs, which QUORUM_CLI names: whether it is proved is not"
+                    " known here\n"
+                ),
+            ),
+        )
+        self.judge(
+            "another word",
+            self.run("show", "x", QUORUM_CLI="dits"),
+            (70, "", "quorum_cli: QUORUM_CLI is dist, built, unproved or the path of a program, and not dits\n"),
+        )
         self.judge("what is built meanwhile", self.calls(), ["build --unproved"])
 
     def built(self):
         """A program that is proved and built here runs where dist/ is of other sources."""
         self.later()
         self.write("crates/low/src/lib.rt", "code of loq")
-        said = "quorum_cli: dist/ is not run, since its sources are others than those here: the program that is proved and built here runs in its place\n"
+        said = (
+            "quorum_cli: dist/ is not run, since its sources are others than those here: the program that is proved"
+            " and built here runs in its place\n"
+        )
         self.run("show", "x", QUORUM_CLI="built")
         self.calls()
         self.runs("what is built", "built", said)
@@ -228,7 +322,21 @@ class Trial:
         self.later()
         self.write("crates/quorum_cli/out/quorum_cli", PROGRAM.replace("{kind}", "by rt"), 0o755)
         self.runs("one that rt has built, without a note", "by rt", said)
-        self.judge("asked without making it", (self.run("--about", QUORUM_CLI="unproved"), self.calls()), ((0, "", "quorum_cli: out/unproved/quorum_cli runs: compiled here with checks, at the next call, and nothing of it is proved; %s\n" % PROVING), []))
+        self.judge(
+            "asked without making it",
+            (self.run("--about", QUORUM_CLI="unproved"), self.calls()),
+            (
+                (
+                    0,
+                    "",
+                    (
+                        "quorum_cli: out/unproved/quorum_cli runs: compiled here with checks, at the next call, and"
+                        f" nothing of it is proved; {PROVING}\n"
+                    ),
+                ),
+                [],
+            ),
+        )
         self.later()
         self.write("crates/low/src/lib.rt", "code of low")
         self.runs("dist once more", "dist")
@@ -241,9 +349,18 @@ class Trial:
     def at_once(self):
         for _ in range(3):
             shutil.rmtree(self.path("out"))
-            how = {"env": {"PATH": "/usr/bin:/bin"}, "stdin": subprocess.DEVNULL, "stdout": subprocess.PIPE, "stderr": subprocess.STDOUT}
+            how = {
+                "env": {"PATH": "/usr/bin:/bin"},
+                "stdin": subprocess.DEVNULL,
+                "stdout": subprocess.PIPE,
+                "stderr": subprocess.STDOUT,
+            }
             started = [subprocess.Popen([self.path("quorum_cli"), "show", str(at)], **how) for at in range(12)]
-            self.judge("first calls at once", [it.communicate()[0].decode() for it in started], ["dist show %d\n" % at for at in range(12)])
+            self.judge(
+                "first calls at once",
+                [it.communicate()[0].decode() for it in started],
+                [f"dist show {at}\n" for at in range(12)],
+            )
             self.judge("what they leave", os.listdir(self.path("out/choice")), ["first"])
         self.runs("after them", "dist")
 
@@ -261,14 +378,20 @@ class Trial:
     def read_only(self):
         """A checkout that cannot be written answers all the same, each time."""
         shutil.rmtree(self.path("out"))
-        before = [] if os.geteuid() else ["setpriv", "--reuid=%d" % NOBODY, "--regid=%d" % NOBODY, "--clear-groups"]
+        before = [] if os.geteuid() else ["setpriv", f"--reuid={NOBODY}", f"--regid={NOBODY}", "--clear-groups"]
         if before and not shutil.which("setpriv"):
-            return print("dist: skipped: a checkout that cannot be written; root writes everywhere, and there is no setpriv")
+            return print(
+                "dist: skipped: a checkout that cannot be written; root writes everywhere, and there is no setpriv"
+            )
         above = os.path.dirname(self.top)
         os.chmod(above, 0o755)
         subprocess.run(["chmod", "-R", "a+rX,a-w", self.top], check=True)
         for name in ("once", "twice"):
-            self.judge("a checkout that cannot be written, " + name, self.run("show", "x", before=before), (0, "dist show x\n", ""))
+            self.judge(
+                "a checkout that cannot be written, " + name,
+                self.run("show", "x", before=before),
+                (0, "dist show x\n", ""),
+            )
         subprocess.run(["chmod", "-R", "u+w", self.top], check=True)
         self.judge("nothing is written", os.path.exists(self.path("out")), False)
 
@@ -276,9 +399,19 @@ class Trial:
 def main():
     with tempfile.TemporaryDirectory() as folder:
         trial = Trial(folder)
-        for step in (trial.released, trial.moved_on, trial.changed, trial.machines, trial.choosing, trial.built, trial.at_once, trial.read_only, trial.same_sum):
+        for step in (
+            trial.released,
+            trial.moved_on,
+            trial.changed,
+            trial.machines,
+            trial.choosing,
+            trial.built,
+            trial.at_once,
+            trial.read_only,
+            trial.same_sum,
+        ):
             step()
-    print("dist: %d passed, %d failed" % (trial.passed, trial.failed))
+    print(f"dist: {trial.passed} passed, {trial.failed} failed")
     return 1 if trial.failed else 0
 
 

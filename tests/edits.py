@@ -1,9 +1,10 @@
 #!/usr/bin/env python3
 """Tries tools/edits on a crate of six functions, in a repository of its own.
 
-Bodies that are wrong, in one check and over two functions that call one another; bodies that are right, edits that cannot be read and edits
-that only take away a name which a proof cites: of these each is said to fail. Wrong words, a crate that is not proved, and an
-interrupt, which leaves all as it was. Its last line is 'edits: N passed, M failed'. Skipped where no toolchain is on the path.
+Bodies that are wrong, in one check and over two functions that call one another; bodies that are right, edits that
+cannot be read and edits that only take away a name which a proof cites: of these each is said to fail. Wrong words, a
+crate that is not proved, and an interrupt, which leaves all as it was. Its last line is 'edits: N passed, M failed'.
+Skipped where no toolchain is on the path.
 """
 
 import hashlib
@@ -20,7 +21,7 @@ TOP = os.path.dirname(os.path.dirname(os.path.abspath(__file__)))
 sys.dont_write_bytecode = True
 sys.path.insert(0, os.path.join(TOP, "tools"))
 
-import toolchain  # noqa: E402
+import toolchain
 
 NAMES = ["one", "two", "three", "four", "five"]
 HEAD = """//! Sums of small numbers.
@@ -55,8 +56,8 @@ use Rattle.tiny.proofs.NAME.Goals as goal
 pub returns : goal.returns
 returns c = omega (arith, c.plus-sumNUMBER.ensures)
 """
-WRONG = {name: [("sum%d + %d" % (at, at), "sum%d + %d" % (at, at + 1))] for at, name in enumerate(NAMES, 1)}
-RIGHT = {name: [("sum%d + %d" % (at, at), "%d + sum%d" % (at, at))] for at, name in enumerate(NAMES, 1)}
+WRONG = {name: [(f"sum{at} + {at}", f"sum{at} + {at + 1}")] for at, name in enumerate(NAMES, 1)}
+RIGHT = {name: [(f"sum{at} + {at}", f"{at} + sum{at}")] for at, name in enumerate(NAMES, 1)}
 UNREAD = {
     "one": [("sum1 + 1", "sum1 + absent")],
     "two": [("sum2 + 2", "sum2 + true")],
@@ -64,13 +65,16 @@ UNREAD = {
     "four": [("sum4 + 4", "sum4.absent() + 4")],
     "five": [("a + b + 5 }", "a + b + absent }")],
 }
-RENAMED = {name: [("let sum%d = plus" % at, "let sun%d = plus" % at), ("sum%d + %d" % (at, at), "sun%d + %d" % (at, at))] for at, name in enumerate(NAMES, 1)}
+RENAMED = {
+    name: [(f"let sum{at} = plus", f"let sun{at} = plus"), (f"sum{at} + {at}", f"sun{at} + {at}")]
+    for at, name in enumerate(NAMES, 1)
+}
 # Those that call it are not judged beside it.
 LOWEST = [("    a + b", "    a + (b - b)")]
 
 
 def edit(pairs, file="src/lib.rt"):
-    return "file: %s\n" % file + "".join("old: %s\nnew: %s\n" % it for it in pairs)
+    return f"file: {file}\n" + "".join("old: %s\nnew: %s\n" % it for it in pairs)
 
 
 class Trial:
@@ -83,7 +87,7 @@ class Trial:
         self.write("crates.txt", "tiny:\n")
         self.write("crates/tiny/src/lib.rt", HEAD + "".join(self.of(FUNCTION, *it) for it in enumerate(NAMES, 1)))
         for at, name in enumerate(NAMES, 1):
-            self.write("crates/tiny/proofs/%s/Answers.antt" % name, self.of(ANSWER, at, name))
+            self.write(f"crates/tiny/proofs/{name}/Answers.antt", self.of(ANSWER, at, name))
 
     @staticmethod
     def of(text, number, name):
@@ -99,13 +103,19 @@ class Trial:
         return [sys.executable, os.path.join(self.folder, "tools/edits"), *words]
 
     def how(self):
-        return {"cwd": self.folder, "env": {**os.environ, "TMPDIR": os.path.join(self.folder, "tmp")}, "stdin": subprocess.DEVNULL, "text": True, "errors": "replace"}
+        return {
+            "cwd": self.folder,
+            "env": {**os.environ, "TMPDIR": os.path.join(self.folder, "tmp")},
+            "stdin": subprocess.DEVNULL,
+            "text": True,
+            "errors": "replace",
+        }
 
     def edits(self, edits):
         """Tries these alone: what is said of each, the last line and the status."""
         shutil.rmtree(os.path.join(self.folder, "crates/tiny/must-fail"), ignore_errors=True)
         for name, text in edits.items():
-            self.write("crates/tiny/must-fail/%s.edit" % name, text)
+            self.write(f"crates/tiny/must-fail/{name}.edit", text)
         ended = subprocess.run(self.words("tiny"), stdout=subprocess.PIPE, stderr=subprocess.PIPE, **self.how())
         lines = re.findall(r"^must-fail tiny/(\w+)\.edit: (.*)$", ended.stdout, re.M)
         return dict(lines), ended.stdout.rstrip("\n").split("\n")[-1], ended.returncode
@@ -115,23 +125,33 @@ class Trial:
             self.passed += 1
         else:
             self.failed += 1
-            print("edits: %s: found %r, wanted %r" % (name, found, wanted))
+            print(f"edits: {name}: found {found!r}, wanted {wanted!r}")
 
     def rows(self, name, edits, word, status, checks=None):
         said, last, ended = self.edits({it: edit(pairs) for it, pairs in edits.items()})
         for it in edits:
             found = said.get(it, "nothing")
-            self.judge("%s: %s" % (name, it), word if word in found else found, word)
+            self.judge(f"{name}: {it}", word if word in found else found, word)
         refused = len(edits) if not status else 0
-        self.judge(name + ": the last line", last.startswith("edits: tiny: %d of %d refused, in %s" % (refused, len(edits), checks or "")), True)
+        self.judge(
+            name + ": the last line",
+            last.startswith(f"edits: tiny: {refused} of {len(edits)} refused, in {checks or ''}"),
+            True,
+        )
         self.judge(name + ": the status", ended, status)
         return said
 
     def wrong(self):
         said = self.rows("wrong bodies", WRONG, "refused, as it must be", 0, "1 checks")
-        self.judge("each by its own function", [said[it].partition("[by ")[2] for it in NAMES], ["tiny::%s]" % it for it in NAMES])
+        self.judge(
+            "each by its own function",
+            [said[it].partition("[by ")[2] for it in NAMES],
+            [f"tiny::{it}]" for it in NAMES],
+        )
         # the lowest is wrong in what the others rest on
-        said = self.rows("and one that the others call", {"lowest": LOWEST, "one": WRONG["one"]}, "refused, as it must be", 0)
+        said = self.rows(
+            "and one that the others call", {"lowest": LOWEST, "one": WRONG["one"]}, "refused, as it must be", 0
+        )
         self.judge("the one below by itself", "[by tiny::plus" in said["lowest"], True)
 
     def not_refused(self):
@@ -140,9 +160,27 @@ class Trial:
         # the first four are no Rust; the last is a contract with a word that nobody has said
         self.judge("why", ["it did not reach the prover" in said[it] for it in NAMES], [True] * 4 + [False])
         self.rows("only a name is gone", RENAMED, "says little of the contract", 1)
-        said, _, status = self.edits({"wrong": edit(WRONG["one"]), "right": edit(RIGHT["two"]), "unread": edit(UNREAD["four"]), "renamed": edit(RENAMED["five"]), "gone": edit([("nothing", "")])})
-        words = {"wrong": "refused, as it must be", "right": "NOT REFUSED", "unread": "BAD EDIT: it did not reach the prover", "renamed": "says little", "gone": "BAD EDIT: an 'old:' text is in src/lib.rt 0 times"}
-        self.judge("one of each together", ([it for it, word in words.items() if word in said.get(it, "")], status), (list(words), 1))
+        said, _, status = self.edits(
+            {
+                "wrong": edit(WRONG["one"]),
+                "right": edit(RIGHT["two"]),
+                "unread": edit(UNREAD["four"]),
+                "renamed": edit(RENAMED["five"]),
+                "gone": edit([("nothing", "")]),
+            }
+        )
+        words = {
+            "wrong": "refused, as it must be",
+            "right": "NOT REFUSED",
+            "unread": "BAD EDIT: it did not reach the prover",
+            "renamed": "says little",
+            "gone": "BAD EDIT: an 'old:' text is in src/lib.rt 0 times",
+        }
+        self.judge(
+            "one of each together",
+            ([it for it, word in words.items() if word in said.get(it, "")], status),
+            (list(words), 1),
+        )
         self.judge("a wrong one beside them", "says little" in said["wrong"], False)
 
     def stops(self):
@@ -164,18 +202,28 @@ class Trial:
         return found
 
     def interrupts(self):
-        subprocess.run([sys.executable, os.path.join(self.folder, "tools/rt"), "check"], stdout=subprocess.DEVNULL, **{**self.how(), "cwd": os.path.join(self.folder, "crates/tiny")})
+        subprocess.run(
+            [sys.executable, os.path.join(self.folder, "tools/rt"), "check"],
+            stdout=subprocess.DEVNULL,
+            **{**self.how(), "cwd": os.path.join(self.folder, "crates/tiny")},
+        )
         before = self.sums()
         for number in (signal.SIGINT, signal.SIGTERM):
-            started = subprocess.Popen(self.words("tiny"), stdout=subprocess.DEVNULL, stderr=subprocess.DEVNULL, start_new_session=True, **self.how())
+            started = subprocess.Popen(
+                self.words("tiny"),
+                stdout=subprocess.DEVNULL,
+                stderr=subprocess.DEVNULL,
+                start_new_session=True,
+                **self.how(),
+            )
             out = os.path.join(self.folder, "tmp")
             for _ in range(600):
                 if any(it.startswith("rt-edit-") for it in os.listdir(out)):
                     break
                 time.sleep(0.1)
             os.kill(started.pid, number)
-            self.judge("stopped by %s" % number.name, started.wait(timeout=60), 128 + number)
-            self.judge("as it was after %s" % number.name, self.sums() == before, True)
+            self.judge(f"stopped by {number.name}", started.wait(timeout=60), 128 + number)
+            self.judge(f"as it was after {number.name}", self.sums() == before, True)
 
     def unproved(self):
         path = os.path.join(self.folder, "crates/tiny/src/lib.rt")
@@ -183,21 +231,27 @@ class Trial:
             text = it.read()
         self.write("crates/tiny/src/lib.rt", text.replace("sum1 + 1", "sum1 + 7"))
         self.write("crates/tiny/must-fail/right.edit", edit(RIGHT["two"]))
-        ended = subprocess.run(self.words("tiny", "right"), stdout=subprocess.PIPE, stderr=subprocess.PIPE, **self.how())
-        self.judge("a crate that is not proved", (ended.returncode, ended.stdout, "itself is not proved" in ended.stderr), (2, "", True))
+        ended = subprocess.run(
+            self.words("tiny", "right"), stdout=subprocess.PIPE, stderr=subprocess.PIPE, **self.how()
+        )
+        self.judge(
+            "a crate that is not proved",
+            (ended.returncode, ended.stdout, "itself is not proved" in ended.stderr),
+            (2, "", True),
+        )
 
 
 def main():
     try:
         toolchain.Toolchain()
     except toolchain.Unfit as why:
-        print("edits: skipped: %s" % why)
+        print(f"edits: skipped: {why}")
         return 0
     with tempfile.TemporaryDirectory() as folder:
         trial = Trial(folder)
         for step in (trial.wrong, trial.not_refused, trial.stops, trial.interrupts, trial.unproved):
             step()
-    print("edits: %d passed, %d failed" % (trial.passed, trial.failed))
+    print(f"edits: {trial.passed} passed, {trial.failed} failed")
     return 1 if trial.failed else 0
 
 

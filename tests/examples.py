@@ -1,10 +1,11 @@
 #!/usr/bin/env python3
 """Runs every example of the documents and compares what it prints.
 
-An example is a line `$ COMMAND` of a code block, and the lines up to the next one are what it prints: `..` alone stands for
-any lines, and at the end of a line for the rest of it. In a table of examples each row has the words in its first cell, and its second
-begins with the first line and has the status after a comma. The examples of a document run in order in one new folder, with the program, the examples and the tools in it.
-What needs a tool that is missing is skipped with a word. The last line is 'examples: N passed, M failed'.
+An example is a line `$ COMMAND` of a code block, and the lines up to the next one are what it prints: `..` alone
+stands for any lines, and at the end of a line for the rest of it. In a table of examples each row has the words in its
+first cell, and its second begins with the first line and has the status after a comma. The examples of a document run
+in order in one new folder, with the program, the examples and the tools in it. What needs a tool that is missing is
+skipped with a word. The last line is 'examples: N passed, M failed'.
 """
 
 import os
@@ -68,22 +69,29 @@ class Trial:
             self.passed += 1
         else:
             self.failed += 1
-            print("examples: %s printed %r" % (name, found))
+            print(f"examples: {name} printed {found!r}")
 
     def run(self, folder, command):
-        ended = subprocess.run(["bash", "-c", command], cwd=folder, stdin=subprocess.DEVNULL, stdout=subprocess.PIPE, stderr=subprocess.PIPE, timeout=600)
+        ended = subprocess.run(
+            ["bash", "-c", command],
+            cwd=folder,
+            stdin=subprocess.DEVNULL,
+            stdout=subprocess.PIPE,
+            stderr=subprocess.PIPE,
+            timeout=600,
+        )
         return ended.returncode, ended.stdout.decode("utf-8", "replace")
 
     def block(self, name, folder, lines):
         for command, wanted in commands(lines):
             if any(command.startswith(word) for word in NOT_RUN):
                 continue
-            lacking = [tool for tool in TOOLS if re.search(r"\b%s\b" % tool, command) and not shutil.which(tool)]
+            lacking = [tool for tool in TOOLS if re.search(rf"\b{tool}\b", command) and not shutil.which(tool)]
             if lacking:
-                print("examples: %s: skipped from `%s` on, there is no %s" % (name, command, lacking[0]))
+                print(f"examples: {name}: skipped from `{command}` on, there is no {lacking[0]}")
                 return
             _, text = self.run(folder, command)
-            self.judge("%s: `%s`" % (name, command), matches(wanted, text.split("\n")[:-1]), text)
+            self.judge(f"{name}: `{command}`", matches(wanted, text.split("\n")[:-1]), text)
 
     def document(self, name):
         with open(os.path.join(TOP, name), encoding="utf-8") as it:
@@ -96,7 +104,11 @@ class Trial:
                 self.block(name, folder, lines)
             for words, first, status in rows(text):
                 found = self.run(folder, "./quorum_cli " + words)
-                self.judge("%s: the row `%s`" % (name, words), found[0] == int(status) and matches([first], found[1].split("\n")[:1]), found)
+                self.judge(
+                    f"{name}: the row `{words}`",
+                    found[0] == int(status) and matches([first], found[1].split("\n")[:1]),
+                    found,
+                )
 
 
 def main():
@@ -104,7 +116,7 @@ def main():
     for name in DOCUMENTS:
         if os.path.exists(os.path.join(TOP, name)):
             trial.document(name)
-    print("examples: %d passed, %d failed" % (trial.passed, trial.failed))
+    print(f"examples: {trial.passed} passed, {trial.failed} failed")
     return 1 if trial.failed else 0
 
 

@@ -1,8 +1,8 @@
 #!/usr/bin/env python3
 """Compares exported formulas with the definition, on small random systems.
 
-Makes COUNT of them, with and without faulty nodes and a trust closure, writes the formula of each by `export`, asks minisat
-whether it is satisfiable, and tries all sets of nodes for two disjoint quorums. Beside the gate, by hand:
+Makes COUNT of them, with and without faulty nodes and a trust closure, writes the formula of each by `export`, asks
+minisat whether it is satisfiable, and tries all sets of nodes for two disjoint quorums. Beside the gate, by hand:
 tests/exports.py [COUNT [SEED]]; needs the built program and minisat (Debian's package). The last line is
 'exports: N passed, M failed', or says why it is skipped.
 """
@@ -33,7 +33,7 @@ def random_set(names, depth):
 
 
 def random_system():
-    names = ["n%d" % i for i in range(random.randint(1, 7))]
+    names = [f"n{i}" for i in range(random.randint(1, 7))]
     nodes = [{"publicKey": n} for n in names]
     for node in nodes:
         if random.random() < 0.9:
@@ -67,9 +67,9 @@ def has_disjoint_quorums(names, sets, faulty, part):
     left = sorted(part - faulty)
     quorums = []
     for size in range(1, len(left) + 1):
-        for chosen in itertools.combinations(left, size):
-            members = set(chosen)
-            if all(sets.get(v) and satisfied(sets[v], members | (faulty & part)) for v in chosen):
+        for picked in itertools.combinations(left, size):
+            members = set(picked)
+            if all(sets.get(v) and satisfied(sets[v], members | (faulty & part)) for v in picked):
                 quorums.append(members)
     return any(not (u & w) for u, w in itertools.combinations(quorums, 2))
 
@@ -114,8 +114,8 @@ def main(count=COUNT, seed=1):
         system = asked()
         if not agrees(*system):
             failed += 1
-            print("exports: system %d differs: %r" % (number, system))
-    print("exports: %d passed, %d failed" % (int(count) - failed, failed))
+            print(f"exports: system {number} differs: {system!r}")
+    print(f"exports: {int(count) - failed} passed, {failed} failed")
     return 1 if failed else 0
 
 

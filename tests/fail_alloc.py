@@ -1,10 +1,12 @@
 #!/usr/bin/env python3
-"""Refuses each growth of memory in turn, on the built program: it answers as with ample memory, or 8 with nothing done.
+"""Refuses each growth of memory in turn, on the built program: it answers as with ample memory, or 8 with nothing
+done.
 
-A small library that is loaded before the system's (LD_PRELOAD, made with cc) refuses the N-th call of malloc or realloc, or that
-and all later ones, for N from 1 until a run makes fewer. Then the status is 8, nothing is put out and the certificate's file
-is as it was; or the answer, the certificate among it, is to the byte what it is with ample memory. No other file is left.
-Beside the gate, by hand: tests/fail_alloc.py [PROGRAM]; its last line is 'fail_alloc: N passed, M failed'.
+A small library that is loaded before the system's (LD_PRELOAD, made with cc) refuses the N-th call of malloc or
+realloc, or that and all later ones, for N from 1 until a run makes fewer. Then the status is 8, nothing is put out and
+the certificate's file is as it was; or the answer, the certificate among it, is to the byte what it is with ample
+memory. No other file is left. Beside the gate, by hand: tests/fail_alloc.py [PROGRAM]; its last line is 'fail_alloc: N
+passed, M failed'.
 """
 
 import hashlib
@@ -18,7 +20,8 @@ sys.path[:0] = [os.path.join(TOP, "tests"), os.path.join(TOP, "bench")]
 import malicious
 import trials
 
-# Counts the calls that want memory, and refuses those from GROWTH_FIRST to GROWTH_LAST; a refusal makes the file GROWTH_TOLD.
+# Counts the calls that want memory, and refuses those from GROWTH_FIRST to GROWTH_LAST; a refusal makes the file
+# GROWTH_TOLD.
 REFUSER = r"""
 #include <errno.h>
 #include <fcntl.h>
@@ -52,8 +55,16 @@ void *realloc(void *old, size_t size) { return is_refused() ? NULL : __libc_real
 FOUR = malicious.system("abcd", 3)
 ORGS = b'[{"id":"A","validators":["a","zz"]}]'
 # Each of the three groups wants another with it: node:b, node:c and org:A.
-GROUPS = malicious.head(malicious.THREE, "org-blocking", version=2) + b"orgs " + hashlib.sha256(ORGS).hexdigest().encode() + b"\n"
-GROUPS += b"q 1 a b\nq 2 a c\nq 3 b c\nb 4 node:b node:c\nb 5 node:b org:A\nb 6 node:c org:A\n7 -1 0 4 5 2 0\n8 0 7 1 3 6 0\nend\n"
+GROUPS = (
+    malicious.head(malicious.THREE, "org-blocking", version=2)
+    + b"orgs "
+    + hashlib.sha256(ORGS).hexdigest().encode()
+    + b"\n"
+)
+GROUPS += (
+    b"q 1 a b\nq 2 a c\nq 3 b c\nb 4 node:b node:c\nb 5 node:b org:A\nb 6 node:c org:A\n7 -1 0 4 5 2 0\n8 0 7 1 3 6"
+    b" 0\nend\n"
+)
 SCRIPT = b"threshold a . 3\nadd b . d\ndeclare d\nadd d . d\ndrop b . c\nretire c\n"
 # A search over its formula is not done when that begins anew over gates written out.
 DRAWN = trials.drawn(20, 10, 6, 1).encode()
@@ -128,13 +139,28 @@ class Trial:
             return it.read()
 
     def run(self, line, cert, first, last):
-        """How a run ends whose calls from the first to the last get no memory: status, texts, certificate; and whether one was made."""
+        """How a run ends whose calls from the first to the last get no memory: status, texts, certificate; and whether
+        one was made."""
         self.put("cert", cert)
         if os.path.exists(self.told):
             os.remove(self.told)
         limits = {"GROWTH_FIRST": str(first), "GROWTH_LAST": str(last), "GROWTH_TOLD": self.told}
-        ended = subprocess.run([self.program] + line.split(), cwd=self.folder, env=dict(os.environ, LD_PRELOAD=self.library, **limits), stdin=subprocess.DEVNULL, stdout=subprocess.PIPE, stderr=subprocess.PIPE, timeout=300)
-        found = (ended.returncode, ended.stdout, ended.stderr, self.held(), os.path.exists(os.path.join(self.folder, "cert.part")))
+        ended = subprocess.run(
+            [self.program] + line.split(),
+            cwd=self.folder,
+            env=dict(os.environ, LD_PRELOAD=self.library, **limits),
+            stdin=subprocess.DEVNULL,
+            stdout=subprocess.PIPE,
+            stderr=subprocess.PIPE,
+            timeout=300,
+        )
+        found = (
+            ended.returncode,
+            ended.stdout,
+            ended.stderr,
+            self.held(),
+            os.path.exists(os.path.join(self.folder, "cert.part")),
+        )
         return found, os.path.exists(self.told)
 
     def walk(self, line, config, cert):
@@ -153,7 +179,7 @@ class Trial:
                 self.judge(line, number, wants or found == ample, found)
                 number += 1
             self.judge(line, number, found == ample, found)
-            counts.append("%d of %d" % (wanting, number - 1))
+            counts.append(f"{wanting} of {number - 1}")
         print("%-52s status %d; 8 at %s growths, with all later ones refused too at %s" % (line, ample[0], *counts))
         sys.stdout.flush()
 
@@ -162,7 +188,7 @@ class Trial:
             self.passed += 1
         else:
             self.failed += 1
-            print("fail_alloc: growth %d of %s: %r" % (number, line, found))
+            print(f"fail_alloc: growth {number} of {line}: {found!r}")
 
 
 def main(program=malicious.BUILT):
@@ -173,7 +199,7 @@ def main(program=malicious.BUILT):
         trial.put("faulty", SCRIPT + b"retire z\n")
         for line, config, cert in RUNS:
             trial.walk(line, config, cert)
-    print("fail_alloc: %d passed, %d failed" % (trial.passed, trial.failed))
+    print(f"fail_alloc: {trial.passed} passed, {trial.failed} failed")
     return 1 if trial.failed else 0
 
 

@@ -1,13 +1,15 @@
 #!/usr/bin/env python3
-"""Mutates configurations, organisations, certificates of every kind, proofs of other solvers, scripts of edits and command words, and runs the built
-program on them.
+"""Mutates configurations, organisations, certificates of every kind, proofs of other solvers, scripts of edits and
+command words, and runs the built program on them.
 
-The program must end with one of its statuses, put out what fits that status, and nothing on standard error. What 'check'
-says of a configuration and a certificate, 'check-lrat' of a proof, 'whatif' of a script, 'greatest' of organisations, and what the plain questions and 'export' answer,
-must be what tests/plain_checker.py says. A certificate that a search wrote must be one that it accepts, and the answer that of
-trying all sets of nodes; where the answer is unknown, each unit of the certificate must be useful and its clauses must not close.
+The program must end with one of its statuses, put out what fits that status, and nothing on standard error. What
+'check' says of a configuration and a certificate, 'check-lrat' of a proof, 'whatif' of a script, 'greatest' of
+organisations, and what the plain questions and 'export' answer, must be what tests/plain_checker.py says. A
+certificate that a search wrote must be one that it accepts, and the answer that of trying all sets of nodes; where the
+answer is unknown, each unit of the certificate must be useful and its clauses must not close.
 
-tests/fuzz.py [--cases N] [--seed S] [--kind KIND] [PROGRAM], all cases of one kind where KIND is given, as whatif; its last line is 'fuzz: N passed, M failed'.
+tests/fuzz.py [--cases N] [--seed S] [--kind KIND] [PROGRAM], all cases of one kind where KIND is given, as whatif; its
+last line is 'fuzz: N passed, M failed'.
 """
 
 import argparse
@@ -45,7 +47,11 @@ SEARCHES = ("intersect", "splits", "dset", "blocking", "quorums", "least", "org-
 LISTS = ("blocking", "quorums", "org-blocking")
 
 # Numbers at the edges of what the formats allow, and texts that are no numbers.
-EDGES = "0 1 2 3 -1 -2 -0 +1 01 00 32 33 127 128 16384 2147483647 -2147483647 2147483648 -2147483648 4294967296 9223372036854775807 -9223372036854775807 9223372036854775808 18446744073709551615 18446744073709551616 1.0 1e0 x d".split()
+EDGES = (
+    "0 1 2 3 -1 -2 -0 +1 01 00 32 33 127 128 16384 2147483647 -2147483647 2147483648 -2147483648 4294967296"
+    " 9223372036854775807 -9223372036854775807 9223372036854775808 18446744073709551615 18446744073709551616 1.0"
+    " 1e0 x d".split()
+)
 
 
 # ---- Configurations
@@ -56,7 +62,9 @@ def random_set(rng, names, depth):
     validators = rng.sample(names, rng.randint(0 if depth else 1, min(4, len(names))))
     if rng.random() < 0.1 and validators:
         validators.append(rng.choice(validators))
-    inner = [random_set(rng, names, depth - 1) for _ in range(rng.randint(0, 2))] if depth and rng.random() < 0.5 else []
+    inner = (
+        [random_set(rng, names, depth - 1) for _ in range(rng.randint(0, 2))] if depth and rng.random() < 0.5 else []
+    )
     count = len(validators) + len(inner)
     threshold = rng.randint(1, count) if count and rng.random() < 0.95 else rng.choice([0, count + 1])
     made = {"threshold": threshold, "validators": validators}
@@ -88,12 +96,15 @@ def random_config(rng):
 
 def random_orgs(rng, ids="ABCD"):
     """Organisations that overlap, lack members or name strangers."""
-    return [{"id": it, "validators": rng.sample("abcdefgz", rng.randint(0, 4))} for it in rng.sample(ids, rng.randint(0, 3))]
+    return [
+        {"id": it, "validators": rng.sample("abcdefgz", rng.randint(0, 4))}
+        for it in rng.sample(ids, rng.randint(0, 3))
+    ]
 
 
 def trial_config(count):
     """The trial configuration of so many organisations of three nodes."""
-    names = ["t%03d" % i for i in range(3 * count)]
+    names = [f"t{i:03d}" for i in range(3 * count)]
     inner = [{"innerQuorumSets": [], "threshold": 2, "validators": names[i : i + 3]} for i in range(0, 3 * count, 3)]
     common = {"innerQuorumSets": inner, "threshold": count - (count - 1) // 3, "validators": []}
     return compact([{"publicKey": name, "quorumSet": common} for name in names])
@@ -103,10 +114,30 @@ def sizes_of_trial(system):
     """What 'trial' prints before the answer."""
     formula = plain.Formula(system, set(), 2)
     nodes = len(system)
-    return "trial %d\nnodes %d\nvariables %d\nclauses %d\nintersects " % (nodes // 3, nodes, formula.variables, len(formula.clauses))
+    return (
+        f"trial {nodes // 3}\nnodes {nodes}\nvariables {formula.variables}\nclauses"
+        f" {len(formula.clauses)}\nintersects "
+    )
 
 
-JSON_WORDS = [b"null", b"true", b"{}", b"[]", b'""', b"1e400", b"1e-400", b'"a"', b'"\\u0061"', b'"\\ud83d"', b'"a,b"', b"[null]", b'{"threshold":1}', b"\xff", b"\xef\xbb\xbf", b'"a\nb"']
+JSON_WORDS = [
+    b"null",
+    b"true",
+    b"{}",
+    b"[]",
+    b'""',
+    b"1e400",
+    b"1e-400",
+    b'"a"',
+    b'"\\u0061"',
+    b'"\\ud83d"',
+    b'"a,b"',
+    b"[null]",
+    b'{"threshold":1}',
+    b"\xff",
+    b"\xef\xbb\xbf",
+    b'"a\nb"',
+]
 
 
 def mutated_json(rng, data):
@@ -119,7 +150,13 @@ def mutated_json(rng, data):
         if kind >= 7 and numbers:
             data = cut_in(data, rng.choice(numbers), rng.choice(EDGES[:-2] + ["null"]).encode())
         elif kind >= 5 and texts:
-            data = cut_in(data, rng.choice(texts), rng.choice([b'"a"', b'"\\u0061"', b'"b"', b'"z"', b'"a b"', b'""', b'"a,b"', b"null", b"1", b"[]", b"{}"]))
+            data = cut_in(
+                data,
+                rng.choice(texts),
+                rng.choice(
+                    [b'"a"', b'"\\u0061"', b'"b"', b'"z"', b'"a b"', b'""', b'"a,b"', b"null", b"1", b"[]", b"{}"]
+                ),
+            )
         elif kind == 0 or not marks:
             data = mutated_bytes(rng, data)
         elif kind == 1:
@@ -134,7 +171,10 @@ def mutated_json(rng, data):
             data = data[:b] + data[a:b] + data[b:] if b - a < 200 else data[:a] + data[b:]
         else:
             at = data.find(b"{", rng.randrange(len(data) or 1))
-            member = b'"%s":%s,' % (rng.choice([b"publicKey", b"quorumSet", b"threshold", b"validators", b"innerQuorumSets", b"id", b"x"]), rng.choice(JSON_WORDS + [b"1", b"2"]))
+            member = b'"%s":%s,' % (
+                rng.choice([b"publicKey", b"quorumSet", b"threshold", b"validators", b"innerQuorumSets", b"id", b"x"]),
+                rng.choice(JSON_WORDS + [b"1", b"2"]),
+            )
             data = data[: at + 1] + member + data[at + 1 :]
     return data
 
@@ -146,7 +186,7 @@ def cut_in(data, span, new):
 def mutated_bytes(rng, data):
     at = rng.randrange(len(data) + 1)
     size = rng.choice([0, 1, 1, 2, 8])
-    new = bytes(rng.choice(b"\x00\x01\t\n\r !,09az{}[]:\"\\\x7f\x80\xc3\xff") for _ in range(rng.choice([0, 1, 1, 2])))
+    new = bytes(rng.choice(b'\x00\x01\t\n\r !,09az{}[]:"\\\x7f\x80\xc3\xff') for _ in range(rng.choice([0, 1, 1, 2])))
     return data[:at] + new + data[at + size :]
 
 
@@ -185,7 +225,13 @@ class Subject:
 
     def header(self, kind):
         start = " " + self.start if self.start else ""
-        return ["fbas-cert %d" % self.version, "config " + self.digest, "from" + start, "faulty" + plain.spelled(self.given), "kind " + kind]
+        return [
+            f"fbas-cert {self.version}",
+            "config " + self.digest,
+            "from" + start,
+            "faulty" + plain.spelled(self.given),
+            "kind " + kind,
+        ]
 
     def shrunk(self, nodes):
         return plain.greatest_in(self.system, self.faulty, nodes)
@@ -195,7 +241,8 @@ class Subject:
 
 
 def quorums(subject, most):
-    """All quorums after deletion of the faulty nodes, by trying all sets of nodes; None where there are too many sets."""
+    """All quorums after deletion of the faulty nodes, by trying all sets of nodes; None where there are too many
+    sets."""
     names = sorted(set(subject.system) - subject.faulty)
     if len(names) > most:
         return None
@@ -267,7 +314,8 @@ def made_true(held, true):
 
 
 def is_useful(held, clause):
-    """Whether for some literal of the clause propagation from the negations of the others neither fails nor makes it true."""
+    """Whether for some literal of the clause propagation from the negations of the others neither fails nor makes it
+    true."""
     for literal in clause:
         true = made_true(held, {-it for it in clause if it != literal})
         if true is not None and literal not in true:
@@ -276,7 +324,8 @@ def is_useful(held, clause):
 
 
 def fault_of_units(subject, cert):
-    """What is wrong with the units of a partial certificate that a search wrote: one is not useful, or the clauses close at its end."""
+    """What is wrong with the units of a partial certificate that a search wrote: one is not useful, or the clauses
+    close at its end."""
     lines = cert.decode().split("\n")[4:-2]
     kind = lines.pop(0)
     sought = "q" if kind.endswith(("quorums", "least")) else "b"
@@ -298,7 +347,11 @@ def fault_of_units(subject, cert):
             continue
         if words[0] in ("q", "b"):
             number, sign = int(words[1]), -1 if words[0] == sought else 1
-            named = [it for it in order if subject.groups[it] & set(words[2:])] if has_groups and words[0] == "q" else words[2:]
+            named = (
+                [it for it in order if subject.groups[it] & set(words[2:])]
+                if has_groups and words[0] == "q"
+                else words[2:]
+            )
             clause = frozenset(sign * (order.index(it) + 1) for it in named)
         elif words[1] == "d":
             for it in words[2:-1]:
@@ -307,7 +360,7 @@ def fault_of_units(subject, cert):
         else:
             number, clause = int(words[0]), frozenset(map(int, words[1 : words.index("0")]))
         if not is_useful(held, clause):
-            return "a unit that is not useful: %r" % line
+            return f"a unit that is not useful: {line!r}"
         held[number] = clause
     return "the clauses close at the end" if made_true(held, set()) is None else None
 
@@ -343,13 +396,13 @@ def random_steps(rng, held, variables, last, takes_rat):
         elif held:
             number = rng.choice(sorted(held))
             del held[number]
-            lines.append("%d d %d 0" % (last, number))
+            lines.append(f"{last} d {number} 0")
     return lines, last
 
 
 def empty_lemma(held, last):
     hints = propagated(held, [])
-    return [] if hints is None else ["%d 0 %s 0" % (last + 1, " ".join(map(str, hints)))]
+    return [] if hints is None else [f"{last + 1} 0 {' '.join(map(str, hints))} 0"]
 
 
 def random_body(rng, subject, kind):
@@ -362,7 +415,7 @@ def random_body(rng, subject, kind):
         formula = plain.Formula(subject.system, subject.faulty, subject.version)
         held = {i: frozenset(it) for i, it in enumerate(formula.clauses, 1)}
         lines, last = random_steps(rng, held, formula.variables, len(held), True)
-        lines = ["formula %d %d" % (formula.variables, len(formula.clauses))] + lines
+        lines = [f"formula {formula.variables} {len(formula.clauses)}"] + lines
     else:
         lines, held, last = [], {}, 0
         has_groups = kind.endswith("org-blocking")
@@ -373,30 +426,41 @@ def random_body(rng, subject, kind):
         if kind.endswith("least"):
             held = {i: frozenset(it) for i, it in enumerate(plain.counter_of(size), 1)}
             last, variables = size * size, plain.counted(size, size, size) if size else 0
-            lines.append("counter %d %d" % (variables, last))
+            lines.append(f"counter {variables} {last}")
         for _ in range(rng.randint(0, 6)):
             letter = rng.choice("sb" if kind.endswith("least") else "qb")
-            nodes = (random_group_block if has_groups else random_block)(rng, subject) if letter == "b" else random_quorum(rng, subject)
+            nodes = (
+                (random_group_block if has_groups else random_block)(rng, subject)
+                if letter == "b"
+                else random_quorum(rng, subject)
+            )
             if letter == "b" or nodes:
                 last += 1
                 named = [it for it in order if subject.groups[it] & nodes] if has_groups and letter == "q" else nodes
-                held[last] = frozenset((-1 if letter == plain.SOUGHT[kind].decode() else 1) * (order.index(it) + 1) for it in named if it in order)
+                held[last] = frozenset(
+                    (-1 if letter == plain.SOUGHT[kind].decode() else 1) * (order.index(it) + 1)
+                    for it in named
+                    if it in order
+                )
                 if letter == "s":
                     held[last] = frozenset([-plain.counted(size, size, len(nodes))])
-                lines.append("%s %d%s" % (letter, last, plain.spelled(nodes)))
+                lines.append(f"{letter} {last}{plain.spelled(nodes)}")
         more, last = random_steps(rng, held, variables, last, rng.random() < 0.05)
         lines += more
     return lines + ([] if kind.startswith("partial") else empty_lemma(held, last))
 
 
 def random_proof(rng, subject):
-    """The lines of a proof of the exported formula, where short proofs are found by chance, with comments between them."""
+    """The lines of a proof of the exported formula, where short proofs are found by chance, with comments between
+    them."""
     formula = plain.Formula(subject.system, subject.faulty, 2)
     held = {i: frozenset(it) for i, it in enumerate(formula.clauses, 1)}
     lines, last = random_steps(rng, held, formula.variables, len(held), True)
     lines += empty_lemma(held, last)
     for _ in range(rng.choice([0, 0, 1, 2])):
-        lines.insert(rng.randrange(len(lines) + 1), rng.choice(["c", "c proof", "", " ", "\t", "c\r", "cé", " c", "\r"]))
+        lines.insert(
+            rng.randrange(len(lines) + 1), rng.choice(["c", "c proof", "", " ", "\t", "c\r", "cé", " c", "\r"])
+        )
     return lines
 
 
@@ -406,7 +470,9 @@ def still_a_line(rng, line, subject):
     if words[0] in ("faulty", "first", "second", "q", "b"):
         fixed = 2 if words[0] in ("q", "b") else 1
         has_groups = words[0] == "b" and (rng.random() < 0.1 or any(":" in it for it in words[2:]))
-        names = set(words[fixed:]) ^ {rng.choice(sorted(subject.groups) + ["org:Z"] if has_groups else subject.names + ["z"])}
+        names = set(words[fixed:]) ^ {
+            rng.choice(sorted(subject.groups) + ["org:Z"] if has_groups else subject.names + ["z"])
+        }
         if fixed == 2 and len(words) > 1 and rng.random() < 0.2:
             words[1] = rng.choice(["1", "2", "7", "9223372036854775807"])
         return " ".join(words[:fixed] + sorted(names))
@@ -420,7 +486,11 @@ def still_a_line(rng, line, subject):
     elif place and rng.random() < 0.3:
         del words[place]
     else:
-        words[place] = str(rng.choice([-number, number + 1, number - 1 or 1, rng.randint(1, 40), 2147483647, 9223372036854775807]) if place else abs(number) + rng.choice([-1, 1, 5]))
+        words[place] = str(
+            rng.choice([-number, number + 1, number - 1 or 1, rng.randint(1, 40), 2147483647, 9223372036854775807])
+            if place
+            else abs(number) + rng.choice([-1, 1, 5])
+        )
     return " ".join(words)
 
 
@@ -461,10 +531,12 @@ def mutated_lines(rng, lines, subject, others):
         lines[at] = " ".join(words)
     elif kind == 8:
         number = rng.randrange(1, 60)
-        lines.insert(at, "%d d %s0" % (number, "".join("%d " % rng.randrange(1, 60) for _ in range(rng.randint(0, 3)))))
+        lines.insert(at, "%d d %s0" % (number, "".join(f"{rng.randrange(1, 60)} " for _ in range(rng.randint(0, 3)))))
     else:
         place = rng.randrange(len(lines[at]) + 1)
-        lines[at] = lines[at][:place] + rng.choice([" ", "  ", "\t", "\r", "\n", "0", "-", "+", "x"]) + lines[at][place:]
+        lines[at] = (
+            lines[at][:place] + rng.choice([" ", "  ", "\t", "\r", "\n", "0", "-", "+", "x"]) + lines[at][place:]
+        )
     return lines
 
 
@@ -482,17 +554,30 @@ def random_edit(rng, system):
         if not inner:
             break
         at = rng.randrange(len(inner))
-        path, here = path + ".%d" % at, inner[at]
+        path, here = path + f".{at}", inner[at]
     if rng.random() < 0.05:
-        path = rng.choice(["..", ".00", "0", ".x", ".9", path + ".0", path + ".4294967295", path + ".4294967296", path + "." + "9" * 30])
+        path = rng.choice(
+            [
+                "..",
+                ".00",
+                "0",
+                ".x",
+                ".9",
+                path + ".0",
+                path + ".4294967295",
+                path + ".4294967296",
+                path + "." + "9" * 30,
+            ]
+        )
     own = [entry for entry in here[1] if isinstance(entry, str)] if here else []
     return rng.choice(
         [
-            lambda: "threshold %s %s %s" % (node, path or ".", rng.choice([0, 1, 1, 2, 2, 3, 4] if rng.random() < 0.9 else EDGES)),
-            lambda: "add %s %s %s" % (node, path or ".", rng.choice(names)),
-            lambda: "drop %s %s %s" % (node, path or ".", rng.choice(own or names)),
+            lambda: "threshold %s %s %s"
+            % (node, path or ".", rng.choice([0, 1, 1, 2, 2, 3, 4] if rng.random() < 0.9 else EDGES)),
+            lambda: f"add {node} {path or '.'} {rng.choice(names)}",
+            lambda: f"drop {node} {path or '.'} {rng.choice(own or names)}",
             lambda: "declare %s" % rng.choice([it for it in names if not system.get(it)] or names),
-            lambda: "retire %s" % node,
+            lambda: f"retire {node}",
         ]
     )().encode()
 
@@ -523,9 +608,72 @@ def mutated_words(rng, words):
         if kind == 0 and words:
             del words[at % len(words)]
         elif kind == 1:
-            words.insert(at, rng.choice(["--set", "--set=", "--set=a,b", "--faulty", "--faulty=a", "--from=a", "--from", "--node=a", "--orgs=orgs", "--faulty-orgs=A", "--budget=0", "--budget=4000000000", "--budget=4000000001", "--budget=-1", "--budget=01", "--budget=+1", "--budget=", "--", "-", "-x", "--help", "-h", "--version", "help", "", "config", "cert", "script", "=", "--=", "a", "--budget=18446744073709551616"]))
+            words.insert(
+                at,
+                rng.choice(
+                    [
+                        "--set",
+                        "--set=",
+                        "--set=a,b",
+                        "--faulty",
+                        "--faulty=a",
+                        "--from=a",
+                        "--from",
+                        "--node=a",
+                        "--orgs=orgs",
+                        "--faulty-orgs=A",
+                        "--budget=0",
+                        "--budget=4000000000",
+                        "--budget=4000000001",
+                        "--budget=-1",
+                        "--budget=01",
+                        "--budget=+1",
+                        "--budget=",
+                        "--",
+                        "-",
+                        "-x",
+                        "--help",
+                        "-h",
+                        "--version",
+                        "help",
+                        "",
+                        "config",
+                        "cert",
+                        "script",
+                        "=",
+                        "--=",
+                        "a",
+                        "--budget=18446744073709551616",
+                    ]
+                ),
+            )
         elif kind == 2 and words:
-            words[at % len(words)] = rng.choice(["show", "closure", "greatest", "intersect", "available", "dset", "blocks", "vblocks", "splits", "blocking", "quorums", "least", "org-blocking", "check", "check-lrat", "export", "trial", "whatif", "missing", "config", "cert", "script"])
+            words[at % len(words)] = rng.choice(
+                [
+                    "show",
+                    "closure",
+                    "greatest",
+                    "intersect",
+                    "available",
+                    "dset",
+                    "blocks",
+                    "vblocks",
+                    "splits",
+                    "blocking",
+                    "quorums",
+                    "least",
+                    "org-blocking",
+                    "check",
+                    "check-lrat",
+                    "export",
+                    "trial",
+                    "whatif",
+                    "missing",
+                    "config",
+                    "cert",
+                    "script",
+                ]
+            )
         elif kind == 3 and words:
             other = rng.randrange(len(words))
             at %= len(words)
@@ -533,7 +681,11 @@ def mutated_words(rng, words):
         elif kind == 4 and words:
             at %= len(words)
             place = rng.randrange(len(words[at]) + 1)
-            words[at] = words[at][:place] + rng.choice(["-", "=", ",", " ", "a", "é", "\n", "0"]) + words[at][place + rng.randrange(2) :]
+            words[at] = (
+                words[at][:place]
+                + rng.choice(["-", "=", ",", " ", "a", "é", "\n", "0"])
+                + words[at][place + rng.randrange(2) :]
+            )
         elif words:
             words.insert(at, rng.choice(words))
     return words
@@ -564,7 +716,14 @@ class Program:
             with open(os.path.join(self.folder, name), "wb") as it:
                 it.write(data)
         try:
-            ended = subprocess.run([self.program] + case.words, cwd=self.folder, stdin=subprocess.DEVNULL, stdout=subprocess.PIPE, stderr=subprocess.PIPE, timeout=120)
+            ended = subprocess.run(
+                [self.program] + case.words,
+                cwd=self.folder,
+                stdin=subprocess.DEVNULL,
+                stdout=subprocess.PIPE,
+                stderr=subprocess.PIPE,
+                timeout=120,
+            )
         except subprocess.TimeoutExpired:
             return "no end in 120 seconds", b"", b"", {}
         files = {}
@@ -577,18 +736,26 @@ class Program:
         """What is wrong with the program's answer, or None."""
         status, text, err, files = self.run(case)
         if err or not isinstance(status, int) or status < 0:
-            return "status %s, standard error %r" % (status, err[:200])
+            return f"status {status}, standard error {err[:200]!r}"
         if not re.fullmatch(REFUSALS.get(status, ANSWERS if status in (0, 1, 2) else rb"(?!)"), text):
-            return "status %d with %r" % (status, text[:200])
+            return f"status {status} with {text[:200]!r}"
         wanted = self.wanted(case)
         if wanted is not None and wanted != (status, text.decode("latin-1")):
-            return "found %r, wanted %r" % ((status, text[:300]), wanted)
-        lost = [name for name, data in case.files.items() if data and not data.startswith(b"fbas-cert ") and data not in files.values()]
+            return f"found {(status, text[:300])!r}, wanted {wanted!r}"
+        lost = [
+            name
+            for name, data in case.files.items()
+            if data and not data.startswith(b"fbas-cert ") and data not in files.values()
+        ]
         if lost:
-            return "status %d, and %s is lost" % (status, " and ".join(lost))
-        changed = [name for name, data in files.items() if data != case.files.get(name) and not (name.endswith("~") and data == case.files.get(name[:-1]))]
+            return f"status {status}, and {' and '.join(lost)} is lost"
+        changed = [
+            name
+            for name, data in files.items()
+            if data != case.files.get(name) and not (name.endswith("~") and data == case.files.get(name[:-1]))
+        ]
         if changed and (status not in (0, 1, 2) or case.words[0] not in SEARCHES + ("trial",) or len(changed) > 1):
-            return "status %d, and %s changed" % (status, " and ".join(changed))
+            return f"status {status}, and {' and '.join(changed)} changed"
         return self.search_fault(case, status, text.decode(), files["cert"]) if case.kind == "search" else None
 
     def wanted(self, case):
@@ -610,56 +777,84 @@ class Program:
 
     def search_fault(self, case, status, text, cert):
         if status not in (0, 1, 2):
-            return "status %d of a search over a right configuration" % status
+            return f"status {status} of a search over a right configuration"
         command, subject, budget = case.wanted
         found, said = plain.check(subject.data, cert, case.files.get("orgs"))
         head = "".join(line + "\n" for line in said.split("\n")[1:3])
         start = " " + subject.start if subject.start else ""
-        if head != "from%s\nfaulty%s\n" % (start, plain.spelled(subject.faulty)):
-            return "the certificate is of another question, or not accepted: %r" % said
+        if head != f"from{start}\nfaulty{plain.spelled(subject.faulty)}\n":
+            return f"the certificate is of another question, or not accepted: {said!r}"
         kind = said.split("\n")[0].split(" ")[1]
         every = quorums(subject, 8)
         if command in LISTS:
             wanted = None if every is None else minimal_sets(command, subject, every)
-            if kind == command and status == 0 and text == said.split("\n", 3)[3].join(["%s %s\n" % (command, said.split("\n")[0].split(" ")[2]), ""]):
-                return None if wanted is None or text == wanted else "found %r, wanted %r" % (text, wanted)
-            if said.startswith("accepted partial-%s %d\n" % (command, budget)) and (status, text) == (2, "%s unknown %d\n" % (command, budget)):
+            if (
+                kind == command
+                and status == 0
+                and text == said.split("\n", 3)[3].join(["%s %s\n" % (command, said.split("\n")[0].split(" ")[2]), ""])
+            ):
+                return None if wanted is None or text == wanted else f"found {text!r}, wanted {wanted!r}"
+            if said.startswith(f"accepted partial-{command} {budget}\n") and (status, text) == (
+                2,
+                f"{command} unknown {budget}\n",
+            ):
                 return fault_of_units(subject, cert)
-            return "found %r with %r" % ((status, text), said)
+            return f"found {(status, text)!r} with {said!r}"
         if command == "least":
             wanted = None if every is None else min(map(len, every), default=None)
-            if kind == "least" and status == 0 and "accepted " + text.split("\n")[0] + "\n" + head + "".join(text.split("\n", 1)[1:]) == said:
+            if (
+                kind == "least"
+                and status == 0
+                and "accepted " + text.split("\n")[0] + "\n" + head + "".join(text.split("\n", 1)[1:]) == said
+            ):
                 count = text.split("\n")[0].split(" ")[1]
-                return None if every is None or count == ("none" if wanted is None else str(wanted)) else "found %r, wanted %r" % (text, wanted)
-            if said.startswith("accepted partial-least %d\n" % budget) and (status, text) == (2, "least unknown %d\n" % budget):
+                return (
+                    None
+                    if every is None or count == ("none" if wanted is None else str(wanted))
+                    else f"found {text!r}, wanted {wanted!r}"
+                )
+            if said.startswith(f"accepted partial-least {budget}\n") and (status, text) == (
+                2,
+                f"least unknown {budget}\n",
+            ):
                 return fault_of_units(subject, cert)
-            return "found %r with %r" % ((status, text), said)
+            return f"found {(status, text)!r} with {said!r}"
         if command == "trial" and not text.startswith(sizes_of_trial(subject.system)):
-            return "the sizes are others: %r" % text
+            return f"the sizes are others: {text!r}"
         apart = None if every is None else any(not a & b for a, b in itertools.combinations(every, 2))
         answer = {"pair": "no", "refutation": "yes", "partial": "unknown"}.get(kind)
         if (answer, apart) in (("no", False), ("yes", True)):
-            return "found %s, and trying all sets says otherwise" % answer
-        if answer == "unknown" and said != "accepted partial %d\nfrom%s\nfaulty%s\n" % (budget, start, plain.spelled(subject.faulty)):
-            return "unknown with %r" % said
+            return f"found {answer}, and trying all sets says otherwise"
+        if (
+            answer == "unknown"
+            and said != f"accepted partial {budget}\nfrom{start}\nfaulty{plain.spelled(subject.faulty)}\n"
+        ):
+            return f"unknown with {said!r}"
         if not self.says(command, answer, status, text, budget):
-            return "found %r with %r" % ((status, text), said)
+            return f"found {(status, text)!r} with {said!r}"
         return fault_of_units(subject, cert) if answer == "unknown" else None
 
     @staticmethod
     def says(command, answer, status, text, budget):
         """Whether the text and the status of a search fit the kind of certificate that it wrote."""
-        units = " %d" % budget if answer == "unknown" else ""
+        units = f" {budget}" if answer == "unknown" else ""
         if command == "trial":
-            return text.endswith("\nintersects %s%s\n" % (answer, units)) and status == {"yes": 0, "unknown": 2}.get(answer)
+            return text.endswith(f"\nintersects {answer}{units}\n") and status == {"yes": 0, "unknown": 2}.get(answer)
         if command == "intersect":
-            return text.startswith("intersects %s%s\n" % (answer, units)) and status == {"yes": 0, "no": 1, "unknown": 2}[answer]
+            return (
+                text.startswith(f"intersects {answer}{units}\n")
+                and status == {"yes": 0, "no": 1, "unknown": 2}[answer]
+            )
         if command == "splits":
             answer = {"yes": "no", "no": "yes", "unknown": "unknown"}[answer]
-            return text.startswith("splits %s%s\n" % (answer, units)) and status == {"yes": 0, "no": 1, "unknown": 2}[answer]
+            return text.startswith(f"splits {answer}{units}\n") and status == {"yes": 0, "no": 1, "unknown": 2}[answer]
         available = text.startswith("available yes\n")
         whole = "no" if answer == "no" or not available else answer
-        return "\nintersects %s%s\n" % (answer, units) in text and text.endswith("dset %s\n" % whole) and status == {"yes": 0, "no": 1, "unknown": 2}[whole]
+        return (
+            f"\nintersects {answer}{units}\n" in text
+            and text.endswith(f"dset {whole}\n")
+            and status == {"yes": 0, "no": 1, "unknown": 2}[whole]
+        )
 
 
 def minimal_sets(command, subject, every):
@@ -671,11 +866,13 @@ def minimal_sets(command, subject, every):
             if command == "org-blocking":
                 is_one = subject.groups_block(nodes)
             else:
-                is_one = nodes in every if command == "quorums" else plain.blocks(subject.system, subject.faulty, nodes)
+                is_one = (
+                    nodes in every if command == "quorums" else plain.blocks(subject.system, subject.faulty, nodes)
+                )
             if is_one and not any(it <= nodes for it in found):
                 found.append(nodes)
     lines = sorted(tuple(sorted(it)) for it in found)
-    return "%s %d\n" % (command, len(lines)) + "".join("set%s\n" % plain.spelled(it) for it in lines)
+    return f"{command} {len(lines)}\n" + "".join(f"set{plain.spelled(it)}\n" for it in lines)
 
 
 def wanted_of_orgs(case):
@@ -689,7 +886,7 @@ def wanted_of_orgs(case):
         faulty = set().union(*(orgs[it] for it in plain.listed(text, orgs)))
     except plain.Fault as fault:
         word, *rest = str(fault).split(" ")
-        return (3, "usage %s --faulty-orgs %s\n" % (word, rest[0])) if name == "usage" else (4, "%s %s\n" % (name, fault))
+        return (3, f"usage {word} --faulty-orgs {rest[0]}\n") if name == "usage" else (4, f"{name} {fault}\n")
     return 0, "greatest%s\n" % plain.spelled(plain.greatest_in(system, faulty, set(system)))
 
 
@@ -699,18 +896,18 @@ def wanted_of_question(case):
     try:
         plain.system_of(subject.data)
     except plain.Fault as fault:
-        return 4, "config %s\n" % fault
+        return 4, f"config {fault}\n"
     given &= set(subject.system)
     everyone = set(subject.system)
     if command == "closure":
         return 0, "closure%s\n" % plain.spelled(plain.closure(subject.whole, node))
     if command == "greatest":
-        return 0, "greatest%s\n" % plain.spelled(subject.shrunk(everyone))
+        return 0, f"greatest{plain.spelled(subject.shrunk(everyone))}\n"
     if command == "available":
         return plain.availability(subject.system, given)
     if command == "blocks":
         left = subject.shrunk(everyone - given)
-        return (1, "blocks no\nquorum%s\n" % plain.spelled(left)) if left else (0, "blocks yes\n")
+        return (1, f"blocks no\nquorum{plain.spelled(left)}\n") if left else (0, "blocks yes\n")
     if command == "vblocks":
         avoids = node not in given and plain.has_slice(subject.whole, node, set(subject.whole) - given)
         return (1, "vblocks no\n") if avoids else (0, "vblocks yes\n")
@@ -722,8 +919,8 @@ def exported(subject):
     formula = plain.Formula(subject.system, subject.faulty, 2)
     order = sorted(subject.shrunk(set(subject.system)))
     lines = ["c " + line for line in subject.header("")[1:3]] + ["c faulty" + plain.spelled(subject.faulty)]
-    lines += ["c %d %s %s" % (i, side, it) for i, (side, it) in enumerate(((side, it) for side in "ab" for it in order), 1)]
-    lines.append("p cnf %d %d" % (formula.variables, len(formula.clauses)))
+    lines += [f"c {i} {side} {it}" for i, (side, it) in enumerate(((side, it) for side in "ab" for it in order), 1)]
+    lines.append(f"p cnf {formula.variables} {len(formula.clauses)}")
     return "".join(line + "\n" for line in lines + [" ".join(map(str, clause + [0])) for clause in formula.clauses])
 
 
@@ -836,8 +1033,8 @@ class Maker:
             self.accepted[said.split("\n")[0].split(" ")[1], case.files["cert"][10:11].decode()] += 1
 
     def told(self):
-        kinds = ", ".join("%s %d and %d" % (kind, self.accepted[kind, "1"], self.accepted[kind, "2"]) for kind in plain.KINDS)
-        return "%s; proofs of other solvers that were verified: %d" % (kinds, self.verified)
+        kinds = ", ".join(f"{kind} {self.accepted[kind, '1']} and {self.accepted[kind, '2']}" for kind in plain.KINDS)
+        return f"{kinds}; proofs of other solvers that were verified: {self.verified}"
 
     def keep(self, case):
         """Keeps the certificate that the search wrote."""
@@ -867,7 +1064,12 @@ class Maker:
         data = compact(random_orgs(rng, ["A", "B", "C", "D,E", "F"]))
         data = mutated_json(rng, data) if rng.random() < 0.7 else data
         ids = ",".join(rng.choice(["A", "A", "B", "C", "X", "", "é", "A B"]) for _ in range(rng.choice([0, 1, 1, 2])))
-        return Case("orgs", ["greatest", "config", "--orgs", "orgs", "--faulty-orgs=" + ids], {"config": self.config(), "orgs": data}, None)
+        return Case(
+            "orgs",
+            ["greatest", "config", "--orgs", "orgs", "--faulty-orgs=" + ids],
+            {"config": self.config(), "orgs": data},
+            None,
+        )
 
     def whatif(self):
         rng = self.rng
@@ -881,8 +1083,12 @@ class Maker:
             script = mutated_bytes(rng, script)
         if rng.random() < 0.2:
             script = script[:-1]
-        names = ",".join(rng.sample("abcdefg" if rng.random() < 0.05 else sorted(system), rng.randint(0, min(3, len(system)))))
-        return Case("whatif", ["whatif", "config", "script", "--set=" + names], {"config": data, "script": script}, names)
+        names = ",".join(
+            rng.sample("abcdefg" if rng.random() < 0.05 else sorted(system), rng.randint(0, min(3, len(system))))
+        )
+        return Case(
+            "whatif", ["whatif", "config", "script", "--set=" + names], {"config": data, "script": script}, names
+        )
 
     def words(self):
         rng = self.rng
@@ -913,7 +1119,17 @@ class Maker:
         words = mutated_words(rng, words) if rng.random() < 0.8 else words
         if rng.random() < 0.02:
             words.append(b"--set=\xff")
-        return Case("words", words, {"config": self.config(), "cert": b"old\n", "script": b"retire a\n", "orgs": b'[{"id":"A","validators":["a"]}]'}, None)
+        return Case(
+            "words",
+            words,
+            {
+                "config": self.config(),
+                "cert": b"old\n",
+                "script": b"retire a\n",
+                "orgs": b'[{"id":"A","validators":["a"]}]',
+            },
+            None,
+        )
 
 
 def parts(data):
@@ -942,10 +1158,10 @@ def show(program, number, case):
     """Prints a failing case, made smaller where that is no change of the question."""
     if case.kind not in ("search", "question", "proof"):
         case = shrunk(program, case)
-    print("fuzz: case %d: %s" % (number, program.fault(case)))
-    print("  words %r" % (case.words,))
+    print(f"fuzz: case {number}: {program.fault(case)}")
+    print(f"  words {case.words!r}")
     for name, data in sorted(case.files.items()):
-        print("  %s %r" % (name, data[:2000]))
+        print(f"  {name} {data[:2000]!r}")
     sys.stdout.flush()
 
 
@@ -972,8 +1188,8 @@ def main():
                 failed += 1
                 if failed <= 10:
                     show(program, number, case)
-    print("fuzz: certificates that were accepted, of version 1 and of version 2: %s" % maker.told())
-    print("fuzz: %d passed, %d failed" % (passed, failed))
+    print(f"fuzz: certificates that were accepted, of version 1 and of version 2: {maker.told()}")
+    print(f"fuzz: {passed} passed, {failed} failed")
     return 1 if failed else 0
 
 

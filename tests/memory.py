@@ -1,10 +1,10 @@
 #!/usr/bin/env python3
 """Runs the built program under limits of memory: an answer or status 8, never a crash, never a part of a certificate.
 
-Configurations of 16 MB and certificates of 1 GB are made, run without a limit (the largest memory is measured) and under
-limits of address space (ulimit -v); then the least stack is sought (ulimit -s) under which deep files are answered.
-Beside the gate, by hand: tests/memory.py [PROGRAM [PART..]]; a part is stack, searches, configurations or certificates, and
-without one all are run, which takes some minutes. The last line is 'memory: N passed, M failed'.
+Configurations of 16 MB and certificates of 1 GB are made, run without a limit (the largest memory is measured) and
+under limits of address space (ulimit -v); then the least stack is sought (ulimit -s) under which deep files are
+answered. Beside the gate, by hand: tests/memory.py [PROGRAM [PART..]]; a part is stack, searches, configurations or
+certificates, and without one all are run, which takes some minutes. The last line is 'memory: N passed, M failed'.
 """
 
 import os
@@ -41,7 +41,9 @@ def configurations():
     yield "eight million skipped numbers", data, malicious.shown(1, 0, 1)
     yield "one skipped text", nothing[:-1] + b'"' + b"x" * (MOST_BYTES - 30) + b'"}]', malicious.shown(1, 0, 1)
     sets = malicious.one(b'{"threshold":1,"innerQuorumSets":[' + b",".join([b'{"threshold":0}'] * 1000000) + b"]}")
-    yield "a million empty quorum sets", sets, malicious.shown(1, 1000000, 0, *("threshold a .%d 0 0" % i for i in range(1000000)))
+    yield "a million empty quorum sets", sets, malicious.shown(
+        1, 1000000, 0, *(f"threshold a .{i} 0 0" for i in range(1000000))
+    )
     keys = malicious.one(b'{"threshold":1,"validators":[' + b",".join([b'"a"'] * 1000000) + b"]}")
     yield "a million validators", keys, malicious.shown(1, 1000000, 0, "repeated a . a")
     yield "three nodes and blanks", malicious.THREE.ljust(MOST_BYTES), malicious.shown(3, 9, 0)
@@ -84,7 +86,8 @@ def certificates():
     yield "no line feed", no_line, (5, "refused line-too-long 1\n")
 
 
-# Starts the program under limits, and tells how it ended; a small process, since its own memory counts for the program's.
+# Starts the program under limits, and tells how it ended; a small process, since its own memory counts for the
+# program's.
 STARTER = """
 import os, resource, sys
 pid = os.fork()
@@ -105,7 +108,9 @@ class Ended:
     def __init__(self, words, folder, limit=0, stack=0, pieces=None):
         words = [sys.executable, "-S", "-c", STARTER, str(limit), str(stack)] + words
         with open(os.path.join(folder, "out"), "w+b") as out, open(os.path.join(folder, "err"), "w+b") as err:
-            started = subprocess.Popen(words, cwd=folder, stdin=subprocess.PIPE if pieces else subprocess.DEVNULL, stdout=out, stderr=err)
+            started = subprocess.Popen(
+                words, cwd=folder, stdin=subprocess.PIPE if pieces else subprocess.DEVNULL, stdout=out, stderr=err
+            )
             if pieces:
                 self.feed(started.stdin, pieces)
             started.wait()
@@ -150,7 +155,7 @@ class Trial:
             self.passed += 1
         else:
             self.failed += 1
-            print("memory: %s: status %d, %r, %r" % (name, ended.status, ended.text[:100], ended.err[:100]))
+            print(f"memory: {name}: status {ended.status}, {ended.text[:100]!r}, {ended.err[:100]!r}")
 
     def limits(self, name, words, status, text, pieces=None, every=LIMITS, after=None):
         """Without a limit and under each: the answer, or 8 with nothing put out."""
@@ -160,10 +165,13 @@ class Trial:
         for limit in every:
             less = Ended([self.program] + words, self.folder, limit=limit * MB, pieces=pieces)
             right = less.is_right(status, text) or less.is_want()
-            self.judge("%s under %d MB" % (name, limit), right and (not after or after(less)), less)
+            self.judge(f"{name} under {limit} MB", right and (not after or after(less)), less)
             if less.is_want():
                 wanted.append(limit)
-        print("%-40s %5.0f MB, %6.2f s; status 8 under %s" % (name, ended.memory, ended.time, ("at most %d MB" % wanted[-1]) if wanted else "none of the limits"))
+        print(
+            "%-40s %5.0f MB, %6.2f s; status 8 under %s"
+            % (name, ended.memory, ended.time, f"at most {wanted[-1]} MB" if wanted else "none of the limits")
+        )
         sys.stdout.flush()
 
     def searches(self):
@@ -171,10 +179,34 @@ class Trial:
         blanks = malicious.THREE.ljust(MOST_BYTES)
         fifty = fuzz.trial_config(50)
         for name, config, words, text, said in [
-            ("intersect, three nodes and blanks", blanks, "intersect config cert", "intersects yes\n", malicious.REFUTED),
-            ("intersect, twelve of sixteen", malicious.system("abcdefghijklmnop", 12), "intersect config cert", "intersects yes\n", malicious.REFUTED),
-            ("blocking, three nodes and blanks", blanks, "blocking config cert", "blocking 3\nset a b\nset a c\nset b c\n", malicious.LISTED),
-            ("trial, fifty organisations", fifty, "trial 50 cert", fuzz.sizes_of_trial(plain.system_of(fifty)) + "yes\n", malicious.REFUTED),
+            (
+                "intersect, three nodes and blanks",
+                blanks,
+                "intersect config cert",
+                "intersects yes\n",
+                malicious.REFUTED,
+            ),
+            (
+                "intersect, twelve of sixteen",
+                malicious.system("abcdefghijklmnop", 12),
+                "intersect config cert",
+                "intersects yes\n",
+                malicious.REFUTED,
+            ),
+            (
+                "blocking, three nodes and blanks",
+                blanks,
+                "blocking config cert",
+                "blocking 3\nset a b\nset a c\nset b c\n",
+                malicious.LISTED,
+            ),
+            (
+                "trial, fifty organisations",
+                fifty,
+                "trial 50 cert",
+                fuzz.sizes_of_trial(plain.system_of(fifty)) + "yes\n",
+                malicious.REFUTED,
+            ),
         ]:
             self.put("config", config)
             self.put("cert", malicious.OLD)
@@ -193,7 +225,11 @@ class Trial:
         """Runs over the deepest files, with their statuses and texts."""
         deep = b"[" * 127 + b"]" * 127
         skipped = b'[{"publicKey":"a","x":' + b"[" * 125 + b"]" * 125 + b"}]"
-        sets = b"[" + b",".join(b'{"publicKey":"%s","quorumSet":%s}' % (it, malicious.nested(32)) for it in (b"a", b"b")) + b"]"
+        sets = (
+            b"["
+            + b",".join(b'{"publicKey":"%s","quorumSet":%s}' % (it, malicious.nested(32)) for it in (b"a", b"b"))
+            + b"]"
+        )
         self.put("deep", deep)
         self.put("skipped", skipped)
         self.put("sets", sets)
@@ -224,7 +260,10 @@ class Trial:
         rows = self.stack_rows()
         for size in STACKS:
             bad = self.fails_under(size, rows)
-            print("stack of %5d kB: %s" % (size, "; ".join("%s: %d" % (" ".join(words), ended.status) for words, ended in bad) or "all answered"))
+            print(
+                "stack of %5d kB: %s"
+                % (size, "; ".join(f"{' '.join(words)}: {ended.status}" for words, ended in bad) or "all answered")
+            )
             if size == STACKS[0]:
                 self.judge("stack of 8 MB", not bad, bad[0][1] if bad else None)
 
@@ -236,7 +275,9 @@ class Trial:
     def certificates(self):
         self.put("config", malicious.TWO)
         for name, pieces, answer in certificates():
-            self.limits("check, " + name, ["check", "config", "/dev/stdin"], *answer, pieces=pieces, every=[16, 64, 256, 1024])
+            self.limits(
+                "check, " + name, ["check", "config", "/dev/stdin"], *answer, pieces=pieces, every=[16, 64, 256, 1024]
+            )
 
 
 def main(program=malicious.BUILT, *parts):
@@ -244,7 +285,7 @@ def main(program=malicious.BUILT, *parts):
         trial = Trial(folder, program)
         for part in parts or ("stack", "searches", "configurations", "certificates"):
             getattr(trial, part)()
-    print("memory: %d passed, %d failed" % (trial.passed, trial.failed))
+    print(f"memory: {trial.passed} passed, {trial.failed} failed")
     return 1 if trial.failed else 0
 
 

@@ -1,8 +1,9 @@
 #!/usr/bin/env python3
-"""The man page and the completions are those of the usage text, render and complete; an installed tree works from another folder.
+"""The man page and the completions are those of the usage text, render and complete; an installed tree works from
+another folder.
 
-A shell or man that is not there counts as skipped, and so does the installed program where none is built. The last line is
-'packaging: N passed, M failed, K skipped'.
+A shell or man that is not there counts as skipped, and so does the installed program where none is built. The last
+line is 'packaging: N passed, M failed, K skipped'.
 """
 
 import os
@@ -21,11 +22,20 @@ import chosen
 TOP = os.path.dirname(os.path.dirname(os.path.abspath(__file__)))
 PROGRAM = chosen.PROGRAM
 # What is typed, and one of the words that have to be offered.
-TYPED = [(["bl"], "blocking"), (["quo"], "quorums"), (["intersect", "--f"], "--faulty-orgs"), (["vblocks", "--"], "--node")]
-BASH = """source "$1"; shift; COMP_WORDS=(quorum_cli "$@"); COMP_CWORD=$#; _quorum_cli; printf '%s\\n' "${COMPREPLY[@]}" """
+TYPED = [
+    (["bl"], "blocking"),
+    (["quo"], "quorums"),
+    (["intersect", "--f"], "--faulty-orgs"),
+    (["vblocks", "--"], "--node"),
+]
+BASH = """source "$1"; shift; COMP_WORDS=(quorum_cli "$@"); COMP_CWORD=$#
+_quorum_cli; printf '%s\\n' "${COMPREPLY[@]}" """
 # What is typed in zsh, and what stands there after a tab.
 ZSH_TYPED = {"quorum_cli quo": "quorum_cli quorums", "quorum_cli vblocks --n": "quorum_cli vblocks --node"}
-ZSH = "PROMPT= RPROMPT=; unsetopt zle_bracketed_paste; fpath=(%s $fpath); autoload -Uz compinit; compinit -u -D; print re''ady\n"
+ZSH = (
+    "PROMPT= RPROMPT=; unsetopt zle_bracketed_paste; fpath=(%s $fpath); autoload -Uz compinit; compinit -u -D; print"
+    " re''ady\n"
+)
 COUNTS = {"passed": 0, "failed": 0, "skipped": 0}
 
 
@@ -48,7 +58,10 @@ def pages():
     status, said, _ = run([os.path.join(TOP, "tools", "packaging"), "--check"])
     judge(status == 0, said.strip())
     if shutil.which("man") and shutil.which("groff"):
-        status, _, said = run(["man", "-l", "--warnings", share("quorum_cli.1")], env={**os.environ, "MANPAGER": "cat", "PAGER": "cat", "LC_ALL": "C.UTF-8"})
+        status, _, said = run(
+            ["man", "-l", "--warnings", share("quorum_cli.1")],
+            env={**os.environ, "MANPAGER": "cat", "PAGER": "cat", "LC_ALL": "C.UTF-8"},
+        )
         judge(status == 0 and said == "", "man warns: " + said)
     else:
         COUNTS["skipped"] += 1
@@ -83,16 +96,16 @@ def zsh_completes(typed, wanted):
 def completions():
     for typed, wanted in TYPED:
         offered = run(["bash", "-c", BASH, "bash", share("quorum_cli.bash"), *typed])[1].split()
-        judge(wanted in offered, "bash does not offer %s after %s" % (wanted, typed))
+        judge(wanted in offered, f"bash does not offer {wanted} after {typed}")
         if shutil.which("fish"):
-            line = "complete -C 'quorum_cli %s'" % " ".join(typed)
-            offered = run(["fish", "--no-config", "-c", "source %s; %s" % (share("quorum_cli.fish"), line)])[1].split()
-            judge(wanted in offered, "fish does not offer %s after %s" % (wanted, typed))
+            line = f"complete -C 'quorum_cli {' '.join(typed)}'"
+            offered = run(["fish", "--no-config", "-c", f"source {share('quorum_cli.fish')}; {line}"])[1].split()
+            judge(wanted in offered, f"fish does not offer {wanted} after {typed}")
         else:
             COUNTS["skipped"] += 1
     if shutil.which("zsh"):
         for typed, wanted in ZSH_TYPED.items():
-            judge(zsh_completes(typed, wanted), "zsh does not complete %r" % typed)
+            judge(zsh_completes(typed, wanted), f"zsh does not complete {typed!r}")
     else:
         COUNTS["skipped"] += 1
 
@@ -102,18 +115,31 @@ def installed(folder):
     if not (os.access(PROGRAM, os.X_OK) and shutil.which("make")):
         COUNTS["skipped"] += 1
         return
-    status, _, said = run(["make", "-s", "-C", TOP, "install", "PROGRAM=" + PROGRAM, "PREFIX=" + os.path.join(folder, "a b")])
+    status, _, said = run(
+        ["make", "-s", "-C", TOP, "install", "PROGRAM=" + PROGRAM, "PREFIX=" + os.path.join(folder, "a b")]
+    )
     judge(status == 0, "make install: " + said)
     config = os.path.join(TOP, "examples", "three.json")
     ended = run([os.path.join(folder, "a b", "bin", "quorum_cli"), "greatest", config, "--faulty", "a"], cwd=folder)
-    judge(ended == (0, "greatest b c\n", ""), "the installed program: %r" % (ended,))
+    judge(ended == (0, "greatest b c\n", ""), f"the installed program: {ended!r}")
     ended = run([os.path.join(folder, "a b", "bin", "quorum_cli"), "show", "nowhere"], cwd=folder)
-    judge(ended == (6, "", "quorum_cli: a file could not be read: there is no file nowhere\n"), "an installed program without its file: %r" % (ended,))
+    judge(
+        ended == (6, "", "quorum_cli: a file could not be read: there is no file nowhere\n"),
+        f"an installed program without its file: {ended!r}",
+    )
     os.symlink(os.path.join("a b", "bin", "quorum_cli"), os.path.join(folder, "link"))
     ended = run([os.path.join(folder, "link"), "--version"], cwd="/")
     with open(os.path.join(TOP, "VERSION"), encoding="utf-8") as it:
-        judge(ended == (0, "quorum_cli %s" % it.read(), ""), "the installed program's version: %r" % (ended,))
-    for name in ("gemzulat/commands", "gemzulat/words.bash", "gemzulat/watch.bash", "man/man1/quorum_cli.1", "bash-completion/completions/quorum_cli", "zsh/site-functions/_quorum_cli", "fish/vendor_completions.d/quorum_cli.fish"):
+        judge(ended == (0, f"quorum_cli {it.read()}", ""), f"the installed program's version: {ended!r}")
+    for name in (
+        "gemzulat/commands",
+        "gemzulat/words.bash",
+        "gemzulat/watch.bash",
+        "man/man1/quorum_cli.1",
+        "bash-completion/completions/quorum_cli",
+        "zsh/site-functions/_quorum_cli",
+        "fish/vendor_completions.d/quorum_cli.fish",
+    ):
         judge(os.path.isfile(os.path.join(folder, "a b", "share", name)), name + " is not installed")
 
 

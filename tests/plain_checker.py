@@ -1,8 +1,10 @@
 #!/usr/bin/env python3
-"""A second checker of certificates, of proofs and of edits, plain and slow, written from docs/FORMATS.md and docs/DEFINITIONS.md and not from the code.
+"""A second checker of certificates, of proofs and of edits, plain and slow, written from docs/FORMATS.md and
+docs/DEFINITIONS.md and not from the code.
 
-It answers 'check CONFIG CERT', 'check-lrat CONFIG LRAT' and 'whatif CONFIG SCRIPT' with the program's status and text, and reads organisations, so
-that tests/fuzz.py can compare the two. Nothing here is proved. By hand: tests/plain_checker.py CONFIG CERT [ORGS]
+It answers 'check CONFIG CERT', 'check-lrat CONFIG LRAT' and 'whatif CONFIG SCRIPT' with the program's status and text,
+and reads organisations, so that tests/fuzz.py can compare the two. Nothing here is proved. By hand:
+tests/plain_checker.py CONFIG CERT [ORGS]
 """
 
 import hashlib
@@ -22,7 +24,17 @@ MOST_LINE = 134217728
 MOST_ID = 2**63 - 1
 MOST_LIT = 2**31 - 1
 
-KINDS = ("pair", "refutation", "partial", "blocking", "partial-blocking", "quorums", "partial-quorums", "least", "partial-least")
+KINDS = (
+    "pair",
+    "refutation",
+    "partial",
+    "blocking",
+    "partial-blocking",
+    "quorums",
+    "partial-quorums",
+    "least",
+    "partial-least",
+)
 KINDS += ("org-blocking", "partial-org-blocking")
 # The kinds of version 2 alone.
 LATER = KINDS[5:]
@@ -34,7 +46,8 @@ sys.setrecursionlimit(10000)
 
 
 class Fault(Exception):
-    """The first fault of a file: what is printed behind the word that names the file, or the whole line and its status."""
+    """The first fault of a file: what is printed behind the word that names the file, or the whole line and its
+    status."""
 
 
 # ---- JSON, configurations and organisations
@@ -90,18 +103,18 @@ def keys_of(it):
 def quorum_set_of(it, place, depth):
     """A quorum set: its threshold and its entries, which are names and quorum sets."""
     if depth > MOST_DEPTH:
-        raise Fault("too-deep %d" % place)
+        raise Fault(f"too-deep {place}")
     if not isinstance(it, dict):
-        raise Fault("bad-quorum-set %d shape" % place)
+        raise Fault(f"bad-quorum-set {place} shape")
     threshold = it.get("threshold")
     if type(threshold) is not int or threshold < 0:
-        raise Fault("bad-quorum-set %d threshold" % place)
+        raise Fault(f"bad-quorum-set {place} threshold")
     validators = keys_of(it.get("validators"))
     if validators is None:
-        raise Fault("bad-quorum-set %d validators" % place)
+        raise Fault(f"bad-quorum-set {place} validators")
     inner = it.get("innerQuorumSets")
     if inner is not None and not isinstance(inner, list):
-        raise Fault("bad-quorum-set %d inner" % place)
+        raise Fault(f"bad-quorum-set {place} inner")
     return threshold, validators + [quorum_set_of(each, place, depth + 1) for each in inner or []]
 
 
@@ -132,20 +145,20 @@ def system_in(data):
     declared = {}
     for place, node in enumerate(tree):
         if not isinstance(node, dict):
-            raise Fault("not-node %d" % place)
+            raise Fault(f"not-node {place}")
         key = node.get("publicKey")
         if not is_key(key):
-            raise Fault("bad-key %d" % place)
+            raise Fault(f"bad-key {place}")
         if key in declared:
-            raise Fault("duplicate %d" % place)
+            raise Fault(f"duplicate {place}")
         given = node.get("quorumSet")
         declared[key] = None if given is None else quorum_set_of(given, place, 1)
     sets = [each for each in declared.values() if each]
     names = set(declared).union(*(mentioned(each) for each in sets))
     if len(names) > MOST_NAMES:
-        raise Fault("too-many-nodes %d" % len(names))
+        raise Fault(f"too-many-nodes {len(names)}")
     if sum(map(entries, sets)) > MOST_ENTRIES:
-        raise Fault("too-many-entries %d" % sum(map(entries, sets)))
+        raise Fault(f"too-many-entries {sum(map(entries, sets))}")
     return {name: declared.get(name) for name in names}
 
 
@@ -159,15 +172,15 @@ def orgs_of(data, system):
     orgs = {}
     for place, it in enumerate(tree):
         if not isinstance(it, dict) or not is_key(it.get("id")):
-            raise Fault("bad-org %d" % place)
+            raise Fault(f"bad-org {place}")
         if it["id"] in orgs:
-            raise Fault("duplicate-org %d" % place)
+            raise Fault(f"duplicate-org {place}")
         validators = keys_of(it.get("validators"))
         if validators is None:
-            raise Fault("bad-org %d" % place)
+            raise Fault(f"bad-org {place}")
         orgs[it["id"]] = set(validators) & set(system)
     if len(orgs) > MOST_ORGS:
-        raise Fault("too-many-orgs %d" % len(orgs))
+        raise Fault(f"too-many-orgs {len(orgs)}")
     return orgs
 
 
@@ -183,11 +196,11 @@ def listed(text, known):
     items = text.split(",") if text else []
     for place, item in enumerate(items, 1):
         if not item:
-            raise Fault("empty-name %d" % place)
+            raise Fault(f"empty-name {place}")
         if not is_key(item):
-            raise Fault("bad-name %d" % place)
+            raise Fault(f"bad-name {place}")
         if item not in known:
-            raise Fault("unknown-name %d" % place)
+            raise Fault(f"unknown-name {place}")
     return set(items)
 
 
@@ -227,7 +240,7 @@ def availability(system, given):
     """The status and the text of 'available' without these nodes."""
     others = set(system) - given
     unmet = [node for node in others if not has_slice(system, node, others)]
-    return (1, "available no\nunmet%s\n" % spelled(unmet)) if unmet else (0, "available yes\n")
+    return (1, f"available no\nunmet{spelled(unmet)}\n") if unmet else (0, "available yes\n")
 
 
 def closure(system, node):
@@ -301,7 +314,8 @@ class Formula:
                     self.add([-(side + i), self.gate(circuit)])
 
     def add(self, clause):
-        """Keeps a clause while the formula is not too large: of one that is, the number of variables alone is wanted."""
+        """Keeps a clause while the formula is not too large: of one that is, the number of variables alone is
+        wanted."""
         if self.variables <= MOST_VARS:
             self.clauses.append(clause)
 
@@ -365,7 +379,8 @@ def numbers_up_to_zero(words, least, most):
 
 
 def step_in(line):
-    """The step of a line: its id with literals and hints, or None with the ids that it deletes. ValueError where it is none."""
+    """The step of a line: its id with literals and hints, or None with the ids that it deletes. ValueError where it is
+    none."""
     if re.search(rb"[^\t -~]", line):
         raise ValueError("bytes")
     words = line.decode().split()
@@ -394,7 +409,7 @@ class Held:
 
     def in_order(self, number):
         if number <= self.last:
-            raise Fault("id-order %d %d" % (self.last, number))
+            raise Fault(f"id-order {self.last} {number}")
 
     def hold(self, number, literals):
         self.clauses[number] = frozenset(literals)
@@ -408,7 +423,7 @@ class Held:
         gone = set()
         for number in numbers:
             if number not in self.clauses or number in gone:
-                raise Fault("no-such-clause %d" % number)
+                raise Fault(f"no-such-clause {number}")
             gone.add(number)
         for number in numbers:
             del self.clauses[number]
@@ -419,15 +434,15 @@ class Held:
         true = set()
         for literal in literals:
             if abs(literal) > self.variables:
-                raise Fault("bad-literal %d" % literal)
+                raise Fault(f"bad-literal {literal}")
             if literal in true:
-                raise Fault("tautology %d" % literal)
+                raise Fault(f"tautology {literal}")
             true.add(-literal)
         first = group_end(hints, 0) if self.takes_rat else len(hints)
         if self.come_to_conflict(true, hints[:first], 1):
             return
         if first < len(hints) and not literals:
-            raise Fault("rat-step %d" % (first + 1))
+            raise Fault(f"rat-step {first + 1}")
         named = set()
         at = first
         while at < len(hints):
@@ -439,29 +454,29 @@ class Held:
         if not self.takes_rat or not literals or missing and not named:
             raise Fault("no-conflict")
         if missing:
-            raise Fault("rat-missing %d" % min(missing))
+            raise Fault(f"rat-missing {min(missing)}")
 
     def come_to_conflict(self, true, hints, first_place):
         """Makes true what the hints do, and tells whether the clause of one is false."""
         for place, hint in enumerate(hints, first_place):
             if hint < 0:
-                raise Fault("rat-step %d" % place)
+                raise Fault(f"rat-step {place}")
             if hint not in self.clauses:
-                raise Fault("no-such-clause %d" % hint)
+                raise Fault(f"no-such-clause {hint}")
             open_ones = {literal for literal in self.clauses[hint] if -literal not in true}
             if not open_ones:
                 return True
             if len(open_ones) > 1:
-                raise Fault("not-unit %d" % place)
+                raise Fault(f"not-unit {place}")
             true |= open_ones
         return False
 
     def take_group(self, true, left_out, number, hints, place):
         """Raises the fault of a group: the hint at this place names this clause."""
         if number not in self.clauses:
-            raise Fault("no-such-clause %d" % number)
+            raise Fault(f"no-such-clause {number}")
         if left_out not in self.clauses[number]:
-            raise Fault("rat-step %d" % place)
+            raise Fault(f"rat-step {place}")
         others = self.clauses[number] - {left_out}
         if others & true:
             return
@@ -550,7 +565,7 @@ class Check:
         self.version = int(digit)
         (digits,) = self.matching(rb"config ([0-9a-f]{64})")
         if digits.decode() != self.digest:
-            raise Refused("refused digest %s %s" % (digits.decode(), self.digest))
+            raise Refused(f"refused digest {digits.decode()} {self.digest}")
         (start,) = self.matching(rb"from( [!-~]+)?")
         start = start.decode()[1:] if start else None
         part = closure(self.whole, start) if self.known([start] if start else [], self.whole) else set(self.whole)
@@ -563,7 +578,7 @@ class Check:
         answer, status, lines = self.body(kind.decode())
         if self.at < len(self.data):
             raise Refused("refused trailing")
-        head = "accepted %s\nfrom%s\nfaulty%s\n" % (answer, spelled([start] if start else []), spelled(self.faulty))
+        head = f"accepted {answer}\nfrom{spelled([start] if start else [])}\nfaulty{spelled(self.faulty)}\n"
         return status, head + lines
 
     def body(self, kind):
@@ -583,10 +598,14 @@ class Check:
             return kind, 0, ""
         if kind == "least":
             found = sets[-1] if sets else None
-            return "least %s" % ("none" if found is None else len(found)), 0, "" if found is None else "set%s\n" % spelled(found)
+            return (
+                f"least {'none' if found is None else len(found)}",
+                0,
+                "" if found is None else f"set{spelled(found)}\n",
+            )
         if kind in ("blocking", "quorums", "org-blocking"):
-            return "%s %d" % (kind, len(set(sets))), 0, "".join("set%s\n" % spelled(each) for each in sorted(set(sets)))
-        return "%s %d" % (kind, units), 2, ""
+            return f"{kind} {len(set(sets))}", 0, "".join(f"set{spelled(each)}\n" for each in sorted(set(sets)))
+        return f"{kind} {units}", 2, ""
 
     def pair(self):
         (rest,) = self.matching(rb"first(.*)")
@@ -609,7 +628,7 @@ class Check:
             self.refuse("bad-line")
         formula = Formula(self.system, self.faulty, self.version)
         if formula.variables > MOST_VARS:
-            raise Refused("too-large %d" % formula.variables, 9)
+            raise Refused(f"too-large {formula.variables}", 9)
         if [int(it) for it in said] != [formula.variables, len(formula.clauses)]:
             self.refuse("formula")
         self.held = Held(formula.variables, formula.clauses, takes_rat=True)
@@ -620,7 +639,7 @@ class Check:
         if self.orgs is None:
             raise Refused("refused no-orgs")
         if digits.decode() != self.orgs_digest:
-            raise Refused("refused orgs-digest %s %s" % (digits.decode(), self.orgs_digest))
+            raise Refused(f"refused orgs-digest {digits.decode()} {self.orgs_digest}")
         self.groups = groups_of(self.orgs, set(self.system))
         return sorted(text for text, members in self.groups.items() if members & greatest)
 
@@ -631,7 +650,7 @@ class Check:
         size = len(self.order)
         variables = size + size * (size + 1) // 2
         if variables > MOST_VARS:
-            raise Refused("too-large %d" % variables, 9)
+            raise Refused(f"too-large {variables}", 9)
         if [int(it) for it in said] != [variables, size * size]:
             self.refuse("formula")
         self.held = Held(variables, counter_of(size), takes_rat=False)
@@ -719,7 +738,6 @@ class Check:
         self.hold(number, literals, new=kind.startswith("partial") or sought)
         return nodes
 
-
     def group_line(self, letter, number, names, kind):
         """The same where a blocking set is one of groups."""
         if letter == b"q":
@@ -742,7 +760,8 @@ class Check:
 
 
 class Verification(Check):
-    """Goes through a proof of another solver line by line, of the part of the system from a node on, without the faulty nodes."""
+    """Goes through a proof of another solver line by line, of the part of the system from a node on, without the
+    faulty nodes."""
 
     def __init__(self, system, start, faulty, data):
         super().__init__(system, None, data)
@@ -754,13 +773,16 @@ class Verification(Check):
         """The status and the text of a proof that comes to the empty lemma."""
         formula = Formula(self.system, self.faulty, 2)
         if formula.variables > MOST_VARS:
-            raise Refused("too-large %d" % formula.variables, 9)
+            raise Refused(f"too-large {formula.variables}", 9)
         self.held = Held(formula.variables, formula.clauses, takes_rat=True)
         *lines, rest = self.data.split(b"\n")
         for line in lines + ([rest] if rest else []):
             self.line_number += 1
             if self.is_last(line):
-                return 0, "verified\nfrom%s\nfaulty%s\n" % (spelled([self.start] if self.start else []), spelled(self.faulty))
+                return (
+                    0,
+                    f"verified\nfrom{spelled([self.start] if self.start else [])}\nfaulty{spelled(self.faulty)}\n",
+                )
         self.line_number += 1
         self.refuse("not-refuted")
 
@@ -788,7 +810,7 @@ def is_threshold(word):
 
 
 def is_path(word):
-    return re.fullmatch(r"\.|(?:\.%s)+" % PLACE, word) is not None
+    return re.fullmatch(rf"\.|(?:\.{PLACE})+", word) is not None
 
 
 # What stands behind the word of an edit.
@@ -875,20 +897,23 @@ def tree_of_set(quorum_set):
 
 def text_of(system):
     """A configuration that says the system: each of its names is a node."""
-    return json.dumps([dict({"publicKey": name}, **({"quorumSet": tree_of_set(own)} if own else {})) for name, own in system.items()]).encode()
+    return json.dumps(
+        [dict({"publicKey": name}, **({"quorumSet": tree_of_set(own)} if own else {})) for name, own in system.items()]
+    ).encode()
 
 
 def whatif(config, script, names):
-    """The status and the text of 'whatif' of these bytes, with this list of names. After each edit the edited configuration is read anew."""
+    """The status and the text of 'whatif' of these bytes, with this list of names. After each edit the edited
+    configuration is read anew."""
     try:
         system = system_of(config)
     except Fault as fault:
-        return 4, "config %s\n" % fault
+        return 4, f"config {fault}\n"
     try:
         given = listed(names, system)
     except Fault as fault:
         word, place = str(fault).split(" ")
-        return 3, "usage %s --set %s\n" % (word, place)
+        return 3, f"usage {word} --set {place}\n"
     if len(script) > MOST_SCRIPT:
         return 10, "script too-long\n"
     *lines, rest = script.split(b"\n")
@@ -898,22 +923,25 @@ def whatif(config, script, names):
             system = system_in(text_of(edited(system, line)))
         except Fault as fault:
             word, *count = str(fault).split(" ")
-            return 10, "script %s\n" % " ".join([word, str(number)] + count)
+            return 10, f"script {' '.join([word, str(number)] + count)}\n"
         said += state(number, system, given)
     return 0, said
 
 
 def state(number, system, given):
     """What is so after so many edits."""
-    return "edit %d\ngreatest%s\n" % (number, spelled(greatest_in(system, set(), set(system)))) + availability(system, given)[1]
+    return (
+        f"edit {number}\ngreatest{spelled(greatest_in(system, set(), set(system)))}\n" + availability(system, given)[1]
+    )
 
 
 def check_lrat(config, proof, start, faulty):
-    """The status and the text of 'check-lrat' of these bytes, with a node and with faulty nodes that the configuration names."""
+    """The status and the text of 'check-lrat' of these bytes, with a node and with faulty nodes that the configuration
+    names."""
     try:
         system = system_of(config)
     except Fault as fault:
-        return 4, "config %s\n" % fault
+        return 4, f"config {fault}\n"
     try:
         return Verification(system, start, faulty, proof).verified()
     except Refused as refused:
@@ -925,11 +953,11 @@ def check(config, cert, orgs=None):
     try:
         system = system_of(config)
     except Fault as fault:
-        return 4, "config %s\n" % fault
+        return 4, f"config {fault}\n"
     try:
         given = () if orgs is None else (orgs_of(orgs, system), hashlib.sha256(orgs).hexdigest())
     except Fault as fault:
-        return 4, "orgs %s\n" % fault
+        return 4, f"orgs {fault}\n"
     try:
         return Check(system, hashlib.sha256(config).hexdigest(), cert, *given).accepted()
     except Refused as refused:
@@ -942,7 +970,9 @@ def bytes_of(path):
 
 
 def main(config, cert, orgs=None):
-    status, text = check(bytes_of(config)[: MOST_BYTES + 1], bytes_of(cert), None if orgs is None else bytes_of(orgs)[: MOST_BYTES + 1])
+    status, text = check(
+        bytes_of(config)[: MOST_BYTES + 1], bytes_of(cert), None if orgs is None else bytes_of(orgs)[: MOST_BYTES + 1]
+    )
     sys.stdout.write(text)
     return status
 

@@ -1,8 +1,10 @@
 #!/usr/bin/env python3
-"""Runs the built program, or the one that is handed in, as a process: every status that it can end with, its exact output, and nothing on standard error.
+"""Runs the built program, or the one that is handed in, as a process: every status that it can end with, its exact
+output, and nothing on standard error.
 
-What no contract can say is shown here: that the machine's files are opened, read, emptied and written, and that a failing
-device, a closed output or a file that may not be read ends as it should. Its last line is 'process: N passed, M failed'.
+What no contract can say is shown here: that the machine's files are opened, read, emptied and written, and that a
+failing device, a closed output or a file that may not be read ends as it should. Its last line is 'process: N passed,
+M failed'.
 """
 
 import hashlib
@@ -51,8 +53,8 @@ def system(nodes, threshold, is_rotated=False):
     sets = []
     for place, node in enumerate(nodes):
         start = place if is_rotated else 0
-        names = ",".join('"%s"' % name for name in [*nodes[start:], *nodes[:start]])
-        sets.append('{"publicKey":"%s","quorumSet":{"threshold":%d,"validators":[%s]}}' % (node, threshold, names))
+        names = ",".join(f'"{name}"' for name in [*nodes[start:], *nodes[:start]])
+        sets.append(f'{{"publicKey":"{node}","quorumSet":{{"threshold":{threshold},"validators":[{names}]}}}}')
     return "[" + ",".join(sets) + "]"
 
 
@@ -70,9 +72,12 @@ def lemmas(certificate):
 
 def organisations(count):
     """The configuration of a trial of so many organisations, as it is written."""
-    inner = ",".join('{"innerQuorumSets":[],"threshold":2,"validators":["t%03d","t%03d","t%03d"]}' % (node, node + 1, node + 2) for node in range(0, 3 * count, 3))
-    common = '"quorumSet":{"innerQuorumSets":[%s],"threshold":%d,"validators":[]}' % (inner, count - (count - 1) // 3)
-    return "[" + ",".join('{"publicKey":"t%03d",%s}' % (node, common) for node in range(3 * count)) + "]"
+    inner = ",".join(
+        f'{{"innerQuorumSets":[],"threshold":2,"validators":["t{node:03d}","t{node + 1:03d}","t{node + 2:03d}"]}}'
+        for node in range(0, 3 * count, 3)
+    )
+    common = f'"quorumSet":{{"innerQuorumSets":[{inner}],"threshold":{count - (count - 1) // 3},"validators":[]}}'
+    return "[" + ",".join(f'{{"publicKey":"t{node:03d}",{common}}}' for node in range(3 * count)) + "]"
 
 
 # How large trials are, by the number of their organisations.
@@ -86,7 +91,11 @@ THREE = system("abc", 2)
 HEAD = "fbas-cert 2\nconfig f823e204944abcff32c8dadffba2a0178a590a613358f9a6f271b651cd4e6fbb\nfrom\n"
 PAIR = HEAD + "faulty a\nkind pair\nfirst b\nsecond c\nend\n"
 SPENT = HEAD + "faulty\nkind partial\nformula 16 25\nend\n"
-LISTED = HEAD + "faulty\nkind blocking\nq 1 a b\nq 2 a c\nq 3 b c\nb 4 a b\nb 5 a c\nb 6 b c\n7 -1 0 4 5 3 0\n8 0 7 1 2 6 0\nend\n"
+LISTED = (
+    HEAD
+    + "faulty\nkind blocking\nq 1 a b\nq 2 a c\nq 3 b c\nb 4 a b\nb 5 a c\nb 6 b c\n7 -1 0 4 5 3 0\n8 0 7 1 2 6"
+    " 0\nend\n"
+)
 UNLISTED = HEAD + "faulty\nkind partial-blocking\nend\n"
 SETS = "set a b\nset a c\nset b c\n"
 # Two of them are one organisation.
@@ -95,7 +104,7 @@ ORGS = '[{"id":"A","validators":["a","b"]}]'
 TWO = system("pq", 2)
 PROOF = "c proof\n13 -1 0 7 6 3 4 2 0\n14 0 13 1 8 5 0\n"
 # No two of its quorum sets are equal.
-WIDE = system(["w%03d" % i for i in range(200)], 100, is_rotated=True)
+WIDE = system([f"w{i:03d}" for i in range(200)], 100, is_rotated=True)
 
 FILES = {
     "two": TWO,
@@ -143,7 +152,12 @@ ROWS = [
     ("check three spent", 2, "accepted partial 0\nfrom\nfaulty\n", {}),
     ("intersect three refuted", 0, "intersects yes\n", {}),
     ("check three refuted", 0, "accepted refutation\nfrom\nfaulty\n", {}),
-    ("dset three dispensable --set a", 1, "available yes\nintersects no\nfirst b\nsecond c\ndset no\n", {"dispensable": PAIR}),
+    (
+        "dset three dispensable --set a",
+        1,
+        "available yes\nintersects no\nfirst b\nsecond c\ndset no\n",
+        {"dispensable": PAIR},
+    ),
     ("splits three split --set a", 0, "splits yes\nfirst b\nsecond c\n", {"split": PAIR}),
     ("blocking three list", 0, "blocking 3\n" + SETS, {}),
     ("check three list", 0, "accepted blocking 3\nfrom\nfaulty\n" + SETS, {}),
@@ -163,7 +177,7 @@ ROWS = [
     ("org-blocking three groups --orgs orgs", 0, "org-blocking 1\nset org:A\n", {"orgs": ORGS}),
     ("check three groups --orgs orgs", 0, "accepted org-blocking 1\nfrom\nfaulty\nset org:A\n", {}),
     ("check three groups", 5, "refused no-orgs\n", {}),
-    ("check three groups --orgs orgless", 5, "refused orgs-digest %s %s\n" % (sha256(ORGS), sha256("[]")), {}),
+    ("check three groups --orgs orgless", 5, f"refused orgs-digest {sha256(ORGS)} {sha256('[]')}\n", {}),
     ("check three listed --orgs orgs", 0, "accepted blocking 3\nfrom\nfaulty\n" + SETS, {}),
     ("check three listed --orgs bad", 4, "orgs not-json\n", {}),
     ("check three listed --orgs missing", 6, "", {}),
@@ -195,8 +209,18 @@ ROWS = [
     ("check-lrat wide proof", 9, "too-large 6020400\n", {}),
     ("check-lrat two two", 3, "usage same-path\n", {"two": TWO}),
     ("check-lrat two proof --budget 3", 3, USAGE, {}),
-    ("whatif three raise --set c", 0, "edit 0\ngreatest a b c\navailable yes\nedit 1\ngreatest a b c\navailable no\nunmet a\n", {"three": THREE}),
-    ("whatif three retire --set=", 0, "edit 0\ngreatest a b c\navailable yes\nedit 1\ngreatest a b\navailable no\nunmet c\n", {"retire": "retire c\n"}),
+    (
+        "whatif three raise --set c",
+        0,
+        "edit 0\ngreatest a b c\navailable yes\nedit 1\ngreatest a b c\navailable no\nunmet a\n",
+        {"three": THREE},
+    ),
+    (
+        "whatif three retire --set=",
+        0,
+        "edit 0\ngreatest a b c\navailable yes\nedit 1\ngreatest a b\navailable no\nunmet c\n",
+        {"retire": "retire c\n"},
+    ),
     ("whatif three nothing --set a,b", 0, "edit 0\ngreatest a b c\navailable no\nunmet c\n", {}),
     ("whatif three twice --set c", 10, "script no-set 2\n", {}),
     ("whatif three three --set c", 10, "script bad-line 1\n", {"three": THREE}),
@@ -219,7 +243,8 @@ ROWS = [
 
 
 class Trial:
-    """A folder with the files, in which the program runs. Root gives up its rights, since it may read and write every file."""
+    """A folder with the files, in which the program runs. Root gives up its rights, since it may read and write every
+    file."""
 
     def __init__(self, folder, built):
         self.folder = folder
@@ -250,14 +275,23 @@ class Trial:
             os.setuid(65534)
 
     def run(self, words, stdin=subprocess.DEVNULL, stdout=subprocess.PIPE, before=None, within=""):
-        """The status, what was put out, and what is on standard error, of a run in the folder or in one that is in it."""
+        """The status, what was put out, and what is on standard error, of a run in the folder or in one that is in
+        it."""
 
         def prepare():
             self.give_up_rights()
             if before:
                 before()
 
-        ended = subprocess.run([self.program] + words.split(), cwd=self.path(within), stdin=stdin, stdout=stdout, stderr=subprocess.PIPE, preexec_fn=prepare, timeout=120)
+        ended = subprocess.run(
+            [self.program] + words.split(),
+            cwd=self.path(within),
+            stdin=stdin,
+            stdout=stdout,
+            stderr=subprocess.PIPE,
+            preexec_fn=prepare,
+            timeout=120,
+        )
         return ended.returncode, (ended.stdout or b"").decode(), ended.stderr.decode()
 
     def judge(self, name, found, wanted):
@@ -265,32 +299,41 @@ class Trial:
             self.passed += 1
         else:
             self.failed += 1
-            print("process: %s: found %r, wanted %r" % (name, found, wanted))
+            print(f"process: {name}: found {found!r}, wanted {wanted!r}")
 
     def row(self, words, status, text, files):
         found = self.run(words)
         held = {name: self.held(name) for name in files}
-        self.judge("'%s'" % words, (found, held), ((status, text, ""), files))
+        self.judge(f"'{words}'", (found, held), ((status, text, ""), files))
 
     def counts(self):
         """Both sides of sixty organisations are counted, by lemmas that no other order of decisions finds so soon."""
         status, text, error = self.run("trial 60 counted")
         self.judge("sixty organisations", (status, text.splitlines()[-1:], error), (0, ["intersects yes"], ""))
-        self.judge("their certificate", self.run("check sixty counted"), (0, "accepted refutation\nfrom\nfaulty\n", ""))
+        self.judge(
+            "their certificate", self.run("check sixty counted"), (0, "accepted refutation\nfrom\nfaulty\n", "")
+        )
         self.judge("their lemmas", sum(1 for _ in lemmas(self.held("counted") or "")) < 700, True)
 
     def forgets(self):
-        """A search so long that lemmas are deleted, from 500 to 1,000 at a time: organisations in orders of their own."""
+        """A search so long that lemmas are deleted, from 500 to 1,000 at a time: organisations in orders of their
+        own."""
         with open(self.path("shuffled"), "w") as it:
             it.write(trials.configuration("shuffled:22:22:1"))
         os.chmod(self.path("shuffled"), 0o666)
         status, text, error = self.run("intersect shuffled forgetful")
         self.judge("a long search", (status, text.splitlines()[-1:], error), (0, ["intersects yes"], ""))
         deletions = [line.split(" ")[2:-1] for line in (self.held("forgetful") or "").splitlines() if " d " in line]
-        self.judge("its deletions", (len(deletions) > 0, all(500 <= len(ids) <= 1000 for ids in deletions)), (True, True))
-        self.judge("its certificate", self.run("check shuffled forgetful"), (0, "accepted refutation\nfrom\nfaulty\n", ""))
+        self.judge(
+            "its deletions", (len(deletions) > 0, all(500 <= len(ids) <= 1000 for ids in deletions)), (True, True)
+        )
+        self.judge(
+            "its certificate", self.run("check shuffled forgetful"), (0, "accepted refutation\nfrom\nfaulty\n", "")
+        )
         count = sum(1 for _ in lemmas(self.held("forgetful") or ""))
-        self.judge("its lemmas, of which there are 7,620 by the order that suits organisations", 5000 < count < 15000, True)
+        self.judge(
+            "its lemmas, of which there are 7,620 by the order that suits organisations", 5000 < count < 15000, True
+        )
 
     def over_gates(self, size, threshold, is_whole):
         """A search over gates written out: where they are whole no lemma has a variable of their counters."""
@@ -298,7 +341,7 @@ class Trial:
         with open(self.path("drawn"), "w") as it:
             it.write(config)
         os.chmod(self.path("drawn"), 0o666)
-        name = "26 nodes that want %d of %d" % (threshold, size)
+        name = f"26 nodes that want {threshold} of {size}"
         status, text, error = self.run("intersect drawn shown")
         self.judge(name, (status, text.splitlines()[-1:], error), (0, ["intersects yes"], ""))
         self.judge(name + ", checked", self.run("check drawn shown"), (0, "accepted refutation\nfrom\nfaulty\n", ""))
@@ -306,7 +349,9 @@ class Trial:
         checked = plain_checker.check(config.encode(), certificate.encode())
         self.judge(name + ", checked by another", checked, (0, "accepted refutation\nfrom\nfaulty\n"))
         found = [abs(literal) for lemma in lemmas(certificate) for literal in lemma]
-        self.judge(name + ", the variables of lemmas", (len(found) > 0, max(found, default=0) <= 2 * 26), (True, is_whole))
+        self.judge(
+            name + ", the variables of lemmas", (len(found) > 0, max(found, default=0) <= 2 * 26), (True, is_whole)
+        )
 
     def from_a_pipe(self):
         os.mkfifo(self.path("pipe"))
@@ -361,7 +406,7 @@ def main():
         trial.to_a_closed_output()
         trial.to_a_pipe_that_nobody_reads()
         replacing.run(trial, THREE, FILES["one"], SPENT)
-    print("process: %d passed, %d failed" % (trial.passed, trial.failed))
+    print(f"process: {trial.passed} passed, {trial.failed} failed")
     return 1 if trial.failed else 0
 
 

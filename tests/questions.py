@@ -1,10 +1,11 @@
 #!/usr/bin/env python3
-"""Asks `intersect` of networks of 30 to 100 nodes, checks each certificate, and compares with minisat on the exported formula.
+"""Asks `intersect` of networks of 30 to 100 nodes, checks each certificate, and compares with minisat on the exported
+formula.
 
-The networks are of organisations of three nodes: `all` has organisations that all want the same share of each other, `core` a
-core of seven organisations and watchers that follow it, `two` two groups of organisations that overlap in one. Beside the gate,
-by hand: tests/questions.py [CONFIG ..], with configurations of one's own; needs the built program and minisat (Debian's
-package). The last line is 'questions: N passed, M failed', or says why it is skipped.
+The networks are of organisations of three nodes: `all` has organisations that all want the same share of each other,
+`core` a core of seven organisations and watchers that follow it, `two` two groups of organisations that overlap in
+one. Beside the gate, by hand: tests/questions.py [CONFIG ..], with configurations of one's own; needs the built
+program and minisat (Debian's package). The last line is 'questions: N passed, M failed', or says why it is skipped.
 """
 import json
 import os
@@ -22,12 +23,16 @@ MEANT = {10: ("intersects no", "accepted pair"), 20: ("intersects yes", "accepte
 
 
 def organisation(o):
-    return {"threshold": 2, "validators": ["N%03d" % (3 * o + i) for i in range(3)], "innerQuorumSets": []}
+    return {"threshold": 2, "validators": [f"N{3 * o + i:03d}" for i in range(3)], "innerQuorumSets": []}
 
 
 def node(number, threshold, organisations):
-    quorum_set = {"threshold": threshold, "validators": [], "innerQuorumSets": [organisation(o) for o in organisations]}
-    return {"publicKey": "N%03d" % number, "quorumSet": quorum_set}
+    quorum_set = {
+        "threshold": threshold,
+        "validators": [],
+        "innerQuorumSets": [organisation(o) for o in organisations],
+    }
+    return {"publicKey": f"N{number:03d}", "quorumSet": quorum_set}
 
 
 def everyone(count, threshold):
@@ -90,8 +95,8 @@ def main(*configs):
             found, wanted = answers(made if name in MADE else name, folder)
             if found != wanted:
                 failed += 1
-                print("questions: %s: %s, and minisat says %s" % (name, found, wanted))
-    print("questions: %d passed, %d failed" % (len(configs) + len(MADE) - failed, failed))
+                print(f"questions: {name}: {found}, and minisat says {wanted}")
+    print(f"questions: {len(configs) + len(MADE) - failed} passed, {failed} failed")
     return 1 if failed else 0
 
 

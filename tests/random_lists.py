@@ -1,10 +1,12 @@
 #!/usr/bin/env python3
-"""Compares `blocking`, `quorums`, `least` and `org-blocking` with trying all sets of nodes or of organisations, on small random systems.
+"""Compares `blocking`, `quorums`, `least` and `org-blocking` with trying all sets of nodes or of organisations, on
+small random systems.
 
-Makes COUNT systems of up to 12 nodes; the listed sets have to be the minimal ones in name order, the set of `least` a quorum with
-as few nodes as any, and `check` has to accept each certificate and print the same. The organisations overlap, lack members, or name
-strangers; some nodes lie, and some systems are the trust closure of a node. Beside the gate, by hand: tests/random_lists.py
-[COUNT [SEED]]; needs the built program. The last line is 'random_lists: N passed, M failed', or says why it is skipped.
+Makes COUNT systems of up to 12 nodes; the listed sets have to be the minimal ones in name order, the set of `least` a
+quorum with as few nodes as any, and `check` has to accept each certificate and print the same. The organisations
+overlap, lack members, or name strangers; some nodes lie, and some systems are the trust closure of a node. Beside the
+gate, by hand: tests/random_lists.py [COUNT [SEED]]; needs the built program. The last line is 'random_lists: N passed,
+M failed', or says why it is skipped.
 """
 import json
 import os
@@ -21,6 +23,7 @@ COUNT = 500
 
 
 # ---- systems: for each node a quorum set (threshold, nodes, inner sets) or None
+
 
 def random_set(n, depth):
     validators = random.sample(range(n), random.randint(0, min(n, 6)))
@@ -39,18 +42,23 @@ def random_system():
 
 
 def named(v):
-    return "n%03d" % v
+    return f"n{v:03d}"
 
 
 def as_json(system):
     def of(quorum_set):
         threshold, validators, inner = quorum_set
-        return {"threshold": threshold, "validators": [named(v) for v in validators], "innerQuorumSets": [of(it) for it in inner]}
+        return {
+            "threshold": threshold,
+            "validators": [named(v) for v in validators],
+            "innerQuorumSets": [of(it) for it in inner],
+        }
 
     return json.dumps([{"publicKey": named(v), "quorumSet": it and of(it)} for v, it in enumerate(system)])
 
 
 # ---- all sets of nodes, each as the bits of a number
+
 
 def satisfied(quorum_set, nodes):
     threshold, validators, inner = quorum_set
@@ -60,7 +68,9 @@ def satisfied(quorum_set, nodes):
 def is_quorum(system, nodes, members=None):
     """Whether each of the nodes, or of these among them, has a slice inside them, and there is one."""
     members = nodes if members is None else members
-    return members != 0 and all(system[v] is not None and satisfied(system[v], nodes) for v in range(len(system)) if members >> v & 1)
+    return members != 0 and all(
+        system[v] is not None and satisfied(system[v], nodes) for v in range(len(system)) if members >> v & 1
+    )
 
 
 def minimal(sets):
@@ -83,10 +93,11 @@ def minimal_blocks(system):
 def lines(word, sets, n):
     """What the program prints of these sets."""
     members = sorted([v for v in range(n) if it >> v & 1] for it in sets)
-    return ["%s %d" % (word, len(members))] + ["set" + "".join(" " + named(v) for v in it) for it in members]
+    return [f"{word} {len(members)}"] + ["set" + "".join(" " + named(v) for v in it) for it in members]
 
 
 # ---- organisations: an id, and its nodes, some of which are not there
+
 
 def random_orgs(n):
     ids = random.sample("ABCDEF", random.randint(0, 6))
@@ -94,11 +105,14 @@ def random_orgs(n):
 
 
 def orgs_as_json(orgs):
-    return json.dumps([dict({"id": it}, **({"validators": [named(v) for v in members]} if members else {})) for it, members in orgs])
+    return json.dumps(
+        [dict({"id": it}, **({"validators": [named(v) for v in members]} if members else {})) for it, members in orgs]
+    )
 
 
 def closure_of(system, v):
     """The node and those in its quorum set, in theirs, and so on."""
+
     def mentioned(quorum_set):
         return set(quorum_set[1]).union(*map(mentioned, quorum_set[2])) if quorum_set else set()
 
@@ -111,15 +125,21 @@ def closure_of(system, v):
 
 
 def groups_of(orgs, n, part):
-    """The texts and the members of the groups, in order: the organisations, and the nodes of the part that are in none."""
+    """The texts and the members of the groups, in order: the organisations, and the nodes of the part that are in
+    none."""
     masks = {"org:" + it: sum(1 << v for v in members if v < n) for it, members in orgs}
     loose = [v for v in range(n) if part >> v & 1 and not any(it >> v & 1 for it in masks.values())]
     return sorted([(text, it & part) for text, it in masks.items()] + [("node:" + named(v), 1 << v) for v in loose])
 
 
 def minimal_group_blocks(system, faulty, part, groups):
-    """The minimal blocking sets of groups, as the bits of their numbers: the quorums are those of the part that hold no faulty node."""
-    quorums = minimal(it for it in range(1 << len(system)) if it and not it & ~part and not it & faulty and is_quorum(system, it | faulty & part, it))
+    """The minimal blocking sets of groups, as the bits of their numbers: the quorums are those of the part that hold
+    no faulty node."""
+    quorums = minimal(
+        it
+        for it in range(1 << len(system))
+        if it and not it & ~part and not it & faulty and is_quorum(system, it | faulty & part, it)
+    )
 
     unions = [0]
     for _, members in groups:
@@ -128,7 +148,8 @@ def minimal_group_blocks(system, faulty, part, groups):
 
 
 def agrees_by_groups(folder, system):
-    """Whether `org-blocking` lists these sets, and `check` beside the same organisations says so, some nodes lying and in the trust closure of a node."""
+    """Whether `org-blocking` lists these sets, and `check` beside the same organisations says so, some nodes lying and
+    in the trust closure of a node."""
     n = len(system)
     orgs = random_orgs(n)
     start = random.randrange(n) if random.random() < 0.3 else None
@@ -139,12 +160,30 @@ def agrees_by_groups(folder, system):
         with open(name, "w") as it:
             it.write(text)
     groups = groups_of(orgs, n, part)
-    sets = sorted([groups[k][0] for k in range(len(groups)) if it >> k & 1] for it in minimal_group_blocks(system, faulty, part, groups))
-    wanted = ["org-blocking %d" % len(sets)] + ["set" + "".join(" " + text for text in it) for it in sets]
+    sets = sorted(
+        [groups[k][0] for k in range(len(groups)) if it >> k & 1]
+        for it in minimal_group_blocks(system, faulty, part, groups)
+    )
+    wanted = [f"org-blocking {len(sets)}"] + ["set" + "".join(" " + text for text in it) for it in sets]
     lying = [named(v) for v in range(n) if faulty >> v & 1]
-    found = said("org-blocking", config, cert, "--orgs", given, "--faulty=" + ",".join(lying), *(["--from", named(start)] if start is not None else []))
-    head = ["from" + (" " + named(start) if start is not None else ""), "faulty" + "".join(" " + named(v) for v in range(n) if (faulty & part) >> v & 1)]
-    return found == wanted and said("check", config, cert, "--orgs", given) == ["accepted " + wanted[0], *head, *wanted[1:]]
+    found = said(
+        "org-blocking",
+        config,
+        cert,
+        "--orgs",
+        given,
+        "--faulty=" + ",".join(lying),
+        *(["--from", named(start)] if start is not None else []),
+    )
+    head = [
+        "from" + (" " + named(start) if start is not None else ""),
+        "faulty" + "".join(" " + named(v) for v in range(n) if (faulty & part) >> v & 1),
+    ]
+    return found == wanted and said("check", config, cert, "--orgs", given) == [
+        "accepted " + wanted[0],
+        *head,
+        *wanted[1:],
+    ]
 
 
 def said(*words):
@@ -157,11 +196,17 @@ def agrees(folder, system, word, sets):
     with open(config, "w") as it:
         it.write(as_json(system))
     wanted = lines(word, sets, len(system))
-    return said(word, config, cert) == wanted and said("check", config, cert) == ["accepted " + wanted[0], "from", "faulty", *wanted[1:]]
+    return said(word, config, cert) == wanted and said("check", config, cert) == [
+        "accepted " + wanted[0],
+        "from",
+        "faulty",
+        *wanted[1:],
+    ]
 
 
 def names_least(folder, system, quorums):
-    """Whether the set of `least` is a smallest quorum, or none is where there is no quorum, and `check` says the same."""
+    """Whether the set of `least` is a smallest quorum, or none is where there is no quorum, and `check` says the
+    same."""
     config, cert = os.path.join(folder, "config"), os.path.join(folder, "cert")
     found = said("least", config, cert)
     if not found or said("check", config, cert) != ["accepted " + found[0], "from", "faulty", *found[1:]]:
@@ -170,7 +215,7 @@ def names_least(folder, system, quorums):
         return found == ["least none"]
     nodes = sum(1 << int(name[1:]) for name in found[1].split(" ")[1:])
     size = min(bin(it).count("1") for it in quorums)
-    return found[0] == "least %d" % size and bin(nodes).count("1") == size and is_quorum(system, nodes)
+    return found[0] == f"least {size}" and bin(nodes).count("1") == size and is_quorum(system, nodes)
 
 
 def main(count=COUNT, seed=1):
@@ -183,14 +228,17 @@ def main(count=COUNT, seed=1):
         for _ in range(int(count)):
             system = random_system()
             quorums = minimal_quorums(system)
-            answers = [(word, agrees(folder, system, word, sets)) for word, sets in (("blocking", minimal_blocks(system)), ("quorums", quorums))]
+            answers = [
+                (word, agrees(folder, system, word, sets))
+                for word, sets in (("blocking", minimal_blocks(system)), ("quorums", quorums))
+            ]
             answers.append(("least", names_least(folder, system, quorums)))
             answers.append(("org-blocking", agrees_by_groups(folder, system)))
             passed += sum(right for _, right in answers)
             failed += sum(not right for _, right in answers)
             for word in (word for word, right in answers if not right):
-                print("random_lists: %s differs: %s" % (word, as_json(system)))
-    print("random_lists: %d passed, %d failed" % (passed, failed))
+                print(f"random_lists: {word} differs: {as_json(system)}")
+    print(f"random_lists: {passed} passed, {failed} failed")
     return 1 if failed else 0
 
 

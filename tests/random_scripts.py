@@ -1,10 +1,10 @@
 #!/usr/bin/env python3
 """Holds `whatif` against a fresh reading of the edited text after each edit, on random systems and scripts.
 
-What is printed of each system has to be what `greatest` and `available` print of a file with its text, which tests/plain_checker.py
-makes edit by edit; a script with a faulty line has to end at that line, with its fault. tests/random_scripts.py [COUNT [SEED]] makes
-COUNT scripts, 60 if nothing is said, and needs the built program; QUORUM_CLI names another one. The last line is 'random_scripts: N
-passed, M failed', or says why it is skipped.
+What is printed of each system has to be what `greatest` and `available` print of a file with its text, which
+tests/plain_checker.py makes edit by edit; a script with a faulty line has to end at that line, with its fault.
+tests/random_scripts.py [COUNT [SEED]] makes COUNT scripts, 60 if nothing is said, and needs the built program;
+QUORUM_CLI names another one. The last line is 'random_scripts: N passed, M failed', or says why it is skipped.
 """
 import os
 import random
@@ -36,7 +36,7 @@ def written(folder, name, data):
 def state(folder, number, system, names):
     """What is so of a system, read from its text."""
     config = written(folder, "edited", plain.text_of(system))
-    return "edit %d\n" % number + said("greatest", config)[1] + said("available", config, "--set=" + names)[1]
+    return f"edit {number}\n" + said("greatest", config)[1] + said("available", config, "--set=" + names)[1]
 
 
 def wanted(folder, system, lines, names):
@@ -46,7 +46,7 @@ def wanted(folder, system, lines, names):
         try:
             system = plain.edited(system, line)
         except plain.Fault as fault:
-            return 10, "script %s %d\n" % (fault, number)
+            return 10, f"script {fault} {number}\n"
         text += state(folder, number, system, names)
     return 0, text
 
@@ -73,7 +73,7 @@ def main(count=COUNT, seed=1):
             passed, failed = passed + right, failed + (not right)
             if not right:
                 print("random_scripts: differs: %r, %r, --set=%s" % files)
-    print("random_scripts: %d passed, %d failed" % (passed, failed))
+    print(f"random_scripts: {passed} passed, {failed} failed")
     return 1 if failed else 0
 
 

@@ -1,7 +1,8 @@
-"""How a certificate takes the place of what was there, on the machine: part of tests/process.py, which runs it as a user without rights.
+"""How a certificate takes the place of what was there, on the machine: part of tests/process.py, which runs it as a
+user without rights.
 
-No file but a certificate is lost to one, whatever CERT names; what a failure, a full disk or a kill leaves there is the old file
-or the new one, whole; and no answer goes to a certificate where an output is closed.
+No file but a certificate is lost to one, whatever CERT names; what a failure, a full disk or a kill leaves there is
+the old file or the new one, whole; and no answer goes to a certificate where an output is closed.
 """
 
 import ctypes
@@ -78,10 +79,10 @@ class Place:
         return status, text.split("\n")[-2:-1], error
 
     def check(self, cert, config="three"):
-        return self.run("check %s %s" % (config, cert))[0]
+        return self.run(f"check {config} {cert}")[0]
 
     def judge(self, what, found, wanted):
-        self.trial.judge("%s: %s" % (self.name, what), found, wanted)
+        self.trial.judge(f"{self.name}: {what}", found, wanted)
 
 
 class Replacing:
@@ -92,7 +93,9 @@ class Replacing:
 
     def place(self, **files):
         self.count += 1
-        return Place(self.trial, "place%d" % self.count, {"three": self.config, "orgs": ORGS, "one": self.trial_config, **files})
+        return Place(
+            self.trial, f"place{self.count}", {"three": self.config, "orgs": ORGS, "one": self.trial_config, **files}
+        )
 
     def made(self):
         """What each command that writes puts into its certificate."""
@@ -106,10 +109,14 @@ class Replacing:
         for closed in [(1,), (0, 1), (1, 2), (0, 1, 2), (0,), (2,), (0, 2)]:
             place = self.place()
             found = place.run(words.replace("CERT", "t"), before=lambda: [os.close(number) for number in closed])
-            place.judge("%s without %s" % (words, closed), found, (7, [], "") if 1 in closed else (status, [line], ""))
-            place.judge("%s without %s: certificate" % (words, closed), (place.held("t"), place.files()), (made, ["one", "orgs", "t", "three"]))
+            place.judge(f"{words} without {closed}", found, (7, [], "") if 1 in closed else (status, [line], ""))
+            place.judge(
+                f"{words} without {closed}: certificate",
+                (place.held("t"), place.files()),
+                (made, ["one", "orgs", "t", "three"]),
+            )
             config = "one" if words.startswith("trial") else "three"
-            place.judge("%s without %s: check" % (words, closed), place.check("t", config), 2 if status == 2 else 0)
+            place.judge(f"{words} without {closed}: check", place.check("t", config), 2 if status == 2 else 0)
 
     def alias(self, words, first, kept):
         place = self.place()
@@ -133,7 +140,11 @@ class Replacing:
         place.judge(words + ": check", place.check(cert, "whole"), 0)
         held = [place.held(name) for name in place.files() if os.path.isfile(place.path(name))]
         place.judge(words + ": nothing is lost", (held.count(self.config) > 1, ORGS in held), (True, True))
-        place.judge(words + ": no new file is left", [name for name in place.files() if name.endswith(".part") and name != kept], [])
+        place.judge(
+            words + ": no new file is left",
+            [name for name in place.files() if name.endswith(".part") and name != kept],
+            [],
+        )
 
     def over(self, what, files, found, after, words="intersect three t --faulty a", before=None):
         """A search over a certificate's name `t` that stands for something, and the files that are there then."""
@@ -142,8 +153,12 @@ class Replacing:
             before(place)
         place.judge(what, place.run(words), found)
         for name, text in after.items():
-            place.judge("%s: %s" % (what, name), place.held(name), text)
-        place.judge(what + ": all files", place.files(), sorted(["one", "orgs", "three", *(name for name in after if after[name] is not None)]))
+            place.judge(f"{what}: {name}", place.held(name), text)
+        place.judge(
+            what + ": all files",
+            place.files(),
+            sorted(["one", "orgs", "three", *(name for name in after if after[name] is not None)]),
+        )
         return place
 
     def certificates(self, made):
@@ -155,28 +170,82 @@ class Replacing:
         place = self.over("another file", {"t": OTHER}, done, {"t": made, "t~": OTHER})
         place.put("t", "[]")
         place.judge("another file again", place.run("blocking three t"), (0, ["set b c"], ""))
-        place.judge("another file again: kept", (place.held("t~"), place.held("t~2"), place.check("t")), (OTHER, "[]", 0))
-        place.judge("a certificate after it", (place.run("intersect three t --faulty a"), place.held("t"), place.files()), (done, made, ["one", "orgs", "t", "three", "t~", "t~2"]))
-        self.over("a link to a certificate", {"u": self.old}, done, {"t": made, "u": self.old}, before=lambda it: os.symlink("u", it.path("t")))
-        self.over("a link to another file", {"u": OTHER}, done, {"t": made, "u": OTHER}, before=lambda it: os.symlink("u", it.path("t")))
+        place.judge(
+            "another file again: kept", (place.held("t~"), place.held("t~2"), place.check("t")), (OTHER, "[]", 0)
+        )
+        place.judge(
+            "a certificate after it",
+            (place.run("intersect three t --faulty a"), place.held("t"), place.files()),
+            (done, made, ["one", "orgs", "t", "three", "t~", "t~2"]),
+        )
+        self.over(
+            "a link to a certificate",
+            {"u": self.old},
+            done,
+            {"t": made, "u": self.old},
+            before=lambda it: os.symlink("u", it.path("t")),
+        )
+        self.over(
+            "a link to another file",
+            {"u": OTHER},
+            done,
+            {"t": made, "u": OTHER},
+            before=lambda it: os.symlink("u", it.path("t")),
+        )
         self.over("a link to nothing", {}, done, {"t": made}, before=lambda it: os.symlink("u", it.path("t")))
-        self.over("a hard link", {"u": OTHER}, done, {"t": made, "t~": OTHER, "u": OTHER}, before=lambda it: os.link(it.path("u"), it.path("t")))
-        self.over("a file that may not be written", {}, failed, {"t": self.old}, before=lambda it: it.put("t", self.old, 0o444))
+        self.over(
+            "a hard link",
+            {"u": OTHER},
+            done,
+            {"t": made, "t~": OTHER, "u": OTHER},
+            before=lambda it: os.link(it.path("u"), it.path("t")),
+        )
+        self.over(
+            "a file that may not be written",
+            {},
+            failed,
+            {"t": self.old},
+            before=lambda it: it.put("t", self.old, 0o444),
+        )
         self.over("what a killed run left", {"t.part": self.old}, done, {"t": made})
         self.over("another file in its place", {"t.part": OTHER}, done, {"t": made, "t.part": OTHER})
-        self.over("a link in its place", {"u": OTHER}, done, {"t": made, "u": OTHER, "t.part": OTHER}, before=lambda it: os.symlink("u", it.path("t.part")))
+        self.over(
+            "a link in its place",
+            {"u": OTHER},
+            done,
+            {"t": made, "u": OTHER, "t.part": OTHER},
+            before=lambda it: os.symlink("u", it.path("t.part")),
+        )
         self.over("another file beside another", {"t": OTHER, "t.part": OTHER}, failed, {"t": OTHER, "t.part": OTHER})
-        self.over("a name without room for its end", {}, done, {"t" * 255: made}, words="intersect three %s --faulty a" % ("t" * 255))
+        self.over(
+            "a name without room for its end",
+            {},
+            done,
+            {"t" * 255: made},
+            words=f"intersect three {'t' * 255} --faulty a",
+        )
         place = self.over("a file of its group", {}, done, {"t": made}, before=lambda it: it.put("t", self.old, 0o606))
         place.judge("its permissions", stat.S_IMODE(os.stat(place.path("t")).st_mode), 0o606)
 
     def barred(self, made):
         """A folder that may not be written: what is there is written itself, where nothing is lost."""
-        for old, found, held in [(self.old, (1, ["second c"], ""), made), ("", (1, ["second c"], ""), made), (OTHER, (7, [], ""), OTHER)]:
+        for old, found, held in [
+            (self.old, (1, ["second c"], ""), made),
+            ("", (1, ["second c"], ""), made),
+            (OTHER, (7, [], ""), OTHER),
+        ]:
             place = self.place(t=old)
             os.chmod(place.path(""), 0o555)
-            place.judge("a folder that may not be written, over %r" % old[:9], (place.run("intersect three t --faulty a"), place.held("t")), (found, held))
-            place.judge("a folder that may not be written, and nothing there", place.run("intersect three u --faulty a"), (7, [], ""))
+            place.judge(
+                f"a folder that may not be written, over {old[:9]!r}",
+                (place.run("intersect three t --faulty a"), place.held("t")),
+                (found, held),
+            )
+            place.judge(
+                "a folder that may not be written, and nothing there",
+                place.run("intersect three u --faulty a"),
+                (7, [], ""),
+            )
 
     def outputs(self, made):
         """A pipe, by its name and by a link, and devices, which are written themselves."""
@@ -188,7 +257,7 @@ class Replacing:
             read = []
             reading = threading.Thread(target=lambda: read.append(place.held("t")), daemon=True)
             reading.start()
-            place.judge("a pipe", place.run("intersect three %s --faulty a" % name), (1, ["second c"], ""))
+            place.judge("a pipe", place.run(f"intersect three {name} --faulty a"), (1, ["second c"], ""))
             reading.join(10)
             place.judge("a pipe: what it gave", (read, place.files()), ([made], ["one", "orgs", "t", "three", "u"]))
         place = self.place()
@@ -196,23 +265,38 @@ class Replacing:
         place.judge("a device that takes all", place.run("intersect three /dev/null"), (0, ["intersects yes"], ""))
 
     def full(self, made):
-        """A disk without room for a second file, or for so many bytes: a small one where one may be mounted, else a limit."""
+        """A disk without room for a second file, or for so many bytes: a small one where one may be mounted, else a
+        limit."""
         place = self.place(t=self.old)
         mounted = place.path("disk")
         os.mkdir(mounted)
         options = "size=16k,nr_inodes=4,mode=777"
-        if subprocess.run(["mount", "-t", "tmpfs", "-o", options, "none", mounted], stderr=subprocess.DEVNULL).returncode:
-            place.judge("no room", (place.run("intersect three t --faulty a", before=little_room), place.held("t"), place.files()), ((7, [], ""), self.old, ["disk", "one", "orgs", "t", "three"]))
+        if subprocess.run(
+            ["mount", "-t", "tmpfs", "-o", options, "none", mounted], stderr=subprocess.DEVNULL
+        ).returncode:
+            place.judge(
+                "no room",
+                (place.run("intersect three t --faulty a", before=little_room), place.held("t"), place.files()),
+                ((7, [], ""), self.old, ["disk", "one", "orgs", "t", "three"]),
+            )
             return
         try:
             place.put("disk/t", self.old)
             # Three pages of four are taken.
             place.put("disk/filled", "x" * 12288)
-            place.judge("a full disk", (place.run("intersect three disk/t --faulty a"), place.held("disk/t"), sorted(os.listdir(mounted))), ((7, [], ""), self.old, ["filled", "t"]))
+            place.judge(
+                "a full disk",
+                (place.run("intersect three disk/t --faulty a"), place.held("disk/t"), sorted(os.listdir(mounted))),
+                ((7, [], ""), self.old, ["filled", "t"]),
+            )
             place.judge("a full disk: check", place.check("disk/t"), 2)
             place.put("disk/filled", "x")
             place.put("disk/last", "")
-            place.judge("no second file", (place.run("intersect three disk/t --faulty a"), place.held("disk/t")), ((1, ["second c"], ""), made))
+            place.judge(
+                "no second file",
+                (place.run("intersect three disk/t --faulty a"), place.held("disk/t")),
+                ((1, ["second c"], ""), made),
+            )
             place.judge("no second file: check", place.check("disk/t"), 0)
         finally:
             subprocess.run(["umount", mounted])
@@ -237,23 +321,30 @@ class Replacing:
             if not ended:
                 held = place.held("t")
                 right = held in texts and all(any(place.held(name) == text for name in place.files()) for text in kept)
-                place.judge("%s, killed at moment %d: held" % (what, moment), right, True)
+                place.judge(f"{what}, killed at moment {moment}: held", right, True)
                 if held and held.startswith("fbas-cert "):
-                    place.judge("%s, killed at moment %d: check" % (what, moment), place.check("t", config), texts[held])
+                    place.judge(f"{what}, killed at moment {moment}: check", place.check("t", config), texts[held])
                 kills += 1
                 moment += 1
         place.judge(what + ", not killed", place.held("t"), list(texts)[-1])
         return kills
 
     def taken_over(self, made):
-        """A run over the file of another that isn't finished: that other fails, and what is there is the certificate of this."""
+        """A run over the file of another that isn't finished: that other fails, and what is there is the certificate
+        of this."""
         place = self.place(t=self.old)
         run = Traced(place, "blocking three t")
         while run.status is None and "t.part" not in place.files():
             run.go(1)
-        place.judge("a run beside another", (place.run("intersect three t --faulty a"), place.held("t")), ((1, ["second c"], ""), made))
+        place.judge(
+            "a run beside another",
+            (place.run("intersect three t --faulty a"), place.held("t")),
+            ((1, ["second c"], ""), made),
+        )
         run.go(100000)
-        place.judge("the other", (run.status, place.held("t"), place.files()), (7, made, ["one", "orgs", "t", "three"]))
+        place.judge(
+            "the other", (run.status, place.held("t"), place.files()), (7, made, ["one", "orgs", "t", "three"])
+        )
 
 
 def little_room():
@@ -316,9 +407,17 @@ def run(trial, config, trial_config, old):
     replacing.full(pair)
     replacing.taken_over(pair)
     kills = replacing.killed("over nothing", {}, "intersect three t --faulty a", {None: 6, pair: 0})
-    kills += replacing.killed("over another file", {"t": OTHER}, "intersect three t --faulty a", {OTHER: 5, pair: 0}, [OTHER])
+    kills += replacing.killed(
+        "over another file", {"t": OTHER}, "intersect three t --faulty a", {OTHER: 5, pair: 0}, [OTHER]
+    )
     for words, _, _, text in made:
         if text != old:
             is_trial = words.startswith("trial")
-            kills += replacing.killed(words, {"t": old}, words.replace("CERT", "t"), {old: 5 if is_trial else 2, text: 0}, config="one" if is_trial else "three")
-    trial.judge("kills, of which 200 are wanted: %d" % kills, kills >= 200, True)
+            kills += replacing.killed(
+                words,
+                {"t": old},
+                words.replace("CERT", "t"),
+                {old: 5 if is_trial else 2, text: 0},
+                config="one" if is_trial else "three",
+            )
+    trial.judge(f"kills, of which 200 are wanted: {kills}", kills >= 200, True)

@@ -1,11 +1,13 @@
 #!/usr/bin/env python3
-"""Runs all tests that need no proof, side by side on all processors, on the program that ./quorum_cli runs and on the files of dist/.
+"""Runs all tests that need no proof, side by side on all processors, on the program that ./quorum_cli runs and on the
+files of dist/.
 
 usage: tests/run.py [--long] [--jobs N] [GROUP..]
 
-It needs python3, and a C compiler for the callers of the library. A line says how each group ended and what it took; what failed
-is shown in full, and what was skipped with its reason. With --long the groups that make up their cases make many more, and those run that
-need tools from outside. The last line is 'N passed, M failed', with ', K skipped' if something was. Status 0 if nothing failed, else 1.
+It needs python3, and a C compiler for the callers of the library. A line says how each group ended and what it took;
+what failed is shown in full, and what was skipped with its reason. With --long the groups that make up their cases
+make many more, and those run that need tools from outside. The last line is 'N passed, M failed', with ', K skipped'
+if something was. Status 0 if nothing failed, else 1.
 """
 
 import argparse
@@ -13,7 +15,6 @@ import concurrent.futures
 import importlib.util
 import os
 import re
-import shutil
 import subprocess
 import sys
 import tempfile
@@ -23,9 +24,10 @@ import time
 sys.dont_write_bytecode = True
 
 TOP = os.path.dirname(os.path.dirname(os.path.abspath(__file__)))
-COUNTS = {what: re.compile(r"(\d+) %s\b" % what) for what in ("passed", "failed", "skipped")}
+COUNTS = {what: re.compile(rf"(\d+) {what}\b") for what in ("passed", "failed", "skipped")}
 MOST_SECONDS = 3600
-# A group interrupts what it runs, and that heeds it also where this script was begun with signals ignored (nohup, a job in the background).
+# A group interrupts what it runs, and that heeds it also where this script was begun with signals ignored (nohup, a
+# job in the background).
 HEEDING = ["env", "--default-signal=HUP,INT,TERM"]
 
 # Each group: its script and its words; the dearest come first. PAGE is the page of dist/, and a folder is for pytest.
@@ -48,6 +50,9 @@ GROUPS = {
     "packaging": "packaging.py",
     "script": "script.py --cases 60",
     "tools": "tools.py",
+    "flake8": "lint.py flake8",
+    "shellcheck": "lint.py shellcheck",
+    "eslint": "lint.py eslint",
 }
 # What --long runs in the place of the groups of these names, and besides.
 LONG = {
@@ -72,15 +77,23 @@ class Ended:
         last = self.said.rpartition("\n")[2]
         counts = {what: int(found[1]) for what, found in ((it, COUNTS[it].search(last)) for it in COUNTS) if found}
         self.passed, self.failed = counts.get("passed", 0), counts.get("failed", 0)
-        self.why = [re.sub(r"^%s: |: \d+ passed.*$" % name, "", line) for line in self.said.replace("-", "_").split("\n") if "skipped" in line and not re.search(r"\d skipped", line)]
+        self.why = [
+            re.sub(rf"^{name}: |: \d+ passed.*$", "", line)
+            for line in self.said.replace("-", "_").split("\n")
+            if "skipped" in line and not re.search(r"\d skipped", line)
+        ]
         self.skipped = max(counts.get("skipped", 0), len(self.why))
         # (one that ends badly, or says nothing of what it did, has failed)
         if (status and not self.failed) or not (counts or self.why):
             self.failed += 1
 
     def line(self):
-        counts = "%d passed, %d failed%s" % (self.passed, self.failed, ", %d skipped" % self.skipped if self.skipped else "")
-        return "%-15s %7.1f s  %s" % (self.name, self.seconds, counts)
+        counts = "%d passed, %d failed%s" % (
+            self.passed,
+            self.failed,
+            f", {self.skipped} skipped" if self.skipped else "",
+        )
+        return f"{self.name:<15} {self.seconds:7.1f} s  {counts}"
 
 
 class Runner:
@@ -92,14 +105,18 @@ class Runner:
         self.processors, self.printing = processors, threading.Lock()
 
     def run(self, name, line):
-        script, *words = [os.path.join(TOP, "dist", "quorums.html") if word == "PAGE" else word for word in line.split()]
+        script, *words = [
+            os.path.join(TOP, "dist", "quorums.html") if word == "PAGE" else word for word in line.split()
+        ]
         script, began = os.path.join(TOP, "tests", script), time.monotonic()
         if "PAGE" in line and not self.is_of_dist:
             status, said = 0, "skipped, since the page of dist/ is of other sources than those here"
         elif os.path.isdir(script) and not importlib.util.find_spec("pytest"):
             status, said = 0, "skipped, there is no pytest"
         else:
-            status, said = self.ran([*HEEDING, sys.executable, *["-m", "pytest", "-q"] * os.path.isdir(script), script, *words])
+            status, said = self.ran(
+                [*HEEDING, sys.executable, *["-m", "pytest", "-q"] * os.path.isdir(script), script, *words]
+            )
         ended = Ended(name, status, said, time.monotonic() - began)
         with self.printing:
             if ended.failed:
@@ -110,7 +127,15 @@ class Runner:
     def ran(self, words):
         with tempfile.TemporaryFile() as out:
             try:
-                status = subprocess.run(words, env=self.env, cwd=TOP, stdin=subprocess.DEVNULL, stdout=out, stderr=subprocess.STDOUT, timeout=MOST_SECONDS).returncode
+                status = subprocess.run(
+                    words,
+                    env=self.env,
+                    cwd=TOP,
+                    stdin=subprocess.DEVNULL,
+                    stdout=out,
+                    stderr=subprocess.STDOUT,
+                    timeout=MOST_SECONDS,
+                ).returncode
             except subprocess.TimeoutExpired:
                 status = 1
             out.seek(0)
@@ -123,13 +148,19 @@ class Runner:
 
 def program():
     """The program that ./quorum_cli runs; none where it can be neither found nor made."""
-    return subprocess.run([os.path.join(TOP, "tools", "program")], stdin=subprocess.DEVNULL, stdout=subprocess.PIPE).stdout.decode().rstrip("\n")
+    return (
+        subprocess.run([os.path.join(TOP, "tools", "program")], stdin=subprocess.DEVNULL, stdout=subprocess.PIPE)
+        .stdout.decode()
+        .rstrip("\n")
+    )
 
 
 def main():
     words = argparse.ArgumentParser(prog="run.py", description="Runs all tests that need no proof.")
     words.add_argument("--long", action="store_true", help="more cases, and what needs tools from outside")
-    words.add_argument("--jobs", type=int, default=len(os.sched_getaffinity(0)), help="groups at a time (default: one a processor)")
+    words.add_argument(
+        "--jobs", type=int, default=len(os.sched_getaffinity(0)), help="groups at a time (default: one a processor)"
+    )
     words.add_argument("group", nargs="*", help="only these")
     asked = words.parse_args()
     groups = {**LONG, **{name: line for name, line in GROUPS.items() if name not in LONG}} if asked.long else GROUPS
@@ -140,13 +171,15 @@ def main():
         print("0 passed, 1 failed")
         return 1
     subprocess.run([os.path.join(TOP, "quorum_cli"), "--about"])
-    ended = Runner(found, asked.jobs).all({name: line for name, line in groups.items() if not asked.group or name in asked.group})
+    ended = Runner(found, asked.jobs).all(
+        {name: line for name, line in groups.items() if not asked.group or name in asked.group}
+    )
     for group in ended:
         for why in group.why:
-            print("skipped: %s: %s" % (group.name, why))
+            print(f"skipped: {group.name}: {why}")
     passed, failed, skipped = (sum(getattr(it, what) for it in ended) for what in ("passed", "failed", "skipped"))
-    print("%d groups in %.0f s by %d at a time" % (len(ended), time.monotonic() - began, asked.jobs))
-    print("%d passed, %d failed%s" % (passed, failed, ", %d skipped" % skipped if skipped else ""))
+    print(f"{len(ended)} groups in {time.monotonic() - began:.0f} s by {asked.jobs} at a time")
+    print(f"{passed} passed, {failed} failed{f', {skipped} skipped' if skipped else ''}")
     return 1 if failed else 0
 
 

@@ -1,10 +1,12 @@
 #!/usr/bin/env python3
-"""Tries the installed script: what it says of faulty words, what it shows while the program works, and questions asked in parts.
+"""Tries the installed script: what it says of faulty words, what it shows while the program works, and questions asked
+in parts.
 
 usage: tests/script.py [PROGRAM] [--cases N] [--seed S]
 
-The tree is what `make install` puts into an empty folder, moved to another. It is tried with the program that ./quorum_cli runs, or the
-one that is handed in, and with a program that does nothing but wait and answer. Its last line is 'script: N passed, M failed'.
+The tree is what `make install` puts into an empty folder, moved to another. It is tried with the program that
+./quorum_cli runs, or the one that is handed in, and with a program that does nothing but wait and answer. Its last
+line is 'script: N passed, M failed'.
 """
 
 import argparse
@@ -56,28 +58,59 @@ FAULTY = [
 
 # Words, the line that the program prints, its status, and what is said after it.
 NAMED = [
-    ("greatest three --faulty a,z", "usage unknown-name --faulty 2", 3, "'z', item 2 of --faulty, is no node of three"),
-    ("greatest three --faulty-orgs x --orgs orgs", "usage unknown-name --faulty-orgs 1", 3, "'x', item 1 of --faulty-orgs, is no organisation of orgs"),
+    (
+        "greatest three --faulty a,z",
+        "usage unknown-name --faulty 2",
+        3,
+        "'z', item 2 of --faulty, is no node of three",
+    ),
+    (
+        "greatest three --faulty-orgs x --orgs orgs",
+        "usage unknown-name --faulty-orgs 1",
+        3,
+        "'x', item 1 of --faulty-orgs, is no organisation of orgs",
+    ),
     ("closure three --node=", "usage empty-name --node 1", 3, "item 1 of --node is empty"),
     ("intersect three three", "usage same-path", 3, "'three' is also the name of a file that is read"),
     ("show nowhere", "", 6, "a file could not be read: there is no file nowhere"),
     ("intersect three nowhere/t", "", 7, "an output could not be written: there is no folder nowhere"),
     ("show bad", "config not-json", 4, ""),
     ("show three", "nodes 3\nentries 9\nunset 0", 0, ""),
-    ("greatest three --orgs misfit --faulty-orgs A", "greatest b c", 0, "3 of 5 validators of misfit are not in three"),
-    ("greatest three --orgs=misfit --faulty-orgs=alpha.org", "greatest b c", 0, "3 of 5 validators of misfit are not in three"),
-    ("greatest three --faulty-orgs B,Alpha --orgs misfit", "greatest c", 0, "3 of 5 validators of misfit are not in three"),
+    (
+        "greatest three --orgs misfit --faulty-orgs A",
+        "greatest b c",
+        0,
+        "3 of 5 validators of misfit are not in three",
+    ),
+    (
+        "greatest three --orgs=misfit --faulty-orgs=alpha.org",
+        "greatest b c",
+        0,
+        "3 of 5 validators of misfit are not in three",
+    ),
+    (
+        "greatest three --faulty-orgs B,Alpha --orgs misfit",
+        "greatest c",
+        0,
+        "3 of 5 validators of misfit are not in three",
+    ),
     (
         "greatest three --orgs misfit --faulty-orgs C",
         "greatest a b c",
         0,
-        "3 of 5 validators of misfit are not in three\nquorum_cli: --faulty-orgs deletes nobody: no validator of these organisations is in three",
+        (
+            "3 of 5 validators of misfit are not in three\nquorum_cli: --faulty-orgs deletes nobody: no validator of"
+            " these organisations is in three"
+        ),
     ),
     (
         "greatest three --orgs misfit --faulty-orgs Beta",
         "usage unknown-name --faulty-orgs 1",
         3,
-        "3 of 5 validators of misfit are not in three\nquorum_cli: 'Beta', item 1 of --faulty-orgs, is no organisation of misfit",
+        (
+            "3 of 5 validators of misfit are not in three\nquorum_cli: 'Beta', item 1 of --faulty-orgs, is no"
+            " organisation of misfit"
+        ),
     ),
     ("greatest three --orgs bad", "orgs not-json", 4, ""),
 ]
@@ -96,10 +129,14 @@ OWN = [
 ]
 
 # Of what random words are made.
-VOCABULARY = "show greatest intersect check blocks trial blockin three t orgs bad --faulty --from --orgs --set --budget --fault -- - a a,b z 3 07 --faulty=a --set=-b --budget=9".split() + [""]
+VOCABULARY = (
+    "show greatest intersect check blocks trial blockin three t orgs bad --faulty --from --orgs --set --budget --fault"
+    " -- - a a,b z 3 07 --faulty=a --set=-b --budget=9".split()
+    + [""]
+)
 
-# A program that answers as asked: it notes its words, takes SLOW seconds from the budget SLOW_FROM on, writes its certificate in
-# WRITING seconds, and has its answer from the budget ENOUGH on.
+# A program that answers as asked: it notes its words, takes SLOW seconds from the budget SLOW_FROM on, writes its
+# certificate in WRITING seconds, and has its answer from the budget ENOUGH on.
 PROGRAM = """#!/bin/bash
 echo "$*" >>"$LOG"
 exec 6<> <(:)
@@ -109,7 +146,8 @@ budget=1000000 cert=${@: -1}
 [ "$2" != --budget ] || budget=$3
 [ "$budget" -lt "${SLOW_FROM:-9999999999}" ] || waits "${SLOW:-0}"
 exec 5>"$cert.part"
-printf 'fbas-cert 2\\nconfig x\\nfrom\\nfaulty\\nkind %sblocking\\nb 1 a\\nb 2 %s\\nend\\n' "$([ "$budget" -ge "${ENOUGH:-9999999999}" ] || echo partial-)" "$budget" >&5
+printf 'fbas-cert 2\\nconfig x\\nfrom\\nfaulty\\nkind %sblocking\\nb 1 a\\nb 2 %s\\nend\\n' \\
+  "$([ "$budget" -ge "${ENOUGH:-9999999999}" ] || echo partial-)" "$budget" >&5
 [ "$budget" -lt "${SLOW_FROM:-9999999999}" ] || waits "${WRITING:-0}"
 mv "$cert.part" "$cert"
 if [ "$budget" -ge "${ENOUGH:-9999999999}" ]; then printf 'blocking 2\\nset a\\nset b\\n'; exit 0; fi
@@ -119,11 +157,14 @@ exit 2
 
 
 def system(nodes, threshold):
-    names = ",".join('"%s"' % it for it in nodes)
-    return "[%s]" % ",".join('{"publicKey":"%s","quorumSet":{"threshold":%d,"validators":[%s]}}' % (it, threshold, names) for it in nodes)
+    names = ",".join(f'"{it}"' for it in nodes)
+    return "[%s]" % ",".join(
+        f'{{"publicKey":"{it}","quorumSet":{{"threshold":{threshold},"validators":[{names}]}}}}' for it in nodes
+    )
 
 
-MISFIT = """[{"id":"A","name":"Alpha","homeDomain":"alpha.org","validators":["a","x"]},{"id":"B","name":"Beta","validators":["b"]},
+MISFIT = """[{"id":"A","name":"Alpha","homeDomain":"alpha.org","validators":["a","x"]},
+{"id":"B","name":"Beta","validators":["b"]},
 {"id":"C","name":"Beta","validators":["y","z"]}]"""
 FILES = {"three": system("abc", 2), "orgs": '[{"id":"A","validators":["a","b"]}]', "misfit": MISFIT, "bad": "{"}
 
@@ -132,7 +173,11 @@ class Trial:
     def __init__(self, folder, program):
         self.folder, self.passed, self.failed = folder, 0, 0
         first, self.real, self.slow = (os.path.join(folder, it) for it in ("first", "a tree", "slow"))
-        ended = subprocess.run(["make", "-s", "-C", TOP, "install", "PROGRAM=" + program, "DESTDIR=" + first, "PREFIX=/usr"], stdout=subprocess.PIPE, stderr=subprocess.STDOUT)
+        ended = subprocess.run(
+            ["make", "-s", "-C", TOP, "install", "PROGRAM=" + program, "DESTDIR=" + first, "PREFIX=/usr"],
+            stdout=subprocess.PIPE,
+            stderr=subprocess.STDOUT,
+        )
         self.judge("make install", (ended.returncode, ended.stdout), (0, b""))
         shutil.move(os.path.join(first, "usr"), self.real)
         shutil.copytree(self.real, self.slow)
@@ -163,21 +208,43 @@ class Trial:
             self.passed += 1
         else:
             self.failed += 1
-            print("script: %s: found %r, wanted %r" % (name, found, wanted))
+            print(f"script: {name}: found {found!r}, wanted {wanted!r}")
 
     def env(self, **env):
-        return {"PATH": "/usr/bin:/bin", "LANG": "C.UTF-8", "TMPDIR": self.folder, "LOG": os.path.join(self.folder, "log"), **env}
+        return {
+            "PATH": "/usr/bin:/bin",
+            "LANG": "C.UTF-8",
+            "TMPDIR": self.folder,
+            "LOG": os.path.join(self.folder, "log"),
+            **env,
+        }
 
     def words_of(self, words):
-        return [it for it in words.split(b" " if isinstance(words, bytes) else " ")] if not isinstance(words, list) else words
+        return (
+            [it for it in words.split(b" " if isinstance(words, bytes) else " ")]
+            if not isinstance(words, list)
+            else words
+        )
 
     def run(self, words, tree=None, cwd=None, program=None, limits="", **env):
         """The status, the output and standard error."""
         script = program or self.path(tree or self.real, "bin", "quorum_cli")
         if tree == self.slow:
             self.forget()
-        started = [script, *self.words_of(words)] if not limits else ["bash", "-c", limits + '; exec "$0" "$@"', script, *self.words_of(words)]
-        ended = subprocess.run(started, cwd=cwd or self.here, env=self.env(**env), stdin=subprocess.DEVNULL, stdout=subprocess.PIPE, stderr=subprocess.PIPE, timeout=60)
+        started = (
+            [script, *self.words_of(words)]
+            if not limits
+            else ["bash", "-c", limits + '; exec "$0" "$@"', script, *self.words_of(words)]
+        )
+        ended = subprocess.run(
+            started,
+            cwd=cwd or self.here,
+            env=self.env(**env),
+            stdin=subprocess.DEVNULL,
+            stdout=subprocess.PIPE,
+            stderr=subprocess.PIPE,
+            timeout=60,
+        )
         return ended.returncode, ended.stdout.decode(), ended.stderr.decode()
 
     def words(self):
@@ -185,17 +252,24 @@ class Trial:
         for words, said in FAULTY:
             bare = self.run(words, program=self.program)
             self.judge(words, self.run(words), (3, bare[1], SAYS + said + "\n"))
-            self.judge("%r is the usage text" % words, bare[1].startswith("usage: quorum_cli COMMAND\n"), True)
+            self.judge(f"{words!r} is the usage text", bare[1].startswith("usage: quorum_cli COMMAND\n"), True)
         for words, line, status, said in NAMED:
-            self.judge(words, self.run(words), (status, line + "\n" if line else "", SAYS + said + "\n" if said else ""))
+            self.judge(
+                words, self.run(words), (status, line + "\n" if line else "", SAYS + said + "\n" if said else "")
+            )
         for words, said in OWN:
             self.judge(words, self.run(words), (3, "", SAYS + said + "\n"))
         self.judge("no words", self.run([]), (3, self.run([], program=self.program)[1], ""))
         self.write(os.path.join(self.here, "t"), "[]")
-        self.judge("a kept file", self.run("intersect three t"), (0, "intersects yes\n", SAYS + "t was no certificate: kept as t~\n"))
+        self.judge(
+            "a kept file",
+            self.run("intersect three t"),
+            (0, "intersects yes\n", SAYS + "t was no certificate: kept as t~\n"),
+        )
 
     def random_words(self, cases, seed):
-        """What the script takes for a fault is one of the program's, and the other way round; the output is the same."""
+        """What the script takes for a fault is one of the program's, and the other way round; the output is the
+        same."""
         choice = random.Random(seed)
         other = os.path.join(self.folder, "other")
         self.fill(other)
@@ -204,9 +278,9 @@ class Trial:
             if choice.random() < 0.7:
                 words[0] = choice.choice(VOCABULARY[:6])
             bare, found = self.run(words, program=self.program, cwd=other), self.run(words)
-            self.judge("%s: the answer" % words, found[:2], bare[:2])
+            self.judge(f"{words}: the answer", found[:2], bare[:2])
             lines = [it for it in found[2].splitlines() if " was no certificate: kept as " not in it]
-            self.judge("%s: what is said: %s" % (words, lines), len(lines), 1 if bare[0] in (3, 6, 7) else 0)
+            self.judge(f"{words}: what is said: {lines}", len(lines), 1 if bare[0] in (3, 6, 7) else 0)
 
     def help(self):
         usage = self.run([], program=self.program)[1]
@@ -216,27 +290,60 @@ class Trial:
             status, text, error = self.run(words)
             self.judge(words, (status, text.startswith(usage + "\n"), error), (0, True, ""))
         for words in ("--version", "-V"):
-            self.judge(words, self.run(words), (0, "quorum_cli %s\n" % version, ""))
+            self.judge(words, self.run(words), (0, f"quorum_cli {version}\n", ""))
         for line in usage.splitlines()[1:-1]:
             name = line.split()[0]
             status, text, error = self.run([name, "--help"])
-            self.judge(name + " --help", (status, text.startswith("usage: quorum_cli %s\n" % line), error), (0, True, ""))
+            self.judge(
+                name + " --help", (status, text.startswith(f"usage: quorum_cli {line}\n"), error), (0, True, "")
+            )
             offered = re.findall(r"^  (--[\w-]+)", text, re.M)
-            wanted = re.findall(r"--[\w-]+", line.replace("[COMMON]", usage.splitlines()[-1])) + (["--seconds"] if "--budget" in line else []) + ["--progress"]
+            wanted = (
+                re.findall(r"--[\w-]+", line.replace("[COMMON]", usage.splitlines()[-1]))
+                + (["--seconds"] if "--budget" in line else [])
+                + ["--progress"]
+            )
             self.judge(name + " --help: options", sorted(offered), sorted(wanted))
         self.judge("help of a command", self.run("help intersect")[1], self.run("intersect --help")[1])
-        self.judge("help of none", self.run("intersct --help")[::2], (3, SAYS + "no command 'intersct'; the nearest is intersect\n"))
+        self.judge(
+            "help of none",
+            self.run("intersct --help")[::2],
+            (3, SAYS + "no command 'intersct'; the nearest is intersect\n"),
+        )
 
     def limits(self):
         for files in (8, 12, 19):
-            self.judge("%d files" % files, self.run("show three", limits="ulimit -n %d" % files), (70, "", SAYS + "only %d files may be open (ulimit -n), and 20 are wanted\n" % files))
-        self.judge("20 files", self.run("intersect three t --seconds 9", limits="ulimit -n 20"), (0, "intersects yes\n", ""))
+            self.judge(
+                f"{files} files",
+                self.run("show three", limits=f"ulimit -n {files}"),
+                (70, "", SAYS + f"only {files} files may be open (ulimit -n), and 20 are wanted\n"),
+            )
+        self.judge(
+            "20 files", self.run("intersect three t --seconds 9", limits="ulimit -n 20"), (0, "intersects yes\n", "")
+        )
         self.write(self.path(self.slow, "libexec/gemzulat/quorum_cli"), "#!/bin/sh\nkill -SEGV $$\n")
         ended = self.run("show three", tree=self.slow, limits="ulimit -s 512")
-        self.judge("a small stack", ended, (139, "", SAYS + "the program broke off: its stack may be too small (ulimit -s is 512, and 8192 is usual)\n"))
+        self.judge(
+            "a small stack",
+            ended,
+            (
+                139,
+                "",
+                SAYS + "the program broke off: its stack may be too small (ulimit -s is 512, and 8192 is usual)\n",
+            ),
+        )
         os.remove(self.path(self.slow, "libexec/gemzulat/quorum_cli"))
         status, out, error = self.run("show three", tree=self.slow)
-        self.judge("no program", (status, out, error.endswith("/libexec/gemzulat/quorum_cli: make install puts it there\n"), error.count("\n")), (70, "", True, 1))
+        self.judge(
+            "no program",
+            (
+                status,
+                out,
+                error.endswith("/libexec/gemzulat/quorum_cli: make install puts it there\n"),
+                error.count("\n"),
+            ),
+            (70, "", True, 1),
+        )
         self.write(self.path(self.slow, "libexec/gemzulat/quorum_cli"), PROGRAM)
         os.chmod(self.path(self.slow, "libexec/gemzulat/quorum_cli"), 0o755)
 
@@ -256,32 +363,74 @@ class Trial:
     def parts(self):
         """Questions in parts: what is asked, what is answered, and whose certificate stands there."""
         begun = time.monotonic()
-        self.judge("an answer", self.run("blocking three c --seconds 60", tree=self.slow, ENOUGH="4000"), (0, "blocking 2\nset a\nset b\n", ""))
-        self.judge("its budgets", (self.budgets(), "b 2 4000\n" in self.read("c"), time.monotonic() - begun < 20), ([0, 1000, 4000], True, True))
-        self.judge("a ceiling", self.run("blocking three c --budget 5000 --seconds=60", tree=self.slow), (2, "blocking unknown 5000\n", ""))
+        self.judge(
+            "an answer",
+            self.run("blocking three c --seconds 60", tree=self.slow, ENOUGH="4000"),
+            (0, "blocking 2\nset a\nset b\n", ""),
+        )
+        self.judge(
+            "its budgets",
+            (self.budgets(), "b 2 4000\n" in self.read("c"), time.monotonic() - begun < 20),
+            ([0, 1000, 4000], True, True),
+        )
+        self.judge(
+            "a ceiling",
+            self.run("blocking three c --budget 5000 --seconds=60", tree=self.slow),
+            (2, "blocking unknown 5000\n", ""),
+        )
         self.judge("its budgets", (self.budgets(), "b 2 5000\n" in self.read("c")), ([0, 1000, 4000, 5000], True))
-        self.judge("a ceiling of 0", (self.run("blocking three c --budget=0 --seconds 60", tree=self.slow), self.budgets()), ((2, "blocking unknown 0\n", ""), [0]))
+        self.judge(
+            "a ceiling of 0",
+            (self.run("blocking three c --budget=0 --seconds 60", tree=self.slow), self.budgets()),
+            ((2, "blocking unknown 0\n", ""), [0]),
+        )
         self.run("blocking --seconds 60 --faulty --x -- three c", tree=self.slow, STATUS="4")
         self.judge("faulty words", self.asked(), ["blocking --faulty --x -- three c"])
         found = self.run("blocking --faulty a --seconds 60 --budget 7 -- three c", tree=self.slow, STATUS="4")
-        self.judge("another status", (found, self.asked()), ((4, "odd 4\n", ""), ["blocking --budget 0 --faulty a -- three c"]))
+        self.judge(
+            "another status",
+            (found, self.asked()),
+            ((4, "odd 4\n", ""), ["blocking --budget 0 --faulty a -- three c"]),
+        )
         begun = time.monotonic()
         found = self.run("blocking three c --seconds 8.5", tree=self.slow, SLOW_FROM="4000", SLOW="50")
-        self.judge("the time is up", (found, 8.4 < time.monotonic() - begun < 30), ((2, "blocking unknown 1000\n", ""), True))
-        self.judge("its certificate", (self.budgets(), "b 2 1000\n" in self.read("c"), os.path.exists(self.path(self.here, "c.part"))), ([0, 1000, 4000], True, False))
+        self.judge(
+            "the time is up", (found, 8.4 < time.monotonic() - begun < 30), ((2, "blocking unknown 1000\n", ""), True)
+        )
+        self.judge(
+            "its certificate",
+            (self.budgets(), "b 2 1000\n" in self.read("c"), os.path.exists(self.path(self.here, "c.part"))),
+            ([0, 1000, 4000], True, False),
+        )
         found = self.run("blocking three c --seconds 8", tree=self.slow, SLOW_FROM="1000", WRITING="14")
-        self.judge("it writes when the time is up", (found, "b 2 1000\n" in self.read("c")), ((2, "blocking unknown 1000\n", ""), True))
+        self.judge(
+            "it writes when the time is up",
+            (found, "b 2 1000\n" in self.read("c")),
+            ((2, "blocking unknown 1000\n", ""), True),
+        )
         found = self.run("blocking three c --seconds 8", tree=self.slow, SLOW_FROM="1000", WRITING="14", ENOUGH="1000")
         self.judge("it writes the answer", found, (0, "blocking 2\nset a\nset b\n", ""))
         found = self.run("blocking three c --seconds 0", tree=self.slow, SLOW_FROM="0", SLOW="1")
-        self.judge("the first part is finished", (found, "b 2 0\n" in self.read("c")), ((2, "blocking unknown 0\n", ""), True))
+        self.judge(
+            "the first part is finished", (found, "b 2 0\n" in self.read("c")), ((2, "blocking unknown 0\n", ""), True)
+        )
         self.asked()
-        self.judge("no room for its output", self.run("blocking three c --seconds 5", tree=self.slow, TMPDIR="/nowhere"), (7, "", SAYS + "no file can be made in /nowhere, which --seconds needs\n"))
+        self.judge(
+            "no room for its output",
+            self.run("blocking three c --seconds 5", tree=self.slow, TMPDIR="/nowhere"),
+            (7, "", SAYS + "no file can be made in /nowhere, which --seconds needs\n"),
+        )
         self.judge("nothing is left", [it for it in os.listdir(self.folder) if it.startswith("quorum_cli")], [])
         with open("/dev/full", "w") as full:
             started = [self.path(self.slow, "bin", "quorum_cli"), "blocking", "three", "c", "--seconds", "5"]
-            ended = subprocess.run(started, cwd=self.here, env=self.env(ENOUGH="0"), stdout=full, stderr=subprocess.PIPE, timeout=60)
-        self.judge("a full output", (ended.returncode, ended.stderr.decode()), (7, SAYS + "an output could not be written: the standard output or c took no more\n"))
+            ended = subprocess.run(
+                started, cwd=self.here, env=self.env(ENOUGH="0"), stdout=full, stderr=subprocess.PIPE, timeout=60
+            )
+        self.judge(
+            "a full output",
+            (ended.returncode, ended.stderr.decode()),
+            (7, SAYS + "an output could not be written: the standard output or c took no more\n"),
+        )
 
     def forget(self):
         """A part that was finished before would be gone on with."""
@@ -292,28 +441,36 @@ class Trial:
         self.forget()
         how = {"cwd": self.here, "env": self.env(**env), "stdin": subprocess.DEVNULL, "start_new_session": True}
         out = terminal if terminal is not None else subprocess.PIPE
-        return subprocess.Popen([self.path(self.slow, "bin", "quorum_cli"), *words.split()], stdout=out, stderr=out, **how)
+        return subprocess.Popen(
+            [self.path(self.slow, "bin", "quorum_cli"), *words.split()], stdout=out, stderr=out, **how
+        )
 
     def wait_for(self, budget):
         for _ in range(400):
             log = os.path.join(self.folder, "log")
             if os.path.exists(log):
                 with open(log) as it:
-                    if " --budget %d " % budget in it.read():
+                    if f" --budget {budget} " in it.read():
                         return
             time.sleep(0.05)
-        self.judge("a part of %d is asked" % budget, False, True)
+        self.judge(f"a part of {budget} is asked", False, True)
 
     def interrupts(self):
         """Ctrl-C is for the script and the program at once, as from a terminal; another signal ends both."""
-        for number, status, out in [(signal.SIGINT, 2, b"blocking unknown 1000\n"), (signal.SIGTERM, -signal.SIGTERM, b""), (signal.SIGHUP, -signal.SIGHUP, b"")]:
+        for number, status, out in [
+            (signal.SIGINT, 2, b"blocking unknown 1000\n"),
+            (signal.SIGTERM, -signal.SIGTERM, b""),
+            (signal.SIGHUP, -signal.SIGHUP, b""),
+        ]:
             started = self.start("blocking three c --seconds 60", SLOW_FROM="4000", SLOW="31")
             self.wait_for(4000)
             time.sleep(0.3)
             os.killpg(started.pid, number)
             found = started.communicate(timeout=20)
-            self.judge("%s" % number, (started.returncode, found, "b 2 1000\n" in self.read("c")), (status, (out, b""), True))
-            self.ends_all("after %s" % number, started.pid)
+            self.judge(
+                f"{number}", (started.returncode, found, "b 2 1000\n" in self.read("c")), (status, (out, b""), True)
+            )
+            self.ends_all(f"after {number}", started.pid)
             self.asked()
         started = self.start("blocking three c --seconds 60", SLOW_FROM="0", SLOW="31")
         self.wait_for(0)
@@ -322,13 +479,17 @@ class Trial:
         time.sleep(0.5)
         self.judge("the first part goes on", started.poll(), None)
         os.killpg(started.pid, signal.SIGINT)
-        self.judge("the second Ctrl-C", (started.communicate(timeout=20), started.returncode), ((b"", b""), -signal.SIGINT))
+        self.judge(
+            "the second Ctrl-C", (started.communicate(timeout=20), started.returncode), ((b"", b""), -signal.SIGINT)
+        )
         self.ends_all("after the second Ctrl-C", started.pid)
         self.asked()
 
     def ends_all(self, name, group):
         for _ in range(200):
-            left = subprocess.run(["ps", "-o", "pid=,stat=,args=", "--sid", str(group)], stdout=subprocess.PIPE).stdout.decode()
+            left = subprocess.run(
+                ["ps", "-o", "pid=,stat=,args=", "--sid", str(group)], stdout=subprocess.PIPE
+            ).stdout.decode()
             if not [it for it in left.splitlines() if "Z" not in it.split()[1] and "sleep" not in it]:
                 break
             time.sleep(0.05)
@@ -355,25 +516,68 @@ class Trial:
 
     def progress(self):
         """The line that is rewritten, and the last figures; the output stays by itself."""
-        status, out, error = self.run("blocking three c --progress", tree=self.slow, SLOW_FROM="0", SLOW="2.3", ENOUGH="0")
+        status, out, error = self.run(
+            "blocking three c --progress", tree=self.slow, SLOW_FROM="0", SLOW="2.3", ENOUGH="0"
+        )
         self.judge("--progress: the output", (status, out), (0, "blocking 2\nset a\nset b\n"))
         lines = [it.strip() for it in error.strip("\r\n").split("\r")]
         shape = r"quorum_cli: [12] s, [0-9]+ MB, working"
-        self.judge("--progress: lines: %s" % lines, [bool(re.fullmatch(shape, it)) for it in lines[:-1]], [True, True])
-        self.judge("--progress: the last: %s" % lines[-1], bool(re.fullmatch(r"quorum_cli: [2-9]\.[0-9] s, 8 lines of c, 2 sets", lines[-1])), True)
-        status, out, error = self.run("blocking three c --progress", tree=self.slow, SLOW_FROM="0", WRITING="2.5", ENOUGH="0")
-        self.judge("--progress: writing", bool(re.search(r"\rquorum_cli: [12] s, [0-9]+ MB, 8 lines of c written *\r", error)), True)
-        status, out, error = self.run("blocking three c --progress --seconds 6.5", tree=self.slow, SLOW_FROM="4000", SLOW="50")
+        self.judge(f"--progress: lines: {lines}", [bool(re.fullmatch(shape, it)) for it in lines[:-1]], [True, True])
+        self.judge(
+            f"--progress: the last: {lines[-1]}",
+            bool(re.fullmatch(r"quorum_cli: [2-9]\.[0-9] s, 8 lines of c, 2 sets", lines[-1])),
+            True,
+        )
+        status, out, error = self.run(
+            "blocking three c --progress", tree=self.slow, SLOW_FROM="0", WRITING="2.5", ENOUGH="0"
+        )
+        self.judge(
+            "--progress: writing",
+            bool(re.search(r"\rquorum_cli: [12] s, [0-9]+ MB, 8 lines of c written *\r", error)),
+            True,
+        )
+        status, out, error = self.run(
+            "blocking three c --progress --seconds 6.5", tree=self.slow, SLOW_FROM="4000", SLOW="50"
+        )
         self.judge("in parts", (status, out), (2, "blocking unknown 1000\n"))
-        self.judge("in parts: a line", bool(re.search(r"\rquorum_cli: [1-6] s of 6.5, [0-9]+ MB, 1000 units, 8 lines of c, 2 sets, at most 4000 now *\r", error)), True)
-        self.judge("in parts: the last", bool(re.search(r"\rquorum_cli: [6-9]\.[0-9] s, 8 lines of c, 2 sets *\n$", error)), True)
-        self.judge("without --progress", self.run("blocking three c", tree=self.slow, SLOW_FROM="0", SLOW="1.2", ENOUGH="0")[2], "")
-        self.judge("no certificate", re.sub(r"[0-9.]+ s *", "S", self.run("show three --progress")[2]), "\rquorum_cli: S\n")
+        self.judge(
+            "in parts: a line",
+            bool(
+                re.search(
+                    r"\rquorum_cli: [1-6] s of 6.5, [0-9]+ MB, 1000 units, 8 lines of c, 2 sets, at most 4000 now *\r",
+                    error,
+                )
+            ),
+            True,
+        )
+        self.judge(
+            "in parts: the last",
+            bool(re.search(r"\rquorum_cli: [6-9]\.[0-9] s, 8 lines of c, 2 sets *\n$", error)),
+            True,
+        )
+        self.judge(
+            "without --progress",
+            self.run("blocking three c", tree=self.slow, SLOW_FROM="0", SLOW="1.2", ENOUGH="0")[2],
+            "",
+        )
+        self.judge(
+            "no certificate", re.sub(r"[0-9.]+ s *", "S", self.run("show three --progress")[2]), "\rquorum_cli: S\n"
+        )
         self.asked()
         status, text = self.on_terminal("blocking three c", SLOW_FROM="0", SLOW="1.9", ENOUGH="0")
-        text = re.sub(r"(\rquorum_cli: [1-9] s, [0-9]+ MB, [a-z0-9 ]+)+\r", "MOVING ", re.sub(r"[0-9]\.[0-9] s", "S s", text))
-        self.judge("a terminal", (status, text), (0, "MOVING quorum_cli: S s, 8 lines of c, 2 sets\nblocking 2\nset a\nset b\n"))
-        self.judge("a terminal, an answer soon", self.on_terminal("blocking three c", ENOUGH="0")[1].endswith("blocking 2\nset a\nset b\n"), True)
+        text = re.sub(
+            r"(\rquorum_cli: [1-9] s, [0-9]+ MB, [a-z0-9 ]+)+\r", "MOVING ", re.sub(r"[0-9]\.[0-9] s", "S s", text)
+        )
+        self.judge(
+            "a terminal",
+            (status, text),
+            (0, "MOVING quorum_cli: S s, 8 lines of c, 2 sets\nblocking 2\nset a\nset b\n"),
+        )
+        self.judge(
+            "a terminal, an answer soon",
+            self.on_terminal("blocking three c", ENOUGH="0")[1].endswith("blocking 2\nset a\nset b\n"),
+            True,
+        )
         self.asked()
 
     def real_questions(self):
@@ -381,25 +585,52 @@ class Trial:
         self.judge("an answer in parts", self.run("intersect three whole --seconds 60"), (0, "intersects yes\n", ""))
         self.run("intersect three once")
         self.judge("the same certificate", self.read("whole") == self.read("once"), True)
-        self.judge("no more than the ceiling", self.run("intersect three part --budget 1 --seconds 60"), self.run("intersect three part --budget 1"))
-        self.judge("dset", self.run("dset three part --set a --budget 0 --seconds 60"), self.run("dset three part --set a --budget 0"))
-        self.judge("no room", self.run("intersect three nowhere/t --seconds 60"), (7, "", SAYS + "an output could not be written: there is no folder nowhere\n"))
-        self.judge("a certificate that goes nowhere", self.run("intersect three /dev/null --seconds 60"), (0, "intersects yes\n", ""))
+        self.judge(
+            "no more than the ceiling",
+            self.run("intersect three part --budget 1 --seconds 60"),
+            self.run("intersect three part --budget 1"),
+        )
+        self.judge(
+            "dset",
+            self.run("dset three part --set a --budget 0 --seconds 60"),
+            self.run("dset three part --set a --budget 0"),
+        )
+        self.judge(
+            "no room",
+            self.run("intersect three nowhere/t --seconds 60"),
+            (7, "", SAYS + "an output could not be written: there is no folder nowhere\n"),
+        )
+        self.judge(
+            "a certificate that goes nowhere",
+            self.run("intersect three /dev/null --seconds 60"),
+            (0, "intersects yes\n", ""),
+        )
         self.write(os.path.join(self.here, "mine"), "[]")
-        self.judge("a kept file", self.run("intersect three mine --seconds 60"), (0, "intersects yes\n", SAYS + "mine was no certificate: kept as mine~\n"))
-
+        self.judge(
+            "a kept file",
+            self.run("intersect three mine --seconds 60"),
+            (0, "intersects yes\n", SAYS + "mine was no certificate: kept as mine~\n"),
+        )
 
     def taking_up(self):
         """A part that was finished before is gone on with, where it is of the very question and is accepted."""
         tree = self.path("noting")
         shutil.copytree(self.real, tree)
-        self.write(self.path(tree, "libexec/gemzulat/quorum_cli"), '#!/bin/sh\necho "$*" >>"$LOG"\nexec "%s" "$@"\n' % self.program)
+        self.write(
+            self.path(tree, "libexec/gemzulat/quorum_cli"),
+            f'#!/bin/sh\necho "$*" >>"$LOG"\nexec "{self.program}" "$@"\n',
+        )
         net = os.path.join(TOP, "examples", "network.json")
         whole = self.run(["blocking", net, "set"])
         orgs = os.path.join(TOP, "examples", "orgs.json")
         for name, words, before, taken in [
             ("a part of the question", ["blocking", net, "c"], ["blocking", net, "c"], True),
-            ("a part of organisations", ["org-blocking", net, "c", "--orgs", orgs], ["org-blocking", net, "c", "--orgs=" + orgs], True),
+            (
+                "a part of organisations",
+                ["org-blocking", net, "c", "--orgs", orgs],
+                ["org-blocking", net, "c", "--orgs=" + orgs],
+                True,
+            ),
             ("a part of another question", ["blocking", net, "c"], ["blocking", net, "c", "--faulty", "GAAA1"], False),
             ("a part of another kind", ["quorums", net, "c"], ["blocking", net, "c"], False),
             ("a part that is not accepted", ["blocking", net, "c"], None, False),
@@ -413,13 +644,29 @@ class Trial:
             found = self.run([*words, "--seconds", "60"], tree=tree)
             self.judge(name, found, self.run([*words[:2], "d", *words[3:]]))
             asked = [it.split() for it in self.asked()]
-            self.judge(name + ": what is asked: %s" % asked, [it[0] for it in asked if it[0] != "check" and it[4] == "c"] == [words[0]] * (1 if taken else 2), True)
+            self.judge(
+                name + f": what is asked: {asked}",
+                [it[0] for it in asked if it[0] != "check" and it[4] == "c"] == [words[0]] * (1 if taken else 2),
+                True,
+            )
         self.run(["blocking", net, "c", "--budget", "3"])
         held = self.read("c")
-        self.judge("no time for more", (self.run(["blocking", net, "c", "--seconds", "0"], tree=tree), self.read("c") == held), ((2, "blocking unknown 3\n", ""), True))
+        self.judge(
+            "no time for more",
+            (self.run(["blocking", net, "c", "--seconds", "0"], tree=tree), self.read("c") == held),
+            ((2, "blocking unknown 3\n", ""), True),
+        )
         self.run(["blocking", net, "c", "--budget", "3"])
-        self.judge("no more than it has", self.run(["blocking", net, "c", "--seconds", "60", "--budget", "2"], tree=tree), (2, "blocking unknown 2\n", ""))
-        self.judge("more than it has", self.run(["blocking", net, "c", "--seconds", "60", "--budget", "5"], tree=tree), (2, "blocking unknown 5\n", ""))
+        self.judge(
+            "no more than it has",
+            self.run(["blocking", net, "c", "--seconds", "60", "--budget", "2"], tree=tree),
+            (2, "blocking unknown 2\n", ""),
+        )
+        self.judge(
+            "more than it has",
+            self.run(["blocking", net, "c", "--seconds", "60", "--budget", "5"], tree=tree),
+            (2, "blocking unknown 5\n", ""),
+        )
         self.judge("all of it", self.run(["blocking", net, "c", "--seconds", "60"]), whole)
         self.asked()
 
@@ -435,10 +682,19 @@ def main():
         return 0
     with tempfile.TemporaryDirectory() as folder:
         trial = Trial(folder, os.path.abspath(asked.program))
-        for step in (trial.words, trial.help, trial.limits, trial.parts, trial.interrupts, trial.progress, trial.real_questions, trial.taking_up):
+        for step in (
+            trial.words,
+            trial.help,
+            trial.limits,
+            trial.parts,
+            trial.interrupts,
+            trial.progress,
+            trial.real_questions,
+            trial.taking_up,
+        ):
             step()
         trial.random_words(asked.cases, asked.seed)
-    print("script: %d passed, %d failed" % (trial.passed, trial.failed))
+    print(f"script: {trial.passed} passed, {trial.failed} failed")
     return 1 if trial.failed else 0
 
 

@@ -1,12 +1,14 @@
 #!/usr/bin/env python3
-"""Holds the summary of both pages against trying all sets: on small random networks, and on four networks of which it once said what is not so.
+"""Holds the summary of both pages against trying all sets: on small random networks, and on four networks of which it
+once said what is not so.
 
     tests/summary.py [--count N] [--seed S]
 
-What the summary says comes from tools/network-report as data (--json), and from web/summary.js in node, which asks the same program.
-Both are compared with what follows from docs/DEFINITIONS.md by trying every set of nodes, in plain Python: each sentence with what
-stands in it, whose view it is, and each organisation lying, silent and leaving. The pages have to say it in the same words, and of
-the four networks those that stand below and not others. The last line is 'summary: N passed, M failed', or why it is skipped.
+What the summary says comes from tools/network-report as data (--json), and from web/summary.js in node, which asks the
+same program. Both are compared with what follows from docs/DEFINITIONS.md by trying every set of nodes, in plain
+Python: each sentence with what stands in it, whose view it is, and each organisation lying, silent and leaving. The
+pages have to say it in the same words, and of the four networks those that stand below and not others. The last line
+is 'summary: N passed, M failed', or why it is skipped.
 """
 
 import argparse
@@ -23,7 +25,7 @@ import tempfile
 
 sys.dont_write_bytecode = True
 
-import chosen  # noqa: E402
+import chosen
 
 TOP = os.path.dirname(os.path.dirname(os.path.abspath(__file__)))
 PROGRAM = chosen.PROGRAM
@@ -47,45 +49,110 @@ def organisation(name, keys):
 
 
 def uniform():
-    """Five validators that want four of all five, of which the first has no quorum set: it is down, or was not crawled."""
-    keys = ["a%d" % at for at in range(1, 6)]
+    """Five validators that want four of all five, of which the first has no quorum set: it is down, or was not
+    crawled."""
+    keys = [f"a{at}" for at in range(1, 6)]
     nodes = [declared(key, quorum_set(4, keys) if key != "a1" else None, isValidating=key != "a1") for key in keys]
-    return nodes, [organisation("Org %d" % at, [key]) for at, key in enumerate(keys, 1)]
+    return nodes, [organisation(f"Org {at}", [key]) for at, key in enumerate(keys, 1)]
 
 
 def halves():
     """Two halves of four organisations each, whose validators want three of their own four."""
     nodes, orgs = [], []
     for half in ("East", "West"):
-        keys = ["%s%d" % (half[0].lower(), at) for at in range(1, 5)]
+        keys = [f"{half[0].lower()}{at}" for at in range(1, 5)]
         nodes += [declared(key, quorum_set(3, keys)) for key in keys]
-        orgs += [organisation("%s %d" % (half, at), [key]) for at, key in enumerate(keys, 1)]
+        orgs += [organisation(f"{half} {at}", [key]) for at, key in enumerate(keys, 1)]
     return nodes, orgs
 
 
 def held_up():
     """One organisation that all need, with four of five others: that one stops it, or any two of the others."""
-    own, others = ["k1", "k2", "k3"], ["v%d" % at for at in range(1, 6)]
+    own, others = ["k1", "k2", "k3"], [f"v{at}" for at in range(1, 6)]
     wanted = quorum_set(2, [], [quorum_set(2, own), quorum_set(4, others)])
-    return [declared(key, wanted) for key in own + others], [organisation("Kettle Bank", own), *(organisation("Vault %d" % at, [key]) for at, key in enumerate(others, 1))]
+    return [declared(key, wanted) for key in own + others], [
+        organisation("Kettle Bank", own),
+        *(organisation(f"Vault {at}", [key]) for at, key in enumerate(others, 1)),
+    ]
 
 
 def uncrawled():
-    """Nine validators of three organisations, and 41 nodes whose quorum sets are not known: one of them is named by all."""
-    keys = [["%s%d" % (org, at) for at in (1, 2, 3)] for org in "abc"]
+    """Nine validators of three organisations, and 41 nodes whose quorum sets are not known: one of them is named by
+    all."""
+    keys = [[f"{org}{at}" for at in (1, 2, 3)] for org in "abc"]
     wanted = quorum_set(2, ["u00"], [quorum_set(2, it) for it in keys])
-    nodes = [declared(key, wanted) for some in keys for key in some] + [declared("u%02d" % at, None) for at in range(41)]
+    nodes = [declared(key, wanted) for some in keys for key in some] + [
+        declared(f"u{at:02d}", None) for at in range(41)
+    ]
     return nodes, [organisation(name, some) for name, some in zip(("Ash", "Birch", "Cherry"), keys)]
 
 
 # Of each network the words, what the summary has to say and what it may not, and what may stand nowhere on the page.
 FOUR = {
-    "uniform": (uniform, [], ["It cannot fork.", "Quorum sets that are not known: of 1 node, 1 of them named by others.", "4 sets: each of Org 2, Org 3, Org 4, Org 5 alone", "Down: 1 of 5 validators here, a1. Beyond these it is stopped by 4 sets: each of Org 2, Org 3, Org 4, Org 5 alone."], ["nothing is ever agreed", "There is no quorum", "never agrees"]),
-    "uniform-node": (uniform, ["a1"], ["This page speaks for a1, whose quorum set is not known.", "It cannot fork.", "The quorum set of a1 is not known, so nothing is known of what it agrees on."], ["never agrees", "nothing is ever agreed"]),
-    "halves": (halves, [], ["It can fork: it is 2 networks that do not depend on one another. e", " against ", "6 sets: any 2 of these 4 together: East 1, East 2, East 3, East 4.", "6 sets: any 2 of these 4 together: West 1, West 2, West 3, West 4."], ["It cannot fork", "none can fork it", "would be split off", "could be split off"]),
-    "held-up": (held_up, [], ["It cannot fork.", "11 sets: Kettle Bank alone; or any 2 of these 5 together: Vault 1, Vault 2, Vault 3, Vault 4, Vault 5.", "By single nodes: 13 sets, the smallest of 2."], ["Down: ", "not known"]),
-    "uncrawled": (uncrawled, [], ["It cannot fork.", "Quorum sets that are not known: of 41 nodes, 1 of them named by others. These count as agreeing with nobody.", "3 sets: any 2 of these 3 together: Ash, Birch, Cherry."], ["never agrees", "nothing is ever agreed", "There is no quorum", "Down: "]),
-    "uncrawled-node": (uncrawled, ["u07"], ["This page speaks for u07, whose quorum set is not known.", "It cannot fork."], ["never agrees", "in no quorum"]),
+    "uniform": (
+        uniform,
+        [],
+        [
+            "It cannot fork.",
+            "Quorum sets that are not known: of 1 node, 1 of them named by others.",
+            "4 sets: each of Org 2, Org 3, Org 4, Org 5 alone",
+            (
+                "Down: 1 of 5 validators here, a1. Beyond these it is stopped by 4 sets: each of Org 2, Org 3, Org 4,"
+                " Org 5 alone."
+            ),
+        ],
+        ["nothing is ever agreed", "There is no quorum", "never agrees"],
+    ),
+    "uniform-node": (
+        uniform,
+        ["a1"],
+        [
+            "This page speaks for a1, whose quorum set is not known.",
+            "It cannot fork.",
+            "The quorum set of a1 is not known, so nothing is known of what it agrees on.",
+        ],
+        ["never agrees", "nothing is ever agreed"],
+    ),
+    "halves": (
+        halves,
+        [],
+        [
+            "It can fork: it is 2 networks that do not depend on one another. e",
+            " against ",
+            "6 sets: any 2 of these 4 together: East 1, East 2, East 3, East 4.",
+            "6 sets: any 2 of these 4 together: West 1, West 2, West 3, West 4.",
+        ],
+        ["It cannot fork", "none can fork it", "would be split off", "could be split off"],
+    ),
+    "held-up": (
+        held_up,
+        [],
+        [
+            "It cannot fork.",
+            "11 sets: Kettle Bank alone; or any 2 of these 5 together: Vault 1, Vault 2, Vault 3, Vault 4, Vault 5.",
+            "By single nodes: 13 sets, the smallest of 2.",
+        ],
+        ["Down: ", "not known"],
+    ),
+    "uncrawled": (
+        uncrawled,
+        [],
+        [
+            "It cannot fork.",
+            (
+                "Quorum sets that are not known: of 41 nodes, 1 of them named by others. These count as agreeing with"
+                " nobody."
+            ),
+            "3 sets: any 2 of these 3 together: Ash, Birch, Cherry.",
+        ],
+        ["never agrees", "nothing is ever agreed", "There is no quorum", "Down: "],
+    ),
+    "uncrawled-node": (
+        uncrawled,
+        ["u07"],
+        ["This page speaks for u07, whose quorum set is not known.", "It cannot fork."],
+        ["never agrees", "in no quorum"],
+    ),
 }
 
 
@@ -106,8 +173,11 @@ class Tried:
         return tree["validators"] + [key for it in tree["innerQuorumSets"] for key in self.in_tree(it)]
 
     def has_choice(self, tree, inside):
-        """Whether some choice lies inside: so many entries as the threshold, no threshold of 0 and none above the entries."""
-        met = sum(key in inside for key in tree["validators"]) + sum(self.has_choice(it, inside) for it in tree["innerQuorumSets"])
+        """Whether some choice lies inside: so many entries as the threshold, no threshold of 0 and none above the
+        entries."""
+        met = sum(key in inside for key in tree["validators"]) + sum(
+            self.has_choice(it, inside) for it in tree["innerQuorumSets"]
+        )
         return 1 <= tree["threshold"] <= met
 
     def quorums(self, lying=frozenset()):
@@ -138,7 +208,9 @@ class Tried:
         return frozenset(self.named if self.named & greatest else self.keys)
 
     def networks(self, greatest):
-        """The sets inside the greatest quorum out of which none of its members leads, and in which each leads to each."""
+        """The sets inside the greatest quorum out of which none of its members leads, and in which each leads to
+        each."""
+
         def reach(key):
             found = {key}
             while True:
@@ -148,7 +220,14 @@ class Tried:
                 found = more
 
         sets = {key: reach(key) for key in greatest}
-        return sorted({sorted(some)[0]: some for some in sets.values() if all(sets[it] == some for it in some) and some & self.validators(greatest)}.values(), key=sorted)
+        return sorted(
+            {
+                sorted(some)[0]: some
+                for some in sets.values()
+                if all(sets[it] == some for it in some) and some & self.validators(greatest)
+            }.values(),
+            key=sorted,
+        )
 
     def most_named(self, keys):
         return min(keys, key=lambda key: (-sum(key in some - {own} for own, some in self.mentions.items()), key))
@@ -181,7 +260,11 @@ class Expected:
         self.keys, self.named = self.real.keys, self.real.named
         self.whole = frozenset(self.keys)
         self.marked = any(isinstance(it.get(word), bool) for it in nodes for word in ("isValidating", "active"))
-        self.down = frozenset(it["publicKey"] for it in nodes if it["publicKey"] in self.named and (it.get("isValidating") is False or it.get("active") is False))
+        self.down = frozenset(
+            it["publicKey"]
+            for it in nodes
+            if it["publicKey"] in self.named and (it.get("isValidating") is False or it.get("active") is False)
+        )
         self.is_now = is_now and bool(self.down)
         # As things are now no quorum has a node that is down.
         self.silent = self.down if self.is_now else frozenset()
@@ -196,7 +279,11 @@ class Expected:
 
     def views(self):
         views = [(self.node, self.real.closure(self.node))] if self.node else []
-        at = [self.real.most_named(it) for it in self.networks] if len(self.networks) > 1 else [self.real.most_named(self.greatest)] if self.greatest and not self.node else []
+        at = (
+            [self.real.most_named(it) for it in self.networks]
+            if len(self.networks) > 1
+            else [self.real.most_named(self.greatest)] if self.greatest and not self.node else []
+        )
         for key in at:
             if not any(key in keys for _, keys in views):
                 views.append((key, self.real.closure(key)))
@@ -207,7 +294,9 @@ class Expected:
         validators = self.real.validators(self.greatest)
         if disjoint(self.quorums(validators, lying)):
             return "yes", []
-        split = union(self.quorums(self.whole - validators, lying)) if disjoint(self.quorums(self.whole, lying)) else []
+        split = (
+            union(self.quorums(self.whole - validators, lying)) if disjoint(self.quorums(self.whole, lying)) else []
+        )
         return "no", sorted(split)
 
     def data(self):
@@ -220,18 +309,38 @@ class Expected:
         if listed - self.whole:
             lines.append({"line": "orgs", "say": "lost", "lost": len(listed - self.whole), "of": len(listed)})
         if not all(self.own.values()):
-            lines.append({"line": "orgs", "say": "without", "without": [its for its, _ in self.orgs if not self.own[its]]})
+            lines.append(
+                {"line": "orgs", "say": "without", "without": [its for its, _ in self.orgs if not self.own[its]]}
+            )
         if own and not own[1]:
-            lines.append({"line": "speaks", "say": "outside" if self.real.trees.get(self.node) else "unknown", "node": self.node})
+            lines.append(
+                {
+                    "line": "speaks",
+                    "say": "outside" if self.real.trees.get(self.node) else "unknown",
+                    "node": self.node,
+                }
+            )
         fork = {"line": "fork", "say": "none-known" if self.word == "none" and self.unknown else self.word}
         if self.word == "networks":
             fork["count"] = len(self.networks)
         lines.append(fork)
         if split:
-            lines.append({"line": "fork", "say": "split", "of": len(self.watchers), "count": len(split), "keys": split})
+            lines.append(
+                {"line": "fork", "say": "split", "of": len(self.watchers), "count": len(split), "keys": split}
+            )
         if self.unknown:
-            lines.append({"line": "fork", "say": "unknown", "count": len(self.unknown), "named": len(set(self.unknown) & self.named)})
-        return {"lines": lines, "parts": [self.part(at, view, key, len(views)) for at, (key, view) in enumerate(views)]}
+            lines.append(
+                {
+                    "line": "fork",
+                    "say": "unknown",
+                    "count": len(self.unknown),
+                    "named": len(set(self.unknown) & self.named),
+                }
+            )
+        return {
+            "lines": lines,
+            "parts": [self.part(at, view, key, len(views)) for at, (key, view) in enumerate(views)],
+        }
 
     def part(self, at, view, key, count):
         own = self.node if at == 0 else None
@@ -239,8 +348,20 @@ class Expected:
         fork = disjoint(self.quorums(view))
         orgs = [its for its, _ in self.orgs if self.own[its] & view]
         turns = [self.turn(its, view, greatest, fork) for its in orgs]
-        lines = [*self.seen(view, key, own, greatest, fork, count), *self.lies(orgs, turns, greatest, fork), *self.stop(view), *self.now(view), *self.node_lines(view, own, orgs, greatest)]
-        return {"from": key, "greatest": sorted(greatest), "lines": lines, "turns": turns, "leaving": [self.leave(its, view) for its in orgs] if greatest else []}
+        lines = [
+            *self.seen(view, key, own, greatest, fork, count),
+            *self.lies(orgs, turns, greatest, fork),
+            *self.stop(view),
+            *self.now(view),
+            *self.node_lines(view, own, orgs, greatest),
+        ]
+        return {
+            "from": key,
+            "greatest": sorted(greatest),
+            "lines": lines,
+            "turns": turns,
+            "leaving": [self.leave(its, view) for its in orgs] if greatest else [],
+        }
 
     def turn(self, its, view, greatest, fork):
         lying, word, split = self.own[its], None, []
@@ -261,11 +382,26 @@ class Expected:
 
     def lies(self, orgs, turns, greatest, fork):
         if not self.orgs or not orgs or not greatest or fork:
-            return [{"line": "lies", "say": "unknown" if not self.orgs else "nowhere" if not orgs else "none" if not greatest else "forked"}]
+            return [
+                {
+                    "line": "lies",
+                    "say": (
+                        "unknown" if not self.orgs else "nowhere" if not orgs else "none" if not greatest else "forked"
+                    ),
+                }
+            ]
         by = {word: [it["org"] for it in turns if it["lies"] == word] for word in ("yes", "elsewhere")}
         lines = []
         if by["yes"]:
-            lines.append({"line": "lies", "say": "each" if len(by["yes"]) == len(turns) > 1 else "some", "count": len(by["yes"]), "of": len(turns), "orgs": by["yes"]})
+            lines.append(
+                {
+                    "line": "lies",
+                    "say": "each" if len(by["yes"]) == len(turns) > 1 else "some",
+                    "count": len(by["yes"]),
+                    "of": len(turns),
+                    "orgs": by["yes"],
+                }
+            )
         if by["elsewhere"]:
             lines.append({"line": "lies", "say": "elsewhere", "orgs": by["elsewhere"]})
         if not lines:
@@ -276,7 +412,10 @@ class Expected:
     def items(self, view):
         """What may fall silent: organisations, and nodes of none."""
         nodes = view - union(self.own.values())
-        return {**{"org:" + its: keys for its, keys in self.own.items()}, **{"node:" + key: frozenset([key]) for key in nodes}}
+        return {
+            **{"org:" + its: keys for its, keys in self.own.items()},
+            **{"node:" + key: frozenset([key]) for key in nodes},
+        }
 
     def stopping(self, view, silent):
         return minimal(self.items(view), lambda keys: not self.real.inside(view, without=keys | silent))
@@ -289,7 +428,9 @@ class Expected:
             return [{"line": "stop", "say": "none"}]
         lines = [self.sets("stop", self.stopping(view, frozenset()))]
         if not self.is_now:
-            nodes = minimal({key: frozenset([key]) for key in view}, lambda keys: not self.real.inside(view, without=keys))
+            nodes = minimal(
+                {key: frozenset([key]) for key in view}, lambda keys: not self.real.inside(view, without=keys)
+            )
             lines.append({"line": "stop", "say": "nodes", "count": len(nodes), "least": min(map(len, nodes))})
         return lines
 
@@ -309,11 +450,18 @@ class Expected:
             return []
         if own not in greatest:
             return [{"line": "node", "say": "outside" if self.real.trees.get(own) else "unknown", "node": own}]
-        lines, others = [{"line": "node", "say": "inside", "node": own}], [its for its in orgs if own not in self.own[its]]
+        lines, others = [{"line": "node", "say": "inside", "node": own}], [
+            its for its in orgs if own not in self.own[its]
+        ]
         stopped = [its for its in others if own not in union(self.quorums(view, without=self.own[its]))]
         if others:
-            lines.append({"line": "node", "say": "stopped", "orgs": stopped} if stopped else {"line": "node", "say": "goes-on"})
-        blocked = minimal({"org:" + its: self.own[its] for its in others}, lambda keys: not self.real.has_choice(self.real.trees[own], self.whole - keys))
+            lines.append(
+                {"line": "node", "say": "stopped", "orgs": stopped} if stopped else {"line": "node", "say": "goes-on"}
+            )
+        blocked = minimal(
+            {"org:" + its: self.own[its] for its in others},
+            lambda keys: not self.real.has_choice(self.real.trees[own], self.whole - keys),
+        )
         return lines + ([{"line": "node", "say": "blocked", "sets": blocked}] if blocked else [])
 
     def leave(self, its, view):
@@ -327,18 +475,29 @@ class Expected:
         """What differs; the sets of a fork are tried, since any two quorums that share no node are right."""
         data = json.loads(json.dumps(data))
         wanted = json.loads(json.dumps(self.data()))
-        views = [(self.whole, data["lines"])] + [(keys, part["lines"]) for (_, keys), part in zip(self.views(), data["parts"])]
+        views = [(self.whole, data["lines"])] + [
+            (keys, part["lines"]) for (_, keys), part in zip(self.views(), data["parts"])
+        ]
         for view, lines in views:
             for it in lines:
                 if "first" in it:
                     pair = [frozenset(it.pop(side)) for side in ("first", "second")]
                     if pair[0] & pair[1] or not set(pair) <= set(self.quorums(view)):
-                        return "no two disjoint quorums: %s" % pair
-        return "" if data == wanted else "\n".join("%s\n  not %s" % (a, b) for a, b in zip(parts_of(data), parts_of(wanted)) if a != b) or "another number of parts"
+                        return f"no two disjoint quorums: {pair}"
+        return (
+            ""
+            if data == wanted
+            else "\n".join(f"{a}\n  not {b}" for a, b in zip(parts_of(data), parts_of(wanted)) if a != b)
+            or "another number of parts"
+        )
 
 
 def parts_of(data):
-    return [json.dumps(it, sort_keys=True) for it in data["lines"]] + [json.dumps(it, sort_keys=True) for part in data["parts"] for it in [part["from"], *part["lines"], *part["turns"], *part["leaving"]]]
+    return [json.dumps(it, sort_keys=True) for it in data["lines"]] + [
+        json.dumps(it, sort_keys=True)
+        for part in data["parts"]
+        for it in [part["from"], *part["lines"], *part["turns"], *part["leaving"]]
+    ]
 
 
 # Random networks.
@@ -347,7 +506,7 @@ def parts_of(data):
 def random_network(chance):
     """A network of four to eight nodes in organisations, as operators make them and as they break them."""
     count = chance.randint(4, 8)
-    keys = ["n%d" % at for at in range(1, count + 1)]
+    keys = [f"n{at}" for at in range(1, count + 1)]
     orgs, left = [], keys[:]
     while left and chance.random() < 0.9:
         orgs.append([left.pop() for _ in range(min(len(left), chance.randint(1, 3)))])
@@ -359,9 +518,13 @@ def random_network(chance):
             some = keys if chance.random() < 0.5 else chance.sample(keys, chance.randint(1, count))
             return quorum_set(chance.randint(1, len(some)), some)
         if kind == "halves":
-            some = [it for it in keys if (int(it[1:]) <= count // 2) == (int(key[1:]) <= count // 2)] + ([chance.choice(keys)] if chance.random() < 0.15 else [])
+            some = [it for it in keys if (int(it[1:]) <= count // 2) == (int(key[1:]) <= count // 2)] + (
+                [chance.choice(keys)] if chance.random() < 0.15 else []
+            )
             return quorum_set(max(1, len(some) * 2 // 3), some)
-        inner = [quorum_set(len(some) // 2 + 1, some) for some in orgs if kind == "inner" or chance.random() < 0.7] or [quorum_set(1, [key])]
+        inner = [
+            quorum_set(len(some) // 2 + 1, some) for some in orgs if kind == "inner" or chance.random() < 0.7
+        ] or [quorum_set(1, [key])]
         return quorum_set(chance.randint(1, len(inner)), left if chance.random() < 0.2 else [], inner)
 
     nodes = []
@@ -369,14 +532,27 @@ def random_network(chance):
         if shared is None or chance.random() < 0.4:
             shared = wanted(key)
         held = shared if kind != "halves" else wanted(key)
-        marks = {"isValidating": chance.random() < 0.7} if chance.random() < 0.3 else {"active": False} if chance.random() < 0.05 else {}
+        marks = (
+            {"isValidating": chance.random() < 0.7}
+            if chance.random() < 0.3
+            else {"active": False} if chance.random() < 0.05 else {}
+        )
         nodes.append(declared(key, held if chance.random() < 0.9 else None, **marks))
     for at in range(chance.choice([0, 0, 1, 2])):
         some = chance.sample(keys, min(count, 3))
-        nodes.append(declared("w%d" % at, quorum_set(chance.randint(1, 2), some + (["w%d" % at] if chance.random() < 0.3 else []))))
+        nodes.append(
+            declared(f"w{at}", quorum_set(chance.randint(1, 2), some + ([f"w{at}"] if chance.random() < 0.3 else [])))
+        )
     if chance.random() < 0.1:
         nodes = [it for it in nodes if it["publicKey"] != keys[-1]]
-    listed = [{"id": "o%d" % at, "name": "Org %d" % at, "validators": sorted(some) + (["gone%d" % at] if chance.random() < 0.1 else [])} for at, some in enumerate(orgs)]
+    listed = [
+        {
+            "id": f"o{at}",
+            "name": f"Org {at}",
+            "validators": sorted(some) + ([f"gone{at}"] if chance.random() < 0.1 else []),
+        }
+        for at, some in enumerate(orgs)
+    ]
     if chance.random() < 0.1:
         listed.append({"id": "lost", "name": "Lost", "validators": ["x"]})
     chance.shuffle(nodes)
@@ -397,7 +573,7 @@ class Trial:
             self.passed += 1
         else:
             self.failed += 1
-            print("summary: %s: %s" % (name, told), flush=True)
+            print(f"summary: {name}: {told}", flush=True)
 
     def path(self, name):
         return os.path.join(self.folder, name)
@@ -408,8 +584,19 @@ class Trial:
             with open(self.path(file), "w", encoding="utf-8") as it:
                 json.dump(held, it)
         shutil.rmtree(self.path("page-certificates"), ignore_errors=True)
-        words = [TOOL, self.path("config.json"), "--orgs", self.path("orgs.json"), *(["--node", node] if node else []), *(["--now"] if is_now else [])]
-        ended = subprocess.run([*words, "-o", self.path("page.html"), "--json", self.path("page.json"), "--program", PROGRAM], stdout=subprocess.PIPE, stderr=subprocess.PIPE)
+        words = [
+            TOOL,
+            self.path("config.json"),
+            "--orgs",
+            self.path("orgs.json"),
+            *(["--node", node] if node else []),
+            *(["--now"] if is_now else []),
+        ]
+        ended = subprocess.run(
+            [*words, "-o", self.path("page.html"), "--json", self.path("page.json"), "--program", PROGRAM],
+            stdout=subprocess.PIPE,
+            stderr=subprocess.PIPE,
+        )
         self.judge(name + ": a page", ended.returncode == 0, ended.stderr.decode()[-500:])
         if ended.returncode:
             return "", ""
@@ -419,20 +606,34 @@ class Trial:
             page = it.read()
         if tried:
             differs = Expected(nodes, orgs, node, is_now).compare(data)
-            self.judge(name + ": as by trying all sets", not differs, "%s\n%s\n%s" % (differs, json.dumps(nodes), json.dumps(orgs)))
+            self.judge(
+                name + ": as by trying all sets", not differs, f"{differs}\n{json.dumps(nodes)}\n{json.dumps(orgs)}"
+            )
         said = [plain(it) for row in re.findall(r"<dt>(.*?)</dt><dd>(.*?)</dd>", page) for it in row]
         if self.node:
             self.in_node(name, data, said, node, is_now)
         return "\n".join(said), plain(page)
 
     def in_node(self, name, data, said, node, is_now):
-        words = [self.node, IN_NODE, PROGRAM, self.path("config.json"), self.path("orgs.json"), node or "", "now" if is_now else ""]
+        words = [
+            self.node,
+            IN_NODE,
+            PROGRAM,
+            self.path("config.json"),
+            self.path("orgs.json"),
+            node or "",
+            "now" if is_now else "",
+        ]
         ended = subprocess.run(words, stdout=subprocess.PIPE, stderr=subprocess.PIPE)
         self.judge(name + ": in node", ended.returncode == 0, ended.stderr.decode()[-800:])
         if ended.returncode == 0:
             found = json.loads(ended.stdout)
-            self.judge(name + ": the same data in node", found["data"] == data, "\n%s\n%s" % (json.dumps(found["data"], sort_keys=True), json.dumps(data, sort_keys=True)))
-            self.judge(name + ": the same words in node", found["said"] == said, "\n%s\n%s" % (found["said"], said))
+            self.judge(
+                name + ": the same data in node",
+                found["data"] == data,
+                f"\n{json.dumps(found['data'], sort_keys=True)}\n{json.dumps(data, sort_keys=True)}",
+            )
+            self.judge(name + ": the same words in node", found["said"] == said, f"\n{found['said']}\n{said}")
 
 
 def plain(text):
@@ -445,9 +646,9 @@ def four(trial):
         nodes, orgs = made()
         said, page = trial.network(name, nodes, orgs, *node, tried=len(nodes) < 15)
         for text in has:
-            trial.judge("%s says: %s" % (name, text), text in said, said)
+            trial.judge(f"{name} says: {text}", text in said, said)
         for text in lacks:
-            trial.judge("%s does not say: %s" % (name, text), text not in page, said)
+            trial.judge(f"{name} does not say: {text}", text not in page, said)
 
 
 def main():
@@ -462,11 +663,14 @@ def main():
         trial = Trial(folder)
         four(trial)
         for at in range(asked.count):
-            chance = random.Random("%d %d" % (asked.seed, at))
+            chance = random.Random(f"{asked.seed} {at}")
             nodes, orgs = random_network(chance)
             node = chance.choice(sorted(it["publicKey"] for it in nodes)) if chance.random() < 0.4 else None
-            trial.network("network %d of seed %d" % (at, asked.seed), nodes, orgs, node, chance.random() < 0.3)
-    print("summary: %s%d passed, %d failed" % ("" if trial.node else "skipped in node, which is not there: ", trial.passed, trial.failed))
+            trial.network(f"network {at} of seed {asked.seed}", nodes, orgs, node, chance.random() < 0.3)
+    print(
+        "summary: %s%d passed, %d failed"
+        % ("" if trial.node else "skipped in node, which is not there: ", trial.passed, trial.failed)
+    )
     return 1 if trial.failed else 0
 
 

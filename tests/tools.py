@@ -2,10 +2,10 @@
 """Runs tools/hints and tools/pair on files that a slip hands them: what they say, and that they put out nothing then.
 
 Whether what they make is right is shown by the examples of the documents, where `check-lrat` and `check` read it. Of
-tools/arguments, tools/twice and tools/callers it shows what they count, and that docs/DECISIONS.md names each contract that the first of
-them lists; of tools/uses, which names it sees in a text and in crates.txt; of
-tools/limits, which constants it sees, and which have a number in a sample.
-The program is not needed. The last line is 'tools: N passed, M failed'.
+tools/arguments, tools/twice and tools/callers it shows what they count, and that docs/DECISIONS.md names each contract
+that the first of them lists; of tools/uses, which names it sees in a text and in crates.txt; of tools/limits, which
+constants it sees, and which have a number in a sample. The program is not needed. The last line is 'tools: N passed, M
+failed'.
 """
 
 import importlib.machinery
@@ -33,7 +33,13 @@ ROWS = [
     ("hints", b"1\n", 1, "", "line 1 " + NO_LIST),
     ("hints", b"", 1, "", "does not come to the empty lemma"),
     ("pair", b"SAT\n1 -2 0\n", 0, "fbas-cert 2\nconfig 00\nfrom\nfaulty\nkind pair\nfirst\nsecond p\nend\n", ""),
-    ("pair", b"s SATISFIABLE\nv 1 -2\nv 0\n", 0, "fbas-cert 2\nconfig 00\nfrom\nfaulty\nkind pair\nfirst\nsecond p\nend\n", ""),
+    (
+        "pair",
+        b"s SATISFIABLE\nv 1 -2\nv 0\n",
+        0,
+        "fbas-cert 2\nconfig 00\nfrom\nfaulty\nkind pair\nfirst\nsecond p\nend\n",
+        "",
+    ),
     ("pair", b"", 1, "", "has no literal"),
     ("pair", b"INDET\n", 1, "", "has no literal"),
     ("pair", b"SAT\n0\n", 1, "", "has no literal"),
@@ -73,8 +79,18 @@ TWICE = [
     ("Found", ["a", "b"], {"a": {"Found": {"c"}}, "b": {"Found": {"c", "d"}}}, False),
     ("Found", ["a", "b"], {"a": {"Found": {"b"}}, "b": {"Found": {"d"}}}, False),
     ("unless", ["a", "b"], {"a": {"unless": {"c"}}, "b": {"unless": {"c"}}}, True),
-    ("Text", ["a", "b", "cert_lines"], {"a": {"Text": {"c"}}, "b": {"Text": {"c"}}, "cert_lines": {"Text": {"d"}}}, True),
-    ("Text", ["a", "b", "cert_lines"], {"a": {"Text": {"c"}}, "b": {"Text": {"d"}}, "cert_lines": {"Text": {"d"}}}, False),
+    (
+        "Text",
+        ["a", "b", "cert_lines"],
+        {"a": {"Text": {"c"}}, "b": {"Text": {"c"}}, "cert_lines": {"Text": {"d"}}},
+        True,
+    ),
+    (
+        "Text",
+        ["a", "b", "cert_lines"],
+        {"a": {"Text": {"c"}}, "b": {"Text": {"d"}}, "cert_lines": {"Text": {"d"}}},
+        False,
+    ),
 ]
 
 # A text, its kind, and the libraries of NAMED that it names.
@@ -82,7 +98,11 @@ NAMED = {"low", "high", "other"}
 NAMES = [
     ("use low::Answer;\nfn one() { crate::high::two() }", ".rt", {"low"}),
     ("use low as high;\n// other::three()\n/// other::four()", ".rt", {"low"}),
-    ("ghost use Rattle.low.specs.Found.{word_of};\nfn one() { high ::two::<other::Three>() }", ".rt", {"low", "high", "other"}),
+    (
+        "ghost use Rattle.low.specs.Found.{word_of};\nfn one() { high ::two::<other::Three>() }",
+        ".rt",
+        {"low", "high", "other"},
+    ),
     ("let low = self.high.other();", ".rt", set()),
     ("use Rattle.low.specs.Found.{word_of}\n-- use Rattle.other.specs.Found\nword : high ≡ other", ".antt", {"low"}),
     ("word = Rattle.low.word --> Rattle.other.word", ".antt", {"low", "other"}),
@@ -101,8 +121,17 @@ CALLS = [
 ]
 
 # A text of code and its constants, and a text of samples and those that it has a number of.
-CONSTANTS = ("/// const NOT: u8 = 1;\nconst MOST: usize = 3;\n    pub(crate) const FIRST: &[u8; 2] = b\"ab\";\nfn const_of(x: u8) {}\n", ["MOST", "FIRST"])
-SAMPLES = ("most : MOST ≡ 3\nmost = refl\ntenth : TENTH ≡ MOST / 10\nsame : MOST ≡ OTHER\nlaw : (x : ℕ) → LAST ≡ x\n", {"MOST", "TENTH"})
+CONSTANTS = (
+    (
+        '/// const NOT: u8 = 1;\nconst MOST: usize = 3;\n    pub(crate) const FIRST: &[u8; 2] = b"ab";\nfn const_of(x:'
+        " u8) {}\n"
+    ),
+    ["MOST", "FIRST"],
+)
+SAMPLES = (
+    "most : MOST ≡ 3\nmost = refl\ntenth : TENTH ≡ MOST / 10\nsame : MOST ≡ OTHER\nlaw : (x : ℕ) → LAST ≡ x\n",
+    {"MOST", "TENTH"},
+)
 
 # A law, and a function that does something.
 LAWS = [
@@ -122,26 +151,32 @@ def tool(name):
 
 def source_tools():
     """What the tools that read the crates say, each with what it should be."""
-    arguments, twice, callers, uses, limits = (tool(name) for name in ("arguments", "twice", "callers", "uses", "limits"))
+    arguments, twice, callers, uses, limits = (
+        tool(name) for name in ("arguments", "twice", "callers", "uses", "limits")
+    )
     yield "limits of code", limits.constants_of(CONSTANTS[0]), CONSTANTS[1]
     yield "limits of samples", limits.sampled(SAMPLES[0]), SAMPLES[1]
     for text, kind, names in NAMES:
-        yield "uses of %r" % text, uses.names_in(text, kind) & NAMED, names
+        yield f"uses of {text!r}", uses.names_in(text, kind) & NAMED, names
     yield "uses of crates.txt", uses.lines_of(LINES), {"low": [], "high": ["low", "other"]}
     yield "arguments of CODE", list(arguments.functions(CODE)), COUNTS
     for text, crate, names in IMPORTS:
         ((model, code, path),) = twice.IMPORT.findall(text)
-        yield "twice of %r" % text, (model or code, twice.names_of(path) | {""}), (crate, names)
+        yield f"twice of {text!r}", (model or code, twice.names_of(path) | {""}), (crate, names)
     for name, crates, cited, may in TWICE:
-        yield "twice of %s in %s" % (name, cited), twice.reason_of(name, crates, cited) is not None, may
+        yield f"twice of {name} in {cited}", twice.reason_of(name, crates, cited) is not None, may
     for text, name, owner, is_called in CALLS:
-        yield "callers of %s in %r" % (name, text), callers.is_called("low", name, owner, [], [text]), is_called
+        yield f"callers of {name} in {text!r}", callers.is_called("low", name, owner, [], [text]), is_called
     yield "a law", [callers.is_law(text, 0) for text in LAWS], [True, False]
     found = [name for _, name in callers.uncalled()]
     yield "public functions that nothing calls", found, sorted(callers.KEPT, key=found.index)
     with open(os.path.join(TOP, "docs", "DECISIONS.md"), encoding="utf-8") as it:
         (line,) = re.findall(r"^- \*\*Contracts of more than twelve clauses\*\*.*", it.read(), re.M)
-    long = {name for _, name, _, clauses in arguments.functions_of(arguments.crates_of_the_program()) if clauses > arguments.MOST_CLAUSES}
+    long = {
+        name
+        for _, name, _, clauses in arguments.functions_of(arguments.crates_of_the_program())
+        if clauses > arguments.MOST_CLAUSES
+    }
     yield "contracts that DECISIONS lacks", sorted(long - set(re.findall(r"`(\w+)`", line))), []
 
 
@@ -153,17 +188,28 @@ def main():
         for tool, held, status, text, said in ROWS:
             with open(os.path.join(folder, "second"), "wb") as it:
                 it.write(held)
-            ended = subprocess.run([os.path.join(TOP, "tools", tool), "first", "second"], cwd=folder, stdout=subprocess.PIPE, stderr=subprocess.PIPE, timeout=60)
+            ended = subprocess.run(
+                [os.path.join(TOP, "tools", tool), "first", "second"],
+                cwd=folder,
+                stdout=subprocess.PIPE,
+                stderr=subprocess.PIPE,
+                timeout=60,
+            )
             found = (ended.returncode, ended.stdout.decode(), ended.stderr.decode())
-            if found[:2] != (status, text) or said not in found[2] or "Traceback" in found[2] or (status == 0) != (found[2] == ""):
+            if (
+                found[:2] != (status, text)
+                or said not in found[2]
+                or "Traceback" in found[2]
+                or (status == 0) != (found[2] == "")
+            ):
                 failed += 1
-                print("tools: %s of %r: %r" % (tool, held, found))
+                print(f"tools: {tool} of {held!r}: {found!r}")
     rows = list(source_tools())
     for what, found, wanted in rows:
         if found != wanted:
             failed += 1
-            print("tools: %s: %r" % (what, found))
-    print("tools: %d passed, %d failed" % (len(ROWS) + len(rows) - failed, failed))
+            print(f"tools: {what}: {found!r}")
+    print(f"tools: {len(ROWS) + len(rows) - failed} passed, {failed} failed")
     return 1 if failed else 0
 
 

@@ -3,8 +3,9 @@
 
     tests/watchers.py FOLDER [KIND..]
 
-writes for each kind (seven, needed and old, if none is given; split is one that can fork) KIND.json and KIND-orgs.json, in the shape that stellarbeat publishes. A third of the watchers say nothing of
-whom they trust, a third have the validators' quorum set, and each of the others wants three of five validators of its own choice.
+writes for each kind (seven, needed and old, if none is given; split is one that can fork) KIND.json and
+KIND-orgs.json, in the shape that stellarbeat publishes. A third of the watchers say nothing of whom they trust, a
+third have the validators' quorum set, and each of the others wants three of five validators of its own choice.
 """
 
 import base64
@@ -24,7 +25,8 @@ ORGANISATIONS = [
     ("Franklin Trust", "franklin.example", 4),
 ]
 WATCHERS = 100
-# One as it should be, one with an organisation that all need, one with quorum sets of before the last two organisations joined.
+# One as it should be, one with an organisation that all need, one with quorum sets of before the last two
+# organisations joined.
 KINDS = ["seven", "needed", "old"]
 
 
@@ -51,20 +53,25 @@ class Made:
 
     def __init__(self, kind):
         self.kind = kind
-        self.orgs = [(name, domain, [key("%s %s %d" % (kind, name, at)) for at in range(1, count + 1)]) for name, domain, count in ORGANISATIONS]
+        self.orgs = [
+            (name, domain, [key(f"{kind} {name} {at}") for at in range(1, count + 1)])
+            for name, domain, count in ORGANISATIONS
+        ]
         self.sets = [majority(keys) for _, _, keys in self.orgs]
         self.nodes = [node for at in range(len(self.orgs)) for node in self.validators(at)]
         self.nodes += [self.watcher(at) for at in range(1, WATCHERS + 1)]
         self.nodes.sort(key=lambda node: node["publicKey"][::-1])
 
     def usual(self):
-        """The quorum set of most: five of seven organisations, or three, or one that all need with four of the other six."""
+        """The quorum set of most: five of seven organisations, or three, or one that all need with four of the other
+        six."""
         if self.kind == "needed":
             return quorum_set(2, [], [self.sets[0], quorum_set(4, [], self.sets[1:])])
         return quorum_set(3 if self.kind == "split" else 5, [], self.sets)
 
     def validator_set(self, org, at):
-        """Where it is old, one validator of three organisations still has the quorum set of before the last two joined."""
+        """Where it is old, one validator of three organisations still has the quorum set of before the last two
+        joined."""
         if self.kind == "old" and at == 1 and org < 3:
             return quorum_set(4, [], self.sets[:5])
         return self.usual()
@@ -72,26 +79,50 @@ class Made:
     def validators(self, org):
         name, domain, keys = self.orgs[org]
         for at, own in enumerate(keys, 1):
-            yield self.node(own, "%s %d" % (name, at), domain, self.validator_set(org, at))
+            yield self.node(own, f"{name} {at}", domain, self.validator_set(org, at))
 
     def watcher(self, at):
-        own = key("%s watcher %d" % (self.kind, at))
+        own = key(f"{self.kind} watcher {at}")
         if at % 3 == 0:
             wanted = None
         elif at % 3 == 1:
             wanted = self.usual()
         else:
-            wanted = quorum_set(3, sorted((it for _, _, keys in self.orgs for it in keys), key=lambda it: chosen(own + it, 1 << 60))[:5])
-        return self.node(own, "watcher %d" % at if at % 2 else None, None, wanted)
+            wanted = quorum_set(
+                3,
+                sorted((it for _, _, keys in self.orgs for it in keys), key=lambda it: chosen(own + it, 1 << 60))[:5],
+            )
+        return self.node(own, f"watcher {at}" if at % 2 else None, None, wanted)
 
     @staticmethod
     def node(own, name, domain, wanted):
-        made = {"ip": "192.0.2.1", "port": 11625, "publicKey": own, "active": True, "isValidator": domain is not None, "statistics": {"active30DaysPercentage": 99.5}}
-        made.update({word: held for word, held in (("name", name), ("homeDomain", domain), ("quorumSet", wanted)) if held is not None})
+        made = {
+            "ip": "192.0.2.1",
+            "port": 11625,
+            "publicKey": own,
+            "active": True,
+            "isValidator": domain is not None,
+            "statistics": {"active30DaysPercentage": 99.5},
+        }
+        made.update(
+            {
+                word: held
+                for word, held in (("name", name), ("homeDomain", domain), ("quorumSet", wanted))
+                if held is not None
+            }
+        )
         return made
 
     def organisations(self):
-        return [{"id": hashlib.sha256(name.encode()).hexdigest()[:32], "name": name, "homeDomain": domain, "validators": keys} for name, domain, keys in self.orgs]
+        return [
+            {
+                "id": hashlib.sha256(name.encode()).hexdigest()[:32],
+                "name": name,
+                "homeDomain": domain,
+                "validators": keys,
+            }
+            for name, domain, keys in self.orgs
+        ]
 
 
 def write(folder, kinds=KINDS):

@@ -17,7 +17,7 @@ class Exported:
                     break
                 comments.append(line[2:].rstrip("\n"))
         if [line.split(" ")[0] for line in comments[:3]] != ["config", "from", "faulty"]:
-            raise ValueError("%s is not what `quorum_cli export` puts out" % path)
+            raise ValueError(f"{path} is not what `quorum_cli export` puts out")
         self.header = comments[:3]
         for line in comments[3:]:
             variable, side, name = line.split(" ")
@@ -35,6 +35,6 @@ def run(make):
     try:
         sys.stdout.write(make(Exported(sys.argv[1]), sys.argv[2]))
     except (OSError, ValueError) as why:
-        print("%s: %s" % (sys.argv[0], why), file=sys.stderr)
+        print(f"{sys.argv[0]}: {why}", file=sys.stderr)
         return 1
     return 0

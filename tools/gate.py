@@ -13,9 +13,9 @@ what FILE had of it, and the table is made of all that FILE has. So a cold run t
 after a change a run over kept work adds what changed. Below the table stands what was not seen.
 
 Each process that rt starts names its crate; one that tries a must-fail edit, or proves the crate that the edits of it
-begin with, runs in a folder of its own. If a kit numbers no edits, the first check over a crate's kept work counts as the
-proof that its edits begin with, and the rest as edits. Time and memory of each are read every half second, so its last half second may
-be missing.
+begin with, runs in a folder of its own. If a kit numbers no edits, the first check over a crate's kept work counts as
+the proof that its edits begin with, and the rest as edits. Time and memory of each are read every half second, so its
+last half second may be missing.
 """
 import json
 import os
@@ -128,7 +128,8 @@ def added(kept, seen):
 
 
 def columns(crate, parts):
-    """Processor minutes of the crate's proof, of its tests, of the proof that its edits begin with, and of its edits."""
+    """Processor minutes of the crate's proof, of its tests, of the proof that its edits begin with, and of its
+    edits."""
     edits = {"edit " + it for it in edits_of(crate)} | {"edit ?"}
     found = [parts.get("proof", 0), parts.get("tests", 0), parts.get("base", 0), sum(parts.get(it, 0) for it in edits)]
     return [it / 60 for it in found]
@@ -169,7 +170,10 @@ def first_build(uses, cost):
     names = stack(uses, PROGRAM, [])
     total, (longest, chain) = sum(cost.get(it, 0) for it in names), longest_chain(uses, cost)
     named = ", ".join(f"`{it}` {cost.get(it, 0) / 60:.1f}" for it in chain)
-    return f"The first build, {len(names)} crates: {total / 60:.1f} processor minutes. The longest chain, from below: {named}: {longest / 60:.1f} minutes."
+    return (
+        f"The first build, {len(names)} crates: {total / 60:.1f} processor minutes. The longest chain, from below:"
+        f" {named}: {longest / 60:.1f} minutes."
+    )
 
 
 def share(crate, cost, names):
@@ -183,14 +187,23 @@ def table(kept):
     uses = crates()
     names, cost = stack(uses, PROGRAM, []), {it: kept.get(it, {}).get("proof", 0) for it in uses}
     rows = {it: columns(it, kept.get(it, {})) for it in uses}
-    lines = ["| crate | proof | of the first build | tests | the edits' base | edits | together |", "|---|---|---|---|---|---|---|"]
+    lines = [
+        "| crate | proof | of the first build | tests | the edits' base | edits | together |",
+        "|---|---|---|---|---|---|---|",
+    ]
     for crate, row in sorted(rows.items(), key=lambda it: -sum(it[1])):
         proof, *others = [f"{it:.1f}" if it else "" for it in row]
-        lines.append(f"| `{crate}` | {proof} | {share(crate, cost, names)} | " + " | ".join(others) + f" | {sum(row):.1f} |")
+        lines.append(
+            f"| `{crate}` | {proof} | {share(crate, cost, names)} | " + " | ".join(others) + f" | {sum(row):.1f} |"
+        )
     rest = kept.get(OTHER, {}).get("rest", 0) / 60
     lines.append(f"| {OTHER} | | | | | | {rest:.1f} |")
     proof, *others = [sum(it) for it in zip(*rows.values())]
-    lines.append(f"| all | {proof:.1f} | | " + " | ".join(f"{it:.1f}" for it in others) + f" | {proof + sum(others) + rest:.1f} |")
+    lines.append(
+        f"| all | {proof:.1f} | | "
+        + " | ".join(f"{it:.1f}" for it in others)
+        + f" | {proof + sum(others) + rest:.1f} |"
+    )
     lines += ["", first_build(uses, cost)]
     edits, tried = sum(len(edits_of(it)) for it in uses), sum(len(edits_of(it)) > 0 for it in uses)
     lines.append(f"There are {edits} edits in {tried} crates.")
@@ -223,19 +236,26 @@ def read_costs(file):
 def write_costs(found):
     """Puts what was found into tools/costs; of the crates that were not seen it keeps what it had."""
     costs = {**read_costs(COSTS), **found}
-    lines = ["# What the proof of each of the program's crates takes: processor seconds, and megabytes by one job. tools/gate.py writes it."]
+    lines = [
+        "# What the proof of each of the program's crates takes: processor seconds, and megabytes by one job."
+        " tools/gate.py writes it."
+    ]
     lines += [f"{it} {costs[it][0]:.0f} {costs[it][1]}" for it in sorted(stack(crates(), PROGRAM, [])) if it in costs]
     write(COSTS, "\n".join(lines))
 
 
 def proofs(kept):
     """What was seen of the proofs, as tools/costs has it."""
-    return {it: (parts["proof"], parts[MEMORY]) for it, parts in kept.items() if "proof" in parts and parts.get(MEMORY)}
+    return {
+        it: (parts["proof"], parts[MEMORY]) for it, parts in kept.items() if "proof" in parts and parts.get(MEMORY)
+    }
 
 
 def anew():
     """The words by which rt takes nothing from earlier runs: some kits have one for it, and others never take any."""
-    said = subprocess.run(["rt", "help"], stdin=subprocess.DEVNULL, stdout=subprocess.PIPE, stderr=subprocess.STDOUT).stdout
+    said = subprocess.run(
+        ["rt", "help"], stdin=subprocess.DEVNULL, stdout=subprocess.PIPE, stderr=subprocess.STDOUT
+    ).stdout
     return ["rt", "ci", "--anew"] if b"--anew" in said else ["rt", "ci"]
 
 

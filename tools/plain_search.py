@@ -3,17 +3,19 @@
 
 usage: tools/plain_search.py FOLDER
 
-Writes `expanded_search` and the crates below it to FOLDER/src, a few lines of Rust in place of the toolchain's `Vec` and of what
-the searches do not use, and builds FOLDER/search, which takes a formula in DIMACS form and a number of units:
+Writes `expanded_search` and the crates below it to FOLDER/src, a few lines of Rust in place of the toolchain's `Vec`
+and of what the searches do not use, and builds FOLDER/search, which takes a formula in DIMACS form and a number of
+units:
 
     FOLDER/search FORMULA [UNITS]
     FOLDER/search --gates FORMULA [UNITS]
     FOLDER/search --plan FORMULA [UNITS]
 
-It prints the verdict, the lemmas and the steps of the log, and the seconds: the same lemmas as by the proved program, in
-about the same time. With `--gates` the formula's gates are written out, and what is printed is what `expanded_search` finds. With `--plan` the search
-follows the plan of `counter_pairs` from the first lemma on, where there is one. So what only guides the search can be tried in a minute, where a proof takes ten; what is found is
-then written into the crate and proved. Wants a `rustc` that knows the edition of 2024; nothing of the gate uses it.
+It prints the verdict, the lemmas and the steps of the log, and the seconds: the same lemmas as by the proved program,
+in about the same time. With `--gates` the formula's gates are written out, and what is printed is what
+`expanded_search` finds. With `--plan` the search follows the plan of `counter_pairs` from the first lemma on, where
+there is one. So what only guides the search can be tried in a minute, where a proof takes ten; what is found is then
+written into the crate and proved. Wants a `rustc` that knows the edition of 2024; nothing of the gate uses it.
 """
 import glob
 import os
@@ -38,7 +40,9 @@ CRATES = [
 # what of a crate the searches use, where that is not all
 PARTS = {"lrat_model": ["lit"], "lrat_text": ["arena", "entry", "lent", "log"]}
 ROOTS = {
-    "lrat_model": "mod lit; pub use self::lit::Lit; pub use crate::kit::{ClauseStatus, Progress, Rule, Step, StepFault};",
+    "lrat_model": (
+        "mod lit; pub use self::lit::Lit; pub use crate::kit::{ClauseStatus, Progress, Rule, Step, StepFault};"
+    ),
     "lrat_text": "mod arena; mod entry; mod lent; mod log; pub use self::lent::*; pub use self::log::Log;",
 }
 CLAUSE = re.compile(r"^[ \t]*(?:requires|ensures)\b[^{\n]*\{", re.M)
@@ -94,7 +98,9 @@ impl<T> IntoIterator for Vec<T> {
 }
 
 #[macro_export]
-macro_rules! filled { (in $alloc:expr; $item:expr; $n:expr) => {{ let _ = $alloc; Ok::<_, AllocError>(Vec(vec![$item; $n])) }} }
+macro_rules! filled {
+    (in $alloc:expr; $item:expr; $n:expr) => {{ let _ = $alloc; Ok::<_, AllocError>(Vec(vec![$item; $n])) }}
+}
 
 #[derive(Debug)]
 pub enum Step { Add { id: u64, lits: Vec<Lit>, hints: Vec<i64> }, Delete { id: u64, ids: Vec<u64> } }
@@ -212,7 +218,12 @@ def without(text, pattern):
 def plain(text, crate):
     """A file of a crate without its contracts, as one of a module of this name."""
     text = without(without(text, CLAUSE), VIEW)
-    text = re.sub(r"^[ \t]*ghost [^;]*;\n|^//![^\n]*\n|^use std::(?:fmt|marker::Model);\n|#!\[tactic[^\n]*\n", "", text, flags=re.M)
+    text = re.sub(
+        r"^[ \t]*ghost [^;]*;\n|^//![^\n]*\n|^use std::(?:fmt|marker::Model);\n|#!\[tactic[^\n]*\n",
+        "",
+        text,
+        flags=re.M,
+    )
     text = re.sub(r"#\[derive\((?:Debug, )?Drop\)\]\n", "", text)
     text = text.replace("use crate::", f"use crate::{crate}::").replace("use std::alloc::", "use crate::kit::")
     for other in CRATES:
@@ -251,7 +262,17 @@ def main():
         sys.exit(__doc__)
     folder = sys.argv[1]
     write(folder)
-    built = ["rustc", "--edition", "2024", "-C", "opt-level=3", "-g", "-o", f"{folder}/search", f"{folder}/src/main.rs"]
+    built = [
+        "rustc",
+        "--edition",
+        "2024",
+        "-C",
+        "opt-level=3",
+        "-g",
+        "-o",
+        f"{folder}/search",
+        f"{folder}/src/main.rs",
+    ]
     sys.exit(subprocess.call(built))
 
 

@@ -1,17 +1,19 @@
 #!/usr/bin/env python3
-"""Writes the clauses that a search could go over in place of the formula's: tools/search_clauses.py SYSTEM FOLDER [GROWTH].
+"""Writes the clauses that a search could go over in place of the formula's: tools/search_clauses.py SYSTEM FOLDER
+[GROWTH].
 
-SYSTEM is as for `bench/trials.py`. Writes three formulas in DIMACS form to FOLDER, for `tools/plain_search.py` and other solvers, and
-prints the variables and clauses of each:
+SYSTEM is as for `bench/trials.py`. Writes three formulas in DIMACS form to FOLDER, for `tools/plain_search.py` and
+other solvers, and prints the variables and clauses of each:
 
     exported.cnf     the intersection formula, as `export` writes it
-    eliminated.cnf   the counters' variables eliminated by resolution in the order of their cost, each of which may add up to GROWTH
-                     clauses (16); clauses that others subsume go
-    written.cnf      each gate of up to ten inputs as the sets of its inputs one of which has to be true, without its counter, and
-                     without its own variable where that makes no clause more
+    eliminated.cnf   the counters' variables eliminated by resolution in the order of their cost, each of which may
+                     add up to GROWTH clauses (16); clauses that others subsume go
+    written.cnf      each gate of up to ten inputs as the sets of its inputs one of which has to be true, without its
+                     counter, and without its own variable where that makes no clause more
 
-Variables are numbered anew without gaps. What is found over the last two is not shown over the formula (docs/history/searches-and-times-2026-11.md,
-'Trials'): these are for trials of a search alone, and nothing of the gate uses them.
+Variables are numbered anew without gaps. What is found over the last two is not shown over the formula
+(docs/history/searches-and-times-2026-11.md, 'Trials'): these are for trials of a search alone, and nothing of the gate
+uses them.
 """
 import heapq
 import itertools
@@ -119,9 +121,11 @@ def eliminated(clauses, variables, growth):
 
 
 def write(path, clauses):
-    numbers = {it: number for number, it in enumerate(sorted({abs(literal) for clause in clauses for literal in clause}), 1)}
+    numbers = {
+        it: number for number, it in enumerate(sorted({abs(literal) for clause in clauses for literal in clause}), 1)
+    }
     with open(path, "w", encoding="utf-8") as out:
-        out.write("p cnf %d %d\n" % (len(numbers), len(clauses)))
+        out.write(f"p cnf {len(numbers)} {len(clauses)}\n")
         for clause in clauses:
             out.write(" ".join(str(numbers[abs(it)] if it > 0 else -numbers[abs(it)]) for it in clause) + " 0\n")
     print(os.path.basename(path), len(numbers), "variables", len(clauses), "clauses")
@@ -136,7 +140,10 @@ def main():
     sides = len(formula.clauses[0]) + len(formula.clauses[1])
     os.makedirs(folder, exist_ok=True)
     write(os.path.join(folder, "exported.cnf"), formula.clauses)
-    write(os.path.join(folder, "eliminated.cnf"), eliminated(formula.clauses, range(sides + 1, formula.variables + 1), growth))
+    write(
+        os.path.join(folder, "eliminated.cnf"),
+        eliminated(formula.clauses, range(sides + 1, formula.variables + 1), growth),
+    )
     written = Written(system, set(), 2)
     write(os.path.join(folder, "written.cnf"), eliminated(written.clauses, written.outputs, 0))
 

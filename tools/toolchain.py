@@ -1,7 +1,8 @@
 """The toolchain on the path: which it is, and its command rt with the sum of each crate's sources taken once.
 
-rtlib's Crate.stamp reads all files of a crate and then asks itself of each library that the crate's line of crates.txt names, without
-keeping what it found: as many sums as there are ways down the graph of crates, over ten thousand for the uppermost, in each call of rt.
+rtlib's Crate.stamp reads all files of a crate and then asks itself of each library that the crate's line of crates.txt
+names, without keeping what it found: as many sums as there are ways down the graph of crates, over ten thousand for
+the uppermost, in each call of rt.
 """
 
 import functools
@@ -23,26 +24,41 @@ class Unfit(Exception):
 
 
 class Toolchain:
-    """The folder of a toolchain, its name by its own word, and its command rt: the one given, or the first on the path that is not tools/rt."""
+    """The folder of a toolchain, its name by its own word, and its command rt: the one given, or the first on the path
+    that is not tools/rt."""
 
     def __init__(self, rt=None):
-        path = os.pathsep.join(it for it in os.environ.get("PATH", os.defpath).split(os.pathsep) if not is_launcher(os.path.join(it, "rt")))
+        path = os.pathsep.join(
+            it
+            for it in os.environ.get("PATH", os.defpath).split(os.pathsep)
+            if not is_launcher(os.path.join(it, "rt"))
+        )
         self.env = {**os.environ, "PATH": path}
         self.rt = rt or shutil.which("rt", path=path)
         if not self.rt:
             raise Unfit(f"the toolchain's command rt is not on the path; {README}")
         self.name, logic = re.fullmatch(r"(\S*)(?: logic )?(\S*).*", self.version(), re.S).groups()
         if logic != LOGIC:
-            raise Unfit(f"the toolchain has to be one of logic {LOGIC}, and rt on the path is {f'{self.name} logic {logic}' if logic else 'of another kind'}; {README}")
+            raise Unfit(
+                f"the toolchain has to be one of logic {LOGIC}, and rt on the path is"
+                f" {f'{self.name} logic {logic}' if logic else 'of another kind'}; {README}"
+            )
 
     def said(self, *words):
-        how = {"stdin": subprocess.DEVNULL, "stdout": subprocess.PIPE, "stderr": subprocess.DEVNULL, "errors": "replace"}
+        how = {
+            "stdin": subprocess.DEVNULL,
+            "stdout": subprocess.PIPE,
+            "stderr": subprocess.DEVNULL,
+            "errors": "replace",
+        }
         return subprocess.run([self.rt, *words], env=self.env, **how).stdout
 
     @functools.cached_property
     def folder(self):
         own = os.path.dirname(os.path.dirname(os.path.realpath(self.rt)))
-        return own if os.path.isfile(os.path.join(own, "bin", "rtlib.py")) else os.path.dirname(self.said("doc").strip())
+        return (
+            own if os.path.isfile(os.path.join(own, "bin", "rtlib.py")) else os.path.dirname(self.said("doc").strip())
+        )
 
     def version(self):
         file = os.path.join(self.folder, "KIT-ID")
@@ -62,8 +78,8 @@ def is_launcher(file):
 
 
 def keep_sums(crate):
-    """Has rtlib's class of crates take each sum once, and anew after the toolchain has worked: so the end of a build sees what changed
-    on the way. (A kit's rt may put its own method in the place of this one, and then calls it.)"""
+    """Has rtlib's class of crates take each sum once, and anew after the toolchain has worked: so the end of a build
+    sees what changed on the way. (A kit's rt may put its own method in the place of this one, and then calls it.)"""
     kept = crate.stamp = functools.cache(crate.stamp)
 
     def then_anew(method):
@@ -81,7 +97,8 @@ def keep_sums(crate):
 
 
 def keep_sums_of_rtlib():
-    """Does so as soon as the module rtlib is read, which rt reads by its path; with another rtlib than is known here nothing is kept."""
+    """Does so as soon as the module rtlib is read, which rt reads by its path; with another rtlib than is known here
+    nothing is kept."""
     plain = importlib.machinery.SourceFileLoader.exec_module
 
     def exec_module(self, module):

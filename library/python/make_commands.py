@@ -19,7 +19,7 @@ HERE = os.path.dirname(os.path.abspath(__file__))
 TOP = os.path.dirname(os.path.dirname(HERE))
 sys.path.insert(0, HERE)
 
-from quorums import usage  # noqa: E402
+from quorums import usage
 
 HEAD = '''"""A method for each command of the table. Made from the usage text by make_commands.py: do not edit."""
 

@@ -1,8 +1,8 @@
 """Says what of a file of organisations does not fit a configuration: organisations.py CONFIG ORGS IDS
 
-On standard error stands how many validators of ORGS are not in CONFIG, and that IDS, a list of organisations separated by commas, has
-none that is. The output is IDS, where the name or the home domain of one organisation alone is replaced by its id. What is not of the
-form of these files is left to the program, which refuses it.
+On standard error stands how many validators of ORGS are not in CONFIG, and that IDS, a list of organisations separated
+by commas, has none that is. The output is IDS, where the name or the home domain of one organisation alone is replaced
+by its id. What is not of the form of these files is left to the program, which refuses it.
 """
 
 import json
@@ -25,10 +25,15 @@ def validators_of(organisation: dict[str, object]) -> list[str]:
 
 
 def id_of(item: str, organisations: list[dict[str, object]]) -> str:
-    """The id of the organisation that an item of a list means; the item itself if it is an id, or if that is not plain."""
+    """The id of the organisation that an item of a list means; the item itself if it is an id, or if that is not
+    plain."""
     if any(it.get("id") == item for it in organisations):
         return item
-    meant = {it["id"] for it in organisations if item in (it.get("name"), it.get("homeDomain")) and isinstance(it.get("id"), str)}
+    meant = {
+        it["id"]
+        for it in organisations
+        if item in (it.get("name"), it.get("homeDomain")) and isinstance(it.get("id"), str)
+    }
     return str(meant.pop()) if len(meant) == 1 else item
 
 
@@ -42,7 +47,10 @@ def main(config: str, orgs: str, listed: str) -> None:
     ids = [id_of(item, organisations) for item in listed.split(",")] if listed else []
     chosen = [it for it in organisations if it.get("id") in ids]
     if chosen and not any(key in keys for it in chosen for key in validators_of(it)):
-        print(f"quorum_cli: --faulty-orgs deletes nobody: no validator of these organisations is in {config}", file=sys.stderr)
+        print(
+            f"quorum_cli: --faulty-orgs deletes nobody: no validator of these organisations is in {config}",
+            file=sys.stderr,
+        )
     sys.stdout.write(",".join(ids))
 
 

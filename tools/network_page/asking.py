@@ -49,7 +49,8 @@ class Certificate:
 
 
 class Verdict:
-    """Whether every two quorums share a node: `yes`, `no` or `unknown`, with the units that were spent, or why it was not asked."""
+    """Whether every two quorums share a node: `yes`, `no` or `unknown`, with the units that were spent, or why it was
+    not asked."""
 
     def __init__(self, view, word, first=(), second=(), work="", certificate=None):
         self.view = view
@@ -61,7 +62,8 @@ class Verdict:
 
 
 class Blocking:
-    """The minimal blocking sets with their certificate: all of them, or some of those found until so many units were spent."""
+    """The minimal blocking sets with their certificate: all of them, or some of those found until so many units were
+    spent."""
 
     def __init__(self, sets, found, work, certificate):
         self.sets = sets
@@ -97,7 +99,8 @@ class Clock:
 
 
 class Searched:
-    """What a search came to: its status and lines, with the budget of the run that gave them; or with no status that there was no time for any."""
+    """What a search came to: its status and lines, with the budget of the run that gave them; or with no status that
+    there was no time for any."""
 
     def __init__(self, status, lines, budget, took):
         self.status = status
@@ -110,8 +113,10 @@ class Searched:
         if self.status is None:
             return "no time was left for it"
         if self.status == 9:
-            return "the formula would have %s variables, more than the program takes" % self.lines[0].split(" ")[1]
-        return "within %s units" % format(int(self.lines[0].split(" ")[2]), ",") + (", %.0f s" % self.took if self.took >= 1 else "")
+            return f"the formula would have {self.lines[0].split(' ')[1]} variables, more than the program takes"
+        return f"within {format(int(self.lines[0].split(' ')[2]), ',')} units" + (
+            f", {self.took:.0f} s" if self.took >= 1 else ""
+        )
 
 
 class Program:
@@ -131,9 +136,14 @@ class Program:
         self.named = set()
 
     def on(self, name, text):
-        """The program on another configuration, which is written beside; what it leaves has that name before its own."""
+        """The program on another configuration, which is written beside; what it leaves has that name before its
+        own."""
         other = Program.__new__(Program)
-        other.__dict__ = {**self.__dict__, "config": self.beside.written(self.prefix + name + ".json", text), "prefix": self.prefix + name + "-"}
+        other.__dict__ = {
+            **self.__dict__,
+            "config": self.beside.written(self.prefix + name + ".json", text),
+            "prefix": self.prefix + name + "-",
+        }
         return other
 
     # What it is at.
@@ -142,12 +152,15 @@ class Program:
         """The question that is at work, on standard error."""
         self.clock.at_work = text
         self.clear()
-        print("network-report: %5.1f s  %s" % (self.clock.spent(), text), file=sys.stderr, flush=True)
+        print(f"network-report: {self.clock.spent():5.1f} s  {text}", file=sys.stderr, flush=True)
 
     def tick(self, budget, began):
         """On a terminal, the line of a search that takes longer."""
         if sys.stderr.isatty():
-            text = "network-report: %5.1f s  %s: %s units, %.0f s" % (self.clock.spent(), self.clock.at_work, format(budget, ","), time.monotonic() - began)
+            text = (
+                f"network-report: {self.clock.spent():5.1f} s  {self.clock.at_work}: {format(budget, ',')} units,"
+                f" {time.monotonic() - began:.0f} s"
+            )
             sys.stderr.write("\r\x1b[K" + text[: shutil.get_terminal_size().columns - 1])
             sys.stderr.flush()
 
@@ -163,9 +176,15 @@ class Program:
         began = time.monotonic()
         try:
             # (a session of its own, which Ctrl-C at the terminal does not reach)
-            running = subprocess.Popen([self.path, *words], stdin=subprocess.DEVNULL, stdout=subprocess.PIPE, stderr=subprocess.PIPE, start_new_session=True)
+            running = subprocess.Popen(
+                [self.path, *words],
+                stdin=subprocess.DEVNULL,
+                stdout=subprocess.PIPE,
+                stderr=subprocess.PIPE,
+                start_new_session=True,
+            )
         except (OSError, ValueError) as why:
-            raise Failed("the program could not be run: %s" % why) from None
+            raise Failed(f"the program could not be run: {why}") from None
         try:
             while True:
                 try:
@@ -180,14 +199,17 @@ class Program:
             end(running)
         text = text.decode("ascii", "replace")
         if running.returncode not in (0, 1, 2, 3, 4, 5, 9, 10):
-            raise Failed("`%s` gave no answer: %s" % (words[0], NO_ANSWER.get(running.returncode, error.decode("utf-8", "replace").strip())))
+            raise Failed(
+                "`%s` gave no answer: %s"
+                % (words[0], NO_ANSWER.get(running.returncode, error.decode("utf-8", "replace").strip()))
+            )
         return running.returncode, text.split("\n")[:-1]
 
     def answer(self, *words, **how):
         """The status and the lines of an answer; a refusal fails with the program's own line."""
         status, lines = self.run(*words, **how)
         if status in (3, 4, 5, 10):
-            raise Failed("`%s` was refused: %s" % (words[0], lines[0] if lines else status))
+            raise Failed(f"`{words[0]}` was refused: {lines[0] if lines else status}")
         return status, lines
 
     def noted(self, *words):
@@ -250,12 +272,13 @@ class Program:
         stem = self.prefix + ("from-" if view.node is not None else "") + name
         at, held = 1, stem
         while held in self.named:
-            at, held = at + 1, "%s-%d" % (stem, at + 1)
+            at, held = at + 1, f"{stem}-{at + 1}"
         self.named.add(held)
         return held
 
     def searched(self, kinds, view, faulty, name, words, *more):
-        """What a search came to within its time, its certificate as `check` accepts it, and the sets in that. What an earlier run left is taken, or gone on with."""
+        """What a search came to within its time, its certificate as `check` accepts it, and the sets in that. What an
+        earlier run left is taken, or gone on with."""
         path = self.beside.certificate(self.cert_name(view, name))
         words = [words[0], self.config, path, *words[1:], *view.words()]
         held = self.left_over(kinds, view, faulty, path, words[0], *more)
@@ -270,7 +293,9 @@ class Program:
             self.unanswered.append((self.clock.at_work, words[0], ended.work()))
         if lines is None:
             return ended, None, []
-        self.certificates.append(Certificate(path, lines[0], self.shown([*words, "--budget=%d" % ended.budget]), self.here(self.config)))
+        self.certificates.append(
+            Certificate(path, lines[0], self.shown([*words, f"--budget={ended.budget}"]), self.here(self.config))
+        )
         return ended, self.certificates[-1], [line.split(" ")[1:] for line in lines[3:]]
 
     def with_budgets(self, words, budget):
@@ -281,7 +306,7 @@ class Program:
             try:
                 if time.monotonic() >= until:
                     break
-                status, lines = self.answer(*words, "--budget=%d" % budget, until=until, budget=budget)
+                status, lines = self.answer(*words, f"--budget={budget}", until=until, budget=budget)
             except OutOfTime:
                 break
             ended = Searched(status, lines, budget, time.monotonic() - began)
@@ -299,15 +324,30 @@ class Program:
             except Failed:
                 continue
             number = int(lines[0].split(" ")[2]) if status == 2 else self.budget
-            told = {0: lines, 1: [lines[0], *self.pair_in(path)], 2: ["%s unknown %d" % (command, number)]}
+            told = {0: lines, 1: [lines[0], *self.pair_in(path)], 2: [f"{command} unknown {number}"]}
             return Searched(status, told[status], number, 0.0), lines
         os.unlink(path)
         return None
 
     def intersect(self, view, name, org=None):
-        """The verdict with its certificate, which is checked, and checked to be about this view and these faulty nodes."""
-        lying = [] if org is None else ["--orgs=" + self.orgs, "--faulty-orgs=" + org.id] if self.orgs is not None else ["--faulty=" + ",".join(org.keys)]
-        ended, certificate, _ = self.searched({0: "refutation", 1: "pair", 2: "partial"}, view, org.keys if org is not None else (), name, ["intersect", *lying])
+        """The verdict with its certificate, which is checked, and checked to be about this view and these faulty
+        nodes."""
+        lying = (
+            []
+            if org is None
+            else (
+                ["--orgs=" + self.orgs, "--faulty-orgs=" + org.id]
+                if self.orgs is not None
+                else ["--faulty=" + ",".join(org.keys)]
+            )
+        )
+        ended, certificate, _ = self.searched(
+            {0: "refutation", 1: "pair", 2: "partial"},
+            view,
+            org.keys if org is not None else (),
+            name,
+            ["intersect", *lying],
+        )
         if ended.status == 0:
             return Verdict(view, "yes", certificate=certificate)
         if ended.status == 1:
@@ -315,17 +355,23 @@ class Program:
         return Verdict(view, "unknown", work=ended.work(), certificate=certificate)
 
     def blocking(self, view, name, most):
-        """The minimal blocking sets as `check` accepts them; where the units were spent, the smallest ones of those found."""
+        """The minimal blocking sets as `check` accepts them; where the units were spent, the smallest ones of those
+        found."""
         ended, certificate, sets = self.searched({0: "blocking", 2: "partial-blocking"}, view, (), name, ["blocking"])
         if ended.status == 0:
             return Blocking(sets, len(sets), None, certificate)
         found = self.found_in(self.beside.path(certificate.name)) if certificate else []
-        return Blocking([keys for keys in found[:most] if self.is_minimal(view, keys)], len(found), ended.work(), certificate)
+        return Blocking(
+            [keys for keys in found[:most] if self.is_minimal(view, keys)], len(found), ended.work(), certificate
+        )
 
     def blocking_groups(self, view, name, orgs):
-        """The minimal blocking sets of organisations, and of nodes of none, as `check` accepts them; None where the units were spent."""
+        """The minimal blocking sets of organisations, and of nodes of none, as `check` accepts them; None where the
+        units were spent."""
         given = "--orgs=" + (self.orgs if self.orgs is not None else self.beside.organisations(orgs))
-        ended, certificate, sets = self.searched({0: "org-blocking", 2: "partial-org-blocking"}, view, (), name, ["org-blocking", given], given)
+        ended, certificate, sets = self.searched(
+            {0: "org-blocking", 2: "partial-org-blocking"}, view, (), name, ["org-blocking", given], given
+        )
         return (sets, certificate) if ended.status == 0 else None
 
     @staticmethod
@@ -342,14 +388,20 @@ class Program:
 
     def is_minimal(self, view, keys):
         """Whether the keys stop every agreement, and without any one of them they do not."""
-        return self.blocks(view, keys)[0] and not any(self.blocks(view, [it for it in keys if it != key])[0] for key in keys)
+        return self.blocks(view, keys)[0] and not any(
+            self.blocks(view, [it for it in keys if it != key])[0] for key in keys
+        )
 
     def accepted(self, path, kind, view, faulty, *more):
-        """The lines of `check`, which has to accept a certificate as one of this kind, for this view and for exactly these faulty nodes."""
+        """The lines of `check`, which has to accept a certificate as one of this kind, for this view and for exactly
+        these faulty nodes."""
         status, lines = self.run("check", self.config, path, *more)
-        wanted = [" ".join(["from", *([view.node] if view.node is not None else [])]), " ".join(["faulty", *sorted(set(faulty) & view.keys)])]
+        wanted = [
+            " ".join(["from", *([view.node] if view.node is not None else [])]),
+            " ".join(["faulty", *sorted(set(faulty) & view.keys)]),
+        ]
         if status not in (0, 2) or lines[0].split(" ")[:2] != ["accepted", kind] or lines[1:3] != wanted:
-            raise Failed("the certificate %s is not accepted: %s" % (os.path.basename(path), " / ".join(lines[:3])))
+            raise Failed(f"the certificate {os.path.basename(path)} is not accepted: {' / '.join(lines[:3])}")
         return lines
 
     # The program itself.
@@ -359,7 +411,11 @@ class Program:
         chooser = os.path.join(os.path.dirname(os.path.realpath(self.path)), "tools", "program")
         if not os.path.exists(chooser):
             return self.path
-        return subprocess.run([chooser], stdin=subprocess.DEVNULL, stdout=subprocess.PIPE, check=True).stdout.decode().rstrip("\n")
+        return (
+            subprocess.run([chooser], stdin=subprocess.DEVNULL, stdout=subprocess.PIPE, check=True)
+            .stdout.decode()
+            .rstrip("\n")
+        )
 
     def is_proved(self):
         """Whether the program is not the one that is compiled without proofs."""

@@ -11,7 +11,8 @@ MOST_ASKED = 600
 
 
 class Forks:
-    """Whether the validators of the file can fork: `no`, `yes` or `networks` with two disjoint quorums, `undecided` or `none` (there is no quorum); which watchers could be split off; the verdicts that say so."""
+    """Whether the validators of the file can fork: `no`, `yes` or `networks` with two disjoint quorums, `undecided` or
+    `none` (there is no quorum); which watchers could be split off; the verdicts that say so."""
 
     def __init__(self, word, verdicts, split=()):
         self.word = word
@@ -23,7 +24,8 @@ class Forks:
 
 
 class Turn:
-    """One organisation in turn: lying (its keys faulty), and silent (its keys failed). What its lies do: `no`, `yes`, `elsewhere` (among validators outside the view), `undecided`, or None, not asked."""
+    """One organisation in turn: lying (its keys faulty), and silent (its keys failed). What its lies do: `no`, `yes`,
+    `elsewhere` (among validators outside the view), `undecided`, or None, not asked."""
 
     def __init__(self, org, word, verdicts, split, stops, goes_on, unmet):
         self.org = org
@@ -36,7 +38,8 @@ class Turn:
 
 
 class Together:
-    """The minimal sets of organisations that do a thing, where the key of a node of none stands for itself. All of them, or those of at most so many organisations. A certificate is that of these sets."""
+    """The minimal sets of organisations that do a thing, where the key of a node of none stands for itself. All of
+    them, or those of at most so many organisations. A certificate is that of these sets."""
 
     def __init__(self, sets, most, certificate=None):
         self.sets = sorted(sets, key=len)
@@ -45,7 +48,8 @@ class Together:
 
 
 class Leaving:
-    """One organisation whose keys retire one after another: the greatest quorum before, and after each; and who can stop the network then (None: nothing is known)."""
+    """One organisation whose keys retire one after another: the greatest quorum before, and after each; and who can
+    stop the network then (None: nothing is known)."""
 
     def __init__(self, org, quorums, then):
         self.org = org
@@ -96,10 +100,16 @@ class Part:
     def marked(self):
         """A set that stops the network, for the picture."""
         if self.blocking and self.blocking.sets:
-            return min(self.blocking.sets, key=len), "in one smallest set that stops the network" if self.blocking.is_whole() else "in one set that stops the network"
+            return min(self.blocking.sets, key=len), (
+                "in one smallest set that stops the network"
+                if self.blocking.is_whole()
+                else "in one set that stops the network"
+            )
         for turn in self.turns:
             if turn.stops and self.greatest:
-                return [key for key in turn.org.keys if key in set(self.greatest)], "of one organisation that stops the network"
+                return [
+                    key for key in turn.org.keys if key in set(self.greatest)
+                ], "of one organisation that stops the network"
         return [], ""
 
 
@@ -116,7 +126,8 @@ class Found:
 
 
 def find(program, network, node, closure, is_now):
-    """What the page says. As things are now, all is asked with the nodes that are down as silent; both margins are asked in any case."""
+    """What the page says. As things are now, all is asked with the nodes that are down as silent; both margins are
+    asked in any case."""
     found = Found()
     now = program.on("now", network.now_text()) if network.down() else None
     found.is_now = is_now and now is not None
@@ -137,8 +148,13 @@ def find(program, network, node, closure, is_now):
 
 
 def views_of(program, network, found, node, closure, whole):
-    """What the questions are about: what the own node depends on, and if none is given, or the file is of several networks, what the node of each of these depends on that most others name."""
-    nodes = [network.most_named(keys) for keys in found.networks] if len(found.networks) > 1 else [network.most_named(found.greatest)] if found.greatest and node is None else []
+    """What the questions are about: what the own node depends on, and if none is given, or the file is of several
+    networks, what the node of each of these depends on that most others name."""
+    nodes = (
+        [network.most_named(keys) for keys in found.networks]
+        if len(found.networks) > 1
+        else [network.most_named(found.greatest)] if found.greatest and node is None else []
+    )
     views = [view_of(network, whole, node, closure)] if node is not None else []
     for at in nodes:
         if not any(at in view.keys for view in views):
@@ -151,7 +167,8 @@ def view_of(network, whole, node, keys):
 
 
 def forks(program, network, found, whole, org=None):
-    """Whether the validators can fork, while one organisation lies. A quorum of watchers alone is none of theirs: then they are asked about as a file of their own."""
+    """Whether the validators can fork, while one organisation lies. A quorum of watchers alone is none of theirs: then
+    they are asked about as a file of their own."""
     name = "intersect" if org is None else "faulty-" + org.mark
     if not found.greatest and org is None:
         return Forks("none", [])
@@ -180,7 +197,7 @@ def fill(program, asked, now, network, found, part, whole):
         part.verdict = asked.intersect(view, "intersect") if view is not whole else found.forks.verdicts[0]
     part.orgs = [org for org in network.orgs if set(org.keys) & view.keys]
     for at, org in enumerate(part.orgs):
-        program.say("organisation %d of %d: %s" % (at + 1, len(part.orgs), org.name))
+        program.say(f"organisation {at + 1} of {len(part.orgs)}: {org.name}")
         part.turns.append(turn_of(asked, network, found, part, org, whole))
     program.say("organisations that stop the network together")
     part.stopping = stopping(program, network, part) if part.greatest or found.is_now else None
@@ -198,7 +215,8 @@ def fill(program, asked, now, network, found, part, whole):
 
 
 def turn_of(program, network, found, part, org, whole):
-    """Lies are not asked about where it forks without them, and those in the whole file only if there is one network."""
+    """Lies are not asked about where it forks without them, and those in the whole file only if there is one
+    network."""
     stops, goes_on = program.blocks(part.view, org.keys, program.noted)
     word, verdicts, split = None, [], ()
     if part.greatest and not part.forks():
@@ -218,7 +236,11 @@ def stopping(program, network, part):
     if listed is None:
         return together(program, part.orgs, lambda keys: program.blocks(part.view, keys)[0])
     by_id = {"org:" + org.id: org for org in network.orgs}
-    return Together([frozenset(by_id.get(text, text.partition(":")[2]) for text in texts) for texts in listed[0] if texts], None, listed[1])
+    return Together(
+        [frozenset(by_id.get(text, text.partition(":")[2]) for text in texts) for texts in listed[0] if texts],
+        None,
+        listed[1],
+    )
 
 
 def least_of(sets):
@@ -227,7 +249,8 @@ def least_of(sets):
 
 
 def leaving(program, network, part, stopping, org):
-    """What the whole file's greatest quorum has of the view is the greatest quorum of that, since nobody in it depends on anybody outside."""
+    """What the whole file's greatest quorum has of the view is the greatest quorum of that, since nobody in it depends
+    on anybody outside."""
     scripted = [key for key in org.keys if network.sets.get(key)]
     quorums = [set(keys) & part.view.keys for keys in program.retired(org.keys, "leaving-" + org.mark, scripted)]
     return Leaving(org, quorums, stopping_without(stopping, org))
@@ -238,11 +261,16 @@ def stopping_without(stopping, org):
     sets = least_of({some - {org} for some in stopping.sets} - {frozenset()})
     if stopping.most is None:
         return Together(sets, None, stopping.certificate)
-    return Together([some for some in sets if len(some) < stopping.most], stopping.most - 1) if stopping.most > 1 else None
+    return (
+        Together([some for some in sets if len(some) < stopping.most], stopping.most - 1)
+        if stopping.most > 1
+        else None
+    )
 
 
 def together(program, orgs, holds):
-    """The minimal sets of organisations for whose keys a question holds, of one, of two and so on, as far as few enough are asked about and there is time."""
+    """The minimal sets of organisations for whose keys a question holds, of one, of two and so on, as far as few
+    enough are asked about and there is time."""
     found, asked = [], 0
     for size in range(1, len(orgs) + 1):
         left = [some for some in itertools.combinations(orgs, size) if not any(set(it) <= set(some) for it in found)]
@@ -257,4 +285,6 @@ def own_node(program, part, node, closure):
     unmet_by = [turn.org for turn in part.turns if node in turn.unmet]
     goes_on_without = [turn.org for turn in part.turns if node in turn.goes_on]
     others = [org for org in part.orgs if node not in org.keys]
-    return OwnNode(node, closure, unmet_by, goes_on_without, together(program, others, lambda keys: program.v_blocks(node, keys)))
+    return OwnNode(
+        node, closure, unmet_by, goes_on_without, together(program, others, lambda keys: program.v_blocks(node, keys))
+    )

@@ -1,4 +1,5 @@
-"""The names of a network: the keys with stellarbeat's names, the organisations with their keys, and the quorum sets."""
+"""The names of a network: the keys with stellarbeat's names, the organisations with their keys, and the quorum
+sets."""
 
 import hashlib
 import json
@@ -18,7 +19,7 @@ class Organisation:
         self.id = its_id
         self.name = name
         self.keys = sorted(keys)
-        self.mark = "%02d-%s" % (at + 1, self.id)
+        self.mark = f"{at + 1:02d}-{self.id}"
 
 
 class QuorumSet:
@@ -46,7 +47,9 @@ class Network:
             text = it.read()
         self.digest = hashlib.sha256(text).hexdigest()
         self.elements = json.loads(text)
-        self.sets = {it["publicKey"]: QuorumSet(it["quorumSet"]) if it.get("quorumSet") else None for it in self.elements}
+        self.sets = {
+            it["publicKey"]: QuorumSet(it["quorumSet"]) if it.get("quorumSet") else None for it in self.elements
+        }
         self.mentions = {key: held.named() if held else set() for key, held in self.sets.items()}
         self.keys = sorted(set(self.sets).union(*self.mentions.values()))
         self.named = self.how_often_named()
@@ -58,7 +61,8 @@ class Network:
         self.org_of = {key: org for org in reversed(self.orgs) for key in org.keys}
 
     def how_often_named(self):
-        """Of each key that stands in another node's quorum set, in how many of them. The other nodes are watchers: nobody waits for them."""
+        """Of each key that stands in another node's quorum set, in how many of them. The other nodes are watchers:
+        nobody waits for them."""
         often = {}
         for own, mentioned in self.mentions.items():
             for key in mentioned - {own}:
@@ -87,10 +91,15 @@ class Network:
 
     def down(self):
         """The nodes that others name and the file marks as down; a watcher need not validate."""
-        return sorted(it["publicKey"] for it in self.elements if it["publicKey"] in self.named and (it.get("isValidating") is False or it.get("active") is False))
+        return sorted(
+            it["publicKey"]
+            for it in self.elements
+            if it["publicKey"] in self.named and (it.get("isValidating") is False or it.get("active") is False)
+        )
 
     def networks(self, greatest):
-        """The parts of a greatest quorum that depend on nobody outside of them, each a quorum: the sinks of who names whom. A watcher that waits for itself alone is none, where others are validators."""
+        """The parts of a greatest quorum that depend on nobody outside of them, each a quorum: the sinks of who names
+        whom. A watcher that waits for itself alone is none, where others are validators."""
         left, found = set(greatest), []
         after = {key: self.mentions.get(key, set()) & left for key in left}
         before = {key: set() for key in left}
@@ -111,9 +120,18 @@ class Network:
         with open(path, "rb") as it:
             elements = json.load(it)
         own, self.listed = set(self.keys), len(set().union(*(it.get("validators") or [] for it in elements)))
-        called = [next((shown(text) for text in (it.get("name"), it.get("homeDomain")) if is_text(text)), shown(it["id"])) for it in elements]
-        names = [name if called.count(name) == 1 else "%s (%s)" % (name, short(shown(it["id"]))) for name, it in zip(called, elements)]
-        return [Organisation(at, it["id"], names[at], set(it.get("validators") or []) & own) for at, it in enumerate(elements)]
+        called = [
+            next((shown(text) for text in (it.get("name"), it.get("homeDomain")) if is_text(text)), shown(it["id"]))
+            for it in elements
+        ]
+        names = [
+            name if called.count(name) == 1 else f"{name} ({short(shown(it['id']))})"
+            for name, it in zip(called, elements)
+        ]
+        return [
+            Organisation(at, it["id"], names[at], set(it.get("validators") or []) & own)
+            for at, it in enumerate(elements)
+        ]
 
     def by_domain(self):
         """The nodes that quorum sets name, by the home domain that each says of itself."""
@@ -121,7 +139,9 @@ class Network:
         for it in self.elements:
             if is_text(it.get("homeDomain")) and it["publicKey"] in self.named:
                 domains.setdefault(shown(it["homeDomain"]), []).append(it["publicKey"])
-        return [Organisation(at, id_of(domain, at), domain, domains[domain]) for at, domain in enumerate(sorted(domains))]
+        return [
+            Organisation(at, id_of(domain, at), domain, domains[domain]) for at, domain in enumerate(sorted(domains))
+        ]
 
     def lost(self):
         """How many validators of the file of organisations are no nodes."""
@@ -132,7 +152,8 @@ class Network:
         return [key for key in self.keys if key not in self.org_of]
 
     def distinct_sets(self):
-        """Each quorum set with the keys that have it, the most frequent one first; None for the keys that have none."""
+        """Each quorum set with the keys that have it, the most frequent one first; None for the keys that have
+        none."""
         having = {}
         for key in self.keys:
             held = self.sets.get(key)
@@ -144,17 +165,26 @@ class Network:
         return self.text_of(validators, self.down() if is_now else ())
 
     def now_text(self):
-        """The configuration in which the nodes that are down have thresholds that nobody meets, so no quorum has them; who depends on whom is the same."""
+        """The configuration in which the nodes that are down have thresholds that nobody meets, so no quorum has them;
+        who depends on whom is the same."""
         return self.text_of(self.sets, self.down())
 
     def text_of(self, keys, down):
         nodes = [(it["publicKey"], it.get("quorumSet") or None) for it in self.elements if it["publicKey"] in keys]
-        return json.dumps([{"publicKey": key, "quorumSet": never(tree) if key in down else tree} for key, tree in nodes], separators=(",", ":"), ensure_ascii=False)
+        return json.dumps(
+            [{"publicKey": key, "quorumSet": never(tree) if key in down else tree} for key, tree in nodes],
+            separators=(",", ":"),
+            ensure_ascii=False,
+        )
 
 
 def never(tree):
     """A quorum set with the same entries and one more wanted."""
-    return {**tree, "threshold": 1 + len(tree.get("validators") or []) + len(tree.get("innerQuorumSets") or [])} if tree else None
+    return (
+        {**tree, "threshold": 1 + len(tree.get("validators") or []) + len(tree.get("innerQuorumSets") or [])}
+        if tree
+        else None
+    )
 
 
 def reached(start, after):
@@ -173,22 +203,28 @@ def is_text(it):
 
 def shown(name):
     """A name as it is shown: short, and with an escape for each sign that turns or hides what stands beside it."""
-    return "".join(escape(sign) if unicodedata.category(sign) in UNSEEN else sign for sign in name[:MOST_LETTERS]).strip()
+    return "".join(
+        escape(sign) if unicodedata.category(sign) in UNSEEN else sign for sign in name[:MOST_LETTERS]
+    ).strip()
 
 
 def escape(sign):
-    return "\\u%04x" % ord(sign) if ord(sign) < 0x10000 else "\\u{%x}" % ord(sign)
+    return f"\\u{ord(sign):04x}" if ord(sign) < 0x10000 else f"\\u{{{ord(sign):x}}}"
 
 
 def natural(name):
     """By which names are sorted: numbers in them count as numbers."""
-    return [(0, int(part), "") if part.isdigit() and part.isascii() else (1, 0, part) for part in re.split("([0-9]+)", name.lower()) if part]
+    return [
+        (0, int(part), "") if part.isdigit() and part.isascii() else (1, 0, part)
+        for part in re.split("([0-9]+)", name.lower())
+        if part
+    ]
 
 
 def id_of(domain, at):
     """A home domain as the id of an organisation, for which it may have signs that a name lacks, or be too long."""
     text = urllib.parse.quote(domain, safe="")
-    return text if len(text) <= 128 else "domain-%d" % (at + 1)
+    return text if len(text) <= 128 else f"domain-{at + 1}"
 
 
 def short(key):
@@ -202,4 +238,11 @@ def names_of(elements, keys):
     often = {}
     for name in given.values():
         often[name] = often.get(name, 0) + 1
-    return {key: short(key) if key not in given else given[key] if often[given[key]] == 1 else "%s (%s)" % (given[key], short(key)) for key in keys}
+    return {
+        key: (
+            short(key)
+            if key not in given
+            else given[key] if often[given[key]] == 1 else f"{given[key]} ({short(key)})"
+        )
+        for key in keys
+    }

@@ -24,14 +24,17 @@ def escaped(text):
 
 
 def fold(head, body):
-    return "<details><summary>%s</summary>%s</details>" % (head, body)
+    return f"<details><summary>{head}</summary>{body}</details>"
 
 
 def table(heads, rows, kind=""):
     """A table whose first cell of each row is its heading; of facts, where no column has one."""
-    head = "<thead><tr>%s</tr></thead>" % "".join('<th scope="col">%s</th>' % it for it in heads) if heads else ""
-    lines = "\n".join('<tr%s><th scope="row">%s</th>%s</tr>' % (mark, first, "".join("<td>%s</td>" % it for it in rest)) for mark, first, *rest in rows)
-    return '<table class="%s">%s<tbody>%s</tbody></table>' % (kind, head, lines)
+    head = "<thead><tr>%s</tr></thead>" % "".join(f'<th scope="col">{it}</th>' for it in heads) if heads else ""
+    lines = "\n".join(
+        f'<tr{mark}><th scope="row">{first}</th>{"".join(f"<td>{it}</td>" for it in rest)}</tr>'
+        for mark, first, *rest in rows
+    )
+    return f'<table class="{kind}">{head}<tbody>{lines}</tbody></table>'
 
 
 class Names:
@@ -43,7 +46,7 @@ class Names:
 
     def node(self, key):
         """A node by its name, which leads to its key."""
-        return '<a class="node" href="#n%d">%s</a>' % (self.network.place[key], escaped(self.network.names[key]))
+        return f'<a class="node" href="#n{self.network.place[key]}">{escaped(self.network.names[key])}</a>'
 
     def text(self, text):
         """An organisation or node, as `org:` with an id or `node:` with a key."""
@@ -67,23 +70,31 @@ class Names:
         for org in self.network.orgs:
             own = keys & {key for key in org.keys if self.network.org_of[key] is org}
             if own:
-                parts.append("all of %s" % escaped(org.name) if len(own) == len(org.keys) else "%d of %s" % (len(own), escaped(org.name)))
+                parts.append(
+                    f"all of {escaped(org.name)}"
+                    if len(own) == len(org.keys)
+                    else f"{len(own)} of {escaped(org.name)}"
+                )
         outside = len(keys - set(self.network.org_of))
         if outside and parts:
-            parts.append("%d of no organisation" % outside)
-        return counted(len(keys), "node") + (" (%s)" % ", ".join(parts) if parts else "")
+            parts.append(f"{outside} of no organisation")
+        return counted(len(keys), "node") + (f" ({', '.join(parts)})" if parts else "")
 
     def quorum_set(self, held):
         """A quorum set in words: so many of these, with an organisation's name for its keys."""
         parts = [self.inner(it) for it in held.inner] + [self.node(key) for key in held.validators]
-        return "<b>%d of %d</b>: %s" % (held.threshold, len(parts), ", ".join(sorted(parts, key=lambda part: re.sub(r"<[^>]*>", "", part).lower())))
+        return "<b>%d of %d</b>: %s" % (
+            held.threshold,
+            len(parts),
+            ", ".join(sorted(parts, key=lambda part: re.sub(r"<[^>]*>", "", part).lower())),
+        )
 
     def inner(self, held):
         orgs = {self.network.org_of.get(key) for key in held.validators}
         org = orgs.pop() if len(orgs) == 1 else None
         if org and not held.inner and held.validators == org.keys:
-            return "%s (%d of %d)" % (escaped(org.name), held.threshold, len(held.validators))
-        return "(%s)" % self.quorum_set(held)
+            return f"{escaped(org.name)} ({held.threshold} of {len(held.validators)})"
+        return f"({self.quorum_set(held)})"
 
 
 class Page:
@@ -107,20 +118,26 @@ class Page:
         """A certificate as a link."""
         if certificate is None:
             return ""
-        return '<a class="small" href="%s">certificate</a>' % escaped(urllib.parse.quote("%s/%s" % (self.program.beside.name, certificate.name)))
+        return '<a class="small" href="%s">certificate</a>' % escaped(
+            urllib.parse.quote(f"{self.program.beside.name}/{certificate.name}")
+        )
 
     def heading(self, at):
         """Of several parts, which one this is."""
         if len(self.found.parts) == 1:
             return ""
-        return "<h3>%s</h3>" % (self.whose(at, self.found.parts[at]))
+        return f"<h3>{self.whose(at, self.found.parts[at])}</h3>"
 
     def whose(self, at, part):
         """What a part is about."""
         if part.own is not None:
             return "As your node sees it"
         number = at + (1 if self.own is None else 0)
-        return "Network %d of %d: %s" % (number, len(self.found.parts) - (self.own is not None), self.names.nodes(part.greatest)) if len(self.found.networks) > 1 else "The network"
+        return (
+            f"Network {number} of {len(self.found.parts) - (self.own is not None)}: {self.names.nodes(part.greatest)}"
+            if len(self.found.networks) > 1
+            else "The network"
+        )
 
     def by_part(self, section):
         """A section of each part that has one, under its heading."""
@@ -130,8 +147,12 @@ class Page:
     def seen(self, verdict):
         """Whom a verdict speaks of."""
         if verdict.view.node is not None:
-            return "As %s sees it" % self.names.node(verdict.view.node)
-        return "In the whole file" if len(verdict.view.keys) == len(self.network.keys) else "Among the nodes that others name"
+            return f"As {self.names.node(verdict.view.node)} sees it"
+        return (
+            "In the whole file"
+            if len(verdict.view.keys) == len(self.network.keys)
+            else "Among the nodes that others name"
+        )
 
     def about(self):
         """What the page is about."""
@@ -145,177 +166,297 @@ class Page:
     def about_view(self, part):
         view = part.view
         if view.node is None:
-            return "Each answer is about all %s of the file." % counted(len(self.network.keys), "node")
-        often = ", which %s name," % counted(self.network.named[view.node], "other") if part.own is None and view.node in self.network.named else ""
-        return "Who can stop it is asked as %s%s sees it: with all on whom it depends, also through others, %d of %s." % (self.names.node(view.node), often, len(view.keys), counted(len(self.network.keys), "node"))
+            return f"Each answer is about all {counted(len(self.network.keys), 'node')} of the file."
+        often = (
+            f", which {counted(self.network.named[view.node], 'other')} name,"
+            if part.own is None and view.node in self.network.named
+            else ""
+        )
+        return (
+            f"Who can stop it is asked as {self.names.node(view.node)}{often} sees it: with all on whom it depends,"
+            f" also through others, {len(view.keys)} of {counted(len(self.network.keys), 'node')}."
+        )
 
     # The summary.
 
     def summary(self):
-        unproved = "" if self.program.is_proved() else '<p class="bad">Nothing on this page is proved: it was made with a program compiled without its proofs. Check its certificates with the proved one.</p>'
+        unproved = (
+            ""
+            if self.program.is_proved()
+            else (
+                '<p class="bad">Nothing on this page is proved: it was made with a program compiled without its'
+                " proofs. Check its certificates with the proved one.</p>"
+            )
+        )
         first = self.data["lines"] + (self.data["parts"][0]["lines"] if len(self.data["parts"]) == 1 else [])
         text = unproved + self.lines(first)
         if len(self.data["parts"]) > 1:
             text += "".join(self.heading(at) + self.lines(part["lines"]) for at, part in enumerate(self.data["parts"]))
-        return "%s%s<p>%s</p>" % (text, self.unanswered(), self.about())
+        return f"{text}{self.unanswered()}<p>{self.about()}</p>"
 
     def lines(self, sentences):
         """Lines of the summary: a label, and what is said one sentence after another."""
-        rows = [self.saying.line([it for it in sentences if it["line"] == line]) for line in dict.fromkeys(it["line"] for it in sentences)]
+        rows = [
+            self.saying.line([it for it in sentences if it["line"] == line])
+            for line in dict.fromkeys(it["line"] for it in sentences)
+        ]
         return '<dl class="summary">%s</dl>' % "".join("<dt>%s</dt><dd>%s</dd>" % row for row in rows)
 
     def unanswered(self):
         """What was not answered, and with how much work."""
         rows = ["<li>%s (<code>%s</code>): %s</li>" % tuple(map(escaped, it)) for it in self.program.unanswered]
-        head = "%s not answered. Run it again with more time: it takes the certificates that are there, and goes on." % counted(len(rows), "question")
-        return '<div class="verdict open"><p><b>%s</b></p><ul>%s</ul></div>' % (head, "".join(rows)) if rows else ""
+        head = (
+            f"{counted(len(rows), 'question')} not answered. Run it again with more time: it takes the certificates"
+            " that are there, and goes on."
+        )
+        return f'<div class="verdict open"><p><b>{head}</b></p><ul>{"".join(rows)}</ul></div>' if rows else ""
 
     # The sections.
 
     def fork(self):
         forks = self.found.forks
-        asked = [verdict for part in self.found.parts if part.verdict and part.verdict not in forks.verdicts for verdict in [part.verdict]]
+        asked = [
+            verdict
+            for part in self.found.parts
+            if part.verdict and part.verdict not in forks.verdicts
+            for verdict in [part.verdict]
+        ]
         return "".join(self.verdict(verdict) for verdict in forks.verdicts + asked)
 
     def verdict(self, verdict):
         where, kind = self.seen(verdict), "open"
         if verdict.word == "yes":
-            head, kind = "every two quorums share a node.</b> While no node lies, no two groups agree on different ledgers.", "yes" if self.found.forks.word == "no" else "open"
+            head, kind = (
+                "every two quorums share a node.</b> While no node lies, no two groups agree on different ledgers.",
+                "yes" if self.found.forks.word == "no" else "open",
+            )
         elif verdict.word == "no":
-            head = "two quorums share no node.</b> Each can agree on a ledger of its own, though no node lies.<br>One: %s<br>The other: %s" % (self.names.nodes(verdict.first), self.names.nodes(verdict.second))
+            head = (
+                "two quorums share no node.</b> Each can agree on a ledger of its own, though no node lies.<br>One:"
+                f" {self.names.nodes(verdict.first)}<br>The other: {self.names.nodes(verdict.second)}"
+            )
             kind = "open" if self.found.forks.word == "no" else "no"
         else:
-            head = "not decided:</b> %s." % escaped(verdict.work)
-        return '<div class="verdict %s"><b>%s %s %s</div>' % (kind, where, head, self.link(verdict.certificate))
+            head = f"not decided:</b> {escaped(verdict.work)}."
+        return f'<div class="verdict {kind}"><b>{where} {head} {self.link(verdict.certificate)}</div>'
 
     def pair(self):
         """The two quorums that share no node, of the validators or of a view."""
         verdicts = [*self.found.forks.verdicts[-1:], *(part.verdict for part in self.found.parts if part.verdict)]
-        return next((verdict for verdict in verdicts if verdict.word == "no" and (verdict.view.node is not None or self.found.forks.word in ("yes", "networks"))), None)
+        return next(
+            (
+                verdict
+                for verdict in verdicts
+                if verdict.word == "no"
+                and (verdict.view.node is not None or self.found.forks.word in ("yes", "networks"))
+            ),
+            None,
+        )
 
     def paint(self, marked=([], "")):
         within = set().union(*(part.view.keys for part in self.found.parts))
-        return picture.Paint(set(self.found.greatest) | self.greatest, self.pair(), *marked, within, set(self.network.down()), self.network.unknown())
+        return picture.Paint(
+            set(self.found.greatest) | self.greatest,
+            self.pair(),
+            *marked,
+            within,
+            set(self.network.down()),
+            self.network.unknown(),
+        )
 
     def drawing(self):
         """Of a network that forks the two quorums, else a set that stops it too."""
-        return picture.draw(self.network, self.paint(([], "") if self.pair() or len(self.found.parts) > 1 else self.found.parts[0].marked()))
+        return picture.draw(
+            self.network,
+            self.paint(([], "") if self.pair() or len(self.found.parts) > 1 else self.found.parts[0].marked()),
+        )
 
     def in_turn(self, part):
         if not part.turns:
             return ""
         asked = any(turn.word for turn in part.turns)
-        text = "<p>%sSilent: all its keys are down.</p>" % ("Lying: its keys say to each node what that waits for. " if asked else "")
+        text = "<p>%sSilent: all its keys are down.</p>" % (
+            "Lying: its keys say to each node what that waits for. " if asked else ""
+        )
         if part.forks():
             text += "<p>It forks with no node lying, so nothing more is asked about lies.</p>"
         heads = ["Organisation", *(["If it lies, can the network fork?"] if asked else []), "If it is silent"]
-        return text + self.from_domain() + table(heads, [self.turn(part, turn, asked) for turn in part.turns], "thirds") + self.left_out(part)
+        return (
+            text
+            + self.from_domain()
+            + table(heads, [self.turn(part, turn, asked) for turn in part.turns], "thirds")
+            + self.left_out(part)
+        )
 
     def from_domain(self):
         if self.network.has_orgs_file:
             return ""
-        return '<p class="small">The organisations are read from the home domain that each node says of itself, of the nodes that quorum sets name.</p>'
+        return (
+            '<p class="small">The organisations are read from the home domain that each node says of itself, of the'
+            " nodes that quorum sets name.</p>"
+        )
 
     def left_out(self, part):
         names = [escaped(org.name) for org in self.network.orgs if org.keys and org not in part.orgs]
-        return '<p>Nobody here depends on a key of %s.</p>' % ", ".join(names) if names else ""
+        return f'<p>Nobody here depends on a key of {", ".join(names)}.</p>' if names else ""
 
     def turn(self, part, turn, asked):
         inside = len(set(turn.org.keys) & set(part.greatest))
         down = len(set(turn.org.keys) & set(self.network.down()))
-        name = '<b>%s</b><br><span class="small">%s, %d in the greatest quorum%s</span>' % (escaped(turn.org.name), counted(len(turn.org.keys), "key"), inside, ", %d down" % down if down else "")
+        name = (
+            f'<b>{escaped(turn.org.name)}</b><br><span class="small">{counted(len(turn.org.keys), "key")}, {inside} in'
+            f' the greatest quorum{f", {down} down" if down else ""}</span>'
+        )
         return ["", name, *([self.lying(turn)] if asked else []), self.silent(part, turn)]
 
     def lying(self, turn):
-        return "<br>".join(self.lie(turn, verdict) for verdict in turn.verdicts) + ("<br>" + self.saying.line([{"line": "fork", "say": "split", "of": len(self.network.watchers()), "count": len(turn.split), "keys": turn.split}])[1] if turn.split else "")
+        return "<br>".join(self.lie(turn, verdict) for verdict in turn.verdicts) + (
+            "<br>"
+            + self.saying.line(
+                [
+                    {
+                        "line": "fork",
+                        "say": "split",
+                        "of": len(self.network.watchers()),
+                        "count": len(turn.split),
+                        "keys": turn.split,
+                    }
+                ]
+            )[1]
+            if turn.split
+            else ""
+        )
 
     def lie(self, turn, verdict):
         where = self.seen(verdict)[0].lower() + self.seen(verdict)[1:]
         if verdict.word == "yes":
-            text = '<span class="good">No</span>, %s' % where if turn.word == self.found.forks.word == "no" else "No, %s" % where
+            text = (
+                f'<span class="good">No</span>, {where}'
+                if turn.word == self.found.forks.word == "no"
+                else f"No, {where}"
+            )
         elif verdict.word == "no" and turn.word == "no":
-            text = '<span class="warn">Watchers alone</span>, %s' % where
+            text = f'<span class="warn">Watchers alone</span>, {where}'
         elif verdict.word == "no":
-            text = '<span class="bad">Yes</span>, %s: %s against %s' % (where, self.names.nodes(verdict.first), self.names.nodes(verdict.second))
+            text = (
+                f'<span class="bad">Yes</span>, {where}: {self.names.nodes(verdict.first)} against'
+                f" {self.names.nodes(verdict.second)}"
+            )
         else:
-            text = "Not decided, %s: %s" % (where, escaped(verdict.work))
-        return "%s %s" % (text, self.link(verdict.certificate))
+            text = f"Not decided, {where}: {escaped(verdict.work)}"
+        return f"{text} {self.link(verdict.certificate)}"
 
     def silent(self, part, turn):
         if turn.stops:
             return '<span class="bad">Nothing goes on</span>: it stops the network'
         text = self.going_on(part, set(turn.goes_on), turn.org)
         lost = [key for key in turn.unmet if key in set(part.greatest)]
-        return text + ("; %s %s every slice" % (self.names.nodes(lost), "loses" if len(lost) == 1 else "lose") if lost else "")
+        return text + (
+            f"; {self.names.nodes(lost)} {'loses' if len(lost) == 1 else 'lose'} every slice" if lost else ""
+        )
 
     def going_on(self, part, left, org):
         """How many of the greatest quorum are left without an organisation."""
         others = set(part.greatest) - set(org.keys)
-        return "%d of the other %s go on" % (len(left & others), counted(len(others), "node"))
+        return f"{len(left & others)} of the other {counted(len(others), 'node')} go on"
 
     def who_stops(self, part):
         if part.stopping is None:
             return "<p>There is no quorum, so there is nothing to stop.</p>"
-        text = "<p>These together stop every agreement if they fall silent, as the file has it.</p>" + self.stopping(part.stopping)
+        text = "<p>These together stop every agreement if they fall silent, as the file has it.</p>" + self.stopping(
+            part.stopping
+        )
         if part.stopping_now is not None:
-            text += "<p>As things are now, beyond the %s:</p>%s" % (counted(len(part.down), "node") + " that are down" if len(part.down) > 1 else "node that is down", self.stopping(part.stopping_now))
+            text += "<p>As things are now, beyond the %s:</p>%s" % (
+                counted(len(part.down), "node") + " that are down" if len(part.down) > 1 else "node that is down",
+                self.stopping(part.stopping_now),
+            )
         elif part.stopped:
             text += '<p class="bad">As things are now no quorum is left.</p>'
         return text + self.blocking(part)
 
     def stopping(self, together):
-        return self.sets(together, "stops it") + '<p class="small">%s</p>' % self.how_known(together)
+        return self.sets(together, "stops it") + f'<p class="small">{self.how_known(together)}</p>'
 
     def how_known(self, sets):
         if sets.certificate is None:
             return "Asked by <code>blocks</code> of the keys of all of them."
-        return "The list is whole: its certificate shows that there is no other set in which none can be left out. %s" % self.link(sets.certificate)
+        return (
+            "The list is whole: its certificate shows that there is no other set in which none can be left out."
+            f" {self.link(sets.certificate)}"
+        )
 
     def sets(self, sets, does):
         """Minimal sets of organisations, the smallest first; those that are just any so many of some in one line."""
-        upto = " More than %d were not asked about together." % sets.most if sets.most is not None else ""
+        upto = f" More than {sets.most} were not asked about together." if sets.most is not None else ""
         if not sets.sets:
-            return "<p>None %s.%s</p>" % (does, upto)
+            return f"<p>None {does}.{upto}</p>"
         rows = []
         for some in by_size(texts(sets.sets)):
             said = self.saying.as_sets(some).partition(": ")[2] if len(some) > 1 else self.saying.as_sets(some)
             whole = said.startswith(("any ", "each of ")) or len(some) == 1
-            rows += [said[0].upper() + said[1:]] if whole else [self.saying.group(it) + (" alone" if len(it) == 1 else "") for it in some]
+            rows += (
+                [said[0].upper() + said[1:]]
+                if whole
+                else [self.saying.group(it) + (" alone" if len(it) == 1 else "") for it in some]
+            )
         if len(rows) == 1:
-            return "<p>%s.%s</p>" % (rows[0], upto)
-        listed = "".join("<li>%s</li>" % row for row in rows[:MOST_LISTED])
-        more = "<p>And %d others.</p>" % (len(rows) - MOST_LISTED) if len(rows) > MOST_LISTED else ""
-        return "<ol>%s</ol>%s<p>In each of these none can be left out.%s</p>" % (listed, more, upto)
+            return f"<p>{rows[0]}.{upto}</p>"
+        listed = "".join(f"<li>{row}</li>" for row in rows[:MOST_LISTED])
+        more = f"<p>And {len(rows) - MOST_LISTED} others.</p>" if len(rows) > MOST_LISTED else ""
+        return f"<ol>{listed}</ol>{more}<p>In each of these none can be left out.{upto}</p>"
 
     def blocking(self, part):
         blocking = part.blocking
         if blocking is None:
             return ""
         rows = sorted(blocking.sets, key=len)[:MOST_LISTED]
-        listed = "<ol>%s</ol>" % "".join("<li>%s</li>" % (self.names.each(keys) or "nobody: there is no quorum") for keys in rows)
+        listed = "<ol>%s</ol>" % "".join(
+            "<li>%s</li>" % (self.names.each(keys) or "nobody: there is no quorum") for keys in rows
+        )
         if not blocking.is_whole():
-            head = "The sets of nodes were not all found: %s" % escaped(blocking.work)
-            how = "<p>%d of the %d found, the smallest; <code>blocks</code> says yes of each, and no once any one node is left out.</p>" % (len(rows), blocking.found)
-            return "<p>%s. %s</p>%s" % (head, self.link(blocking.certificate), fold("Some sets of nodes", how + listed) if rows else "")
-        head = "<p>By single nodes there are %s, of which none can do without one of its nodes; the smallest has %s. %s</p>" % (
-            counted(len(blocking.sets), "set"), counted(min(map(len, blocking.sets)), "node"), self.link(blocking.certificate))
-        return head + fold("The sets of nodes%s" % (", the %d smallest" % MOST_LISTED if len(blocking.sets) > MOST_LISTED else ""), listed)
+            head = f"The sets of nodes were not all found: {escaped(blocking.work)}"
+            how = (
+                f"<p>{len(rows)} of the {blocking.found} found, the smallest; <code>blocks</code> says yes of each,"
+                " and no once any one node is left out.</p>"
+            )
+            return "<p>%s. %s</p>%s" % (
+                head,
+                self.link(blocking.certificate),
+                fold("Some sets of nodes", how + listed) if rows else "",
+            )
+        head = (
+            f"<p>By single nodes there are {counted(len(blocking.sets), 'set')}, of which none can do without one of"
+            f" its nodes; the smallest has {counted(min(map(len, blocking.sets)), 'node')}."
+            f" {self.link(blocking.certificate)}</p>"
+        )
+        return head + fold(
+            "The sets of nodes%s" % (f", the {MOST_LISTED} smallest" if len(blocking.sets) > MOST_LISTED else ""),
+            listed,
+        )
 
     def leaving(self, part):
         if not part.leaving:
             return ""
-        text = "<p>Its keys retire one after another, for good, and the others keep their quorum sets (<code>whatif</code>). Who stops it then follows from the sets above.</p>"
-        return text + table(["Organisation that leaves", "Does the network go on?", "Who can stop it then?"], [self.leave(part, it) for it in part.leaving], "thirds")
+        text = (
+            "<p>Its keys retire one after another, for good, and the others keep their quorum sets"
+            " (<code>whatif</code>). Who stops it then follows from the sets above.</p>"
+        )
+        return text + table(
+            ["Organisation that leaves", "Does the network go on?", "Who can stop it then?"],
+            [self.leave(part, it) for it in part.leaving],
+            "thirds",
+        )
 
     def leave(self, part, leaving):
         others, left = set(part.greatest) - set(leaving.org.keys), leaving.left()
         if not left:
             after, last = leaving.stopped_after(), len(leaving.quorums) - 1
-            when = "once it has left" if after == last else "once %d of its %d keys have" % (after, last)
-            return ["", escaped(leaving.org.name), '<span class="bad">No</span>, it stops %s' % when, "it has stopped"]
+            when = "once it has left" if after == last else f"once {after} of its {last} keys have"
+            return ["", escaped(leaving.org.name), f'<span class="bad">No</span>, it stops {when}', "it has stopped"]
         text = self.going_on(part, left, leaving.org)
         if others - left:
-            text += "; %s can agree with nobody" % self.names.nodes(others - left)
+            text += f"; {self.names.nodes(others - left)} can agree with nobody"
         if part.own is not None and part.own.key in others - left:
             text += '; <span class="bad">your node stops</span>'
         return ["", escaped(leaving.org.name), text, self.stopped_then(leaving.then)]
@@ -323,24 +464,46 @@ class Page:
     def stopped_then(self, then):
         if then is None:
             return "not asked"
-        upto = "; more than %d together were not asked about" % then.most if then.most is not None else ""
+        upto = f"; more than {then.most} together were not asked about" if then.most is not None else ""
         if not then.sets:
             return "nobody" + upto
         text = self.saying.as_sets(texts(then.sets)) + upto
-        return '<span class="warn">%s</span>' % text if len(then.sets[0]) == 1 else text
+        return f'<span class="warn">{text}</span>' if len(then.sets[0]) == 1 else text
 
     def own_node(self, part):
         own = part.own
         if own is None:
             return ""
         held = self.network.sets.get(own.key)
-        inside = "It is in the greatest quorum." if own.key in part.greatest else '<span class="bad">As the file has it, it is in no quorum.</span>' if held else '<span class="warn">Its quorum set is not known.</span>'
-        text = '<p>%s <span class="key">%s</span></p><p>%s All on whom it depends: %s.</p>' % (escaped(self.network.names[own.key]), escaped(own.key), inside, self.names.nodes(own.closure))
-        text += "<p>Its quorum set is %s.</p>" % self.names.quorum_set(held) if held else ""
+        inside = (
+            "It is in the greatest quorum."
+            if own.key in part.greatest
+            else (
+                '<span class="bad">As the file has it, it is in no quorum.</span>'
+                if held
+                else '<span class="warn">Its quorum set is not known.</span>'
+            )
+        )
+        text = (
+            f'<p>{escaped(self.network.names[own.key])} <span class="key">{escaped(own.key)}</span></p><p>{inside} All'
+            f" on whom it depends: {self.names.nodes(own.closure)}.</p>"
+        )
+        text += f"<p>Its quorum set is {self.names.quorum_set(held)}.</p>" if held else ""
         if not part.turns or not held:
             return text
-        v_blocking = "<p>Which other organisations can stop this node, whatever the rest does (v-blocking: together they meet every slice of it):</p>" + self.sets(own.v_blocking, "can")
-        return text + table(["Organisation that is silent", "Does the node go on?", "Has it a slice left?"], [self.own_turn(own, turn.org) for turn in part.turns]) + v_blocking
+        v_blocking = (
+            "<p>Which other organisations can stop this node, whatever the rest does (v-blocking: together they meet"
+            " every slice of it):</p>"
+            + self.sets(own.v_blocking, "can")
+        )
+        return (
+            text
+            + table(
+                ["Organisation that is silent", "Does the node go on?", "Has it a slice left?"],
+                [self.own_turn(own, turn.org) for turn in part.turns],
+            )
+            + v_blocking
+        )
 
     def own_turn(self, own, org):
         if own.key in org.keys:
@@ -349,69 +512,167 @@ class Page:
         return ["", escaped(org.name), goes, '<span class="bad">no</span>' if org in own.unmet_by else "yes"]
 
     def quorum_sets(self):
-        """The quorum sets of nodes that others name, each with those who have it; and those that only watchers have."""
-        waited = [(held, keys) for held, keys in self.network.distinct_sets() if held and set(keys) & set(self.network.named)]
-        apart = [(held, keys) for held, keys in self.network.distinct_sets() if held and not set(keys) & set(self.network.named)]
+        """The quorum sets of nodes that others name, each with those who have it; and those that only watchers
+        have."""
+        waited = [
+            (held, keys) for held, keys in self.network.distinct_sets() if held and set(keys) & set(self.network.named)
+        ]
+        apart = [
+            (held, keys)
+            for held, keys in self.network.distinct_sets()
+            if held and not set(keys) & set(self.network.named)
+        ]
         none = [keys for held, keys in self.network.distinct_sets() if held is None]
-        text = "<p>%s for the nodes that others name%s.</p>" % (counted(len(waited), "quorum set"), "; nodes that are one organisation's or one kind's should share theirs" if len(waited) > 1 else "")
-        text += table(["Who has it", "Quorum set"], [["", self.having(keys), self.names.quorum_set(held)] for held, keys in waited])
+        text = "<p>%s for the nodes that others name%s.</p>" % (
+            counted(len(waited), "quorum set"),
+            "; nodes that are one organisation's or one kind's should share theirs" if len(waited) > 1 else "",
+        )
+        text += table(
+            ["Who has it", "Quorum set"],
+            [["", self.having(keys), self.names.quorum_set(held)] for held, keys in waited],
+        )
         if none:
-            text += "<p>Their quorum sets are not known, or they have none: %s.</p>" % self.having(none[0])
+            text += f"<p>Their quorum sets are not known, or they have none: {self.having(none[0])}.</p>"
         if apart:
             rows = [["", self.having(keys), self.names.quorum_set(held)] for held, keys in apart[:MOST_SETS]]
-            text += fold("%s that only watchers have, whom no other node names" % counted(len(apart), "quorum set"), table(["Who has it", "Quorum set"], rows))
+            text += fold(
+                f"{counted(len(apart), 'quorum set')} that only watchers have, whom no other node names",
+                table(["Who has it", "Quorum set"], rows),
+            )
         return text
 
     def having(self, keys):
-        named, others = [key for key in keys if key in self.network.named], [key for key in keys if key not in self.network.named]
-        all_named = "all %d nodes that others name" % len(named) if len(named) == len(self.network.named) > MOST_NAMED else self.names.nodes(named)
-        parts = ([all_named] if named else []) + ([self.names.each(others) if len(others) <= 3 else counted(len(others), "watcher")] if others else [])
+        named, others = [key for key in keys if key in self.network.named], [
+            key for key in keys if key not in self.network.named
+        ]
+        all_named = (
+            f"all {len(named)} nodes that others name"
+            if len(named) == len(self.network.named) > MOST_NAMED
+            else self.names.nodes(named)
+        )
+        parts = ([all_named] if named else []) + (
+            [self.names.each(others) if len(others) <= 3 else counted(len(others), "watcher")] if others else []
+        )
         return " and ".join(parts)
 
     def what_it_is(self):
         numbers = dict(line.split(" ") for line in self.shown[:3])
         watchers, down = len(self.network.watchers()), self.network.down()
         rows = [
-            ["", "Nodes", "%s, of which %s without a known quorum set; %s, which no other node's quorum set names" % (numbers["nodes"], numbers["unset"], "1 is a watcher" if watchers == 1 else "%d are watchers" % watchers)],
+            [
+                "",
+                "Nodes",
+                "%s, of which %s without a known quorum set; %s, which no other node's quorum set names"
+                % (
+                    numbers["nodes"],
+                    numbers["unset"],
+                    "1 is a watcher" if watchers == 1 else f"{watchers} are watchers",
+                ),
+            ],
             ["", "Entries of all quorum sets", numbers["entries"]],
-            ["", "Nodes in the greatest quorum", "%d: those that can agree on anything at all" % len(self.found.greatest)],
-            ["", "Organisations", "%d, with %s of the network" % (len(self.network.orgs), counted(len(self.network.org_of), "node")) if self.network.orgs else "none are known: there is no file of them, and no home domain"],
+            [
+                "",
+                "Nodes in the greatest quorum",
+                f"{len(self.found.greatest)}: those that can agree on anything at all",
+            ],
+            [
+                "",
+                "Organisations",
+                (
+                    f"{len(self.network.orgs)}, with {counted(len(self.network.org_of), 'node')} of the network"
+                    if self.network.orgs
+                    else "none are known: there is no file of them, and no home domain"
+                ),
+            ],
         ]
         if self.network.has_marks():
-            rows.append(["", "Validators that are down", "%d, by <code>isValidating</code> and <code>active</code>%s" % (len(down), ": " + self.names.nodes(down) if down else "")])
+            rows.append(
+                [
+                    "",
+                    "Validators that are down",
+                    (
+                        f"{len(down)}, by <code>isValidating</code> and"
+                        f" <code>active</code>{': ' + self.names.nodes(down) if down else ''}"
+                    ),
+                ]
+            )
         return table([], rows, "facts") + self.odd()
 
     def odd(self):
-        odd = ["<li>%s</li>" % self.finding(line.split(" ")) for line in self.shown[3:]]
+        odd = [f"<li>{self.finding(line.split(' '))}</li>" for line in self.shown[3:]]
         if not odd:
-            return "<p>Nothing is odd in the quorum sets: each threshold can be met, and none names a validator twice.</p>"
-        more = fold("And %d more" % (len(odd) - MOST_ODD), "<ul>%s</ul>" % "".join(odd[MOST_ODD:])) if len(odd) > MOST_ODD else ""
-        return "<p>Odd in the quorum sets:</p><ul>%s</ul>%s" % ("".join(odd[:MOST_ODD]), more)
+            return (
+                "<p>Nothing is odd in the quorum sets: each threshold can be met, and none names a validator"
+                " twice.</p>"
+            )
+        more = (
+            fold(f"And {len(odd) - MOST_ODD} more", f"<ul>{''.join(odd[MOST_ODD:])}</ul>")
+            if len(odd) > MOST_ODD
+            else ""
+        )
+        return f"<p>Odd in the quorum sets:</p><ul>{''.join(odd[:MOST_ODD])}</ul>{more}"
 
     def finding(self, words):
-        where = "its own quorum set" if words[2] == "." else "its inner quorum set <code>%s</code>" % escaped(words[2])
+        where = "its own quorum set" if words[2] == "." else f"its inner quorum set <code>{escaped(words[2])}</code>"
         if words[0] == "threshold":
-            return "%s: %s has the threshold %s over %s entries, so no choice meets it" % (self.names.node(words[1]), where, words[3], words[4])
-        return "%s: %s names %s more than once" % (self.names.node(words[1]), where, self.names.node(words[3]))
+            return (
+                f"{self.names.node(words[1])}: {where} has the threshold {words[3]} over {words[4]} entries, so no"
+                " choice meets it"
+            )
+        return f"{self.names.node(words[1])}: {where} names {self.names.node(words[3])} more than once"
 
     def how(self):
-        version, config = self.program.version(), '<code>%s</code>' % self.network.digest
-        rows = [["", "Configuration", "%s, SHA-256 %s" % (self.title, config)]]
-        rows.append(["", "Program", "<code>quorum_cli</code>%s, SHA-256 <code>%s</code>" % (" " + escaped(version) if version else "", self.program.digest())])
+        version, config = self.program.version(), f"<code>{self.network.digest}</code>"
+        rows = [["", "Configuration", f"{self.title}, SHA-256 {config}"]]
+        rows.append(
+            [
+                "",
+                "Program",
+                (
+                    f"<code>quorum_cli</code>{' ' + escaped(version) if version else ''}, SHA-256"
+                    f" <code>{self.program.digest()}</code>"
+                ),
+            ]
+        )
         rows.append(["", "Made on", time.strftime("%Y-%m-%d %H:%M UTC", time.gmtime())])
-        text = "<p>Each yes and no comes from the program%s. The names are those that the configuration gives, which nobody checks; this page itself is not proved. Whoever has the configuration can ask again: fetch it yourself, compare its digest, and check each certificate with <code>quorum_cli check CONFIG CERTIFICATE</code>%s, which prints the kind, of whom it speaks (<code>from</code>) and who lies (<code>faulty</code>).</p>"
-        groups = any(it.accepted.startswith(("accepted org-blocking", "accepted partial-org-blocking")) for it in self.program.certificates)
-        proved = ", whose contract is proved: a certificate is accepted only if what it says is so" if self.program.is_proved() else ""
-        text = text % (proved, " (that of sets of organisations with the <code>--orgs</code> of its command)" if groups else "") + table([], rows, "facts")
-        certificates = "".join("<li>%s</li>" % self.certified(it) for it in self.program.certificates)
-        text += fold("%s, with what <code>check</code> answers" % counted(len(self.program.certificates), "certificate"), '<ul class="certificates">%s</ul>' % certificates)
-        return text + fold("%s without a certificate" % counted(len(self.program.commands), "command"), "<pre>%s</pre>" % escaped("\n".join(self.program.commands)))
+        text = (
+            "<p>Each yes and no comes from the program%s. The names are those that the configuration gives, which"
+            " nobody checks; this page itself is not proved. Whoever has the configuration can ask again: fetch it"
+            " yourself, compare its digest, and check each certificate with <code>quorum_cli check CONFIG"
+            " CERTIFICATE</code>%s, which prints the kind, of whom it speaks (<code>from</code>) and who lies"
+            " (<code>faulty</code>).</p>"
+        )
+        groups = any(
+            it.accepted.startswith(("accepted org-blocking", "accepted partial-org-blocking"))
+            for it in self.program.certificates
+        )
+        proved = (
+            ", whose contract is proved: a certificate is accepted only if what it says is so"
+            if self.program.is_proved()
+            else ""
+        )
+        text = text % (
+            proved,
+            " (that of sets of organisations with the <code>--orgs</code> of its command)" if groups else "",
+        ) + table([], rows, "facts")
+        certificates = "".join(f"<li>{self.certified(it)}</li>" for it in self.program.certificates)
+        text += fold(
+            "%s, with what <code>check</code> answers" % counted(len(self.program.certificates), "certificate"),
+            f'<ul class="certificates">{certificates}</ul>',
+        )
+        return text + fold(
+            f"{counted(len(self.program.commands), 'command')} without a certificate",
+            "<pre>%s</pre>" % escaped("\n".join(self.program.commands)),
+        )
 
     def certified(self, it):
         """A certificate with what `check` says of it, its size and digest, and the command that makes it."""
-        place = escaped(urllib.parse.quote("%s/%s" % (self.program.beside.name, it.name)))
-        about = "" if it.about == os.path.basename(self.program.config) else " about <code>%s</code>" % escaped(it.about)
-        return '<a href="%s">%s</a>: <code>%s</code>%s, %d bytes<br>SHA-256 <code>%s</code><br><code>%s</code>' % (place, escaped(it.name), escaped(it.accepted), about, it.size, it.digest, escaped(it.command))
+        place = escaped(urllib.parse.quote(f"{self.program.beside.name}/{it.name}"))
+        about = "" if it.about == os.path.basename(self.program.config) else f" about <code>{escaped(it.about)}</code>"
+        return (
+            f'<a href="{place}">{escaped(it.name)}</a>: <code>{escaped(it.accepted)}</code>{about},'
+            f" {it.size} bytes<br>SHA-256 <code>{it.digest}</code><br><code>{escaped(it.command)}</code>"
+        )
 
     def keys(self):
         paint = self.paint()
@@ -419,12 +680,25 @@ class Page:
         for at, key in enumerate(self.network.keys):
             org = self.network.org_of.get(key)
             side = ", quorum 1" if key in paint.first else ", quorum 2" if key in paint.second else ""
-            state = ("yes" if key in paint.greatest else "no" if key in paint.within else "outside") + side + (", down" if key in paint.down else "")
-            rows.append([' id="n%d"' % at, '<span class="node">%s</span>' % escaped(self.network.names[key]), escaped(org.name) if org else "", state, '<span class="key">%s</span>' % escaped(key)])
+            state = (
+                ("yes" if key in paint.greatest else "no" if key in paint.within else "outside")
+                + side
+                + (", down" if key in paint.down else "")
+            )
+            rows.append(
+                [
+                    f' id="n{at}"',
+                    f'<span class="node">{escaped(self.network.names[key])}</span>',
+                    escaped(org.name) if org else "",
+                    state,
+                    f'<span class="key">{escaped(key)}</span>',
+                ]
+            )
         return table(["Name", "Organisation", "In the greatest quorum", "Key"], rows, "keys")
 
     def sections(self):
-        """Each section with its mark and heading, and its text; one without a text is left out. Another question of the network is another line."""
+        """Each section with its mark and heading, and its text; one without a text is left out. Another question of
+        the network is another line."""
         return [
             ("fork", "Can it fork?", self.fork()),
             ("picture", "The network", self.drawing()),
@@ -440,14 +714,28 @@ class Page:
 
     def whole(self):
         sections = [it for it in self.sections() if it[2]]
-        contents = '<nav aria-label="Contents"><ul>%s</ul></nav>' % "".join('<li><a href="#%s">%s</a></li>' % it[:2] for it in sections)
-        body = "\n".join('<section aria-labelledby="%s"><h2 id="%s">%s</h2>%s</section>' % (mark, mark, head, text) for mark, head, text in sections)
-        head = '<!DOCTYPE html><html lang="en"><head><meta charset="utf-8"><meta name="viewport" content="width=device-width,initial-scale=1"><title>Quorums of %s</title><style>%s</style></head>'
-        return head % (self.title, STYLE) + "<body><main><h1>Quorums of %s</h1>%s%s\n%s</main></body></html>\n" % (self.title, self.summary(), contents, body)
+        contents = '<nav aria-label="Contents"><ul>%s</ul></nav>' % "".join(
+            '<li><a href="#%s">%s</a></li>' % it[:2] for it in sections
+        )
+        body = "\n".join(
+            f'<section aria-labelledby="{mark}"><h2 id="{mark}">{head}</h2>{text}</section>'
+            for mark, head, text in sections
+        )
+        head = (
+            '<!DOCTYPE html><html lang="en"><head><meta charset="utf-8"><meta name="viewport"'
+            ' content="width=device-width,initial-scale=1"><title>Quorums of %s</title><style>%s</style></head>'
+        )
+        return (
+            head % (self.title, STYLE)
+            + f"<body><main><h1>Quorums of {self.title}</h1>{self.summary()}{contents}\n{body}</main></body></html>\n"
+        )
 
 
 def write(config, orgs, network, told, found, program):
     """The text of the page, and the summary's data."""
-    files = {name: shown(os.path.basename(path)) if path is not None else "" for name, path in (("config", config), ("orgs", orgs))}
+    files = {
+        name: shown(os.path.basename(path)) if path is not None else ""
+        for name, path in (("config", config), ("orgs", orgs))
+    }
     page = Page(files, network, told, found, program)
     return page.whole(), page.data

@@ -1,4 +1,5 @@
-"""The sentences of web/sentences.js, which both pages say, and how what stands in them is put into words. web/summary.js does the same."""
+"""The sentences of web/sentences.js, which both pages say, and how what stands in them is put into words.
+web/summary.js does the same."""
 
 import html
 import json
@@ -7,7 +8,8 @@ import os
 import re
 
 PLACE = os.path.join(os.path.dirname(os.path.realpath(__file__)), os.pardir, os.pardir, "web", "sentences.js")
-# So many nodes are named one by one, more of them by their organisations; so many sets one by one, more of them by their number.
+# So many nodes are named one by one, more of them by their organisations; so many sets one by one, more of them by
+# their number.
 MOST_NAMED = 12
 MOST_SETS = 30
 
@@ -21,7 +23,7 @@ def table():
 
 def counted(number, what):
     """A number with its word, as `1 node` and `3 nodes`."""
-    return "%d %s%s" % (number, what, "" if number == 1 else "s")
+    return f"{number} {what}{'' if number == 1 else 's'}"
 
 
 def by_size(sets):
@@ -33,7 +35,8 @@ def by_size(sets):
 
 
 class Saying:
-    """Puts the data of sentences into words, as HTML. A node or organisation is shown by the page's names, which are sorted by `order`."""
+    """Puts the data of sentences into words, as HTML. A node or organisation is shown by the page's names, which are
+    sorted by `order`."""
 
     def __init__(self, names, files):
         self.names = names
@@ -46,8 +49,12 @@ class Saying:
         return held["label"], " ".join(self.sentence(*held[it["say"]], it) for it in sentences)
 
     def sentence(self, mood, text, data):
-        words = re.sub(r"\{(\w+)(?:\|(\w+))?\}", lambda it: self.put(it.group(2), data[it.group(1)] if it.group(2) != "file" else it.group(1)), text)
-        return '<span class="%s">%s</span>' % (mood, words) if mood else words
+        words = re.sub(
+            r"\{(\w+)(?:\|(\w+))?\}",
+            lambda it: self.put(it.group(2), data[it.group(1)] if it.group(2) != "file" else it.group(1)),
+            text,
+        )
+        return f'<span class="{mood}">{words}</span>' if mood else words
 
     def put(self, how, value):
         if how is None:
@@ -82,10 +89,11 @@ class Saying:
         return ", ".join(self.names.text("org:" + it) for it in ids)
 
     def as_counts(self, pairs):
-        return ", ".join("%s (%d)" % (self.names.text("org:" + it), number) for it, number in pairs)
+        return ", ".join(f"{self.names.text('org:' + it)} ({number})" for it, number in pairs)
 
     def as_sets(self, sets):
-        """Sets of organisations and nodes, all of them by name up to some tens: so many that are just any so many of some are in few words."""
+        """Sets of organisations and nodes, all of them by name up to some tens: so many that are just any so many of
+        some are in few words."""
         parts, left = [], MOST_SETS
         for group in by_size(sets):
             every, size = sorted({it for some in group for it in some}, key=self.names.order), len(group[0])
@@ -93,16 +101,22 @@ class Saying:
                 parts.append(self.any_of(every, size))
             elif len(group) <= left:
                 left -= len(group)
-                parts.append(", or ".join(self.group(some) for some in sorted(group, key=lambda some: sorted(map(self.names.order, some)))) + " together")
+                parts.append(
+                    ", or ".join(
+                        self.group(some)
+                        for some in sorted(group, key=lambda some: sorted(map(self.names.order, some)))
+                    )
+                    + " together"
+                )
             else:
-                parts.append("%s of %d" % (counted(len(group), "set"), size))
-        return ("%d sets: " % len(sets) if len(sets) > 1 else "") + "; or ".join(parts)
+                parts.append(f"{counted(len(group), 'set')} of {size}")
+        return (f"{len(sets)} sets: " if len(sets) > 1 else "") + "; or ".join(parts)
 
     def any_of(self, every, size):
         names = ", ".join(map(self.names.text, every))
         if len(every) == size:
             return self.group(every) + (" alone" if size == 1 else " together")
-        return "each of %s alone" % names if size == 1 else "any %d of these %d together: %s" % (size, len(every), names)
+        return f"each of {names} alone" if size == 1 else f"any {size} of these {len(every)} together: {names}"
 
     def group(self, some):
         return " and ".join(self.names.text(it) for it in sorted(some, key=self.names.order))

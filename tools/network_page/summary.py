@@ -1,4 +1,5 @@
-"""The summary as data: which sentences are said, and of what. web/summary.js decides the same; tests/summary.py holds both against trying all sets."""
+"""The summary as data: which sentences are said, and of what. web/summary.js decides the same; tests/summary.py holds
+both against trying all sets."""
 
 
 def says(line, say, **data):
@@ -7,7 +8,10 @@ def says(line, say, **data):
 
 def texts(sets):
     """Sets of organisations and nodes as texts: `org:` and an id, or `node:` and a key; in order."""
-    return sorted((sorted("node:" + it if isinstance(it, str) else "org:" + it.id for it in some) for some in sets), key=lambda some: (len(some), some))
+    return sorted(
+        (sorted("node:" + it if isinstance(it, str) else "org:" + it.id for it in some) for some in sets),
+        key=lambda some: (len(some), some),
+    )
 
 
 def summary(network, found):
@@ -41,15 +45,39 @@ def fork_lines(network, found):
     if forks.split:
         lines.append(says("fork", "split", of=len(network.watchers()), count=len(forks.split), keys=forks.split))
     if unknown:
-        lines.append(says("fork", "unknown", count=len(unknown), named=sum(1 for key in unknown if key in network.named)))
+        lines.append(
+            says("fork", "unknown", count=len(unknown), named=sum(1 for key in unknown if key in network.named))
+        )
     return lines
 
 
 def part(network, found, it):
     """What is said of one view, with each organisation lying, silent and leaving."""
-    lines = [*seen_lines(network, found, it), *lies_lines(network, found, it), *stop_lines(found, it), *now_lines(network, found, it), *node_lines(network, it)]
-    turns = [{"org": turn.org.id, "lies": turn.word, "split": list(turn.split), "stops": turn.stops, "left": len(set(turn.goes_on))} for turn in it.turns]
-    left = [{"org": one.org.id, "left": len(one.left()), "then": texts(one.then.sets) if one.then is not None and one.left() else None} for one in it.leaving]
+    lines = [
+        *seen_lines(network, found, it),
+        *lies_lines(network, found, it),
+        *stop_lines(found, it),
+        *now_lines(network, found, it),
+        *node_lines(network, it),
+    ]
+    turns = [
+        {
+            "org": turn.org.id,
+            "lies": turn.word,
+            "split": list(turn.split),
+            "stops": turn.stops,
+            "left": len(set(turn.goes_on)),
+        }
+        for turn in it.turns
+    ]
+    left = [
+        {
+            "org": one.org.id,
+            "left": len(one.left()),
+            "then": texts(one.then.sets) if one.then is not None and one.left() else None,
+        }
+        for one in it.leaving
+    ]
     return {"from": it.view.node, "greatest": sorted(it.greatest), "lines": lines, "turns": turns, "leaving": left}
 
 
@@ -79,7 +107,15 @@ def lies_lines(network, found, it):
     split = [[turn.org.id, len(turn.split)] for turn in it.turns if turn.split]
     lines = []
     if by["yes"]:
-        lines.append(says("lies", "each" if len(by["yes"]) == len(it.turns) > 1 else "some", count=len(by["yes"]), of=len(it.turns), orgs=by["yes"]))
+        lines.append(
+            says(
+                "lies",
+                "each" if len(by["yes"]) == len(it.turns) > 1 else "some",
+                count=len(by["yes"]),
+                of=len(it.turns),
+                orgs=by["yes"],
+            )
+        )
     for word in ("elsewhere", "undecided"):
         if by[word]:
             lines.append(says("lies", word, orgs=by[word]))
@@ -123,7 +159,9 @@ def node_lines(network, it):
         return []
     if own.key not in it.greatest:
         return [says("node", "outside" if network.sets.get(own.key) else "unknown", node=own.key)]
-    lines, others = [says("node", "inside", node=own.key)], [turn.org for turn in it.turns if own.key not in turn.org.keys]
+    lines, others = [says("node", "inside", node=own.key)], [
+        turn.org for turn in it.turns if own.key not in turn.org.keys
+    ]
     stopped = [org.id for org in others if org not in own.goes_on_without]
     if stopped:
         lines.append(says("node", "stopped", orgs=stopped))

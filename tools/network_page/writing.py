@@ -9,7 +9,12 @@ import sys
 import tempfile
 
 # What the files of this tool are called: one that an earlier run left is stale. Other files of the folder are kept.
-MADE = re.compile(r"(now-)?(validators-)?(from-)?(intersect|blocking|org-blocking|faulty-[A-Za-z0-9._-]+)(-\d+)?\.cert|(now-)?leaving-[A-Za-z0-9._-]+\.script|(organisations|now|(now-)?validators)\.json")
+MADE = re.compile(
+    (
+        r"(now-)?(validators-)?(from-)?(intersect|blocking|org-blocking|faulty-[A-Za-z0-9._-]+)(-\d+)?\.cert|(now-)?le"
+        r"aving-[A-Za-z0-9._-]+\.script|(organisations|now|(now-)?validators)\.json"
+    )
+)
 
 
 class BadPage(ValueError):
@@ -17,7 +22,8 @@ class BadPage(ValueError):
 
 
 class Beside:
-    """A page and its certificates in the making, which are taken away where they do not take the place of the old ones."""
+    """A page and its certificates in the making, which are taken away where they do not take the place of the old
+    ones."""
 
     def __init__(self, page, read, data=None):
         """Refuses, before anything is asked, a page in the place of a file that is read, whatever it is called."""
@@ -25,10 +31,12 @@ class Beside:
             if out is None:
                 continue
             if os.path.isdir(out):
-                raise BadPage("%s is a folder: %s names the file itself, as report.%s" % (out, option, "html" if out == page else "json"))
+                raise BadPage(
+                    f"{out} is a folder: {option} names the file itself, as report.{'html' if out == page else 'json'}"
+                )
             for path in read:
                 if path is not None and os.path.exists(out) and os.path.exists(path) and os.path.samefile(out, path):
-                    raise BadPage("%s %s is the file that is read as %s: the page would take its place" % (option, out, path))
+                    raise BadPage(f"{option} {out} is the file that is read as {path}: the page would take its place")
         if data is not None and os.path.realpath(data) == os.path.realpath(page):
             raise BadPage("-o and --json name the same file")
         self.page = page
@@ -46,7 +54,9 @@ class Beside:
                 signal.signal(it, lambda number, _: sys.exit(128 + number))
         self.part = tempfile.mkdtemp(prefix=os.path.basename(self.folder) + ".", dir=os.path.dirname(self.folder))
         for path in filter(None, (self.page, self.data)):
-            handle, self.texts[path] = tempfile.mkstemp(prefix=os.path.basename(path) + ".", dir=os.path.dirname(os.path.abspath(path)))
+            handle, self.texts[path] = tempfile.mkstemp(
+                prefix=os.path.basename(path) + ".", dir=os.path.dirname(os.path.abspath(path))
+            )
             os.close(handle)
         return self
 
@@ -90,11 +100,14 @@ class Beside:
 
     def organisations(self, orgs):
         """Writes organisations that stand in no file, and says where."""
-        text = json.dumps([{"id": org.id, "name": org.name, "validators": org.keys} for org in orgs], ensure_ascii=False, indent=1)
+        text = json.dumps(
+            [{"id": org.id, "name": org.name, "validators": org.keys} for org in orgs], ensure_ascii=False, indent=1
+        )
         return self.written("organisations.json", text + "\n")
 
     def exchange(self, texts):
-        """Puts the certificates and then the page and its data in the place of the old ones; what of those is stale goes."""
+        """Puts the certificates and then the page and its data in the place of the old ones; what of those is stale
+        goes."""
         for path, text in zip((self.page, self.data), texts):
             if path is not None:
                 with open(self.texts[path], "w", encoding="utf-8") as it:

@@ -35,7 +35,7 @@ MOST_BYTES = 1 << 24
 ATTEMPTS = 3
 # Seconds in which a scheduler has to answer.
 REACHED = 10
-LOST = "its worker was lost %d times" % ATTEMPTS
+LOST = f"its worker was lost {ATTEMPTS} times"
 
 Found = tuple[Row, dict[str, bytes]]
 Answers = Generator[tuple[str, Found], None, None]
