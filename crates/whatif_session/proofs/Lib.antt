@@ -8,4 +8,5 @@ pub mod ScriptLaws
 pub mod NamePlaces
 pub mod NewNames
 pub mod NamesStay
+pub mod Touching
 pub mod LineLaws

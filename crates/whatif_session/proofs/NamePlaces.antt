@@ -86,7 +86,7 @@ sets_back p n few (o ∷ sets) within = ap₂ (λ (x : Option QuorumSet) (xs : F
 
 -- ---- the law
 
-place-le : (name : Name) (names : List Name) → place_for name names ≤ length names
+pub place-le : (name : Name) (names : List Name) → place_for name names ≤ length names
 place-le name names = count_by-le-length (λ n. is_lt (name_cmp n name)) names
 
 pub others_stay : (s : System) (name : Name) → IsSystem s.names s.sets → restricted (all_but (place_for name s.names) (length s.names)) (with_name s name) ≡ s

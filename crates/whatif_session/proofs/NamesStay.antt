@@ -68,11 +68,11 @@ stay_named s name k h =
 -- ---- an edit
 
 -- what comes before the end of a chain that ends well
-bound : {A B : Type 0} → (r : Result A EditFault) (f : A → Result B EditFault) (b : B) → (r >>= f) ≡ Ok b → (a : A) × (r ≡ Ok a) × (f a ≡ Ok b)
+pub bound : {A B : Type 0} → (r : Result A EditFault) (f : A → Result B EditFault) (b : B) → (r >>= f) ≡ Ok b → (a : A) × (r ≡ Ok a) × (f a ≡ Ok b)
 bound (Ok a) f b h = (a, refl, h)
 bound (Err e) f b h = absurd cc
 
-of_ok : {A : Type 0} → (a b : A) → ◌≡◌ {A = Result A EditFault} (Ok a) (Ok b) → a ≡ b
+pub of_ok : {A : Type 0} → (a b : A) → ◌≡◌ {A = Result A EditFault} (Ok a) (Ok b) → a ≡ b
 of_ok a b h = cc
 
 stay_by : (s t : System) (name : Name) (known many : Bool) → (if known then Ok s else if many then Err (TooManyNodes (length s.names + 1)) else Ok (with_name s name)) ≡ Ok t → Stay s t

@@ -3,6 +3,7 @@ pub mod EditView
 pub mod Edits
 pub mod Names
 pub mod Edited
+pub mod Touched
 pub mod Sessions
 pub mod Lines
 pub mod Scripts

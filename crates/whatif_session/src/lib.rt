@@ -8,6 +8,9 @@ ghost use Rattle.fbas_model.specs.Nodes.{Table};
 ghost use Rattle.fbas_model.specs.Restriction.{restricted};
 ghost use Rattle.name_set.specs.Lists.{names_read};
 ghost use Rattle.whatif_session.specs.Names.{with_name, place_for, all_but};
+ghost use Rattle.whatif_session.specs.Edits.{Edit};
+ghost use Rattle.whatif_session.specs.Edited.{edited};
+ghost use Rattle.whatif_session.specs.Touched.{Touches};
 ghost use Rattle.whatif_session.specs.Scripts.{states_from, states_of};
 ghost use Rattle.whatif_session.specs.Sessions.{set_in};
 
@@ -35,6 +38,12 @@ pub fn a_script_has_a_system_after_each_line()
 /// A system with one name more is the same without it.
 pub fn a_new_name_leaves_the_others_as_they_are()
     ensures { (s : System) (name : Name) → IsSystem s.names s.sets → restricted (all_but (place_for name s.names) (length s.names)) (with_name s name) ≡ s }
+{}
+
+/// An edit that is made was one that may be made. It brings at most one name and touches one node's quorum set: in it the set that
+/// its path leads to, in the one thing that it says. All else is as it was.
+pub fn an_edit_touches_one_quorum_set()
+    ensures { (s : System) (edit : Edit) (t : System) → IsSystem s.names s.sets → edited s edit ≡ Ok t → Touches s edit t }
 {}
 
 /// A list of names of a system is one of each system that a script makes of it, and stands for the nodes of these names.
