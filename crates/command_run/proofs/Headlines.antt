@@ -1,5 +1,5 @@
 -- What is so where a search prints its answer.
-use Rattle.std.proofs.Common.{◌≡◌, ◌⊎◌, ◌↔◌, inl, inr, IsTrue, Bool, true, false, ℕ, List, [], ◌++◌, Option, Some, None, Result, Ok, refl, sym, ◌∙◌, ap, subst, codes}
+use Rattle.std.proofs.Common.{◌≡◌, ◌⊎◌, ◌↔◌, inl, inr, IsTrue, Bool, true, false, ℕ, List, [], ◌++◌, Option, Some, None, Result, Ok, IfErr, refl, sym, ◌∙◌, ap, subst, codes}
 use Rattle.std.proofs.lemmas.List.{append_assoc, append-nil}
 use Rattle.std.proofs.lemmas.Slice.Eq.{bytes_eq-Decides}
 use Rattle.fbas_model.specs.Nodes.{Table}
@@ -43,15 +43,17 @@ use Rattle.request_reading.specs.declared.status.Status.{Status}
 use Rattle.request_reading.specs.declared.status.Status.TheVariants.{Yes, No, Unknown, TooLarge}
 use Rattle.request_reading.specs.Answers.{asked_of}
 use Rattle.request_reading.specs.Meaning.{IsCheck, IsCheckLrat, NamesAccepted, NamesVerified}
+use Rattle.request_reading.specs.Reading.{IsRefusal}
 use Rattle.command_run.specs.declared.found.OrgBlockingFound.{OrgBlockingFound}
 use Rattle.command_run.specs.Putting.{PutsBoth}
 use Rattle.command_run.specs.Replies.{intersect_answer, splits_answer, dset_answer, size_lines, RepliesTrial, list_answer, least_answer, group_answer}
 use Rattle.command_run.specs.Sought.{part, deleted, request}
 use Rattle.command_run.specs.Meanings.{Meaning, cert_of, IsCertified, ShowsGroups, lists, finds_least, lists_groups, meaning_of}
 use Rattle.command_run.specs.Printing.{PrintsSearch, Prints}
-use Rattle.command_run.specs.Grouping.{cert_of_groups, PrintsBlocks, PrintsPartOfBlocks}
+use Rattle.command_run.specs.Grouping.{AreGroups, cert_of_groups, PrintsBlocks, PrintsPartOfBlocks}
 use Rattle.command_run.specs.Showing.{IsAccepted, WritesAccepted, ShowsPair, PrintsPair, ShowsNone, ShowsUnknown, IsAvailable}
 use Rattle.command_run.specs.Headline.{Headline}
+use Rattle.command_run.proofs.Asked.{says_accepted, says_verified, large_cert, large_proof}
 use Rattle.command_run.proofs.Replied.{IsTold, told_small}
 use Rattle.command_run.proofs.Edited.{edits_show}
 use Rattle.command_run.proofs.Titles.{title_there}
@@ -285,14 +287,14 @@ blocks_mean s old new status digest groups (found_groups.Spent journal) a shows 
 )
 
 -- by the organisations that were given
-groups_mean : (s : Search) (old new : DeskState) (status : Status) (given : GivenOrgs) → s.orgs ≡ Some given → MeansBlocks s old new status given.digest (groups_in s.whole s.header given.orgs) → Means lists_groups s old new status
-groups_mean s old new status given is (inl p) = says_yes lists_groups s old new status p.0 (record { given = given; is_given = is; prints = p.1 })
-groups_mean s old new status given is (inr p) = says_unknown lists_groups s old new status p.0 (record { given = given; is_given = is; prints = p.1 })
+groups_mean : (s : Search) (old new : DeskState) (status : Status) (given : GivenOrgs) → s.orgs ≡ Some given → AreGroups (part s) (groups_in s.whole s.header given.orgs) → MeansBlocks s old new status given.digest (groups_in s.whole s.header given.orgs) → Means lists_groups s old new status
+groups_mean s old new status given is are (inl p) = says_yes lists_groups s old new status p.0 (record { given = given; is_given = is; are = are; prints = p.1 })
+groups_mean s old new status given is are (inr p) = says_unknown lists_groups s old new status p.0 (record { given = given; is_given = is; are = are; prints = p.1 })
 
 groups_there : (s : Search) (old new : DeskState) (status : Status) (found : OrgBlockingFound) (a : Answer) → ShowsGroups (request s) found → IsAccepted s (cert_of lists_groups (request s) found) (group_accepted_as (request s) found.groups found.outcome)
     → a ≡ group_answer (texts_of found.groups) s.budget found.outcome → PutsBoth s.path (cert_of lists_groups (request s) found) a old new status → Means lists_groups s old new status
 groups_there s old new status found a shows accepted is put =
-    groups_mean s old new status shows.given shows.is_given (subst (MeansBlocks s old new status shows.given.digest) shows.groups_are (subst (λ (d : List ℕ). MeansBlocks s old new status d found.groups) shows.digest_is (blocks_mean s old new status found.digest found.groups found.outcome a shows.shows accepted is put)))
+    groups_mean s old new status shows.given shows.is_given (subst (AreGroups (part s)) shows.groups_are shows.are) (subst (MeansBlocks s old new status shows.given.digest) shows.groups_are (subst (λ (d : List ℕ). MeansBlocks s old new status d found.groups) shows.digest_is (blocks_mean s old new status found.digest found.groups found.outcome a shows.shows accepted is put)))
 
 -- ---- what is so of a search that was answered
 
@@ -335,14 +337,16 @@ sought_means : (r : Result Asked Early) (s : Search) (old new : DeskState) (stat
 sought_means r s old new status is p = search_means s old new status (subst (λ (x : Result Asked Early). Prints x old new status) is p)
 
 -- the headline, by what was printed and what was accepted
-pub headline_of : (words : List (List ℕ)) (old new : DeskState) (status : Status) → Prints (asked_of words old.files) old new status → (IsCheck (order_of words) → status ≡ Yes → NamesAccepted words old.files)
+pub headline_of : (words : List (List ℕ)) (old new : DeskState) (status : Status) → IfErr (asked_of words old.files) IsRefusal → Prints (asked_of words old.files) old new status → (IsCheck (order_of words) → status ≡ Yes → NamesAccepted words old.files)
     → (IsCheckLrat (order_of words) → status ≡ Yes → NamesVerified words old.files) → Headline words old new status
-headline_of words old new status prints accepts verifies = record {
+headline_of words old new status refused prints accepts verifies = record {
   yes = λ s seeks. (sought_means (asked_of words old.files) s old new status seeks prints).means.yes;
   no = λ s seeks. (sought_means (asked_of words old.files) s old new status seeks prints).means.no;
   unknown = λ s seeks. (sought_means (asked_of words old.files) s old new status seeks prints).means.unknown;
-  accepts = accepts;
-  verifies = verifies;
+  accepts = λ check is. says_accepted words old new status refused prints check is (accepts check is);
+  verifies = λ check is. says_verified words old new status refused prints check is (verifies check is);
+  large_cert = large_cert words old new status refused prints;
+  large_proof = large_proof words old new status refused prints;
   finished = λ s seeks. (sought_means (asked_of words old.files) s old new status seeks prints).finished;
   edits = λ e tries. edits_show e old new status (subst (λ (x : Result Asked Early). Prints x old new status) tries prints);
 }

@@ -97,7 +97,7 @@ asked_large (asked.Search s) old new status p = search_large s old new status p
 asked_large (asked.Edits e) old new status p = by_status _ (edits_answer e).status status p.status_is (states_small e.set (states_of e.system e.script))
 asked_large (asked.Checked a) old new status p = by_status _ a.status status p.status_is (λ e. e, λ e. e)
 
-refusal_small : (refused : Status) → IsTrue (is_refusal refused) → IsSmall refused
+pub refusal_small : (refused : Status) → IsTrue (is_refusal refused) → IsSmall refused
 refusal_small refused is e =
     let k : IsTrue (is_refusal TooLarge) = subst (λ (x : Status). IsTrue (is_refusal x)) e is in
     absurd (let f : false ≡ true = k in cc)

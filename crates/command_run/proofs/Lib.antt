@@ -8,3 +8,4 @@ pub mod Large
 pub mod Edited
 pub mod Ends
 pub mod Checks
+pub mod Asked

@@ -1,10 +1,13 @@
 -- What the printed minimal blocking sets of organisations and their certificate show.
-use Rattle.std.specs.Prelude.{◌≡◌, ℕ, ◌++◌, List, Some, codes}
+use Rattle.std.specs.Prelude.{◌≡◌, ℕ, ◌++◌, List, Some, length, codes}
+use Rattle.std.specs.List.Sorted.{IsStrictlySortedBy}
 use Rattle.std.specs.Global.{Vec}
 use Rattle.desk_io.specs.State.{DeskState}
 use Rattle.fbas_model.specs.Nodes.{Table, members}
+use Rattle.fbas_model.specs.Names.{name_cmp}
+use Rattle.fbas_model.specs.Systems.{System}
 use Rattle.greatest_quorum.specs.Greatest.{greatest_of}
-use Rattle.node_json.specs.Groups.{Group, tables_of, texts_of}
+use Rattle.node_json.specs.Groups.{Group, tables_of, texts_of, CoverNodes}
 use Rattle.enumeration_journal.specs.Journals.{JournalLine}
 use Rattle.group_journal.specs.Groups.{IsGroupList}
 use Rattle.group_lists.specs.Outcomes.{WholeGroupsHold, PartGroupsHold}
@@ -18,6 +21,11 @@ use Rattle.printed_lines.specs.Lines.{with_sets, counted}
 use Rattle.request_reading.specs.declared.searches.Search.{Search}
 use Rattle.command_run.specs.Sought.{part, deleted, request}
 use Rattle.command_run.specs.Showing.{IsAccepted}
+
+-- each node of the system is in a group, and the texts of the groups rise
+pub record AreGroups (f : System) (groups : List Group) : Type 0 where
+  pub cover : CoverNodes (length f.names) groups
+  pub rising : IsStrictlySortedBy name_cmp (texts_of groups)
 
 -- the certificate of what was found over groups by an organisations file of this digest
 abbrev pub cert_of_groups : Search → List ℕ → List Group → GroupOutcome → Text
@@ -47,9 +55,11 @@ pub record PrintsPartOfBlocks (s : Search) (digest : List ℕ) (groups : List Gr
 pub record PrintsGroups (s : Search) (old new : DeskState) : Type 0 where
   pub given : GivenOrgs
   pub is_given : s.orgs ≡ Some given
+  pub are : AreGroups (part s) (groups_in s.whole s.header given.orgs)
   pub prints : PrintsBlocks s given.digest (groups_in s.whole s.header given.orgs) old new
 
 pub record PrintsPartOfGroups (s : Search) (old new : DeskState) : Type 0 where
   pub given : GivenOrgs
   pub is_given : s.orgs ≡ Some given
+  pub are : AreGroups (part s) (groups_in s.whole s.header given.orgs)
   pub prints : PrintsPartOfBlocks s given.digest (groups_in s.whole s.header given.orgs) old new

@@ -8,6 +8,7 @@ pub mod Printing
 pub mod Showing
 pub mod Smallest
 pub mod Grouping
+pub mod Checks
 pub mod Headline
 pub mod Running
 pub mod Ended

@@ -32,7 +32,7 @@ use Rattle.command_run.specs.declared.found.OrgBlockingFound.{OrgBlockingFound}
 use Rattle.command_run.specs.Replies.{intersect_answer, splits_answer, RepliesDset, RepliesTrial, list_answer, least_answer, group_answer}
 use Rattle.command_run.specs.Showing.{PrintsPair, ShowsNone, PrintsUnknown, PrintsUnknownTrial, IsAvailable, IsNoDset, PrintsList, PrintsPartOfList}
 use Rattle.command_run.specs.Smallest.{PrintsLeast, PrintsPartOfLeast}
-use Rattle.command_run.specs.Grouping.{PrintsGroups, PrintsPartOfGroups}
+use Rattle.command_run.specs.Grouping.{AreGroups, PrintsGroups, PrintsPartOfGroups}
 
 pub record Meaning : Type 1 where
   -- what the search finds, and what that shows of the part that is asked for
@@ -118,6 +118,7 @@ pub record ShowsGroups (r : Request) (found : OrgBlockingFound) : Type 0 where
   pub is_given : r.orgs ≡ Some given
   pub digest_is : found.digest ≡ given.digest
   pub groups_are : found.groups ≡ groups_in r.whole r.header given.orgs
+  pub are : AreGroups (part_asked r) found.groups
   pub shows : GroupsShow (part_asked r).sets (faulty r) (tables_of found.groups) r.budget found.outcome
 
 -- all minimal blocking sets of organisations

@@ -25,7 +25,7 @@ returns-in-Ok-clause-headline g c = λ tell is.
     let middle = g.D.Desk.state c.ask_by_words.new.desk in
     let new = g.D.Desk.state c.answer.new.desk in
     let printed : PrintsAsked c.in-Ok.asked middle new c.answer.result = c.answer.ensures.answered tell is in
-    headline_of words old new c.answer.result (prints_ok _ c.in-Ok.asked old middle new c.answer.result (c.in-Ok.ensures.gives tell) (c.in-Ok.ensures.reads tell) printed)
+    headline_of words old new c.answer.result (subst (λ (r : Result Asked Early). IfErr r IsRefusal) (sym (c.in-Ok.ensures.gives tell)) tt) (prints_ok _ c.in-Ok.asked old middle new c.answer.result (c.in-Ok.ensures.gives tell) (c.in-Ok.ensures.reads tell) printed)
     (λ check yes. accepted_by words old.files check (said_yes (WordsMean words old.files) c.in-Ok.asked middle new c.answer.result (c.in-Ok.ensures.shows (check_checks (order_of words) check) tell) printed yes))
     (λ check yes. verified_by words old.files check (said_yes (WordsMean words old.files) c.in-Ok.asked middle new c.answer.result (c.in-Ok.ensures.shows (check_lrat_checks (order_of words) check) tell) printed yes))
 
@@ -39,7 +39,7 @@ returns-in-Err-Refused-clause-headline g c = λ tell is.
     let printed : PrintsAnswer c.in-Err-Refused.reply middle new c.print.result = rw c.in-Err-Refused.field-0-is at (c.print.ensures.printed tell is) in
     let gives = subst (λ (e : Early). FailsReading old.plain e asked) c.in-Err-Refused.field-0-is (c.in-Err-Refused.ensures.gives tell) in
     let refused : IsRefusal (Refused c.in-Err-Refused.reply) = subst IsRefusal c.in-Err-Refused.field-0-is c.in-Err-Refused.ensures.refused in
-    headline_of words old new c.print.result (prints_refused asked c.in-Err-Refused.reply old middle new c.print.result gives (c.in-Err-Refused.ensures.reads tell) printed)
+    headline_of words old new c.print.result (subst (λ (r : Result Asked Early). IfErr r IsRefusal) (sym gives) refused) (prints_refused asked c.in-Err-Refused.reply old middle new c.print.result gives (c.in-Err-Refused.ensures.reads tell) printed)
     (λ check yes. absurd (refused_yes c.in-Err-Refused.reply.status refused (sym printed.status_is ∙ yes)))
     (λ check yes. absurd (refused_yes c.in-Err-Refused.reply.status refused (sym printed.status_is ∙ yes)))
 

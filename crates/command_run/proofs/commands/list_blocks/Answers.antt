@@ -6,6 +6,7 @@ use Rattle.certificate_file.specs.declared.given.GivenOrgs.{GivenOrgs}
 use Rattle.cert_writer.specs.Promises.{AreOrgs}
 use Rattle.cert_writer.specs.Grouping.{GroupsShow}
 use Rattle.request_reading.specs.Given.{AreOver}
+use Rattle.command_run.specs.Grouping.{AreGroups}
 use Rattle.command_run.specs.Sought.{request}
 use Rattle.command_run.proofs.Over.{asked_there}
 use Rattle.command_run.proofs.commands.list_blocks.Goals as goal
@@ -38,6 +39,7 @@ returns c =
         is_given = c.requires.given;
         digest_is = refl;
         groups_are = groups_are;
+        are = subst (λ (f : System). AreGroups f groups) c.requires.over.part_is (record { cover = c.in_ok-groups.ensures.cover; rising = c.in_ok-groups.ensures.rising });
         shows = there;
       },
       (c.what_is_grouped_is_found.ensures.found (request s) given groups outcome c.len.ensures.system c.len.ensures.sorted fits.long fits.bytes fits.header fits.few c.requires.given read groups_are there).accepted,
