@@ -1,5 +1,5 @@
 -- What comes of words that order a check, by what it has read.
-use Rattle.std.proofs.Common.{◌≡◌, ◌⊎◌, ◌≤◌, ◌↔◌, inl, inr, ℕ, ◌++◌, List, length, Bool, true, false, nat_le, IsTrue, if◌then◌else◌, Option, Some, None, Result, Ok, Err, IfErr, refl, sym, ◌∙◌, ap, subst}
+use Rattle.std.proofs.Common.{◌≡◌, ◌⊎◌, ◌≤◌, ◌↔◌, inl, inr, ℕ, ◌++◌, List, length, Bool, true, nat_le, IsTrue, if◌then◌else◌, Option, Some, None, Result, Ok, Err, IfErr, refl, sym, ◌∙◌, ap, subst}
 use Rattle.std.proofs.lemmas.Bool.{cases_Bool, leb-true}
 use Rattle.desk_io.specs.State.{DeskState, Files}
 use Rattle.fbas_model.specs.Names.{Name}
@@ -11,13 +11,8 @@ use Rattle.cli_words.specs.declared.orders.Command.{Command}
 use Rattle.cli_words.specs.declared.orders.Command.TheVariants.{Query, Search, Check, CheckLrat, Whatif}
 use Rattle.cli_words.specs.declared.orders.OrderFault.{OrderFault}
 use Rattle.cli_words.specs.declared.orders.OrderFault.TheVariants as fault
-use Rattle.node_json.specs.Configuration.{system_of}
 use Rattle.cert_lines.specs.declared.faults.CertError.{CertError}
 use Rattle.cert_lines.specs.declared.faults.CertError.TheVariants.{TooLarge as TooManyVariables}
-use Rattle.certificate_file.specs.Acceptance.{checked}
-use Rattle.certificate_file.specs.Meaning.{Holds, PartIntersects, part_from}
-use Rattle.certificate_file.specs.Verification.{verified}
-use Rattle.certificate_file.specs.declared.given.Given.{Given}
 use Rattle.certificate_file.specs.declared.given.GivenOrgs.{GivenOrgs}
 use Rattle.certificate_file.specs.declared.places.Header.{Header}
 use Rattle.certificate_file.specs.declared.places.Accepted.{Accepted}
@@ -25,14 +20,13 @@ use Rattle.certificate_file.specs.declared.places.Conclusion.{Conclusion}
 use Rattle.certificate_file.specs.declared.places.Conclusion.TheVariants.{Pair, Refutation, Partial, Reached}
 use Rattle.reach_kinds.specs.declared.places.Reached.{Reached as Body}
 use Rattle.reach_kinds.specs.declared.places.Reached.TheVariants as body
-use Rattle.printed_lines.specs.Lines.{Text, config_too_long, accepted, verified_lines}
+use Rattle.printed_lines.specs.Lines.{config_too_long}
 use Rattle.request_reading.specs.declared.status.Status.{Status}
 use Rattle.request_reading.specs.declared.status.Status.TheVariants.{Yes, ConfigRefused, TooLarge}
 use Rattle.request_reading.specs.declared.reply.Reply.{Reply as Answer}
 use Rattle.request_reading.specs.declared.early.Early.{Early}
 use Rattle.request_reading.specs.declared.early.Early.TheVariants.{Refused, Read, Memory}
 use Rattle.request_reading.specs.declared.files.TheConstants.{MAX_FILE}
-use Rattle.request_reading.specs.declared.checking.Claim.TheVariants as claim
 use Rattle.request_reading.specs.declared.names.NamedNodes.{NamedNodes}
 use Rattle.request_reading.specs.declared.operands.Operands.{Operands}
 use Rattle.request_reading.specs.declared.reading.Asked.{Asked}
