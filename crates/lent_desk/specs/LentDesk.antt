@@ -43,10 +43,6 @@ state_of d = record {
 abbrev pub faults_of : LentDesk → Faults
 faults_of d = record { reads = d.reads; writes = d.writes }
 
--- how much room was wanting
-abbrev pub wanting_in : LentDesk → ℕ
-wanting_in d = d.wanting
-
 -- a desk with these files, leave to make the certificate, this on its output and so much room
 abbrev pub at_start : Files → List ℕ → ℕ → DeskState
 at_start files before room = record {

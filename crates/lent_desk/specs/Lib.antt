@@ -3,3 +3,4 @@ pub mod Spans
 pub mod Left
 pub mod Room
 pub mod LentDesk
+pub mod EndlessDesk

@@ -1,10 +1,6 @@
--- What is wanted of a room that was too small.
-use Rattle.std.specs.Prelude.{◌≡◌, ℕ, ◌<◌}
+-- The most room that is told of.
+use Rattle.std.specs.Prelude.{ℕ, ◌-◌, ◌^◌}
 
--- once a call that writes failed, more bytes than the room has
-abbrev pub Wants : ℕ → ℕ → ℕ → Type 0
-Wants failed wanting room = 0 < failed → room < wanting
-
--- before that, none
-abbrev pub WantsNothing : ℕ → ℕ → Type 0
-WantsNothing failed wanting = failed ≡ 0 → wanting ≡ 0
+-- so many bytes at most are measured, one less than the greatest number that tells how much is wanting
+abbrev pub MOST_ROOM : ℕ
+MOST_ROOM = 2 ^ 64 - 2

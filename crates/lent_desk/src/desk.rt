@@ -1,9 +1,8 @@
 //! The desk over the caller's files and room.
-ghost use Rattle.std.specs.Prelude.{◌≡◌, ◌≤◌, ◌<◌, ◌+◌, length};
+ghost use Rattle.std.specs.Prelude.{◌≡◌, ◌≤◌, ◌+◌, length};
 ghost use Rattle.std.specs.Option.{ForSome};
 ghost use Rattle.lent_desk.specs.Spans.{FitAll, IsOpen};
 ghost use Rattle.lent_desk.specs.Left.{FitsLeft};
-ghost use Rattle.lent_desk.specs.Room.{Wants, WantsNothing};
 
 use crate::bytes::{put_at, put_last};
 use crate::files::{File, LentFiles, lent, named};
@@ -25,15 +24,12 @@ pub struct LentDesk<'a> {
     spans: Spans,
     left: AllLeft<'a>,
     created: Option<Open>,
-    wanting: usize,
     reads: u64,
     writes: u64,
     ghost fits: { kept + said ≤ length room.now },
     ghost spans_fit: { FitAll kept spans },
     ghost left_fits: { FitsLeft kept left },
     ghost is_open: { ForSome created (IsOpen kept spans) },
-    ghost wants: { Wants writes wanting (length room.now) },
-    ghost wants_nothing: { WantsNothing writes wanting },
 }
 
 /// How long the text and the certificate are, the last and the first bytes of the room.
@@ -55,7 +51,6 @@ impl<'a> Drop for LentDesk<'a> {
             spans: _,
             left: _,
             created: _,
-            wanting: _,
             reads: _,
             writes: _,
         } = self;
@@ -68,7 +63,7 @@ impl<'a> LentDesk<'a> {
     ghost use Rattle.lent_desk.specs.Files.{file_named, files_named, name_of};
     ghost use Rattle.lent_desk.specs.Spans.{Fits, slice_in};
     ghost use Rattle.lent_desk.specs.Left.{rest_in};
-    ghost use Rattle.lent_desk.specs.LentDesk.{state_of, faults_of, at_start, made_in, kept_in, room_in, space_in, mark_of, wanting_in};
+    ghost use Rattle.lent_desk.specs.LentDesk.{state_of, faults_of, at_start, made_in, kept_in, room_in, space_in, mark_of};
 
     /// A desk that was asked nothing. O(1).
     pub fn new(lent: LentFiles<'a>, room: &'a mut [u8]) -> LentDesk<'a>
@@ -86,20 +81,9 @@ impl<'a> LentDesk<'a> {
             spans: Spans::none(),
             left: AllLeft::none(),
             created: None,
-            wanting: 0,
             reads: 0,
             writes: 0,
         }
-    }
-
-    /// How many bytes of room are wanted at least once a call that writes failed: the greatest number if no room helps, since the
-    /// desk makes no such file. Before that 0. O(1).
-    pub fn wanting(&self) -> usize
-        ensures value { result ≡ wanting_in self.now }
-        ensures more { 0 < (faults_of self.now).writes → length (room_in self.now).now < result }
-        ensures none { (faults_of self.now).writes ≡ 0 → result ≡ 0 }
-    {
-        self.wanting
     }
 
     /// Ends the work: brings the certificate to the front of the room, if it does not stand there. O(1), else O(its bytes).
@@ -110,7 +94,6 @@ impl<'a> LentDesk<'a> {
         ensures within { result.cert + result.text ≤ length (room_in self.new).now }
         ensures same_room { (room_in self.new).ghost_name ≡ (room_in self.old).ghost_name }
         ensures len { length (room_in self.new).now ≡ length (room_in self.old).now }
-        ensures wanting { wanting_in self.new ≡ wanting_in self.old }
     {
         let cert = match self.spans.made {
             Some(span) => self.bring(span),
@@ -201,24 +184,14 @@ impl<'a> LentDesk<'a> {
         ReadFailed
     }
 
-    // Counts a call that writes and failed, for which so many bytes of room are wanted.
-    fn write_failed(&mut self, wanting: usize) -> WriteFailed
-        requires { length (room_in self.old).now < wanting }
+    // Counts a call that writes and failed.
+    fn write_failed(&mut self) -> WriteFailed
         ensures counted { faults_of self.new ≡ record (faults_of self.old) { writes = min ((faults_of self.old).writes + 1) (2 ^ 64 - 1) } }
         ensures later { (faults_of self.old).writes ≤ (faults_of self.new).writes }
         ensures same { state_of self.new ≡ state_of self.old }
     {
         self.writes = self.writes.saturating_add(1);
-        self.wanting = wanting;
         WriteFailed
-    }
-
-    // How much room is wanted for bytes for which there is none.
-    fn wanted(&self, bytes: &[u8]) -> usize
-        requires { space_in self.now < length bytes.now }
-        ensures { length (room_in self.now).now < result }
-    {
-        (self.kept + self.said).saturating_add(bytes.len())
     }
 
     // Brings what stands there to the front of the room.
@@ -231,7 +204,6 @@ impl<'a> LentDesk<'a> {
         ensures len { length (room_in self.new).now ≡ length (room_in self.old).now }
         ensures same_room { (room_in self.new).ghost_name ≡ (room_in self.old).ghost_name }
         ensures said { self.new.said ≡ self.old.said }
-        ensures wanting { wanting_in self.new ≡ wanting_in self.old }
     {
         if span.from > 0 {
             self.room.copy_within(span.from..span.to, 0);
@@ -274,19 +246,18 @@ impl<'a> Desk for LentDesk<'a> {
                 self.make(file);
                 Ok(())
             }
-            None => Err(self.write_failed(usize::MAX)),
+            None => Err(self.write_failed()),
         }
     }
 
     fn put(&mut self, to: To, bytes: &[u8]) -> Result<usize, WriteFailed> {
         if bytes.len() > self.space() {
-            let wanting = self.wanted(bytes);
-            return Err(self.write_failed(wanting));
+            return Err(self.write_failed());
         }
         match (to, self.created) {
             (To::Out, _) => self.say(bytes),
             (To::Cert, Some(opened)) => self.keep(opened, bytes),
-            (To::Cert, None) => return Err(self.write_failed(usize::MAX)),
+            (To::Cert, None) => return Err(self.write_failed()),
         }
         Ok(bytes.len())
     }

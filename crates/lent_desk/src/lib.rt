@@ -3,9 +3,12 @@
 
 mod bytes;
 mod desk;
+mod endless;
 mod files;
+mod heard;
 mod left;
 mod spans;
 
 pub use desk::{Lengths, LentDesk};
+pub use endless::EndlessDesk;
 pub use files::LentFiles;

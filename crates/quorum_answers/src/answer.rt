@@ -1,15 +1,16 @@
 //! How a question is answered.
-ghost use Rattle.std.specs.Prelude.{All, IsTrue, false, ◌≡◌, ◌<◌, ◌≤◌, ◌+◌, ◌∷◌, [], length};
+ghost use Rattle.std.specs.Prelude.{All, IsTrue, false, ◌≡◌, ◌⊎◌, ◌<◌, ◌≤◌, ◌+◌, ◌-◌, ◌^◌, ◌∷◌, [], length};
 ghost use Rattle.std.specs.Str.{IsUtf8};
 ghost use Rattle.request_reading.specs.Answers.{words_of};
 ghost use Rattle.request_reading.specs.Status.{code_of, is_answer};
 ghost use Rattle.lent_desk.specs.Files.{files_named};
-ghost use Rattle.lent_desk.specs.LentDesk.{room_in, mark_of, state_of, faults_of};
-ghost use Rattle.quorum_answers.specs.Answering.{Answers, Holds, IsNothing, words_in, program};
+ghost use Rattle.lent_desk.specs.LentDesk.{room_in, mark_of, state_of};
+ghost use Rattle.lent_desk.specs.Room.{MOST_ROOM};
+ghost use Rattle.quorum_answers.specs.Answering.{Answers, Attempts, EndsShort, Holds, IsNothing, words_in, program};
 
 use crate::reading::{Unread, words};
 use command_run::{Status, run};
-use lent_desk::{LentDesk, LentFiles};
+use lent_desk::{EndlessDesk, LentDesk, LentFiles};
 use std::alloc::Global;
 
 /// How a question ended.
@@ -22,7 +23,7 @@ pub struct QuorumEnd {
     pub text: usize,
     /// How many bytes the certificate has, the first of the room.
     pub cert: usize,
-    /// How many bytes of room are wanted at least with status 7: the greatest number if no room helps. Else 0.
+    /// With status 7 how many bytes of room the answer fits, exactly: the greatest number if no room helps. Else 0.
     pub wanting: usize,
 }
 
@@ -56,12 +57,10 @@ fn told(status: Status, desk: &mut LentDesk) -> QuorumEnd
     }
 }
 
-// The end of a run that ended so.
+// The end of a run that ended so, without what is wanting.
 fn close(status: Status, desk: &mut LentDesk) -> QuorumEnd
-    requires { status ≡ Status.WriteFault → 0 < (faults_of desk.old).writes }
     ensures status { result.status ≡ code_of status }
-    ensures wanting { status ≡ Status.WriteFault → length (room_in desk.old).now < result.wanting }
-    ensures enough { (status ≡ Status.WriteFault → ⊥) → result.wanting ≡ 0 }
+    ensures wanting { result.wanting ≡ 0 }
     ensures holds { IsTrue (is_answer status)
         → Holds (room_in desk.new).now (mark_of (room_in desk.old)) result (state_of desk.old) }
     ensures nothing { is_answer status ≡ false → IsNothing result }
@@ -70,15 +69,46 @@ fn close(status: Status, desk: &mut LentDesk) -> QuorumEnd
     ensures len { length (room_in desk.new).now ≡ length (room_in desk.old).now }
 {
     match status {
-        Status::ReadFault | Status::Memory => silent(status, 0),
-        Status::WriteFault => silent(status, desk.wanting()),
+        Status::ReadFault | Status::WriteFault | Status::Memory => silent(status, 0),
         _ => told(status, desk),
     }
 }
 
-// The answer to words that were read.
-fn ended(alloc: Global, words: &[String], files: LentFiles, room: &mut [u8]) -> QuorumEnd
-    ensures answered { Answers (words_of words.now) (files_named files.entry.config.now files.entry.orgs.now files.entry.script.now files.entry.cert.now) room.new result }
+// The end of a question for which this room was too small, where a run on the endless desk ended so and put so many bytes. Both runs
+// do the same, so a second one that reads less, or fits, has only been short of memory.
+fn measured(status: Status, total: usize, room: usize) -> QuorumEnd
+    requires total { total ≤ MOST_ROOM }
+    requires room { room < 2 ^ 64 - 1 }
+    ensures nothing { IsNothing result }
+    ensures status { (result.status ≡ 8) ⊎ (result.status ≡ 7) }
+    ensures memory { result.status ≡ 8 → result.wanting ≡ 0 }
+    ensures more { result.status ≡ 7 → room < result.wanting }
+    ensures answer { result.status ≡ 7 → IsTrue (is_answer status) → result.wanting ≡ total }
+    ensures fault { result.status ≡ 7 → is_answer status ≡ false → status ≡ Status.WriteFault }
+    ensures never { result.status ≡ 7 → is_answer status ≡ false → result.wanting ≡ 2 ^ 64 - 1 }
+{
+    match status {
+        Status::ReadFault | Status::Memory => silent(Status::Memory, 0),
+        Status::WriteFault => silent(Status::WriteFault, usize::MAX),
+        _ if total > room => silent(Status::WriteFault, total),
+        _ => silent(Status::Memory, 0),
+    }
+}
+
+// Measures how much room the answer wants, by a second run, on a desk that only counts.
+fn short(alloc: Global, words: &[String], files: LentFiles, room: usize) -> QuorumEnd
+    requires { room < 2 ^ 64 - 1 }
+    ensures { EndsShort (words_of words.now) (files_named files.entry.config.now files.entry.orgs.now files.entry.script.now files.entry.cert.now) room result }
+{
+    let mut desk = EndlessDesk::new(files);
+    let status = run(alloc, words, &mut desk);
+    let total = desk.wanting();
+    measured(status, total, room)
+}
+
+// The answer in the room, if it fits.
+fn attempt(alloc: Global, words: &[String], files: LentFiles, room: &mut [u8]) -> QuorumEnd
+    ensures answered { Attempts (words_of words.now) (files_named files.entry.config.now files.entry.orgs.now files.entry.script.now files.entry.cert.now) room.new result }
     ensures len { length room.new ≡ length room.old }
 {
     let mut desk = LentDesk::new(files, room);
@@ -86,11 +116,25 @@ fn ended(alloc: Global, words: &[String], files: LentFiles, room: &mut [u8]) -> 
     close(status, &mut desk)
 }
 
+// The answer to words that were read.
+fn ended(alloc: Global, words: &[String], files: LentFiles, room: &mut [u8]) -> QuorumEnd
+    ensures answered { Answers (words_of words.now) (files_named files.entry.config.now files.entry.orgs.now files.entry.script.now files.entry.cert.now) room.new result }
+    ensures len { length room.new ≡ length room.old }
+{
+    let first = attempt(alloc, words, files, room);
+    if first.status == 7 {
+        let most = room.len();
+        return short(alloc, words, files, most);
+    }
+    first
+}
+
 /// Answers the words over the files, as the program does.
 ///
 /// The words stand between zero bytes, without the program's name. They name the files `config`, `orgs`, `script` and `cert`, and a
 /// search makes the certificate `made`. The certificate is written to the front of the room and the text to its end: if it is too small for
-/// both, the status is 7. Words of which one is not UTF-8 are answered as none are.
+/// both, the status is 7, and a second run, whose bytes go nowhere, measures how much room they want. Words of which one is not UTF-8 are
+/// answered as none are.
 pub fn answered(alloc: Global, text: &[u8], files: LentFiles, room: &mut [u8]) -> QuorumEnd
     ensures words { All IsUtf8 (words_in text.now)
         → Answers (program ∷ words_in text.now) (files_named files.entry.config.now files.entry.orgs.now files.entry.script.now files.entry.cert.now) room.new result }

@@ -13,7 +13,8 @@ use std::alloc::Global;
 ///
 /// The words stand between zero bytes, without the program's name. They name the files `config`, `orgs`, `script` and `cert`, and a
 /// search makes the certificate `made`. The certificate is written to the front of the room and the text to its end: if it is too small for
-/// both, the status is 7. Words of which one is not UTF-8 are answered as none are.
+/// both, the status is 7, and a second run, whose bytes go nowhere, measures how much room they want. Words of which one is not UTF-8 are
+/// answered as none are.
 #[unsafe(no_mangle)]
 pub extern "C" fn quorum_answer(
     alloc: Global,

@@ -1,4 +1,4 @@
-use Rattle.std.proofs.Common.{true, codes, ◌∷◌, [], ◌≡◌, ℕ, ◌+◌, ◌-◌, ◌<◌, ◌++◌, List, Option, length, take, drop, sym, ap, subst, ◌∙◌, arith}
+use Rattle.std.proofs.Common.{true, codes, ◌∷◌, [], ◌≡◌, ℕ, ◌+◌, ◌-◌, ◌++◌, List, Option, length, take, drop, sym, ap, subst, ◌∙◌, arith}
 use Rattle.std.proofs.lemmas.List.{length-take-le}
 use Rattle.std.specs.Option.{ForSome, option_map}
 use Rattle.desk_io.specs.State.{appended}
@@ -25,8 +25,6 @@ invariant_of-self c =
       spans_fit = subst (FitAll more) (sym c.set.ensures) (fit_all_with o.file span d.spans d.kept more (omega (arith, below), omega arith) (omega arith) d.spans_fit);
       left_fits = more_left d.left d.kept more (omega arith) d.left_fits;
       is_open = subst (λ (s : Spans). ForSome d.created (IsOpen more s)) (sym c.set.ensures) (subst (λ (it : Option Open). ForSome it (IsOpen more (with_span o.file span d.spans))) (sym c.requires.opened) (is_open_with o more d.spans));
-      wants = subst (λ n. 0 < d.writes → n < d.wanting) (sym c.put_at.ensures.len) d.wants;
-      wants_nothing = d.wants_nothing;
     }
 
 pub returns-clause-kept : goal.returns-clause-kept

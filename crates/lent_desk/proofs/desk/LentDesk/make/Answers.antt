@@ -15,6 +15,4 @@ invariant_of-self c =
       spans_fit = subst (FitAll d.kept) (sym c.set.ensures) (fit_all_with c.args.file span d.spans d.kept d.kept (omega arith, omega arith) (omega arith) d.spans_fit);
       left_fits = d.left_fits;
       is_open = subst (λ (s : Spans). ForSome (Some (record { file = c.args.file; from = d.kept })) (IsOpen d.kept s)) (sym c.set.ensures) (is_open_with (record { file = c.args.file; from = d.kept }) d.kept d.spans);
-      wants = d.wants;
-      wants_nothing = d.wants_nothing;
     }

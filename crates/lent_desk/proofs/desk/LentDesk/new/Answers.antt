@@ -1,4 +1,4 @@
-use Rattle.std.proofs.Common.{◌≡◌, ◌-◌, true, codes, ◌∷◌, [], ◌++◌, None, length, take, drop, refl, sym, ap, subst, ◌∙◌, arith}
+use Rattle.std.proofs.Common.{◌≡◌, ◌-◌, true, codes, ◌∷◌, [], ◌++◌, None, length, take, drop, sym, ap, subst, ◌∙◌, arith}
 use Rattle.std.proofs.lemmas.List.{drop_all}
 use Rattle.lent_desk.specs.declared.spans.Spans.{Spans}
 use Rattle.lent_desk.specs.Spans.{FitAll, files_in}
@@ -12,8 +12,6 @@ invariant_of-result c = record {
   spans_fit = subst (FitAll 0) (sym c.none.ensures) (none_fit 0);
   left_fits = c.none-2.ensures.fits 0;
   is_open = λ x is. absurd (cc is);
-  wants = λ less. absurd (omega (arith, less));
-  wants_nothing = λ _. refl;
 }
 
 pub returns-clause-state : goal.returns-clause-state
