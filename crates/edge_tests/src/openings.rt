@@ -1,4 +1,4 @@
-//! Openings that fail: how often an interrupted one is tried again, and what is asked of the file system.
+//! Openings: which file is opened, and, where that fails, how often it is tried again.
 
 use crate::machine::{Machine, Name, PLAIN, Plan, Step, There};
 use crate::shared::same;
@@ -65,5 +65,27 @@ fn an_interrupted_opening_is_tried_again_and_any_other_error_fails_at_once(rt: H
     for (kind, times, want_begun, want_created) in OPENINGS.iter() {
         same(&rt, begun(rt.alloc(), *kind, *times), want_begun);
         same(&rt, created(rt.alloc(), *kind, *times), want_created);
+    }
+}
+
+/// What is asked of the file system where a file is begun.
+fn opened(alloc: Global, which: Which, name: &str) -> Result<String, AllocError> {
+    let machine = Machine::new(alloc, PLAIN);
+    let is_begun = RealDesk::new(&machine).begin(which, name).is_ok();
+    format!(in alloc; "{is_begun} {}", machine.told()?)
+}
+
+static NAMES: [(Which, &str, &str); 5] = [
+    (Which::Config, "nodes", "true 4; /dev/null read; nodes read"),
+    (Which::Orgs, "orgs", "true 4; /dev/null read; orgs read"),
+    (Which::Script, "edits", "true 4; /dev/null read; edits read"),
+    (Which::Cert, "cert", "true 4; /dev/null read; cert read"),
+    (Which::Script, "made", "false 4; /dev/null read; made read"),
+];
+
+#[test]
+fn each_file_is_opened_by_the_name_that_is_given(rt: HostRuntime) {
+    for (which, name, want) in NAMES.iter() {
+        same(&rt, opened(rt.alloc(), *which, name), want);
     }
 }
