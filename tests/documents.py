@@ -1,5 +1,5 @@
 #!/usr/bin/env python3
-"""Checks the documents: the files, words and links that they name, the crates and their picture, their length and their sentences.
+"""Checks the documents: the files, words and links that they name, the crates and their picture, and their sentences.
 
 A definition is named as `crate/specs/File.antt`: `word`, `word`; the file lies in crates/, and each word stands in it. Any other
 name in backquotes that is written as names of the code are (`is_rising`, `TheConstants`, `File.antt`) stands somewhere in the repository.
@@ -16,8 +16,6 @@ DOCUMENTS = ["README.md", "CHANGELOG.md", "CONTRIBUTING.md", "SECURITY.md", *("d
 NAMED = re.compile(r"`([a-z_0-9]+/(?:src|specs|proofs|must-fail)/[\w./]+)`((?:: `[^`]+`(?:(?:,| and) `[^`]+`)*)?)")
 # Names as the code has them: words joined by `_` or `::`, or with a capital inside, or a file's name.
 CODED = re.compile(r"`((?:[A-Za-z]\w*::)*[A-Za-z]\w*(?:\.antt|\.rt|\.py|\.edit)?)`")
-# The most words of a document, so that it stays one that is read.
-BUDGETS = {"README.md": 940, "docs/ANALYSTS.md": 900, "CHANGELOG.md": 410, "CONTRIBUTING.md": 1240, "docs/DECISIONS.md": 4650, "docs/DEFINITIONS.md": 3200, "docs/FORMATS.md": 6640, "docs/GLOSSARY.md": 300, "docs/GUIDE.md": 1970, "docs/LIBRARY.md": 620, "docs/MAP.md": 1830, "docs/PAGE.md": 600, "docs/PERFORMANCE.md": 2000, "docs/PROVED.md": 2550, "docs/TRUSTED.md": 700, "docs/PROVING.md": 1200, "docs/TESTING.md": 3500}
 # A sentence has fewer words than this.
 MOST_WORDS = 40
 # Words for which the documents have plainer ones: after, given, borrowed, the number of.
@@ -116,12 +114,6 @@ class Trial:
                 parts = [cited] if "." in cited else cited.split("::")
                 self.judge(all(part in self.words for part in parts), "%s names %s, which stands nowhere" % (name, cited))
 
-    def budget(self, name, text):
-        """A document has no more words than its budget."""
-        if name in BUDGETS:
-            count = words_in(text)
-            self.judge(count <= BUDGETS[name], "%s has %d words, and %d are its budget" % (name, count, BUDGETS[name]))
-
     def sentences(self, name, text):
         """No sentence is long, and no word is used for which there is a plainer one."""
         for paragraph in paragraphs(text):
@@ -161,6 +153,11 @@ class Trial:
         called = re.search(r"void quorum_answer\((.*?)\)", header, re.S)[1]
         self.judge([" ".join(it.split()) for it in called.split(",")] == wanted, "library/quorum.h has other parameters than quorum_answer")
 
+    def specification(self):
+        """docs/SPECIFICATION.md is what the specs say."""
+        made = subprocess.run([sys.executable, os.path.join(TOP, "tools", "specification"), "--check"], stderr=subprocess.PIPE)
+        self.judge(not made.returncode, made.stderr.decode().strip())
+
     def crates(self):
         """The picture is the one of crates.txt, and the map has each crate once, in the order of the layers."""
         drawn = subprocess.run([sys.executable, os.path.join(TOP, "tools", "crates-picture"), "--print"], stdout=subprocess.PIPE).stdout.decode()
@@ -192,9 +189,9 @@ def main():
         trial.definitions(name, text)
         trial.names(name, text)
         trial.links(name, text)
-        trial.budget(name, text)
         trial.sentences(name, text)
     trial.header()
+    trial.specification()
     trial.crates()
     print("documents: %d passed, %d failed" % (trial.passed, trial.failed))
     return 1 if trial.failed else 0
