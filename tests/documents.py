@@ -1,8 +1,11 @@
 #!/usr/bin/env python3
-"""Checks the documents: the files, words and links that they name, the crates and their picture, and their sentences.
+"""Checks the documents: the files, words and links that they name, the crates and their picture, and their sentences, cells and paragraphs.
 
 A definition is named as `crate/specs/File.antt`: `word`, `word`; the file lies in crates/, and each word stands in it. Any other
 name in backquotes that is written as names of the code are (`is_rising`, `TheConstants`, `File.antt`) stands somewhere in the repository.
+A sentence has fewer than 30 words, a cell of a table fewer than 200 characters, and a paragraph or an item of a list fewer than six
+lines of 140 characters. Excepted are code blocks, the tables of numbers that bench/tables.py fills in (from `<!-- tables.py PART -->` to
+`<!-- end -->`), and docs/SPECIFICATION.md, which tools/specification makes: that one is compared with the specs.
 The last line is 'documents: N passed, M failed'.
 """
 
@@ -10,14 +13,17 @@ import os
 import re
 import subprocess
 import sys
+import textwrap
 
 TOP = os.path.dirname(os.path.dirname(os.path.abspath(__file__)))
 DOCUMENTS = ["README.md", "CHANGELOG.md", "CONTRIBUTING.md", "SECURITY.md", *("docs/" + name for name in sorted(os.listdir(os.path.join(TOP, "docs"))) if name.endswith(".md"))]
 NAMED = re.compile(r"`([a-z_0-9]+/(?:src|specs|proofs|must-fail)/[\w./]+)`((?:: `[^`]+`(?:(?:,| and) `[^`]+`)*)?)")
 # Names as the code has them: words joined by `_` or `::`, or with a capital inside, or a file's name.
 CODED = re.compile(r"`((?:[A-Za-z]\w*::)*[A-Za-z]\w*(?:\.antt|\.rt|\.py|\.edit)?)`")
-# A sentence has fewer words than this.
-MOST_WORDS = 40
+# A sentence has fewer words than this, a cell of a table fewer characters, and a paragraph fewer lines of this width.
+MOST_WORDS, MOST_CELL, MOST_LINES, WIDTH = 30, 200, 6, 140
+# What is made by a tool, and read as it is.
+MADE = {"docs/SPECIFICATION.md"}
 # Words for which the documents have plainer ones: after, given, borrowed, the number of.
 UNUSUAL = re.compile(r"\b(behind|told|lent|so many)\b", re.I)
 # Names of the toolchain that the documents cite.
@@ -63,19 +69,30 @@ def is_coded(name):
     return bool(re.search(r"_|::|\.|[a-z][A-Z]", name)) and not name.isupper()
 
 
+def written(text):
+    """The text without what is excepted: code blocks, tables of numbers that are filled in, and comments."""
+    return re.sub(r"^```.*?^```|<!-- tables\.py .*?<!-- end -->|<!--.*?-->", "", text, flags=re.S | re.M)
+
+
 def paragraphs(text):
-    """The texts without code: paragraphs, items of lists, cells of tables and headings, each without what stands in backquotes."""
-    text = re.sub(r"^```.*?^```|<!--.*?-->", "", text, flags=re.S | re.M)
-    found = [""]
-    for line in text.split("\n"):
+    """The paragraphs, items of lists and headings of a text, and apart from these the cells of its tables."""
+    prose, cells = [""], []
+    for line in written(text).split("\n"):
         line = line.lstrip("> ")
         if line.startswith("|"):
-            found += [*line.strip("|").split("|"), ""]
+            cells += [cell.strip() for cell in line.strip("|").split("|")]
+            prose.append("")
         elif not line or re.match(r"(-|\d+\.|#+) ", line):
-            found.append(re.sub(r"^(-|\d+\.|#+) ", "", line))
+            prose.append(re.sub(r"^(-|\d+\.|#+) ", "", line))
         else:
-            found[-1] += " " + line
-    return [re.sub(r"\]\([^)\s]*\)", "]", re.sub(r"`[^`]*`", "x", it)) for it in found]
+            prose[-1] = (prose[-1] + " " + line.strip()).strip()
+    return prose, cells
+
+
+def sentences_of(paragraph):
+    """Its sentences, in which a name in backquotes counts as one word, and a link as its text."""
+    bare = re.sub(r"\]\([^)\s]*\)", "]", re.sub(r"`[^`]*`", "x", paragraph))
+    return re.split(r"(?<=[.?!])[)*]*\s+", bare)
 
 
 def words_in(text):
@@ -115,11 +132,17 @@ class Trial:
                 self.judge(all(part in self.words for part in parts), "%s names %s, which stands nowhere" % (name, cited))
 
     def sentences(self, name, text):
-        """No sentence is long, and no word is used for which there is a plainer one."""
-        for paragraph in paragraphs(text):
-            for sentence in re.split(r"(?<=[.?!])[)*]*\s+", paragraph):
+        """No sentence, cell or paragraph is long, and no word is used for which there is a plainer one."""
+        prose, cells = paragraphs(text)
+        for paragraph in prose + cells:
+            for sentence in sentences_of(paragraph):
                 self.judge(words_in(sentence) < MOST_WORDS, "%s has a sentence of %d words: %s" % (name, words_in(sentence), sentence.strip()[:80]))
-            self.judge(not UNUSUAL.search(paragraph), "%s has an unusual word: %s" % (name, paragraph.strip()[:80]))
+            self.judge(not UNUSUAL.search(re.sub(r"`[^`]*`", "x", paragraph)), "%s has an unusual word: %s" % (name, paragraph.strip()[:80]))
+        for cell in cells:
+            self.judge(len(cell) < MOST_CELL, "%s has a cell of %d characters: %s" % (name, len(cell), cell[:80]))
+        for paragraph in prose:
+            lines = len(textwrap.wrap(paragraph, WIDTH))
+            self.judge(lines < MOST_LINES, "%s has a paragraph of %d lines: %s" % (name, lines, paragraph[:80]))
 
     def links(self, name, text):
         for link in re.findall(r"\]\(([^)\s]+)\)", text):
@@ -189,7 +212,8 @@ def main():
         trial.definitions(name, text)
         trial.names(name, text)
         trial.links(name, text)
-        trial.sentences(name, text)
+        if name not in MADE:
+            trial.sentences(name, text)
     trial.header()
     trial.specification()
     trial.crates()
