@@ -244,7 +244,7 @@ class Trial:
                 needed.add(crate)
                 waiting += uses[crate]
         count = len(needed)
-        said = f"the program, {count} crates" in text_of("README.md")
+        said = f"its {count} crates" in text_of("README.md")
         self.judge(said, f"README.md says another number of crates than {count}")
         self.folders(listed)
         for at, crate in enumerate(listed):
