@@ -24,7 +24,7 @@ DOCUMENTS = [
     *("README.md", "CHANGELOG.md", "CONTRIBUTING.md", "SECURITY.md"),
     *(f"docs/{name}" for name in FOLDER if name.endswith(".md")),
 ]
-NAMED = re.compile(r"`([a-z_0-9]+/(?:src|specs|proofs|must-fail)/[\w./]+)`((?:: `[^`]+`(?:(?:,| and) `[^`]+`)*)?)")
+NAMED = re.compile(r"`([a-z_0-9]+/(?:src|specs|proofs|must-fail)/[\w./]+)`((?::\s+`[^`]+`(?:(?:,| and)\s+`[^`]+`)*)?)")
 # Names as the code has them: words joined by `_` or `::`, or with a capital inside, or a file's name.
 CODED = re.compile(r"`((?:[A-Za-z]\w*::)*[A-Za-z]\w*(?:\.antt|\.rt|\.py|\.edit)?)`")
 # A sentence has fewer words than this, a cell of a table fewer characters, and a paragraph fewer lines of this width.
