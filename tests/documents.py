@@ -4,9 +4,10 @@
 A definition is named as `crate/specs/File.antt`: `word`, `word`; the file lies in crates/, and each word stands in it.
 Any other name in backquotes that is written as names of the code are (`is_rising`, `TheConstants`, `File.antt`) stands
 somewhere in the repository. A sentence has fewer than 30 words, a cell of a table fewer than 200 characters, and a
-paragraph or an item of a list fewer than six lines of 140 characters. Excepted are code blocks, the tables of numbers
-that bench/tables.py fills in (from `<!-- tables.py PART -->` to `<!-- end -->`), and docs/SPECIFICATION.md, which
-tools/specification makes: that one is compared with the specs. The last line is 'documents: N passed, M failed'.
+paragraph or an item of a list fewer than six lines. A line of these has at most 140 characters. Excepted are code
+blocks, the tables of numbers that bench/tables.py fills in (from `<!-- tables.py PART -->` to `<!-- end -->`), and
+docs/SPECIFICATION.md, which tools/specification makes: that one is compared with the specs. The last line is
+'documents: N passed, M failed'.
 """
 
 from __future__ import annotations
@@ -169,6 +170,9 @@ class Trial:
     def sentences(self, name: str, text: str) -> None:
         """No sentence, cell or paragraph is long, and no word is used for which there is a plainer one."""
         prose, cells = paragraphs(text)
+        for line in written(text).split("\n"):
+            short = len(line) <= WIDTH or line.startswith("|")
+            self.judge(short, f"{name} has a line of {len(line)} characters: {line[:80]}")
         for paragraph in prose + cells:
             for sentence in sentences_of(paragraph):
                 count = words_in(sentence)
