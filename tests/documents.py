@@ -5,9 +5,9 @@ A definition is named as `crate/specs/File.antt`: `word`, `word`; the file lies 
 Any other name in backquotes that is written as names of the code are (`is_rising`, `TheConstants`, `File.antt`) stands
 somewhere in the repository. A sentence has fewer than 30 words, a cell of a table fewer than 200 characters, and a
 paragraph or an item of a list fewer than six lines. A line of these has at most 140 characters. Excepted are code
-blocks, the tables of numbers that bench/tables.py fills in (from `<!-- tables.py PART -->` to `<!-- end -->`), and
-docs/SPECIFICATION.md, which tools/specification makes: that one is compared with the specs. The last line is
-'documents: N passed, M failed'.
+blocks, and what tools make: the tables of numbers that bench/tables.py fills in (from `<!-- tables.py PART -->` to
+`<!-- end -->`), what stands from `<!-- made by TOOL from here -->` to `<!-- to here -->`, and docs/SPECIFICATION.md.
+That one is compared with the specs. The last line is 'documents: N passed, M failed'.
 """
 
 from __future__ import annotations
@@ -30,8 +30,9 @@ NAMED = re.compile(r"`([a-z_0-9]+/(?:src|specs|proofs|must-fail)/[\w./]+)`((?::\
 CODED = re.compile(r"`((?:[A-Za-z]\w*::)*[A-Za-z]\w*(?:\.antt|\.rt|\.py|\.edit)?)`")
 # A sentence has fewer words than this, a cell of a table fewer characters, and a paragraph fewer lines of this width.
 MOST_WORDS, MOST_CELL, MOST_LINES, WIDTH = 30, 200, 6, 140
-# What is made by a tool, and read as it is.
+# What is made by a tool, and read as it is: a document, and parts of one.
 MADE = {"docs/SPECIFICATION.md"}
+FILLED = "<!-- tables\\.py .*?<!-- end -->|<!-- made by .*? from here -->.*?<!-- to here -->"
 # Words for which the documents have plainer ones: after, given, borrowed, the number of.
 UNUSUAL = re.compile(r"\b(behind|told|lent|so many)\b", re.I)
 # Names of the toolchain that the documents cite.
@@ -78,8 +79,8 @@ def is_coded(name: str) -> bool:
 
 
 def written(text: str) -> str:
-    """The text without what is excepted: code blocks, tables of numbers that are filled in, and comments."""
-    return re.sub(r"^```.*?^```|<!-- tables\.py .*?<!-- end -->|<!--.*?-->", "", text, flags=re.S | re.M)
+    """The text without what is excepted: code blocks, what tools fill in, and comments."""
+    return re.sub(f"^```.*?^```|{FILLED}|<!--.*?-->", "", text, flags=re.S | re.M)
 
 
 def paragraphs(text: str) -> tuple[list[str], list[str]]:
