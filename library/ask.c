@@ -57,8 +57,8 @@ int main(int count, char **args) {
         quorum_answer(words.at, words.len, config.at, config.len, orgs.at, orgs.len, script.at, script.len,
                       cert.at, cert.len, room, room_len, &end);
         if (end.status != 7 || end.wanting == SIZE_MAX) break;
-        /* The search begins anew, so the next room is ample. */
-        room_len = end.wanting > room_len * 4 ? end.wanting : room_len * 4;
+        /* So much room the same answer fits. */
+        room_len = end.wanting;
         free(room);
     }
     if (end.cert) write_file("made", room, end.cert);

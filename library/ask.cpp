@@ -1,6 +1,5 @@
 // A caller in C++: asks about three nodes, of which one lies, then has the certificate checked.
 #include "quorum.h"
-#include <algorithm>
 #include <iostream>
 #include <string>
 #include <string_view>
@@ -23,7 +22,7 @@ Answer ask(std::string_view words, std::string_view config, std::string_view cer
         quorum_answer(bytes(words), words.size(), bytes(config), config.size(), nullptr, 0, nullptr, 0, bytes(cert), cert.size(),
                       room.data(), room.size(), &end);
         if (end.status == 7 && end.wanting != SIZE_MAX) {
-            room.resize(std::max(end.wanting, 4 * room.size()));
+            room.resize(end.wanting);
             continue;
         }
         return {end.status, {room.end() - end.text, room.end()}, {room.begin(), room.begin() + end.cert}};

@@ -3,7 +3,7 @@
 
 First tools/library builds it. With --built nothing is built: the library is the one that tools/library has built of these sources, else that of
 dist/, if ./quorum_cli runs its program. Then: what it exports and calls; the callers of library/; questions on the examples; the rows of
-tests/malicious.py; rooms of every size; memory that is refused at each place; threads; stacks; words that are no UTF-8; the classes
+tests/malicious.py; rooms of every size, and of the one that is wanting; memory that is refused at each place; threads; stacks; words that are no UTF-8; the classes
 of the Python package, installed by pip; and mutated files and words. What needs a tool that is not there is skipped, and it says so.
 
 tests/library.py [--built] [--cases N] [--share N] [--seed S] [PROGRAM]; with --share only one growth of memory in N is refused. Its last line is 'library: N passed, M failed, K skipped'.
@@ -231,7 +231,7 @@ class Trial:
         self.same("a zero byte at the end", self.answer(["show", "config", ""], files)[0], 3)
 
     def rooms(self):
-        """In a room of each size there is the whole answer, or none and how much is wanting; nothing beside it is written."""
+        """In a room of each size there is the whole answer, or none and exactly how much is wanting; nothing beside it is written."""
         asked = ["show config", "intersect config made", "intersect config made --faulty a", "blocking config made", "least config made", "intersect config config", "trial 1 made", "greatest config --faulty z"]
         for line in asked:
             words, files = line.split(), {"config": malicious.THREE}
@@ -239,10 +239,18 @@ class Trial:
             needed = len(wanted[1]) + len(wanted[2])
             for room in range(needed + 3):
                 status, text, cert, wanting, beside = self.in_room(words, files, room)
-                right = (status, text, cert, wanting) == (*wanted, 0) if room >= needed else (status, text, cert) == (7, b"", b"") and room < wanting <= needed
-                self.judge(right and beside, "%s in a room of %d: %r" % (line, room, (status, len(text), len(cert), wanting, beside)))
+                right = (*wanted, 0) if room >= needed else (7, b"", b"", needed)
+                self.judge((status, text, cert, wanting) == right and beside, "%s in a room of %d: %r" % (line, room, (status, len(text), len(cert), wanting, beside)))
         no_file = self.in_room(["intersect", "config", "other"], {"config": malicious.THREE}, 1 << 16)
         self.same("a certificate that the library makes in no room", no_file[:4], (7, b"", b"", binding.NEVER))
+
+    def exact_rooms(self):
+        """Each question in no room, in a byte less than is wanting, and in as much."""
+        for words, files, wanted in self.wanted:
+            needed = len(wanted[1]) + len(wanted[2])
+            for room in (0, needed - 1, needed) if needed else (0,):
+                right = (*wanted, 0) if room >= needed else (7, b"", b"", needed)
+                self.same("%s in a room of %d" % (" ".join(words), room), self.in_room(words, files, room), (*right, True))
 
     def in_room(self, words, files, room):
         """A call in the middle of a larger buffer, and whether the rest of that stayed as it was."""
@@ -447,7 +455,7 @@ def main():
         return status
     with tempfile.TemporaryDirectory(dir="/dev/shm" if os.path.isdir("/dev/shm") else None) as folder:
         trial = Trial(folder, asked.program, asked)
-        for part in (trial.symbols, trial.examples, trial.cpp, trial.no_text, trial.rooms, trial.refused_memory, trial.little_memory, trial.threads, trial.stacks, trial.installed, trial.classes, trial.malicious, trial.mutated):
+        for part in (trial.symbols, trial.examples, trial.cpp, trial.no_text, trial.rooms, trial.exact_rooms, trial.refused_memory, trial.little_memory, trial.threads, trial.stacks, trial.installed, trial.classes, trial.malicious, trial.mutated):
             part()
     print("library: %d passed, %d failed, %d skipped" % (trial.passed, trial.failed, trial.skipped))
     return 1 if trial.failed else 0

@@ -98,8 +98,8 @@ def answer(
     """The status, the text and the certificate, as bytes, of the words of a command line over files in memory.
 
     The words name the files config, orgs, script and cert, and what a search makes made: answer(["show", "config"],
-    data). If the room
-    is too small, a larger one is given. Raises MemoryError if there is no memory for the run or for the room.
+    data). If the room is too small, it is asked once more with the room that is wanting. Raises MemoryError if there
+    is no memory for the run or for the room.
     """
     line, room = line_of(words), as_count("room", room)
     files = {name: as_bytes(name, data) for name, data in zip(FILES, (config, orgs, script, cert))}
@@ -111,5 +111,4 @@ def answer(
             raise MemoryError(f"no memory for a room of {room} bytes") from error
         if end.status != NO_ROOM or end.wanting == NEVER:
             return end.status, text, made
-        # the search begins anew, so the next room is ample
-        room = max(end.wanting, 4 * room)
+        room = end.wanting
