@@ -4,8 +4,8 @@
 Whether what they make is right is shown by the examples of the documents, where `check-lrat` and `check` read it. Of
 tools/arguments, tools/twice and tools/callers it shows what they count, and that docs/DECISIONS.md names each contract
 that the first of them lists; of tools/uses, which names it sees in a text and in crates.txt; of tools/limits, which
-constants it sees, and which have a number in a sample. The program is not needed. The last line is 'tools: N passed, M
-failed'.
+constants it sees, which have a number in a sample, and that it lists none; of tools/memory-answers, which calls a test
+runs. The program is not needed. The last line is 'tools: N passed, M failed'.
 """
 
 import importlib.machinery
@@ -133,6 +133,13 @@ SAMPLES = (
     {"MOST", "TENTH"},
 )
 
+# A crate and one above it, with calls that can want memory: a test runs two of the three.
+WANTING = {
+    "low": "pub fn made(alloc: Global) -> Result<u8, AllocError>\n    ensures { result ≡ Ok 1 }\n{\n    other(alloc)\n}\n\n"
+    "fn other(alloc: Global) -> Result<u8, AllocError> {\n    Ok(1)\n}\n\npub fn lone(alloc: Global) -> Result<u8, AllocError> {\n    Ok(2)\n}\n",
+    "above": "use low::made;\n\n#[test]\nfn shows() {\n    let it = made(Global);\n}\n",
+}
+
 # A law, and a function that does something.
 LAWS = [
     "pub fn what_is_listed_is_found()\n    ensures { (x : ℕ) → Finds x }\n{}\n",
@@ -151,11 +158,16 @@ def tool(name):
 
 def source_tools():
     """What the tools that read the crates say, each with what it should be."""
-    arguments, twice, callers, uses, limits = (
-        tool(name) for name in ("arguments", "twice", "callers", "uses", "limits")
+    arguments, twice, callers, uses, limits, memory = (
+        tool(name) for name in ("arguments", "twice", "callers", "uses", "limits", "memory-answers")
     )
     yield "limits of code", limits.constants_of(CONSTANTS[0]), CONSTANTS[1]
     yield "limits of samples", limits.sampled(SAMPLES[0]), SAMPLES[1]
+    yield "limits without a number", limits.unnamed(), ([], [])
+    code = {crate: {callers.ROOT / "crates" / crate / "src" / "lib.rt": text} for crate, text in WANTING.items()}
+    named = memory.functions(callers, code)
+    ways = memory.reached(named, {"above": ["low"]}, set(named))
+    yield "calls that a test runs", sorted(it.name for it in ways), ["made", "other", "shows"]
     for text, kind, names in NAMES:
         yield f"uses of {text!r}", uses.names_in(text, kind) & NAMED, names
     yield "uses of crates.txt", uses.lines_of(LINES), {"low": [], "high": ["low", "other"]}
