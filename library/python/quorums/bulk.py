@@ -144,6 +144,8 @@ def cluster(tasks: Iterator[Task], asked: Asked, address: str) -> Answers:
         raise Failed(6, "--scheduler needs dask.distributed, which is not installed") from None
     logging.getLogger("distributed").setLevel(logging.CRITICAL)
     try:
+        # (a client that cannot be made of an address says so twice, and late)
+        distributed.comm.get_address_host(address)
         client = distributed.Client(address, timeout=REACHED, set_as_default=False)
     except (OSError, ValueError, TypeError, ImportError) as why:
         raise Failed(
