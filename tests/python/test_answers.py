@@ -144,8 +144,9 @@ def test_a_zero_byte_smuggles_in_no_word(three):
         three.greatest(faulty="a\0--from=b")
 
 
-def test_too_large():
-    sys.path.insert(0, f"{TOP}/tests")
+def test_too_large(monkeypatch):
+    # (for this test alone, since tests/packaging.py has the name of a package that others import)
+    monkeypatch.syspath_prepend(f"{TOP}/tests")
     import process
 
     with pytest.raises(TooLarge):

@@ -89,6 +89,14 @@ def test_each_certificate_is_accepted(one):
     assert checked >= 11 * 3
 
 
+def read_of(path):
+    """What is read of a sound snapshot: keys, quorum sets and countries, and the file of organisations."""
+    with open(path, encoding="utf-8") as it:
+        nodes = {node["publicKey"]: [node["quorumSet"], node.get("geoData")] for node in json.load(it)}
+    orgs = path.replace(".json", "-orgs.json")
+    return json.dumps([nodes, held_table(orgs).decode() if os.path.exists(orgs) else ""], sort_keys=True)
+
+
 def test_equal_snapshots_are_asked_once(folder, tmp_path, monkeypatch):
     asked = []
     monkeypatch.setattr(
@@ -99,7 +107,8 @@ def test_equal_snapshots_are_asked_once(folder, tmp_path, monkeypatch):
         ),
     )
     bulk.rows([folder], str(tmp_path / "t.csv"), ASKED)
-    assert len(asked) == len(set(asked)) == 8
+    sound = [row["file"] for row in tables.read(str(tmp_path / "t.csv")) if not row["fault"]]
+    assert len(sound) > len({read_of(it) for it in sound}) == len(asked) == len(set(asked))
 
 
 def test_more_processes_give_the_same_bytes(folder, one, tmp_path):
