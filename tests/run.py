@@ -12,7 +12,6 @@ if something was. Status 0 if nothing failed, else 1.
 
 import argparse
 import concurrent.futures
-import importlib.util
 import os
 import re
 import subprocess
@@ -61,12 +60,21 @@ LONG = {
     "fuzz": "fuzz.py --cases 20000 --seed 1",
     "memory": "memory.py",
     "web_page": "web_page.py",
+    "summary": "summary.py --count 200",
     "random_scripts": "random_scripts.py 1000",
     "exports": "exports.py",
     "questions": "questions.py",
     "random_lists": "random_lists.py",
     "edits": "edits.py",
 }
+
+
+def with_pytest():
+    """A Python that has pytest: this one, or the system's, since Debian's package is for that one; none where neither has it."""
+    for it in (sys.executable, "/usr/bin/python3"):
+        if os.path.exists(it) and subprocess.run([it, "-c", "import pytest"], stderr=subprocess.DEVNULL).returncode == 0:
+            return it
+    return None
 
 
 class Ended:
@@ -80,7 +88,7 @@ class Ended:
         self.why = [
             re.sub(rf"^{name}: |: \d+ passed.*$", "", line)
             for line in self.said.replace("-", "_").split("\n")
-            if "skipped" in line and not re.search(r"\d skipped", line)
+            if "skipped" in line.lower() and not re.search(r"\d skipped", line)
         ]
         self.skipped = max(counts.get("skipped", 0), len(self.why))
         # (one that ends badly, or says nothing of what it did, has failed)
@@ -111,12 +119,12 @@ class Runner:
         script, began = os.path.join(TOP, "tests", script), time.monotonic()
         if "PAGE" in line and not self.is_of_dist:
             status, said = 0, "skipped, since the page of dist/ is of other sources than those here"
-        elif os.path.isdir(script) and not importlib.util.find_spec("pytest"):
-            status, said = 0, "skipped, there is no pytest"
+        elif not os.path.isdir(script):
+            status, said = self.ran([*HEEDING, sys.executable, script, *words])
+        elif python := with_pytest():
+            status, said = self.ran([*HEEDING, python, "-m", "pytest", "-q", "-rs", script, *words])
         else:
-            status, said = self.ran(
-                [*HEEDING, sys.executable, *["-m", "pytest", "-q"] * os.path.isdir(script), script, *words]
-            )
+            status, said = 0, "skipped, there is no pytest"
         ended = Ended(name, status, said, time.monotonic() - began)
         with self.printing:
             if ended.failed:
