@@ -21,6 +21,9 @@ the lemmas are the clause with some of its literals put for their equivalents, o
 import os
 import subprocess
 import sys
+import tempfile
+
+import runs
 
 TOP = os.path.dirname(os.path.dirname(os.path.abspath(__file__)))
 CRATE = os.path.join(TOP, "crates", "lrat_bench")
@@ -153,15 +156,14 @@ def run(path, arguments):
     """The least processor time of three runs, the largest memory in MB, and what was printed."""
     best, most, text = None, 0, b""
     for _ in range(3):
-        with open(path, "rb") as log:
-            child = subprocess.Popen([PROGRAM] + arguments, stdin=log, stdout=subprocess.PIPE)
-            text = child.stdout.read()
-            _, status, usage = os.wait4(child.pid, 0)
-            took = usage.ru_utime + usage.ru_stime
+        with open(path, "rb") as log, tempfile.TemporaryFile() as told:
+            status, memory, took = runs.started([PROGRAM] + arguments, stdin=log, stdout=told)
+            told.seek(0)
+            text = told.read()
         if status != 0:
             sys.exit(f"{path}: the program ended with {status}")
         best = took if best is None else min(best, took)
-        most = max(most, usage.ru_maxrss // 1024)
+        most = max(most, memory)
     return best, most, " ".join(text.decode().split())
 
 

@@ -2,7 +2,6 @@
 """A run of a program: what it prints, its processor time and its largest memory; and the cells of tables made of
 these."""
 import os
-import resource
 import shutil
 import subprocess
 import sys
@@ -17,6 +16,19 @@ PROGRAM = chosen.PROGRAM
 # a folder whose files lie in memory, if there is one
 MEMORY = "/dev/shm" if os.access("/dev/shm", os.W_OK) else None
 MOST_SECONDS = 900
+# Starts a program under a limit of seconds, and tells how it ended. It is small, since the memory of who starts a
+# program counts as the program's own.
+STARTER = """
+import os, resource, sys
+pid = os.fork()
+if not pid:
+    limit = int(sys.argv[1])
+    resource.setrlimit(resource.RLIMIT_CPU, (limit, limit + 1))
+    os.dup2(os.open(os.devnull, os.O_WRONLY), 2)
+    os.execvp(sys.argv[2], sys.argv[2:])
+_, ended, used = os.wait4(pid, 0)
+os.write(2, b"%d %d %f" % (ended, used.ru_maxrss, used.ru_utime + used.ru_stime))
+"""
 
 
 @dataclass
@@ -30,23 +42,22 @@ class Run:
     limit: int
 
 
+def started(words, limit=MOST_SECONDS, **files):
+    """Runs a program to its end: how that was, its largest memory in MB, and its seconds of processor time."""
+    starter = [sys.executable, "-S", "-c", STARTER, str(limit), *words]
+    ended, memory, took = subprocess.run(starter, stderr=subprocess.PIPE, **files).stderr.split()
+    return int(ended), int(memory) // 1024, float(took)
+
+
 def run(words, limit=MOST_SECONDS, given="", out=None):
     """Runs a program on a text; what it prints goes to `out`, or is kept."""
-
-    def bounded():
-        resource.setrlimit(resource.RLIMIT_CPU, (limit, limit + 1))
-
     with tempfile.TemporaryFile(dir=MEMORY) as source, tempfile.TemporaryFile(dir=MEMORY) as told:
         source.write(given.encode())
         source.seek(0)
-        child = subprocess.Popen(
-            words, stdin=source, stdout=out or told, stderr=subprocess.DEVNULL, preexec_fn=bounded
-        )
-        _, status, used = os.wait4(child.pid, 0)
-        child.returncode = status
+        ended, memory, took = started(words, limit, stdin=source, stdout=out or told)
         told.seek(0)
         text = told.read().decode(errors="replace")
-    return Run(text, used.ru_utime + used.ru_stime, used.ru_maxrss // 1024, not os.WIFSIGNALED(status), limit)
+    return Run(text, took, memory, not os.WIFSIGNALED(ended), limit)
 
 
 def least(words, times=5, out=None):
