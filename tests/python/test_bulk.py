@@ -243,6 +243,8 @@ class Cluster:
 
     def __init__(self, place, count):
         self.place, self.file = place, str(place / "scheduler.json")
+        # (a busy machine answers late)
+        bulk.REACHED = 120
         self.scheduler = self.start(
             "distributed.cli.dask_scheduler", "--port", "0", "--no-dashboard", "--scheduler-file", self.file
         )
