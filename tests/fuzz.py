@@ -26,6 +26,7 @@ import tempfile
 
 sys.path.insert(0, os.path.dirname(os.path.abspath(__file__)))
 import chosen
+import commands
 import plain_checker as plain
 
 TOP = os.path.dirname(os.path.dirname(os.path.abspath(__file__)))
@@ -42,9 +43,6 @@ REFUSALS = {
     10: rb"script [a-z].*\n",
 }
 ANSWERS = rb"(?!usage|config|orgs|refused|too-large|script)(.+\n)+"
-SEARCHES = ("intersect", "splits", "dset", "blocking", "quorums", "least", "org-blocking")
-# What lists minimal sets.
-LISTS = ("blocking", "quorums", "org-blocking")
 
 # Numbers at the edges of what the formats allow, and texts that are no numbers.
 EDGES = (
@@ -648,32 +646,7 @@ def mutated_words(rng, words):
                 ),
             )
         elif kind == 2 and words:
-            words[at % len(words)] = rng.choice(
-                [
-                    "show",
-                    "closure",
-                    "greatest",
-                    "intersect",
-                    "available",
-                    "dset",
-                    "blocks",
-                    "vblocks",
-                    "splits",
-                    "blocking",
-                    "quorums",
-                    "least",
-                    "org-blocking",
-                    "check",
-                    "check-lrat",
-                    "export",
-                    "trial",
-                    "whatif",
-                    "missing",
-                    "config",
-                    "cert",
-                    "script",
-                ]
-            )
+            words[at % len(words)] = rng.choice([*commands.WORDS, "missing", "config", "cert", "script"])
         elif kind == 3 and words:
             other = rng.randrange(len(words))
             at %= len(words)
@@ -702,7 +675,7 @@ class Program:
     def __init__(self, program, folder):
         self.program, self.folder = os.path.abspath(program), folder
         usage = self.run(Case("words", [], {}, None))[1]
-        self.searches = [it for it in SEARCHES if b"\n" + it.encode() + b" CONFIG CERT" in usage]
+        self.searches = [it for it in commands.SEARCHES if b"\n" + it.encode() + b" CONFIG CERT" in usage]
         self.has_trial = b"\ntrial N CERT" in usage
         self.has_proofs = b"\ncheck-lrat CONFIG LRAT" in usage
         self.has_scripts = b"\nwhatif CONFIG SCRIPT" in usage
@@ -748,14 +721,16 @@ class Program:
             if data and not data.startswith(b"fbas-cert ") and data not in files.values()
         ]
         if lost:
-            return f"status {status}, and {' and '.join(lost)} is lost"
+            return "status %d, and %s is lost" % (status, " and ".join(lost))
         changed = [
             name
             for name, data in files.items()
             if data != case.files.get(name) and not (name.endswith("~") and data == case.files.get(name[:-1]))
         ]
-        if changed and (status not in (0, 1, 2) or case.words[0] not in SEARCHES + ("trial",) or len(changed) > 1):
-            return f"status {status}, and {' and '.join(changed)} changed"
+        if changed and (
+            status not in (0, 1, 2) or case.words[0] not in (*commands.SEARCHES, "trial") or len(changed) > 1
+        ):
+            return "status %d, and %s changed" % (status, " and ".join(changed))
         return self.search_fault(case, status, text.decode(), files["cert"]) if case.kind == "search" else None
 
     def wanted(self, case):
@@ -786,7 +761,7 @@ class Program:
             return f"the certificate is of another question, or not accepted: {said!r}"
         kind = said.split("\n")[0].split(" ")[1]
         every = quorums(subject, 8)
-        if command in LISTS:
+        if command in commands.LISTS:
             wanted = None if every is None else minimal_sets(command, subject, every)
             if (
                 kind == command
@@ -1090,31 +1065,24 @@ class Maker:
             "whatif", ["whatif", "config", "script", "--set=" + names], {"config": data, "script": script}, names
         )
 
+    def words_of(self, row, names):
+        """The words of a command, with all that it needs and some of what it takes."""
+        files = {"CONFIG": "config", "CERT": "cert", "LRAT": "cert", "SCRIPT": "script", "N": "1"}
+        values = {"NAME": "a", "NAMES": names, "ORGS": "orgs", "IDS": "A", "UNITS": self.rng.choice("0239")}
+        words = [row["word"], *(files[it] for it in row["files"])]
+        for option in row["options"]:
+            if option["needed"] or option["value"] == "UNITS" or self.rng.random() < 0.3:
+                words += (
+                    ["%s=%s" % (option["name"], values[option["value"]])]
+                    if self.rng.random() < 0.2
+                    else [option["name"], values[option["value"]]]
+                )
+        return words
+
     def words(self):
         rng = self.rng
-        names = ",".join(rng.sample("abcdefg", rng.randint(0, 3)))
-        words = rng.choice(
-            [
-                ["show", "config"],
-                ["closure", "config", "--node", "a"],
-                ["greatest", "config", "--faulty", names],
-                ["intersect", "config", "cert", "--faulty", names, "--budget", "3"],
-                ["available", "config", "--set", names],
-                ["dset", "config", "cert", "--set", names, "--budget=2"],
-                ["blocks", "config", "--set", names, "--from", "a"],
-                ["vblocks", "config", "--node", "a", "--set", names],
-                ["splits", "config", "cert", "--set", names],
-                ["blocking", "config", "cert"],
-                ["quorums", "config", "cert", "--budget", "9"],
-                ["least", "config", "cert", "--budget", "9"],
-                ["org-blocking", "config", "cert", "--orgs", "orgs", "--faulty", names, "--budget", "9"],
-                ["check", "config", "cert"],
-                ["check", "config", "cert", "--orgs", "orgs"],
-                ["check-lrat", "config", "cert", "--faulty", names],
-                ["export", "config", "--faulty", names],
-                ["trial", "1", "cert", "--budget", "2"],
-                ["whatif", "config", "script", "--set", names],
-            ]
+        words = self.words_of(
+            commands.ROWS[rng.choice(commands.WORDS)], ",".join(rng.sample("abcdefg", rng.randint(0, 3)))
         )
         words = mutated_words(rng, words) if rng.random() < 0.8 else words
         if rng.random() < 0.02:

@@ -1,9 +1,9 @@
 #!/usr/bin/env python3
-"""The man page and the completions are those of the usage text, render and complete; an installed tree works from
-another folder.
+"""The table of the commands is that of the program, and what is made from it is up to date; man page and completions work.
 
-A shell or man that is not there counts as skipped, and so does the installed program where none is built. The last
-line is 'packaging: N passed, M failed, K skipped'.
+An installed tree works from another folder.
+A shell or man that is not there counts as skipped, and so does the installed program where none is built. The last line is
+'packaging: N passed, M failed, K skipped'.
 """
 
 import os
@@ -55,8 +55,16 @@ def share(name):
 
 
 def pages():
-    status, said, _ = run([os.path.join(TOP, "tools", "packaging"), "--check"])
+    status, said, _ = run([os.path.join(TOP, "tools", "commands"), "--check"])
     judge(status == 0, said.strip())
+    table, said, _ = run([os.path.join(TOP, "tools", "commands"), "--print"])
+    if os.access(PROGRAM, os.X_OK):
+        judge(
+            table == 0 and run([PROGRAM])[:2] == (3, said),
+            "the table of the commands is not that of the program's usage text",
+        )
+    else:
+        COUNTS["skipped"] += 1
     if shutil.which("man") and shutil.which("groff"):
         status, _, said = run(
             ["man", "-l", "--warnings", share("quorum_cli.1")],

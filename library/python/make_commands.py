@@ -1,19 +1,17 @@
 #!/usr/bin/env python3
-"""Writes quorums/commands.py, a method for each command, from the usage text: library/python/make_commands.py
-[--check]
+"""Writes quorums/commands.py, a method for each command, from the table share/commands.json (tools/commands).
 
-The usage text is that of docs/FORMATS.md, which tests/examples.py holds against the program, and what a command is
-for is what
-tools/packaging says. With --check nothing is written, and the status is 1 where the file is not what would be written.
+usage: library/python/make_commands.py [--check]
+
+With --check nothing is written, and the status is 1 where the file is not what would be written.
 """
 
 from __future__ import annotations
 
-import importlib.machinery
-import importlib.util
+import json
 import os
-import re
 import sys
+from typing import Any
 
 HERE = os.path.dirname(os.path.abspath(__file__))
 TOP = os.path.dirname(os.path.dirname(HERE))
@@ -21,7 +19,7 @@ sys.path.insert(0, HERE)
 
 from quorums import usage
 
-HEAD = '''"""A method for each command of the table. Made from the usage text by make_commands.py: do not edit."""
+HEAD = '''"""A method for each command of the table. Made by make_commands.py from share/commands.json: do not edit."""
 
 from __future__ import annotations
 
@@ -51,23 +49,20 @@ TYPES = {"NAME": "str", "NAMES": "Several", "IDS": "Several", "UNITS": "int"}
 SECOND = {"CERT": "certificate", "LRAT": "proof", "SCRIPT": "script"}
 
 
-def described() -> dict[str, str]:
-    """What each command is for, as tools/packaging has it."""
-    loader = importlib.machinery.SourceFileLoader("packaging_of_tools", os.path.join(TOP, "tools", "packaging"))
-    spec = importlib.util.spec_from_loader(loader.name, loader)
-    assert spec is not None
-    module = importlib.util.module_from_spec(spec)
-    sys.dont_write_bytecode = True
-    loader.exec_module(module)
-    return dict(module.COMMANDS)
+def table() -> dict[str, Any]:
+    """The table of the commands."""
+    with open(os.path.join(TOP, "share", "commands.json"), encoding="utf-8") as it:
+        held: dict[str, Any] = json.load(it)
+    return held
 
 
-def usage_text() -> str:
-    """The usage text that docs/FORMATS.md has."""
-    with open(os.path.join(TOP, "docs", "FORMATS.md"), encoding="utf-8") as it:
-        found = re.search(r"^usage: quorum_cli COMMAND\n.*?(?=^```)", it.read(), re.M | re.S)
-    assert found is not None
-    return found[0]
+def rows_of(held: dict[str, Any]) -> dict[str, usage.Command]:
+    """The rows as the package has them."""
+    found = {}
+    for it in held["commands"]:
+        options = tuple(usage.Option(one["name"], one["value"], one["needed"]) for one in it["options"])
+        found[it["word"]] = usage.Command(it["word"], tuple(it["files"]), options, it["usage"])
+    return found
 
 
 def signature(row: usage.Command) -> list[str]:
@@ -111,7 +106,8 @@ def function(row: usage.Command, said: str) -> str:
 
 
 def made() -> str:
-    rows, said = usage.read(usage_text()), described()
+    held = table()
+    rows, said = rows_of(held), {it["word"]: it["does"] for it in held["commands"]}
     methods = [method(it, said[it.word]) for it in rows.values() if it.files[0] == "CONFIG"]
     functions = [function(it, said[it.word]) for it in rows.values() if it.files[0] != "CONFIG"]
     return HEAD + "".join([*methods, *functions])
@@ -124,7 +120,7 @@ def main() -> int:
         with open(path, encoding="utf-8") as it:
             if it.read() == text:
                 return 0
-        print("make_commands: quorums/commands.py is not that of the usage text: run library/python/make_commands.py")
+        print("make_commands: quorums/commands.py is not that of share/commands.json: run tools/commands")
         return 1
     with open(path, "w", encoding="utf-8") as it:
         it.write(text)

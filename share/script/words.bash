@@ -63,7 +63,7 @@ fault_line() {
   lacks) echo "$word is missing: $usage" ;;
   extra) echo "$(shown "$word") is one word too many: $usage" ;;
   needs) echo "$word is missing: $usage" ;;
-  number) echo "$word is a number from $(if [ "$word" = N ]; then echo 1 to 100; else echo "0 to $most_units"; fi), not $(shown "${fault[2]}")" ;;
+  number) echo "$word is a number from $(if [ "$word" = N ]; then echo "1 to $most_organisations"; else echo "0 to $most_units"; fi), not $(shown "${fault[2]}")" ;;
   esac
 }
 
@@ -113,7 +113,9 @@ tell() {
 }
 
 # The options that [COMMON] stands for.
+# (made by tools/packaging from here)
 common() { echo 'COMMON: --from NAME --faulty NAMES --orgs ORGS --faulty-orgs IDS'; }
+# (to here)
 
 # What one command does, and its options.
 tell_command() {

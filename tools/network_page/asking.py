@@ -1,6 +1,7 @@
 """Asks the program: each question is one run of it, and each certificate is checked by another."""
 
 import hashlib
+import json
 import os
 import shlex
 import shutil
@@ -8,6 +9,20 @@ import signal
 import subprocess
 import sys
 import time
+
+# The kinds of certificate that a command writes, by its status: of yes or a whole list, of no, and of a part.
+STATUS_OF = {"yes": 0, "all": 0, "no": 1, "unknown": 2}
+TABLE = os.path.join(os.path.dirname(os.path.realpath(__file__)), os.pardir, os.pardir, "share", "commands.json")
+
+
+def kinds_by_status():
+    """Of each command that searches, the kinds of certificate by its status, as the table of the commands has them."""
+    with open(TABLE, encoding="utf-8") as it:
+        rows = json.load(it)["commands"]
+    return {
+        row["word"]: {STATUS_OF[word]: kind for word, kind in row["makes"].items()} for row in rows if "makes" in row
+    }
+
 
 # The statuses of the program that are no answer, in words.
 NO_ANSWER = {6: "a file could not be read", 7: "an output could not be written", 8: "there was not enough memory"}
@@ -129,6 +144,7 @@ class Program:
         self.beside = beside
         self.budget = budget if budget is not None else MOST_BUDGET
         self.clock = clock
+        self.kinds = kinds_by_status()
         self.prefix = ""
         self.certificates = []
         self.commands = []
@@ -276,10 +292,9 @@ class Program:
         self.named.add(held)
         return held
 
-    def searched(self, kinds, view, faulty, name, words, *more):
-        """What a search came to within its time, its certificate as `check` accepts it, and the sets in that. What an
-        earlier run left is taken, or gone on with."""
-        path = self.beside.certificate(self.cert_name(view, name))
+    def searched(self, view, faulty, name, words, *more):
+        """What a search came to within its time, its certificate as `check` accepts it, and the sets in that. What an earlier run left is taken, or gone on with."""
+        kinds, path = self.kinds[words[0]], self.beside.certificate(self.cert_name(view, name))
         words = [words[0], self.config, path, *words[1:], *view.words()]
         held = self.left_over(kinds, view, faulty, path, words[0], *more)
         if held is None or (held[0].status == 2 and held[0].budget < self.budget):
@@ -330,8 +345,7 @@ class Program:
         return None
 
     def intersect(self, view, name, org=None):
-        """The verdict with its certificate, which is checked, and checked to be about this view and these faulty
-        nodes."""
+        """The verdict with its certificate, which is checked, and checked to be about this view and these faulty nodes."""
         lying = (
             []
             if org is None
@@ -341,13 +355,7 @@ class Program:
                 else ["--faulty=" + ",".join(org.keys)]
             )
         )
-        ended, certificate, _ = self.searched(
-            {0: "refutation", 1: "pair", 2: "partial"},
-            view,
-            org.keys if org is not None else (),
-            name,
-            ["intersect", *lying],
-        )
+        ended, certificate, _ = self.searched(view, org.keys if org is not None else (), name, ["intersect", *lying])
         if ended.status == 0:
             return Verdict(view, "yes", certificate=certificate)
         if ended.status == 1:
@@ -355,9 +363,8 @@ class Program:
         return Verdict(view, "unknown", work=ended.work(), certificate=certificate)
 
     def blocking(self, view, name, most):
-        """The minimal blocking sets as `check` accepts them; where the units were spent, the smallest ones of those
-        found."""
-        ended, certificate, sets = self.searched({0: "blocking", 2: "partial-blocking"}, view, (), name, ["blocking"])
+        """The minimal blocking sets as `check` accepts them; where the units were spent, the smallest ones of those found."""
+        ended, certificate, sets = self.searched(view, (), name, ["blocking"])
         if ended.status == 0:
             return Blocking(sets, len(sets), None, certificate)
         found = self.found_in(self.beside.path(certificate.name)) if certificate else []
@@ -369,9 +376,7 @@ class Program:
         """The minimal blocking sets of organisations, and of nodes of none, as `check` accepts them; None where the
         units were spent."""
         given = "--orgs=" + (self.orgs if self.orgs is not None else self.beside.organisations(orgs))
-        ended, certificate, sets = self.searched(
-            {0: "org-blocking", 2: "partial-org-blocking"}, view, (), name, ["org-blocking", given], given
-        )
+        ended, certificate, sets = self.searched(view, (), name, ["org-blocking", given], given)
         return (sets, certificate) if ended.status == 0 else None
 
     @staticmethod

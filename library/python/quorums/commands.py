@@ -1,4 +1,4 @@
-"""A method for each command of the table. Made from the usage text by make_commands.py: do not edit."""
+"""A method for each command of the table. Made by make_commands.py from share/commands.json: do not edit."""
 
 from __future__ import annotations
 
