@@ -32,7 +32,7 @@ HEEDING = ["env", "--default-signal=HUP,INT,TERM"]
 # Each group: its script and its words; the dearest come first. PAGE is the page of dist/, and a folder is for pytest.
 GROUPS = {
     "network_report": "network_report.py",
-    "web_page": "web_page.py --page PAGE",
+    "web_page": "web_page.py --over PAGE",
     "library": "library.py --built --cases 500",
     "process": "process.py",
     "answers": "answers.py",

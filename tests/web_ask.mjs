@@ -2,10 +2,10 @@
 // A case has its words and the paths of its files. Case N's text and certificate go to FOLDER as N.text and N.cert; what is printed is
 // a list of statuses, with each one's time in ms and memory in bytes.
 import { readFileSync, writeFileSync } from 'node:fs';
+import { load } from '../web/state/glue.js';
 
 const [module, cases, folder] = process.argv.slice(2);
-const glue = readFileSync(new URL('../web/glue.js', import.meta.url), 'utf8');
-const called = await new Function(`${glue}\nreturn load;`)()(readFileSync(module));
+const called = await load(readFileSync(module));
 const ends = [];
 for (const { words, files } of JSON.parse(readFileSync(cases, 'utf8'))) {
   const held = Object.fromEntries(Object.entries(files).map(([name, path]) => [name, readFileSync(path)]));

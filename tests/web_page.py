@@ -1,12 +1,13 @@
 #!/usr/bin/env python3
 """Tries the page of tools/web-page: its module in node, and the page in Chromium, beside the built program.
 
-    tests/web_page.py [--page PAGE] [--data FOLDER] [--pictures FOLDER]
+    tests/web_page.py [--page PAGE | --over PAGE] [--data FOLDER] [--pictures FOLDER]
 
 Status, text and certificate of each question are the program's, byte for byte: in node on the examples, on files that are refused
 and on networks of tests/watchers.py; in Chromium as an operator asks, by file field and by a real drop, each certificate saved by
 its link. Also tried: the guide's story, the summary of the four networks of tests/summary.py, the switch to things as they are now, stopping, want of memory, a file of 16 MiB, that nothing leaves the page, its own digest,
 names that act as markup, three widths, the dark, the keyboard, and what a screen reader hears. --page takes a page that was made,
+--over the module of one, over which the page is made anew where esbuild is there,
 --data more networks (NAME.json, NAME-orgs.json), --pictures keeps screenshots. The last line is 'web_page: N passed, M failed',
 or says what was skipped since it is not installed.
 """
@@ -43,6 +44,11 @@ MOST_BYTES = 750_000
 WIDTHS = {"phone": 360, "tablet": 768, "desk": 1280}
 MIB = 1 << 20
 SHOWN = "document.body?.dataset.state === 'idle'"
+# What the page has for a console, by shorter names.
+BY_NAME = """
+for (const name of ['called', 'files', 'lying', 'network', 'silent']) Object.defineProperty(globalThis, name, { get: () => quorums.state[name] });
+for (const name of ['$', 'asTurns', 'sha256']) globalThis[name] = quorums[name];
+"""
 
 
 def held(*path):
@@ -101,7 +107,6 @@ def few_units(config):
 class Judge:
     def __init__(self):
         self.passed = self.failed = 0
-        self.skipped = []
 
     def __call__(self, name, right, shown=""):
         if right:
@@ -241,6 +246,7 @@ class Tab(browser.Browser):
         else:
             self.call("Page.navigate", url=url)
         self.wait(SHOWN, 60)
+        self.js(BY_NAME)
 
     def give(self, which, path):
         """A file by its field, which is asked about at once."""
@@ -859,7 +865,7 @@ def in_chromium(judge, tab, asked, page, module, networks, folder):
     trial = Trial(judge, tab, page, module, folder, asked.pictures)
     parts = [trial.itself, trial.story, trial.proofs, trial.dropped, trial.four, trial.as_things_are, trial.example_left, trial.refused, trial.markup, trial.closed, trial.keyboard, trial.heard, lambda: trial.widths(*networks[0])]
     parts += [lambda it=it: trial.network(os.path.basename(it[0]), *it) for it in networks]
-    parts += [trial.large, trial.short_of_memory, trial.stopped]
+    parts += [trial.large, *([trial.short_of_memory] if can_make() else []), trial.stopped]
     if asked.data and os.path.exists(os.path.join(asked.data, "network-large.json")):
         parts.append(lambda: trial.times(asked.data))
     for part in parts:
@@ -878,12 +884,18 @@ def networks_of(asked, folder):
     return made + [(path, path[:-5] + "-orgs.json") for path in found if os.path.exists(path[:-5] + "-orgs.json")]
 
 
+def can_make():
+    """Whether the page can be made over a module that is there."""
+    return all(map(shutil.which, ("esbuild", "zopfli")))
+
+
 def page_of(asked, folder):
-    """The page: the one that was named, or one that is made."""
-    if asked.page:
-        return os.path.abspath(asked.page)
+    """The page: the one that was named, or one that is made, of a proved library or over the module of another page."""
+    if asked.page or (asked.over and not can_make()):
+        return os.path.abspath(asked.page or asked.over)
     page = os.path.join(folder, "quorums.html")
-    made = subprocess.run([MAKER, "-o", page], stdout=subprocess.PIPE, stderr=subprocess.STDOUT)
+    over = ["--module", written(module_in(asked.over), folder, "over.wasm")] if asked.over else []
+    made = subprocess.run([MAKER, "-o", page, *over], stdout=subprocess.PIPE, stderr=subprocess.STDOUT)
     if made.returncode:
         raise OSError("tools/web-page: %s" % made.stdout.decode("utf-8", "replace")[-1000:])
     return page
@@ -891,12 +903,13 @@ def page_of(asked, folder):
 
 def tried(asked, folder):
     judge, node, chromium = Judge(), shutil.which("node"), shutil.which("chromium")
-    if not asked.page and not (shutil.which("wasm-opt") and shutil.which("zopfli")):
-        print("web_page: skipped, there is no wasm-opt or no zopfli (Debian's binaryen, zopfli)")
+    if not (asked.page or asked.over) and not (can_make() and shutil.which("wasm-opt")):
+        print("web_page: skipped, there is no esbuild, no wasm-opt or no zopfli (Debian's esbuild, binaryen, zopfli)")
         return 0
     page = page_of(asked, folder)
     module, networks = module_in(page), networks_of(asked, folder)
-    maker(judge, module, folder)
+    if can_make():
+        maker(judge, module, folder)
     if node:
         in_node(judge, node, module, networks, folder)
     if chromium:
@@ -906,14 +919,14 @@ def tried(asked, folder):
                 in_chromium(judge, tab, asked, page, module, networks, folder)
             finally:
                 tab.end()
-    without = [it for it, there in (("in node", node), ("in Chromium", chromium)) if not there]
-    print("web_page: %s%d passed, %d failed" % ("skipped %s, which is not there: " % " and ".join(without) if without else "", judge.passed, judge.failed))
+    without = [it for it, there in (("what is made by esbuild and zopfli", can_make()), ("in node", node), ("in Chromium", chromium)) if not there]
+    print("web_page: %s%d passed, %d failed" % ("skipped %s, for want of it: " % " and ".join(without) if without else "", judge.passed, judge.failed))
     return 1 if judge.failed else 0
 
 
 def main():
     words = argparse.ArgumentParser(prog="web_page.py")
-    for name in ("page", "data", "pictures"):
+    for name in ("page", "over", "data", "pictures"):
         words.add_argument("--" + name)
     asked = words.parse_args()
     if not os.path.exists(PROGRAM):

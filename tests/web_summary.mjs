@@ -4,11 +4,12 @@ import { spawnSync } from 'node:child_process';
 import { existsSync, mkdtempSync, readFileSync, rmSync, writeFileSync } from 'node:fs';
 import { tmpdir } from 'node:os';
 import { basename, join } from 'node:path';
+import { Questions, findAll } from '../web/asking/questions.js';
+import { Network } from '../web/state/network.js';
+import { Saying } from '../web/words/saying.js';
+import { summaryOf } from '../web/words/summary.js';
 
 const [program, config, orgs, node, now] = process.argv.slice(2);
-const held = (name) => readFileSync(new URL(`../web/${name}`, import.meta.url), 'utf8');
-const sources = ['sentences.js', 'network.js', 'summary.js'].map(held).join('\n');
-const { Network, Questions, Saying, findAll, summaryOf } = new Function(`${sources}\nreturn { Network, Questions, Saying, findAll, summaryOf };`)();
 const folder = mkdtempSync(join(tmpdir(), 'summary-'));
 
 // What the worker of the page does, by runs of the program.

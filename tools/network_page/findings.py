@@ -1,4 +1,4 @@
-"""Asks what the page says, question by question. The page of the browser asks the same in web/summary.js."""
+"""Asks what the page says, question by question. The page of the browser asks the same in web/asking/questions.js."""
 
 import itertools
 

@@ -1,5 +1,4 @@
-"""The sentences of web/sentences.js, which both pages say, and how what stands in them is put into words.
-web/summary.js does the same."""
+"""The sentences of web/words/sentences.js, which both pages say, and how what stands in them is put into words. web/words/saying.js does the same."""
 
 import html
 import json
@@ -7,15 +6,14 @@ import math
 import os
 import re
 
-PLACE = os.path.join(os.path.dirname(os.path.realpath(__file__)), os.pardir, os.pardir, "web", "sentences.js")
-# So many nodes are named one by one, more of them by their organisations; so many sets one by one, more of them by
-# their number.
+PLACE = os.path.join(os.path.dirname(os.path.realpath(__file__)), os.pardir, os.pardir, "web", "words", "sentences.js")
+# So many nodes are named one by one, more of them by their organisations; so many sets one by one, more of them by their number.
 MOST_NAMED = 12
 MOST_SETS = 30
 
 
 def table():
-    """The sentences by line and name, each a mood and a text with places in braces."""
+    """All that is worded for people, as JSON: each text with places in braces."""
     with open(PLACE, encoding="utf-8") as it:
         text = it.read()
     return json.loads(text[text.index("{") : text.rindex("}") + 1])
@@ -41,7 +39,7 @@ class Saying:
     def __init__(self, names, files):
         self.names = names
         self.files = files
-        self.table = table()
+        self.table = table()["summary"]
 
     def line(self, sentences):
         """The label of a line, and its sentences one after another."""

@@ -1,5 +1,4 @@
-"""The summary as data: which sentences are said, and of what. web/summary.js decides the same; tests/summary.py holds
-both against trying all sets."""
+"""The summary as data: which sentences are said, and of what. web/words/summary.js decides the same; tests/summary.py holds both against trying all sets."""
 
 
 def says(line, say, **data):

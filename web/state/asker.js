@@ -1,18 +1,33 @@
 // The worker as the page sees it: questions go in, what they end with comes out, and it is ended to stop it.
 
-// The module as it was packed into the page.
-async function unpacked() {
-  const packed = Uint8Array.from(atob($('module').textContent), (letter) => letter.charCodeAt(0));
+/** @typedef {import('../types').Step} Step */
+/** @typedef {import('../types').Files} Files */
+/** @typedef {import('../types').End} End */
+
+/**
+ * The module as it was packed into the page.
+ * @param {string} text
+ */
+export async function unpacked(text) {
+  const packed = Uint8Array.from(atob(text), (letter) => letter.charCodeAt(0));
   const stream = new Blob([packed]).stream().pipeThrough(new DecompressionStream('gzip'));
   return new Uint8Array(await new Response(stream).arrayBuffer());
 }
 
-// The worker, which answers one question at a time and is ended to stop it.
-class Asker {
-  constructor(module) {
+/** The worker, which answers one question at a time and is ended to stop it. */
+export class Asker {
+  /**
+   * @param {Uint8Array} module
+   * @param {string} script
+   * @param {(why: string) => void} trouble
+   */
+  constructor(module, script, trouble) {
     this.module = module;
-    this.source = URL.createObjectURL(new Blob([$('worker').textContent], { type: 'text/javascript' }));
+    this.trouble = trouble;
+    this.source = URL.createObjectURL(new Blob([script], { type: 'text/javascript' }));
     this.last = 0;
+    /** @type {{ done: Function, failed: Function, begins: (name: string) => void } | null} */
+    this.waiting = null;
     this.start();
   }
 
@@ -24,6 +39,7 @@ class Asker {
     this.worker.postMessage({ module: this.module });
   }
 
+  /** @param {{ ready?: boolean, id?: number, begins?: string, done?: object, error?: string }} data */
   heard(data) {
     if (data.ready) this.isReady();
     else if (this.waiting && data.begins && data.id === this.last) this.waiting.begins(data.begins);
@@ -31,18 +47,29 @@ class Asker {
     else if (data.error) this.fail(data.error);
   }
 
+  /**
+   * @param {'done' | 'failed'} how
+   * @param {unknown} what
+   */
   end(how, what) {
     const { waiting } = this;
     this.waiting = null;
     waiting?.[how](what);
   }
 
+  /** @param {string} why */
   fail(why) {
     if (this.waiting) this.end('failed', new Error(why));
-    else trouble(`The module does not run in this browser: ${why}`);
+    else this.trouble(why);
   }
 
-  // What each step ends with, by its name.
+  /**
+   * What each step ends with, by its name.
+   * @param {Step[]} steps
+   * @param {Files} files
+   * @param {(name: string) => void} begins
+   * @returns {Promise<Record<string, End>>}
+   */
   ask(steps, files, begins = () => {}) {
     this.last++;
     return new Promise((done, failed) => {

@@ -1,7 +1,21 @@
 // The worker: it answers one question at a time, in steps, and says when each ends. The page stops it by ending it.
+import { load } from './glue.js';
+
+/** @typedef {import('../types').Step} Step */
+/** @typedef {import('../types').Files} Files */
+/** @typedef {import('../types').Done} Done */
+/** @typedef {Awaited<ReturnType<typeof load>>} Module */
+
+/** @type {Promise<Module>} */
 let loaded;
 
-// A step may have files of its own, and check what an earlier step of the question has made.
+/**
+ * A step may have files of its own, and check what an earlier step of the question has made.
+ * @param {Module} module
+ * @param {Step} of
+ * @param {Files} files
+ * @param {Done} done
+ */
 function step(module, of, files, done) {
   const made = of.checks ? done[of.checks] : null;
   if (made && !(made.status <= 2 && made.cert.length)) return null;
@@ -16,6 +30,7 @@ onmessage = async ({ data }) => {
     if (module) loaded = load(module);
     const called = await loaded;
     if (module) return postMessage({ ready: true });
+    /** @type {Done} */
     const done = {};
     for (const of of steps) {
       postMessage({ id, begins: of.name });
