@@ -33,6 +33,7 @@ HEEDING = ["env", "--default-signal=HUP,INT,TERM"]
 GROUPS = {
     "network_report": "network_report.py",
     "web_page": "web_page.py --over PAGE",
+    "web_modules": "web_modules.py",
     "library": "library.py --built --cases 500",
     "process": "process.py",
     "answers": "answers.py",
