@@ -46,8 +46,8 @@ MIB = 1 << 20
 SHOWN = "document.body?.dataset.state === 'idle'"
 # What the page has for a console, by shorter names.
 BY_NAME = """
-for (const name of ['called', 'files', 'lying', 'network', 'silent']) Object.defineProperty(globalThis, name, { get: () => quorums.state[name] });
-for (const name of ['$', 'asTurns', 'sha256']) globalThis[name] = quorums[name];
+for (const name of ['called', 'files', 'lying', 'network', 'silent']) Object.defineProperty(globalThis, name, { get: () => page.state[name] });
+for (const name of ['$', 'asTurns', 'sha256']) globalThis[name] = page[name];
 """
 
 

@@ -10,7 +10,7 @@ import { Asker, unpacked } from './state/asker.js';
 import { state } from './state/state.js';
 import { bytesOf, linesOf, sha256, textOf } from './state/texts.js';
 
-// What whoever looks at the page by its console has of it, as the tests do: by the name `quorums`.
+// What whoever looks at the page by its console has of it, as the tests do: by the name `page`.
 export { $, asTurns, sha256, state };
 
 // The digest of the page as it came, before anything of it changes: this is its file, byte for byte.
