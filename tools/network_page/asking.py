@@ -10,19 +10,27 @@ import subprocess
 import sys
 import time
 
-# The kinds of certificate that a command writes, by its status: of yes or a whole list, of no, and of a part.
+# The status of an answer by its word: yes or a whole list, no, and a part.
 STATUS_OF = {"yes": 0, "all": 0, "no": 1, "unknown": 2}
 TABLE = os.path.join(os.path.dirname(os.path.realpath(__file__)), os.pardir, os.pardir, "share", "commands.json")
+# The searches that are asked, each certificate by the name of its command or `faulty-` and an organisation.
+ASKED = INTERSECT, BLOCKING, ORG_BLOCKING = "intersect", "blocking", "org-blocking"
 
 
-def kinds_by_status():
-    """Of each command that searches, the kinds of certificate by its status, as the table of the commands has them."""
+def searches():
+    """The commands that search, as the table of the commands has them."""
     with open(TABLE, encoding="utf-8") as it:
-        rows = json.load(it)["commands"]
-    return {
-        row["word"]: {STATUS_OF[word]: kind for word, kind in row["makes"].items()} for row in rows if "makes" in row
-    }
+        return [row for row in json.load(it)["commands"] if "makes" in row]
 
+
+# Of each of them the kinds of certificate by its status; and the kinds that `check` takes with the organisations' file.
+KINDS = {row["word"]: {STATUS_OF[word]: kind for word, kind in row["makes"].items()} for row in searches()}
+KINDS_OF_ORGS = {
+    kind
+    for row in searches()
+    for kind in row["makes"].values()
+    if any(it["name"] == "--orgs" and it["needed"] for it in row["options"])
+}
 
 # The statuses of the program that are no answer, in words.
 NO_ANSWER = {6: "a file could not be read", 7: "an output could not be written", 8: "there was not enough memory"}
@@ -144,7 +152,6 @@ class Program:
         self.beside = beside
         self.budget = budget if budget is not None else MOST_BUDGET
         self.clock = clock
-        self.kinds = kinds_by_status()
         self.prefix = ""
         self.certificates = []
         self.commands = []
@@ -294,7 +301,7 @@ class Program:
 
     def searched(self, view, faulty, name, words, *more):
         """What a search came to within its time, its certificate as `check` accepts it, and the sets in that. What an earlier run left is taken, or gone on with."""
-        kinds, path = self.kinds[words[0]], self.beside.certificate(self.cert_name(view, name))
+        kinds, path = KINDS[words[0]], self.beside.certificate(self.cert_name(view, name))
         words = [words[0], self.config, path, *words[1:], *view.words()]
         held = self.left_over(kinds, view, faulty, path, words[0], *more)
         if held is None or (held[0].status == 2 and held[0].budget < self.budget):
@@ -355,16 +362,16 @@ class Program:
                 else ["--faulty=" + ",".join(org.keys)]
             )
         )
-        ended, certificate, _ = self.searched(view, org.keys if org is not None else (), name, ["intersect", *lying])
+        ended, certificate, _ = self.searched(view, org.keys if org is not None else (), name, [INTERSECT, *lying])
         if ended.status == 0:
             return Verdict(view, "yes", certificate=certificate)
         if ended.status == 1:
             return Verdict(view, "no", *(line.split(" ")[1:] for line in ended.lines[1:3]), certificate=certificate)
         return Verdict(view, "unknown", work=ended.work(), certificate=certificate)
 
-    def blocking(self, view, name, most):
+    def blocking(self, view, most):
         """The minimal blocking sets as `check` accepts them; where the units were spent, the smallest ones of those found."""
-        ended, certificate, sets = self.searched(view, (), name, ["blocking"])
+        ended, certificate, sets = self.searched(view, (), BLOCKING, [BLOCKING])
         if ended.status == 0:
             return Blocking(sets, len(sets), None, certificate)
         found = self.found_in(self.beside.path(certificate.name)) if certificate else []
@@ -372,11 +379,10 @@ class Program:
             [keys for keys in found[:most] if self.is_minimal(view, keys)], len(found), ended.work(), certificate
         )
 
-    def blocking_groups(self, view, name, orgs):
-        """The minimal blocking sets of organisations, and of nodes of none, as `check` accepts them; None where the
-        units were spent."""
+    def blocking_groups(self, view, orgs):
+        """The minimal blocking sets of organisations, and of nodes of none, as `check` accepts them; None where the units were spent."""
         given = "--orgs=" + (self.orgs if self.orgs is not None else self.beside.organisations(orgs))
-        ended, certificate, sets = self.searched(view, (), name, ["org-blocking", given], given)
+        ended, certificate, sets = self.searched(view, (), ORG_BLOCKING, [ORG_BLOCKING, given], given)
         return (sets, certificate) if ended.status == 0 else None
 
     @staticmethod

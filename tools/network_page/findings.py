@@ -211,7 +211,7 @@ def fill(program, asked, now, network, found, part, whole):
         then = part.stopping_now if found.is_now and part.down else part.stopping
         part.leaving = [leaving(asked, network, part, then, org) for org in part.orgs]
         program.say("the minimal blocking sets")
-        part.blocking = asked.blocking(view, "blocking", MOST_OF_PART)
+        part.blocking = asked.blocking(view, MOST_OF_PART)
 
 
 def turn_of(program, network, found, part, org, whole):
@@ -232,7 +232,7 @@ def turn_of(program, network, found, part, org, whole):
 
 def stopping(program, network, part):
     """By the certified list of sets of organisations, else by asking."""
-    listed = program.blocking_groups(part.view, "org-blocking", network.orgs)
+    listed = program.blocking_groups(part.view, network.orgs)
     if listed is None:
         return together(program, part.orgs, lambda keys: program.blocks(part.view, keys)[0])
     by_id = {"org:" + org.id: org for org in network.orgs}

@@ -7,8 +7,9 @@ import time
 import urllib.parse
 
 from network_page import picture
+from network_page.asking import KINDS_OF_ORGS
 from network_page.network import natural, shown
-from network_page.sentences import MOST_NAMED, Saying, by_size, counted
+from network_page.sentences import MOST_NAMED, Saying, by_size, counted, filled
 from network_page.style import STYLE
 from network_page.summary import summary, texts
 
@@ -108,6 +109,7 @@ class Page:
         self.program = program
         self.names = Names(network)
         self.saying = Saying(self.names, files)
+        self.words = self.saying.answers
         self.data = summary(network, found)
         self.own = found.parts[0].own
         self.greatest = set().union(*(part.greatest for part in found.parts))
@@ -280,7 +282,8 @@ class Page:
         )
         if part.forks():
             text += "<p>It forks with no node lying, so nothing more is asked about lies.</p>"
-        heads = ["Organisation", *(["If it lies, can the network fork?"] if asked else []), "If it is silent"]
+        organisation, lies, _ = self.words["turns"]["table"]["heads"]
+        heads = [organisation, *([lies] if asked else []), "If it is silent"]
         return (
             text
             + self.from_domain()
@@ -348,7 +351,7 @@ class Page:
 
     def silent(self, part, turn):
         if turn.stops:
-            return '<span class="bad">Nothing goes on</span>: it stops the network'
+            return '<span class="bad">%s</span>: it stops the network' % self.words["turns"]["silent"]["stops"]
         text = self.going_on(part, set(turn.goes_on), turn.org)
         lost = [key for key in turn.unmet if key in set(part.greatest)]
         return text + (
@@ -401,10 +404,14 @@ class Page:
                 else [self.saying.group(it) + (" alone" if len(it) == 1 else "") for it in some]
             )
         if len(rows) == 1:
-            return f"<p>{rows[0]}.{upto}</p>"
-        listed = "".join(f"<li>{row}</li>" for row in rows[:MOST_LISTED])
-        more = f"<p>And {len(rows) - MOST_LISTED} others.</p>" if len(rows) > MOST_LISTED else ""
-        return f"<ol>{listed}</ol>{more}<p>In each of these none can be left out.{upto}</p>"
+            return "<p>%s.%s</p>" % (rows[0], upto)
+        listed = "".join("<li>%s</li>" % row for row in rows[:MOST_LISTED])
+        more = (
+            "<p>%s</p>" % filled(self.words["common"]["others"]["said"], count=len(rows) - MOST_LISTED)
+            if len(rows) > MOST_LISTED
+            else ""
+        )
+        return "<ol>%s</ol>%s<p>In each of these none can be left out.%s</p>" % (listed, more, upto)
 
     def blocking(self, part):
         blocking = part.blocking
@@ -412,7 +419,7 @@ class Page:
             return ""
         rows = sorted(blocking.sets, key=len)[:MOST_LISTED]
         listed = "<ol>%s</ol>" % "".join(
-            "<li>%s</li>" % (self.names.each(keys) or "nobody: there is no quorum") for keys in rows
+            "<li>%s</li>" % (self.names.each(keys) or self.words["common"]["nobody"]["said"]) for keys in rows
         )
         if not blocking.is_whole():
             head = f"The sets of nodes were not all found: {escaped(blocking.work)}"
@@ -601,25 +608,30 @@ class Page:
     def odd(self):
         odd = [f"<li>{self.finding(line.split(' '))}</li>" for line in self.shown[3:]]
         if not odd:
-            return (
-                "<p>Nothing is odd in the quorum sets: each threshold can be met, and none names a validator"
-                " twice.</p>"
-            )
+            return "<p>%s</p>" % self.words["show"]["even"]["said"]
         more = (
-            fold(f"And {len(odd) - MOST_ODD} more", f"<ul>{''.join(odd[MOST_ODD:])}</ul>")
+            fold("And %d more" % (len(odd) - MOST_ODD), "<ul>%s</ul>" % "".join(odd[MOST_ODD:]))
             if len(odd) > MOST_ODD
             else ""
         )
-        return f"<p>Odd in the quorum sets:</p><ul>{''.join(odd[:MOST_ODD])}</ul>{more}"
+        return "<p>%s</p><ul>%s</ul>%s" % (self.words["show"]["odd"]["said"], "".join(odd[:MOST_ODD]), more)
 
     def finding(self, words):
-        where = "its own quorum set" if words[2] == "." else f"its inner quorum set <code>{escaped(words[2])}</code>"
+        show, who = self.words["show"], self.names.node(words[1])
+        where = (
+            show["places"]["own"]
+            if words[2] == "."
+            else filled(show["places"]["inner"], place="<code>%s</code>" % escaped(words[2]))
+        )
         if words[0] == "threshold":
-            return (
-                f"{self.names.node(words[1])}: {where} has the threshold {words[3]} over {words[4]} entries, so no"
-                " choice meets it"
+            return filled(
+                show["threshold"],
+                node=who,
+                where=where,
+                threshold=words[3],
+                entries="%s %s" % (words[4], "entry" if words[4] == "1" else "entries"),
             )
-        return f"{self.names.node(words[1])}: {where} names {self.names.node(words[3])} more than once"
+        return filled(show["repeated"], node=who, where=where, other=self.names.node(words[3]))
 
     def how(self):
         version, config = self.program.version(), f"<code>{self.network.digest}</code>"
@@ -642,10 +654,7 @@ class Page:
             " CERTIFICATE</code>%s, which prints the kind, of whom it speaks (<code>from</code>) and who lies"
             " (<code>faulty</code>).</p>"
         )
-        groups = any(
-            it.accepted.startswith(("accepted org-blocking", "accepted partial-org-blocking"))
-            for it in self.program.certificates
-        )
+        groups = any(it.accepted.split(" ")[1] in KINDS_OF_ORGS for it in self.program.certificates)
         proved = (
             ", whose contract is proved: a certificate is accepted only if what it says is so"
             if self.program.is_proved()
@@ -655,13 +664,13 @@ class Page:
             proved,
             " (that of sets of organisations with the <code>--orgs</code> of its command)" if groups else "",
         ) + table([], rows, "facts")
-        certificates = "".join(f"<li>{self.certified(it)}</li>" for it in self.program.certificates)
+        certificates = "".join("<li>%s</li>" % self.certified(it) for it in self.program.certificates)
         text += fold(
             "%s, with what <code>check</code> answers" % counted(len(self.program.certificates), "certificate"),
-            f'<ul class="certificates">{certificates}</ul>',
+            '<ul class="certificates">%s</ul>' % certificates,
         )
         return text + fold(
-            f"{counted(len(self.program.commands), 'command')} without a certificate",
+            "%s without a certificate" % counted(len(self.program.commands), "command"),
             "<pre>%s</pre>" % escaped("\n".join(self.program.commands)),
         )
 

@@ -19,6 +19,11 @@ def table():
     return json.loads(text[text.index("{") : text.rindex("}") + 1])
 
 
+def filled(text, **values):
+    """A text with its places filled."""
+    return re.sub(r"\{(\w+)\}", lambda it: str(values[it.group(1)]), text)
+
+
 def counted(number, what):
     """A number with its word, as `1 node` and `3 nodes`."""
     return f"{number} {what}{'' if number == 1 else 's'}"
@@ -39,7 +44,8 @@ class Saying:
     def __init__(self, names, files):
         self.names = names
         self.files = files
-        self.table = table()["summary"]
+        held = table()
+        self.table, self.answers = held["summary"], held["answers"]
 
     def line(self, sentences):
         """The label of a line, and its sentences one after another."""

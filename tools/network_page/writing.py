@@ -8,12 +8,12 @@ import signal
 import sys
 import tempfile
 
+from network_page.asking import ASKED
+
 # What the files of this tool are called: one that an earlier run left is stale. Other files of the folder are kept.
 MADE = re.compile(
-    (
-        r"(now-)?(validators-)?(from-)?(intersect|blocking|org-blocking|faulty-[A-Za-z0-9._-]+)(-\d+)?\.cert|(now-)?le"
-        r"aving-[A-Za-z0-9._-]+\.script|(organisations|now|(now-)?validators)\.json"
-    )
+    r"(now-)?(validators-)?(from-)?(%s|faulty-[A-Za-z0-9._-]+)(-\d+)?\.cert|(now-)?leaving-[A-Za-z0-9._-]+\.script|(organisations|now|(now-)?validators)\.json"
+    % "|".join(ASKED)
 )
 
 
