@@ -38,6 +38,7 @@ GROUPS = {
     "process": "process.py",
     "answers": "answers.py",
     "malicious": "malicious.py",
+    "coverage": "coverage/run.py",
     "fuzz": "fuzz.py --cases 400 --seed 1",
     "summary": "summary.py",
     "browser": "browser.py",
@@ -58,6 +59,7 @@ GROUPS = {
 LONG = {
     "fail_alloc": "fail_alloc.py",
     "library": "library.py",
+    "coverage": "coverage/run.py --refuse 7 --fuzz 60",
     "fuzz": "fuzz.py --cases 20000 --seed 1",
     "memory": "memory.py",
     "web_page": "web_page.py",

@@ -1,0 +1,95 @@
+/* Asks all cases of the files given: run [--refuse N] [--keep FOLDER] [--reached FILE] FILE..
+ *
+ * Each answer is judged; with --refuse also those with each N-th growth of memory refused. With --keep the cases of 'check' and 'check-lrat' are
+ * put into the folder, each with its status and text, for a second checker. With --reached, in a build that counts, the file gets
+ * a line for each branch: its place in the program, and whether it was reached with ample memory and, after that, without. */
+#define _GNU_SOURCE
+#include "cases.h"
+#include <stdio.h>
+#include <stdlib.h>
+#include <string.h>
+#include <time.h>
+
+/* The build that counts has one byte a branch, and its address in the program. */
+static uint8_t *counters, *counters_end;
+static const uintptr_t *places;
+
+void __sanitizer_cov_8bit_counters_init(uint8_t *begin, uint8_t *end);
+void __sanitizer_cov_pcs_init(const uintptr_t *begin, const uintptr_t *end);
+extern char __executable_start;
+
+void __sanitizer_cov_8bit_counters_init(uint8_t *begin, uint8_t *end) { counters = begin, counters_end = end; }
+void __sanitizer_cov_pcs_init(const uintptr_t *begin, const uintptr_t *end) { places = begin, (void)end; }
+
+static struct text read_file(const char *path) {
+    struct text held = {0};
+    FILE *file = fopen(path, "rb");
+    uint8_t piece[65536];
+    if (!file) perror(path), exit(1);
+    for (size_t len; (len = fread(piece, 1, sizeof piece, file)) > 0;) text_add(&held, piece, len);
+    fclose(file);
+    return held;
+}
+
+static void keep(const char *folder, const struct asked *asked, unsigned long at) {
+    if (!is_word(asked, "check") && !is_word(asked, "check-lrat")) return;
+    struct answer found = ask(asked, 1 << 18);
+    struct text made = {0};
+    char path[4096];
+    text_say(&made, "%d %zu\n", found.end.status, found.text.len);
+    text_add(&made, found.text.at, found.text.len);
+    case_write(&made, asked);
+    snprintf(path, sizeof path, "%s/%lu", folder, at);
+    FILE *file = fopen(path, "wb");
+    if (!file || fwrite(made.at, 1, made.len, file) != made.len || fclose(file)) perror(path), exit(1);
+    answer_free(&found);
+    text_free(&made);
+}
+
+static void write_reached(const char *path, const uint8_t *ample) {
+    FILE *file = fopen(path, "wb");
+    if (!file) perror(path), exit(1);
+    for (ptrdiff_t i = 0; i < counters_end - counters; i++)
+        fprintf(file, "%lx %d %d\n", (unsigned long)(places[2 * i] - (uintptr_t)&__executable_start), ample[i] != 0, counters[i] != 0);
+    fclose(file);
+}
+
+int main(int count, char **words) {
+    unsigned long stride = 0, cases = 0, refused = 0;
+    const char *folder = NULL, *reached = NULL;
+    int first = 1;
+    double slowest = 0;
+    for (; first + 1 < count && !strncmp(words[first], "--", 2); first += 2)
+        if (!strcmp(words[first], "--refuse")) stride = strtoul(words[first + 1], NULL, 10);
+        else if (!strcmp(words[first], "--keep")) folder = words[first + 1];
+        else if (!strcmp(words[first], "--reached")) reached = words[first + 1];
+        else return fprintf(stderr, "run: %s\n", words[first]), 2;
+    uint8_t *ample = NULL;
+    for (int pass = 0; pass < (stride ? 2 : 1); pass++) {
+        for (int i = first; i < count; i++) {
+            struct text all = read_file(words[i]);
+            struct asked asked;
+            size_t used;
+            for (size_t at = 0; at < all.len; at += used) {
+                if (!(used = case_read(all.at + at, all.len - at, &asked))) return fprintf(stderr, "run: %s has no case at %zu\n", words[i], at), 1;
+                struct timespec begun, ended;
+                clock_gettime(CLOCK_PROCESS_CPUTIME_ID, &begun);
+                if (pass) refused += judge_heap(&asked, stride);
+                else judge(&asked, 8), cases++;
+                clock_gettime(CLOCK_PROCESS_CPUTIME_ID, &ended);
+                double took = (double)(ended.tv_sec - begun.tv_sec) + (double)(ended.tv_nsec - begun.tv_nsec) / 1e9;
+                if (!pass && took > slowest) slowest = took;
+                if (!pass && folder) keep(folder, &asked, cases);
+            }
+            text_free(&all);
+        }
+        if (!pass && counters) {
+            ample = malloc((size_t)(counters_end - counters));
+            if (!ample) return 1;
+            memcpy(ample, counters, (size_t)(counters_end - counters));
+        }
+    }
+    if (reached && ample) write_reached(reached, ample);
+    printf("run: %lu cases, %lu growths refused, the slowest case in %.2f s\n", cases, refused, slowest);
+    return 0;
+}

@@ -1,0 +1,218 @@
+#!/usr/bin/env python3
+"""Asks the library all cases of tests/coverage/corpus, judges the answers, and searches for more cases that are guided by coverage.
+
+usage: tests/coverage/run.py [--refuse N] [--fuzz SECONDS] [--table] [--merge FOLDER] [TARGET..]
+
+A case is the words of a question and the files that they name. Each is asked in guarded memory, over a heap that counts: the answer is the same
+twice; a certificate that a search made is accepted, and without its last byte refused; nodes that are renamed in order, elements that are
+turned round and members that are skipped change no more than they have to; with one unit more a certificate begins alike; in a room of one
+byte less there is no answer; no byte beside the room and no block of memory is left over. What 'check' and 'check-lrat' say is what
+tests/plain_checker.py says. With each N-th growth of memory refused, by itself and with all later ones, the answer is the same, or 8.
+
+With --fuzz libFuzzer then changes the cases of each target for so many seconds. The library is compiled anew for that, with its branches
+counted: that of tools/library --bitcode, else one without proofs; without the toolchain it is that of dist/, uncounted. With --table
+docs/TESTING.md gets the branches reached. With --merge the corpus becomes what of the cases in FOLDER/TARGET/ and in the corpus reaches more.
+Its last line is 'coverage: N passed, M failed, K skipped'.
+"""
+
+import argparse
+import glob
+import os
+import re
+import shutil
+import subprocess
+import sys
+import tempfile
+from collections.abc import Iterator
+
+sys.dont_write_bytecode = True
+sys.path.insert(0, os.path.dirname(os.path.abspath(__file__)))
+import build  # noqa: E402
+import plain_checker as plain  # noqa: E402
+import table  # noqa: E402
+
+CORPUS = os.path.join(build.HERE, "corpus")
+# What a search is of; for each a file of cases.
+TARGETS = ("config", "orgs", "script", "words", "pair", "refutation", "list", "least", "groups", "lrat", "search")
+# Bytes of a case, and of a target's cases in the repository.
+MOST_CASE, MOST_CASES = 16384, 170000
+# Seconds for one case, and for all.
+MOST_SECONDS, MOST_IN_ALL = 10, 1500
+
+
+def held(path: str) -> bytes:
+    with open(path, "rb") as it:
+        return it.read()
+
+
+def cases(data: bytes) -> Iterator[tuple[bytes, list[bytes]]]:
+    """Each case, and its parts: words, config, orgs, script, cert."""
+    at = 0
+    while at < len(data):
+        line = data.index(b"\n", at)
+        lengths = [int(it) for it in data[at + 5 : line].split()]
+        end = line + 1
+        parts = []
+        for length in lengths:
+            parts.append(data[end : end + length])
+            end += length
+        yield data[at : end + 1], parts
+        at = end + 1
+
+
+class Coverage:
+    def __init__(self, folder: str, targets: list[str]) -> None:
+        self.folder, self.targets = folder, targets
+        self.passed = self.failed = self.skipped = 0
+
+    def judge(self, right: bool, what: str) -> None:
+        self.passed += right
+        self.failed += not right
+        if not right:
+            print(f"coverage: {what}", flush=True)
+
+    def skip(self, what: object) -> None:
+        self.skipped += 1
+        print(f"coverage: skipped: {what}", flush=True)
+
+    def corpus(self, target: str) -> str:
+        return os.path.join(CORPUS, f"{target}.cases")
+
+    # ---- The corpus
+
+    def ask_all(self, refuse: int) -> None:
+        """Each case once, and with growths of memory refused."""
+        program = build.linked(build.RUN, "run", build.archive())
+        for target in self.targets:
+            kept = os.path.join(self.folder, target)
+            os.makedirs(kept)
+            ended = self.run([program, "--refuse", str(refuse), "--keep", kept, self.corpus(target)])
+            self.judge(ended.returncode == 0, f"{target}: {ended.stderr.decode('utf-8', 'replace')[-1500:]}{self.keep_wrong(target)}")
+            for name in sorted(os.listdir(kept), key=int):
+                self.ask_second(target, held(os.path.join(kept, name)))
+
+    def run(self, words: list[str]) -> "subprocess.CompletedProcess[bytes]":
+        how = {"cwd": self.folder, "stdin": subprocess.DEVNULL, "stdout": subprocess.PIPE, "stderr": subprocess.PIPE}
+        return subprocess.run(words, timeout=MOST_IN_ALL, **how)  # type: ignore[call-overload, no-any-return]
+
+    def keep_wrong(self, target: str) -> str:
+        """Where the case lies at which the answer was wrong."""
+        found = [*glob.glob(os.path.join(self.folder, "wrong.case")), *glob.glob(os.path.join(self.folder, "*-????????????????????????????????????????"))]
+        if not found:
+            return ""
+        room = os.path.join(build.OUT, "found")
+        os.makedirs(room, exist_ok=True)
+        for it in found:
+            shutil.move(it, os.path.join(room, f"{target}-{os.path.basename(it)}"))
+        return f"coverage: {target}: kept in {room}"
+
+    def ask_second(self, target: str, data: bytes) -> None:
+        """What the second checker says of the case."""
+        head, _, rest = data.partition(b"\n")
+        status, length = (int(it) for it in head.split())
+        text, (_, (words, config, orgs, _, cert)) = rest[:length], next(cases(rest[length:]))
+        command, *others = words.split(b"\0")
+        if others[:2] != [b"config", b"cert"]:
+            return
+        if command == b"check-lrat" and len(others) == 2:
+            wanted = plain.check_lrat(config, cert, None, set())
+        elif command == b"check" and others[2:] in ([], [b"--orgs=orgs"], [b"--orgs", b"orgs"]):
+            wanted = plain.check(config, cert, orgs if others[2:] else None)
+        else:
+            return
+        found = (status, text.decode("latin-1"))
+        self.judge(found == wanted, f"{target}: the second checker says {wanted} and not {found} of {rest[length:][:3000]!r}")
+
+    # ---- The search
+
+    def fuzz(self, seconds: int) -> None:
+        compiler = build.fuzzer()
+        try:
+            library, is_proved = build.counting("-O1")
+            of_what = "proved" if is_proved else "without proofs"
+        except build.Missing as why:
+            self.skip(f"branches are not counted: {why}")
+            library, of_what = build.archive(), "that of dist/, uncounted"
+        program = build.linked(build.FUZZ, "fuzz", library, by=compiler, more=("-fsanitize=fuzzer", "-no-pie"))
+        for target in self.targets:
+            room = self.unpacked(target)
+            words = [program, f"-max_total_time={seconds}", f"-max_len={MOST_CASE}", "-len_control=0", f"-timeout={MOST_SECONDS}", "-rss_limit_mb=2000"]
+            words += [f"-dict={os.path.join(build.HERE, 'formats.dict')}", "-print_final_stats=1", room]
+            ended = subprocess.run(words, cwd=self.folder, env={**os.environ, "COVERAGE_TARGET": target}, stdin=subprocess.DEVNULL, stderr=subprocess.PIPE)
+            said = ended.stderr.decode("utf-8", "replace")
+            runs, reached = (re.findall(it, said) for it in (r"number_of_executed_units: (\d+)", r"cov: (\d+)"))
+            print(f"coverage: {target}: {runs[-1] if runs else 0} runs, {reached[-1] if reached else 0} branches reached (the library {of_what})", flush=True)
+            kept = self.keep_wrong(target)
+            self.judge(ended.returncode == 0, f"{target}: {' '.join(it for it in said.splitlines() if it.startswith(('coverage:', 'SUMMARY')))} {kept}")
+
+    def unpacked(self, target: str) -> str:
+        room = os.path.join(self.folder, "cases", target)
+        os.makedirs(room, exist_ok=True)
+        for number, (case, _) in enumerate(cases(held(self.corpus(target)))):
+            with open(os.path.join(room, f"{number:06d}"), "wb") as it:
+                it.write(case)
+        return room
+
+    def merge(self, folder: str) -> None:
+        """The corpus of each target becomes the smallest cases that together reach all, up to so many bytes."""
+        library, _ = build.counting("-O1")
+        program = build.linked(build.FUZZ, "fuzz", library, by=build.fuzzer(), more=("-fsanitize=fuzzer", "-no-pie"))
+        for target in self.targets:
+            new, made = os.path.join(folder, target), os.path.join(self.folder, "merged", target)
+            os.makedirs(made)
+            rooms = [self.unpacked(target) if os.path.exists(self.corpus(target)) else "", new if os.path.isdir(new) else ""]
+            words = [program, "-merge=1", f"-max_len={MOST_CASE}", f"-timeout={MOST_SECONDS}", made, *filter(None, rooms)]
+            ended = subprocess.run(words, cwd=self.folder, env={**os.environ, "COVERAGE_TARGET": target}, stdin=subprocess.DEVNULL, stderr=subprocess.DEVNULL)
+            self.judge(ended.returncode == 0, f"{target}: the merge ended with {ended.returncode}")
+            found = sorted((held(os.path.join(made, name)) for name in os.listdir(made)), key=lambda it: (len(it), it))
+            kept: list[bytes] = []
+            for case in found:
+                if sum(map(len, kept)) + len(case) <= MOST_CASES and case.startswith(b"case "):
+                    kept.append(case)
+            with open(self.corpus(target), "wb") as it:
+                it.write(b"".join(kept))
+            print(f"coverage: {target}: {len(kept)} of {len(found)} cases, {sum(map(len, kept))} bytes", flush=True)
+
+    def table(self, refuse: int) -> None:
+        """Writes into docs/TESTING.md what the corpus reaches."""
+        library, is_proved = build.counting("-O0")
+        program = build.linked(build.RUN, "run_counting", library, more=("-no-pie",))
+        reached = os.path.join(self.folder, "reached")
+        ended = self.run([program, "--refuse", str(refuse), "--reached", reached, *(self.corpus(it) for it in self.targets)])
+        self.judge(ended.returncode == 0, f"the table: {ended.stderr.decode('utf-8', 'replace')[-1500:]}")
+        if not ended.returncode:
+            table.write(program, held(reached).decode(), is_proved)
+
+
+def main() -> int:
+    words = argparse.ArgumentParser(description="Asks the library the cases of the corpus, and searches for more.")
+    words.add_argument("--refuse", type=int, default=61, help="each N-th growth of memory is refused (default: 61)")
+    words.add_argument("--fuzz", type=int, default=0, help="seconds for each target")
+    words.add_argument("--table", action="store_true", help="write the table of docs/TESTING.md")
+    words.add_argument("--merge", help="a folder of new cases by target")
+    words.add_argument("target", nargs="*", help="only these")
+    asked = words.parse_args()
+    targets = asked.target or list(TARGETS)
+    if not {*targets} <= {*TARGETS}:
+        words.error("the targets are " + " ".join(TARGETS))
+    with tempfile.TemporaryDirectory(dir="/dev/shm" if os.path.isdir("/dev/shm") else None) as folder:
+        it = Coverage(folder, targets)
+        try:
+            if asked.merge:
+                it.merge(os.path.abspath(asked.merge))
+            elif asked.table:
+                it.table(asked.refuse)
+            else:
+                it.ask_all(asked.refuse)
+                if asked.fuzz:
+                    it.fuzz(asked.fuzz)
+        except build.Missing as why:
+            it.skip(why)
+        except subprocess.CalledProcessError as why:
+            it.judge(False, f"{why.cmd} ended with {why.returncode}: {why.output}")
+    print(f"coverage: {it.passed} passed, {it.failed} failed, {it.skipped} skipped")
+    return 1 if it.failed else 0
+
+
+if __name__ == "__main__":
+    sys.exit(main())

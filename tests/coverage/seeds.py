@@ -1,0 +1,107 @@
+#!/usr/bin/env python3
+"""Writes the first corpus: the rows of tests/malicious.py, the questions of tests/library.py, the examples, and made-up cases of tests/fuzz.py.
+
+usage: tests/coverage/seeds.py FOLDER [--cases N] [--seed S]
+
+A file TARGET.cases for each target of tests/coverage/run.py, of cases up to 8 kB; tests/coverage/run.py --merge keeps of such
+files what reaches more.
+"""
+
+import argparse
+import os
+import random
+import sys
+import tempfile
+from collections.abc import Iterator
+
+TESTS = os.path.dirname(os.path.dirname(os.path.abspath(__file__)))
+sys.path[:0] = [TESTS, os.path.join(os.path.dirname(TESTS), "library", "python")]
+sys.dont_write_bytecode = True
+import fuzz  # noqa: E402
+import library  # noqa: E402
+import malicious  # noqa: E402
+
+MOST_BYTES = 8192
+FILES = ("config", "orgs", "script", "cert")
+LISTS = ("blocking", "partial-blocking", "quorums", "partial-quorums")
+TARGETS = {"pair": "pair", "refutation": "refutation", "partial": "refutation", "least": "least", "partial-least": "least"}
+TARGETS |= {it: "list" for it in LISTS} | {"org-blocking": "groups", "partial-org-blocking": "groups"}
+Files = dict[str, bytes]
+
+
+def case_of(words: list[str], files: Files) -> bytes:
+    parts = [b"\0".join(map(os.fsencode, words)), *(files.get(name, b"") for name in FILES)]
+    return b"case " + b" ".join(b"%d" % len(it) for it in parts) + b"\n" + b"".join(parts) + b"\n"
+
+
+def target_of(words: list[str], files: Files) -> str:
+    command = os.fsdecode(words[0]) if words else ""
+    if command == "check":
+        kinds = [line[5:].decode("latin-1") for line in files.get("cert", b"").split(b"\n") if line.startswith(b"kind ")]
+        return TARGETS.get(kinds[0] if kinds else "", "pair")
+    if command in ("check-lrat", "whatif"):
+        return {"check-lrat": "lrat", "whatif": "script"}[command]
+    if any(os.fsdecode(it).startswith("--orgs") for it in words):
+        return "orgs"
+    if command in fuzz.SEARCHES or command == "trial":
+        return "search"
+    return "config" if len(words) < 3 or command in ("greatest", "blocks") else "words"
+
+
+class Rows(malicious.Trial):
+    """The rows of tests/malicious.py, gathered."""
+
+    def __init__(self) -> None:
+        super().__init__("", "")
+        self.files: Files = {}
+        self.found: list[tuple[list[str], Files]] = []
+
+    def put(self, name: str, data: object) -> None:
+        self.files[name] = data if isinstance(data, bytes) else b""
+
+    def row(self, _name: str, _status: int, _text: str, *words: str) -> None:
+        self.found.append((list(words), dict(self.files)))
+
+
+def made_up(count: int, seed: int) -> Iterator[tuple[list[str], Files]]:
+    """Cases of tests/fuzz.py, by the names of the library's files."""
+    rng = random.Random(seed)
+    with tempfile.TemporaryDirectory() as folder:
+        maker = fuzz.Maker(rng, fuzz.Program(fuzz.BUILT, folder))
+        for _ in range(count):
+            it = maker.case()
+            yield list(it.words), {name: it.files.get(name, b"") for name in FILES}
+
+
+def every(count: int, seed: int) -> Iterator[tuple[list[str], Files]]:
+    rows = Rows()
+    malicious.rows(rows)
+    yield from rows.found
+    for words, files in library.questions():
+        yield list(words), {name: files.get(name, b"") for name in FILES}
+    yield from made_up(count, seed)
+
+
+def main() -> int:
+    words = argparse.ArgumentParser(description="Writes the first corpus.")
+    words.add_argument("folder")
+    words.add_argument("--cases", type=int, default=1500)
+    words.add_argument("--seed", type=int, default=1)
+    asked = words.parse_args()
+    os.makedirs(asked.folder, exist_ok=True)
+    found: dict[str, list[bytes]] = {}
+    for given, files in every(asked.cases, asked.seed):
+        names = library.named_as_made(given) if given else given
+        case = case_of(names, files)
+        kept = found.setdefault(target_of(names, files), [])
+        if len(case) <= MOST_BYTES and case not in kept:
+            kept.append(case)
+    for target, cases in sorted(found.items()):
+        with open(os.path.join(asked.folder, f"{target}.cases"), "wb") as it:
+            it.write(b"".join(cases))
+        print(f"seeds: {target}: {len(cases)} cases, {sum(map(len, cases))} bytes")
+    return 0
+
+
+if __name__ == "__main__":
+    sys.exit(main())
