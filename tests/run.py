@@ -39,6 +39,7 @@ GROUPS = {
     "answers": "answers.py",
     "malicious": "malicious.py",
     "coverage": "coverage/run.py",
+    "desk": "coverage/desk.py",
     "fuzz": "fuzz.py --cases 400 --seed 1",
     "summary": "summary.py",
     "browser": "browser.py",
