@@ -1,7 +1,7 @@
 /* Asks all cases of the files given: run [--refuse N] [--keep FOLDER] [--reached FILE] FILE..
  *
- * Each answer is judged; with --refuse also those with each N-th growth of memory refused. With --keep the cases of 'check' and 'check-lrat' are
- * put into the folder, each with its status and text, for a second checker. With --reached, in a build that counts, the file gets
+ * Each answer is judged; with --refuse also those with each N-th growth of memory refused. With --keep the cases of 'check', 'check-lrat'
+ * and 'whatif' are put into the folder, each with its status and text, for a second checker. With --reached, in a build that counts, the file gets
  * a line for each branch: its place in the program, and whether it was reached with ample memory and, after that, without. */
 #define _GNU_SOURCE
 #include "cases.h"
@@ -32,7 +32,7 @@ static struct text read_file(const char *path) {
 }
 
 static void keep(const char *folder, const struct asked *asked, unsigned long at) {
-    if (!is_word(asked, "check") && !is_word(asked, "check-lrat")) return;
+    if (!is_word(asked, "check") && !is_word(asked, "check-lrat") && !is_word(asked, "whatif")) return;
     struct answer found = ask(asked, 1 << 18);
     struct text made = {0};
     char path[4096];

@@ -6,8 +6,8 @@ usage: tests/coverage/run.py [--refuse N] [--fuzz SECONDS] [--table] [--merge FO
 A case is the words of a question and the files that they name. Each is asked in guarded memory, over a heap that counts: the answer is the same
 twice; a certificate that a search made is accepted, and without its last byte refused; nodes that are renamed in order, elements that are
 turned round and members that are skipped change no more than they have to; with one unit more a certificate begins alike; in a room of one
-byte less there is no answer; no byte beside the room and no block of memory is left over. What 'check' and 'check-lrat' say is what
-tests/plain_checker.py says. With each N-th growth of memory refused, by itself and with all later ones, the answer is the same, or 8.
+byte less there is no answer; no byte beside the room and no block of memory is left over. What 'check', 'check-lrat' and 'whatif' say is
+what tests/plain_checker.py says. With each N-th growth of memory refused, by itself and with all later ones, the answer is the same, or 8.
 
 With --fuzz libFuzzer then changes the cases of each target for so many seconds. The library is compiled anew for that, with its branches
 counted: that of tools/library --bitcode, else one without proofs; without the toolchain it is that of dist/, uncounted. With --table
@@ -36,6 +36,8 @@ CORPUS = os.path.join(build.HERE, "corpus")
 TARGETS = ("config", "orgs", "script", "words", "pair", "refutation", "list", "least", "groups", "lrat", "search")
 # Bytes of a case, and of a target's cases in the repository.
 MOST_CASE, MOST_CASES = 16384, 170000
+# Of how many of the found cases the second checker is asked.
+MOST_SECOND = 2000
 # Seconds for one case, and for all.
 MOST_SECONDS, MOST_IN_ALL = 10, 1500
 
@@ -60,10 +62,42 @@ def cases(data: bytes) -> Iterator[tuple[bytes, list[bytes]]]:
         at = end + 1
 
 
+def options(words: list[bytes]) -> dict[str, str] | None:
+    """The values of options, as '--set=a' or '--set a'; None where there is another word."""
+    found: dict[str, str] = {}
+    given = iter(words)
+    for word in given:
+        name, equals, value = word.partition(b"=")
+        value = value if equals else next(given, b"-")
+        if not name.startswith(b"--") or (value.startswith(b"-") and not equals) or not value.isascii() or name.decode("latin-1") in found:
+            return None
+        found[name.decode("latin-1")] = value.decode()
+    return found
+
+
+def second_word(status: int, parts: list[bytes]) -> tuple[int, str] | None:
+    """What the second checker says; None where it cannot be asked."""
+    words, config, orgs, script, cert = parts
+    command, *others = words.split(b"\0")
+    given = options(others[2:])
+    if given is None:
+        return None
+    if command == b"whatif" and others[:2] == [b"config", b"script"] and {*given} == {"--set"}:
+        return plain.whatif(config, script, given["--set"])
+    if others[:2] != [b"config", b"cert"]:
+        return None
+    if command == b"check" and (not given or given == {"--orgs": "orgs"}):
+        return plain.check(config, cert, orgs if given else None)
+    if command == b"check-lrat" and {*given} <= {"--faulty", "--from"} and status != 3:
+        return plain.check_lrat(config, cert, given.get("--from"), {*filter(None, given.get("--faulty", "").split(","))})
+    return None
+
+
 class Coverage:
     def __init__(self, folder: str, targets: list[str]) -> None:
         self.folder, self.targets = folder, targets
         self.passed = self.failed = self.skipped = 0
+        self.program = ""
 
     def judge(self, right: bool, what: str) -> None:
         self.passed += right
@@ -81,15 +115,20 @@ class Coverage:
     # ---- The corpus
 
     def ask_all(self, refuse: int) -> None:
-        """Each case once, and with growths of memory refused."""
-        program = build.linked(build.RUN, "run", build.archive())
+        """Each case of the corpus once, and with growths of memory refused."""
         for target in self.targets:
-            kept = os.path.join(self.folder, target)
-            os.makedirs(kept)
-            ended = self.run([program, "--refuse", str(refuse), "--keep", kept, self.corpus(target)])
-            self.judge(ended.returncode == 0, f"{target}: {ended.stderr.decode('utf-8', 'replace')[-1500:]}{self.keep_wrong(target)}")
-            for name in sorted(os.listdir(kept), key=int):
-                self.ask_second(target, held(os.path.join(kept, name)))
+            self.ask_cases(target, self.corpus(target), refuse)
+
+    def ask_cases(self, target: str, path: str, refuse: int, most: int = 10**9) -> None:
+        """The cases of a file, and so many of them of the second checker."""
+        if not self.program:
+            self.program = build.linked(build.RUN, "run", build.archive())
+        kept = tempfile.mkdtemp(dir=self.folder)
+        ended = self.run([self.program, "--refuse", str(refuse), "--keep", kept, path])
+        self.judge(ended.returncode == 0, f"{target}: {ended.stderr.decode('utf-8', 'replace')[-1500:]}{self.keep_wrong(target)}")
+        for name in sorted(os.listdir(kept), key=int)[-most:]:
+            self.ask_second(target, held(os.path.join(kept, name)))
+        shutil.rmtree(kept)
 
     def run(self, words: list[str]) -> "subprocess.CompletedProcess[bytes]":
         how = {"cwd": self.folder, "stdin": subprocess.DEVNULL, "stdout": subprocess.PIPE, "stderr": subprocess.PIPE}
@@ -110,15 +149,9 @@ class Coverage:
         """What the second checker says of the case."""
         head, _, rest = data.partition(b"\n")
         status, length = (int(it) for it in head.split())
-        text, (_, (words, config, orgs, _, cert)) = rest[:length], next(cases(rest[length:]))
-        command, *others = words.split(b"\0")
-        if others[:2] != [b"config", b"cert"]:
-            return
-        if command == b"check-lrat" and len(others) == 2:
-            wanted = plain.check_lrat(config, cert, None, set())
-        elif command == b"check" and others[2:] in ([], [b"--orgs=orgs"], [b"--orgs", b"orgs"]):
-            wanted = plain.check(config, cert, orgs if others[2:] else None)
-        else:
+        text, (_, parts) = rest[:length], next(cases(rest[length:]))
+        wanted = second_word(status, parts)
+        if wanted is None:
             return
         found = (status, text.decode("latin-1"))
         self.judge(found == wanted, f"{target}: the second checker says {wanted} and not {found} of {rest[length:][:3000]!r}")
@@ -144,6 +177,7 @@ class Coverage:
             print(f"coverage: {target}: {runs[-1] if runs else 0} runs, {reached[-1] if reached else 0} branches reached (the library {of_what})", flush=True)
             kept = self.keep_wrong(target)
             self.judge(ended.returncode == 0, f"{target}: {' '.join(it for it in said.splitlines() if it.startswith(('coverage:', 'SUMMARY')))} {kept}")
+            self.ask_cases(target, self.packed(room), 0, most=MOST_SECOND)
 
     def unpacked(self, target: str) -> str:
         room = os.path.join(self.folder, "cases", target)
@@ -152,6 +186,13 @@ class Coverage:
             with open(os.path.join(room, f"{number:06d}"), "wb") as it:
                 it.write(case)
         return room
+
+    def packed(self, room: str) -> str:
+        """A file of the cases that a search found, those of the corpus first."""
+        found = [held(os.path.join(room, name)) for name in sorted(os.listdir(room))]
+        with open(f"{room}.cases", "wb") as it:
+            it.write(b"".join(case for case in found if case.startswith(b"case ")))
+        return f"{room}.cases"
 
     def merge(self, folder: str) -> None:
         """The corpus of each target becomes the smallest cases that together reach all, up to so many bytes."""
