@@ -60,7 +60,7 @@ GROUPS = {
 LONG = {
     "fail_alloc": "fail_alloc.py",
     "library": "library.py",
-    "coverage": "coverage/run.py --refuse 7 --fuzz 60",
+    "coverage": "coverage/run.py --refuse 1 --fuzz 60",
     "fuzz": "fuzz.py --cases 20000 --seed 1",
     "memory": "memory.py",
     "web_page": "web_page.py",

@@ -61,8 +61,8 @@ bool bound(const struct asked *asked, struct text *words);
 /* Asks, and whatever else is to hold of the answer; the questions that take longer only if so many of eight are wanted. */
 void judge(const struct asked *asked, unsigned share);
 
-/* Refuses each stride-th growth of memory in turn. How many were refused. */
-unsigned long judge_heap(const struct asked *asked, unsigned long stride);
+/* Refuses each stride-th growth of memory in turn, from the first on that is named. How many were refused. */
+unsigned long judge_heap(const struct asked *asked, unsigned long first, unsigned long stride);
 
 /* The first word, and the value of an option, as '--set x' or '--set=x'; none: NULL. */
 bool is_word(const struct asked *asked, const char *word);

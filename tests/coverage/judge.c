@@ -205,6 +205,8 @@ static bool with_new_list(struct text *to, struct part list, uint8_t between, bo
         if (!name.len || name.len > 127) return false;
         if (!first) text_add(to, &between, 1);
         size_t before = !of_groups ? 0 : begins(name, "org:") ? 4 : begins(name, "node:") ? 5 : 0;
+        /* (a name that is that of no group would come to stand after those that are) */
+        if (of_groups && !before) return false;
         text_add(to, name.at, before);
         text_add(to, "x", 1);
         text_add(to, name.at + before, name.len - before);
@@ -403,7 +405,7 @@ void judge(const struct asked *given, unsigned share) {
     text_free(&words);
 }
 
-unsigned long judge_heap(const struct asked *given, unsigned long stride) {
+unsigned long judge_heap(const struct asked *given, unsigned long first, unsigned long stride) {
     struct text words = {0};
     struct asked asked = *given;
     unsigned long refused = 0;
@@ -412,7 +414,7 @@ unsigned long judge_heap(const struct asked *given, unsigned long stride) {
     heap_begin(1, 0);
     struct answer ample = ask(&asked, ROOM);
     unsigned long all = heap_growths();
-    for (unsigned long at = 1; at <= all; at += stride, refused++)
+    for (unsigned long at = first; at <= all; at += stride, refused++)
         for (int later = 0; later < 2; later++) {
             heap_begin(at, later ? ~0ul : at);
             struct answer found = ask(&asked, ROOM);

@@ -1,7 +1,7 @@
 /* Asks all cases of the files given: run [--refuse N] [--keep FOLDER] [--reached FILE] FILE..
  *
- * Each answer is judged; with --refuse also those with each N-th growth of memory refused. With --keep the cases of 'check', 'check-lrat'
- * and 'whatif' are put into the folder, each with its status and text, for a second checker. With --reached, in a build that counts, the file gets
+ * Each answer is judged; with --refuse also those with each N-th growth of memory refused. With --keep the cases, and the checks
+ * of certificates that are made, are put into the folder, each with its status and text, for a second checker. With --reached, in a build that counts, the file gets
  * a line for each branch: its place in the program, and whether it was reached with ample memory and, after that, without. */
 #define _GNU_SOURCE
 #include "cases.h"
@@ -31,9 +31,15 @@ static struct text read_file(const char *path) {
     return held;
 }
 
+/* The number of a search's certificate, after that of its case. */
+enum { MADE = 1000000 };
+
 static void keep(const char *folder, const struct asked *asked, unsigned long at) {
-    if (!is_word(asked, "check") && !is_word(asked, "check-lrat") && !is_word(asked, "whatif")) return;
-    struct answer found = ask(asked, 1 << 18);
+    struct text words = {0};
+    struct asked bounded = *asked;
+    if (!bound(asked, &words)) return;
+    bounded.part[WORDS].at = words.at, bounded.part[WORDS].len = words.len;
+    struct answer found = ask(&bounded, 1 << 18);
     struct text made = {0};
     char path[4096];
     text_say(&made, "%d %zu\n", found.end.status, found.text.len);
@@ -42,8 +48,15 @@ static void keep(const char *folder, const struct asked *asked, unsigned long at
     snprintf(path, sizeof path, "%s/%lu", folder, at);
     FILE *file = fopen(path, "wb");
     if (!file || fwrite(made.at, 1, made.len, file) != made.len || fclose(file)) perror(path), exit(1);
+    if (found.cert.len && !is_word(asked, "trial")) {
+        static const char check[] = "check\0config\0cert\0--orgs=orgs";
+        bounded.part[WORDS].at = (const uint8_t *)check, bounded.part[WORDS].len = is_word(asked, "org-blocking") ? sizeof check - 1 : 17;
+        bounded.part[CERT].at = found.cert.at, bounded.part[CERT].len = found.cert.len;
+        keep(folder, &bounded, at + MADE);
+    }
     answer_free(&found);
     text_free(&made);
+    text_free(&words);
 }
 
 static void write_reached(const char *path, const uint8_t *ample) {
@@ -55,7 +68,7 @@ static void write_reached(const char *path, const uint8_t *ample) {
 }
 
 int main(int count, char **words) {
-    unsigned long stride = 0, cases = 0, refused = 0;
+    unsigned long stride = 0, cases = 0, refused = 0, turn = 0;
     const char *folder = NULL, *reached = NULL;
     int first = 1;
     double slowest = 0;
@@ -74,7 +87,7 @@ int main(int count, char **words) {
                 if (!(used = case_read(all.at + at, all.len - at, &asked))) return fprintf(stderr, "run: %s has no case at %zu\n", words[i], at), 1;
                 struct timespec begun, ended;
                 clock_gettime(CLOCK_PROCESS_CPUTIME_ID, &begun);
-                if (pass) refused += judge_heap(&asked, stride);
+                if (pass) refused += judge_heap(&asked, 1 + turn++ % stride, stride);
                 else judge(&asked, 8), cases++;
                 clock_gettime(CLOCK_PROCESS_CPUTIME_ID, &ended);
                 double took = (double)(ended.tv_sec - begun.tv_sec) + (double)(ended.tv_nsec - begun.tv_nsec) / 1e9;

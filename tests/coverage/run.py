@@ -75,13 +75,27 @@ def options(words: list[bytes]) -> dict[str, str] | None:
     return found
 
 
+def fault_of(config: bytes) -> str:
+    """The fault of a configuration; nothing: an empty text."""
+    try:
+        plain.system_of(config)
+    except plain.Fault as fault:
+        return str(fault)
+    return ""
+
+
 def second_word(status: int, parts: list[bytes]) -> tuple[int, str] | None:
     """What the second checker says; None where it cannot be asked."""
     words, config, orgs, script, cert = parts
     command, *others = words.split(b"\0")
-    given = options(others[2:])
-    if given is None:
+    is_two = len(others) > 1 and not others[1].startswith(b"--")
+    given = options(others[1 + is_two :])
+    if given is None or not others:
         return None
+    if others[0] == b"config" and command not in (b"trial", b"check-lrat") and status not in (3, 7):
+        fault = fault_of(config)
+        if fault or status == 4 and "--orgs" not in given:
+            return 4, f"config {fault}\n"
     if command == b"whatif" and others[:2] == [b"config", b"script"] and {*given} == {"--set"}:
         return plain.whatif(config, script, given["--set"])
     if others[:2] != [b"config", b"cert"]:
