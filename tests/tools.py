@@ -135,8 +135,11 @@ SAMPLES = (
 
 # A crate and one above it, with calls that can want memory: a test runs two of the three.
 WANTING = {
-    "low": "pub fn made(alloc: Global) -> Result<u8, AllocError>\n    ensures { result ≡ Ok 1 }\n{\n    other(alloc)\n}\n\n"
-    "fn other(alloc: Global) -> Result<u8, AllocError> {\n    Ok(1)\n}\n\npub fn lone(alloc: Global) -> Result<u8, AllocError> {\n    Ok(2)\n}\n",
+    "low": (
+        "pub fn made(alloc: Global) -> Result<u8, AllocError>\n    ensures { result ≡ Ok 1 }\n{\n    other(alloc)\n}\n"
+        "fn other(alloc: Global) -> Result<u8, AllocError> {\n    Ok(1)\n}\n\n"
+        "pub fn lone(alloc: Global) -> Result<u8, AllocError> {\n    Ok(2)\n}\n"
+    ),
     "above": "use low::made;\n\n#[test]\nfn shows() {\n    let it = made(Global);\n}\n",
 }
 
