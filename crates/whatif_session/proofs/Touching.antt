@@ -210,7 +210,7 @@ touches_appended s base t who path name may grown h =
     let made : QuorumSet = changed_at path (change.Add w.0) d.0 in
     let after : System = with_set base v.0 (Some made) in
     touches_by s base t (Add who path name) v.0 (Some made) may grown.0 (some_of (place_of base.names who) UnknownNode v.0 v.1) (within_is after t (nat_lt MOST_ENTRIES (entries_in after.sets)) (TooManyEntries (entries_in after.sets)) w.2) grown.1
-      (w.0, some_of (place_of base.names name) UnknownNode w.0 w.1, (d.0, made, some_of (slice_index_or base.sets v.0 None) NoSet d.0 d.1, refl, changed_along (HasAlso w.0) path (changed_here (change.Add w.0)) d.0 (λ q there. also_here w.0 q)))
+    (w.0, some_of (place_of base.names name) UnknownNode w.0 w.1, (d.0, made, some_of (slice_index_or base.sets v.0 None) NoSet d.0 d.1, refl, changed_along (HasAlso w.0) path (changed_here (change.Add w.0)) d.0 (λ q there. also_here w.0 q)))
 
 touches_new : (s t : System) (who : Name) (already : Bool) → IsSystem s.names s.sets → has_set s (place_of s.names who) ≡ already → (if already then Err Already else (with_node s who >>= (λ u. declared u who))) ≡ Ok t → Touches s (Declare who) t
 touches_new s t who true is set h = absurd cc
@@ -229,7 +229,7 @@ touches s t (Threshold who path k) is h =
     let there = led s who path v.0 d.0 q.0 v.1 d.1 q.1 in
     let made : QuorumSet = changed_at path (change.Threshold k) d.0 in
     touches_by s s t (Threshold who path k) v.0 (Some made) (q.0, there) refl there.named (of_ok (with_set s v.0 (Some made)) t q.2) is.places
-      (d.0, made, there.has, refl, changed_along (HasThreshold k) path (changed_here (change.Threshold k)) d.0 (λ r _. threshold_here k r))
+    (d.0, made, there.has, refl, changed_along (HasThreshold k) path (changed_here (change.Threshold k)) d.0 (λ r _. threshold_here k r))
 touches s t (Add who path name) is h =
     let v = bound (node_in s who) _ t h in
     let d = bound (own_in s v.0) _ t v.2 in
@@ -245,7 +245,7 @@ touches s t (Drop who path name) is h =
     let gone = validator_there q.0 (place_of s.names name) w.0 w.1 in
     let made : QuorumSet = changed_at path (change.Drop w.0) d.0 in
     touches_by s s t (Drop who path name) v.0 (Some made) (q.0, there, (w.0, gone.0, gone.1)) refl there.named (of_ok (with_set s v.0 (Some made)) t w.2) is.places
-      (w.0, gone.0, (d.0, made, there.has, refl, changed_along (HasLost w.0) path (changed_here (change.Drop w.0)) d.0 (λ r at. lost_here w.0 r (subst (λ (x : QuorumSet). has_validator w.0 x ≡ true) (same_some q.0 r (sym (some_of (set_at path d.0) NoSet q.0 q.1) ∙ at)) gone.1))))
+    (w.0, gone.0, (d.0, made, there.has, refl, changed_along (HasLost w.0) path (changed_here (change.Drop w.0)) d.0 (λ r at. lost_here w.0 r (subst (λ (x : QuorumSet). has_validator w.0 x ≡ true) (same_some q.0 r (sym (some_of (set_at path d.0) NoSet q.0 q.1) ∙ at)) gone.1))))
   where
     same_some : (a b : QuorumSet) → ◌≡◌ {A = Option QuorumSet} (Some a) (Some b) → a ≡ b
     same_some a b h = cc
