@@ -12,7 +12,7 @@ use Rattle.lrat_model.specs.Runs.{Run, formula_database}
 use Rattle.cdcl_core.specs.Log.{AreLemmas, IsBoundedLog}
 use Rattle.clause_encoder.specs.Formula.{formula, formula_clauses}
 use Rattle.lrat_checker.specs.Checking.{Checking}
-use Rattle.clause_encoder.specs.declared.version.Version.TheVariants.{Two}
+use Rattle.clause_encoder.specs.declared.version.Version.TheVariants.{Three}
 use Rattle.certificate_file.specs.Formulas.{formula_of, formula_over}
 use Rattle.greatest_quorum.specs.Greatest.{greatest_of}
 use Rattle.certificate_file.specs.Meaning.{part_from}
@@ -33,22 +33,22 @@ use Rattle.cert_lines.specs.declared.lines.TheConstants.{MAX_LINES}
 
 -- ---- the formula of the part
 
-some_clauses : (f : Fbas) (b g : Table) → 0 < length (formula_clauses Two f b g)
+some_clauses : (f : Fbas) (b g : Table) → 0 < length (formula_clauses Three f b g)
 unfolding formula
 some_clauses f b g = omega arith
 
 -- the formula that is searched is the one that the check writes
-same_formula : (f : System) (h : Header) → IsSystem f.names f.sets → formula_of f (subject f h) ≡ formula_over Two (part_of f h.from).sets (faulty_in f h) (greatest_of (part_of f h.from).sets (faulty_in f h))
+same_formula : (f : System) (h : Header) → IsSystem f.names f.sets → formula_of f (subject f h) ≡ formula_over Three (part_of f h.from).sets (faulty_in f h) (greatest_of (part_of f h.from).sets (faulty_in f h))
 unfolding formula_of
 same_formula f h is =
     let sets : restricted_sets (part_from f h.from) f.sets ≡ (part_of f h.from).sets = sym (ap (λ (s : System). s.sets) (part_is_restricted f h.from is)) in
-    ap (λ (x : Fbas). formula_over Two x (faulty_in f h) (greatest_of x (faulty_in f h))) sets
+    ap (λ (x : Fbas). formula_over Three x (faulty_in f h) (greatest_of x (faulty_in f h))) sets
 
 of_log : (f : System) (h : Header) (to : Aim) (log : List ProofStep) (size : Size) (new : Database) → IsSystem f.names f.sets → IsSize (part_of f h.from).sets (faulty_in f h) size → IsLog (part_of f h.from).sets (faulty_in f h) log new → length log + 7 ≤ MAX_LINES → EndsAs to log → IsLogOf f h to size.vars size.clauses log
 of_log f h to log size new is sized run few ends =
     let p = (part_of f h.from).sets in
     let b = faulty_in f h in
-    let same : formula_over Two p b (greatest_of p b) ≡ formula_of f (subject f h) = sym (same_formula f h is) in
+    let same : formula_over Three p b (greatest_of p b) ≡ formula_of f (subject f h) = sym (same_formula f h is) in
     let vars : size.vars ≡ (formula_of f (subject f h)).vars = sized.vars ∙ ap (λ (c : Checking). c.vars) same in
     let base : formula_database (clauses_of p b) ≡ (formula_of f (subject f h)).database = ap (λ (c : Checking). c.database) same in
     record {

@@ -12,7 +12,7 @@ use Rattle.fbas_model.specs.Names.{Name, is_key, place_of}
 use Rattle.fbas_model.specs.Systems.{System}
 use Rattle.fbas_model.specs.Restriction.{kept}
 use Rattle.cert_lines.specs.Words.{is_name, digest_in}
-use Rattle.clause_encoder.specs.declared.version.Version.TheVariants.{Two}
+use Rattle.clause_encoder.specs.declared.version.Version.TheVariants.{Three}
 use Rattle.certificate_file.specs.Acceptance.{take_line}
 use Rattle.certificate_file.specs.Meaning.{part_from}
 use Rattle.certificate_file.specs.declared.given.Given.{Given}
@@ -60,9 +60,9 @@ digest_read digest size bytes =
 
 -- the place after the line `from`
 abbrev at_part : System → Option ℕ → State
-at_part f from = Going (AtFaulty Two from (part_from f from))
+at_part f from = Going (AtFaulty Three from (part_from f from))
 
-from_taken : (f : System) (given : Given) (from : Option ℕ) → AreNames f.names → IfSome from (λ v. v < length f.names) → take_line f given (AtFrom Two) 3 (worded (codes "from") (name_if_any f.names from)) ≡ Ok (at_part f from)
+from_taken : (f : System) (given : Given) (from : Option ℕ) → AreNames f.names → IfSome from (λ v. v < length f.names) → take_line f given (AtFrom Three) 3 (worded (codes "from") (name_if_any f.names from)) ≡ Ok (at_part f from)
 unfolding take_line
 from_taken f given None are low = refl
 from_taken f given (Some v) are low =
@@ -75,10 +75,10 @@ from_taken f given (Some v) are low =
 pub takes_header : (f : System) (given : Given) (h : Header) → AreNames f.names → length given.digest ≡ 32 → IsBytes given.digest → IsHeader f h → Takes f given 1 (Going AtTitle) (header_lines f.names given.digest h) (Going (AtKind (subject f h)))
 unfolding take_line
 takes_header f given h are size bytes is =
-    let digest : take_line f given (AtDigest Two) 2 (worded (codes "config") (encode_lower given.digest ∷ [])) ≡ Ok (Going (AtFrom Two)) = rw (digest_read given.digest size bytes, same_text given.digest) refl in
-    let faulty : take_line f given (AtFaulty Two h.from (part_from f h.from)) 4 (listed (codes "faulty") f.names h.faulty) ≡ Ok (Going (AtKind (subject f h))) =
+    let digest : take_line f given (AtDigest Three) 2 (worded (codes "config") (encode_lower given.digest ∷ [])) ≡ Ok (Going (AtFrom Three)) = rw (digest_read given.digest size bytes, same_text given.digest) refl in
+    let faulty : take_line f given (AtFaulty Three h.from (part_from f h.from)) 4 (listed (codes "faulty") f.names h.faulty) ≡ Ok (Going (AtKind (subject f h))) =
     rw (named-listed f.names 4 (codes "faulty") h.faulty (is_word (codes "faulty") refl) are is.faulty, is.cut) refl in
-    (Going (AtDigest Two), refl, (Going (AtFrom Two), digest, (at_part f h.from, from_taken f given h.from are is.node, (Going (AtKind (subject f h)), faulty, refl))))
+    (Going (AtDigest Three), refl, (Going (AtFrom Three), digest, (at_part f h.from, from_taken f given h.from are is.node, (Going (AtKind (subject f h)), faulty, refl))))
 
 -- ---- each is a line
 
@@ -112,7 +112,7 @@ line_from names (Some v) are low =
 
 pub lines_header : (f : System) (d : List ℕ) (h : Header) → AreNames f.names → length f.names ≤ MOST_NODES → length d ≡ 32 → IsHeader f h → AreLines (header_lines f.names d h)
 lines_header f d h are few size is = (
-  record { plain = is_plain (codes "fbas-cert 2") refl; short = omega arith },
+  record { plain = is_plain (codes "fbas-cert 3") refl; short = omega arith },
   (
     line_digest d size,
     (

@@ -3,7 +3,7 @@ use Rattle.std.proofs.Common.{◌≡◌, ◌≤◌, ◌==◌, length, not, true,
 use Rattle.std.specs.List.{list_all}
 use Rattle.fbas_model.specs.Systems.{System}
 use Rattle.clause_encoder.specs.declared.version.Version.{Version}
-use Rattle.clause_encoder.specs.declared.version.Version.TheVariants.{One, Two}
+use Rattle.clause_encoder.specs.declared.version.Version.TheVariants.{One, Two, Three}
 use Rattle.enumeration_journal.specs.declared.kinds.ListKind.{ListKind}
 use Rattle.enumeration_journal.specs.declared.kinds.ListKind.TheVariants.{Whole, Partial as Part}
 use Rattle.enumeration_journal.specs.declared.kinds.Listed.TheVariants as listed
@@ -36,6 +36,7 @@ line_steps aim.Partial = short_line (codes "kind partial") refl (omega arith)
 in_each_version : (version : Version) (to : Aim) → is_allowed version (body.Steps to) ≡ true
 in_each_version One to = refl
 in_each_version Two to = refl
+in_each_version Three to = refl
 
 pub steps_taken : (f : System) (given : Given) (s : Subject) (to : Aim) → take_line f given (AtKind s) 5 (kind_line (aim_word to)) ≡ Ok (Going (AtFormula to s))
 unfolding take_line
@@ -54,7 +55,7 @@ line_body (Nodes listed.Smaller) Part = short_line (codes "kind partial-least") 
 line_body Groups Whole = short_line (codes "kind org-blocking") refl (omega arith)
 line_body Groups Part = short_line (codes "kind partial-org-blocking") refl (omega arith)
 
-pub body_taken : (f : System) (given : Given) (s : Subject) (shows : ReachKind) (kind : ListKind) → s.version ≡ Two → take_line f given (AtKind s) 5 (kind_line (kind_word shows kind)) ≡ Ok (Going (reach_place f s kind shows))
+pub body_taken : (f : System) (given : Given) (s : Subject) (shows : ReachKind) (kind : ListKind) → s.version ≡ Three → take_line f given (AtKind s) 5 (kind_line (kind_word shows kind)) ≡ Ok (Going (reach_place f s kind shows))
 unfolding take_line
 body_taken f given s (Nodes listed.Blocking) Whole two = rw two refl
 body_taken f given s (Nodes listed.Blocking) Part two = rw two refl

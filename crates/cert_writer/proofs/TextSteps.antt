@@ -49,7 +49,7 @@ names_push names vs v name at =
 pub names_all : (names : List Name) (set : Table) (vs : List ℕ) → vs ≡ listed_from 0 set → length set ≡ length names → spaced (names_at names vs) ≡ spaced (kept set names)
 names_all names set vs all e = ap (λ (vs : List ℕ). spaced (names_at names vs)) all ∙ ap spaced (sym (kept_listed set names [] e))
 
-pub header_text : (names : List Name) (digest : List ℕ) (h : Header) → (((((codes "fbas-cert 2\nconfig" ++ 32 ∷ encode_lower digest) ++ codes "\nfrom") ++ spaced (name_if_any names h.from)) ++ codes "\nfaulty") ++ spaced (kept h.faulty names)) ++ codes "\n" ≡ joined (header_lines names digest h)
+pub header_text : (names : List Name) (digest : List ℕ) (h : Header) → (((((codes "fbas-cert 3\nconfig" ++ 32 ∷ encode_lower digest) ++ codes "\nfrom") ++ spaced (name_if_any names h.from)) ++ codes "\nfaulty") ++ spaced (kept h.faulty names)) ++ codes "\n" ≡ joined (header_lines names digest h)
 header_text names digest h = simp (append_assoc, append-nil)
 
 pub pair_text : (names : List Name) (p : Pair) → (((codes "kind pair\nfirst" ++ spaced (kept p.first names)) ++ codes "\nsecond") ++ spaced (kept p.second names)) ++ codes "\n" ≡ joined (pair_front names p)

@@ -44,7 +44,7 @@ use Rattle.certificate_file.specs.declared.places.Conclusion.TheVariants.{Refuta
 use Rattle.cert_writer.specs.Texts.{raised_table}
 use Rattle.cert_lines.specs.declared.lines.TheConstants.{MAX_LINES}
 use Rattle.clause_encoder.specs.declared.limits.TheConstants.{MOST_VARS}
-use Rattle.clause_encoder.specs.declared.version.Version.TheVariants.{Two}
+use Rattle.clause_encoder.specs.declared.version.Version.TheVariants.{Three}
 use Rattle.cert_writer.specs.declared.certified.Certified.{Certified}
 use Rattle.cert_writer.specs.declared.writer.TheConstants.{BUFFER}
 
@@ -55,7 +55,7 @@ pub record IsHeader (f : System) (h : Header) : Type 0 where
   pub cut : shared h.faulty (part_from f h.from) ≡ h.faulty
 
 abbrev pub subject : System → Header → Subject
-subject f h = record { version = Two; header = h; nodes = part_from f h.from }
+subject f h = record { version = Three; header = h; nodes = part_from f h.from }
 
 -- the system of the part, and its faulty nodes by their numbers there
 abbrev pub part_of : System → Option ℕ → System

@@ -254,7 +254,7 @@ impl CertWriter {
             self.old (D.state desk.old) (D.faults desk.old) self.new (D.state desk.new) (D.faults desk.new) }
     {
         let names = about.whole.names();
-        self.text(desk, b"fbas-cert 2\nconfig");
+        self.text(desk, b"fbas-cert 3\nconfig");
         self.word(desk, &digits(about.digest));
         self.text(desk, b"\nfrom");
         self.from(desk, names, about.header.from);

@@ -16,7 +16,7 @@ use Rattle.lrat_stream.specs.Outline.{Adds, outline_in}
 use Rattle.lrat_stream.specs.Ahead.{ahead}
 use Rattle.lrat_stream.specs.declared.words.StepWords.{StepWords}
 use Rattle.clause_encoder.specs.declared.limits.TheConstants.{MOST_VARS}
-use Rattle.clause_encoder.specs.declared.version.Version.TheVariants.{Two}
+use Rattle.clause_encoder.specs.declared.version.Version.{Version}
 use Rattle.cert_lines.specs.Limits.{unless, within_limits}
 use Rattle.cert_lines.specs.Texts.{Text, texts_of, next_text}
 use Rattle.cert_lines.specs.Steps.{is_passed_over}
@@ -37,8 +37,8 @@ use Rattle.certificate_file.proofs.RefutationLaws.{formula_known, after_known}
 use Rattle.certificate_file.specs.declared.places.Aim.TheVariants as aim
 
 -- the parts of a subject
-pub subject_is : (f : System) (h : Header) (faulty nodes : Table) → faulty ≡ h.faulty → nodes ≡ part_from f h.from → record { version = Two; header = record { from = h.from; faulty = faulty }; nodes = nodes } ≡ subject_from f h
-subject_is f h faulty nodes same part = rw (same, part) refl
+pub subject_is : (f : System) (version : Version) (h : Header) (faulty nodes : Table) → faulty ≡ h.faulty → nodes ≡ part_from f h.from → record { version = version; header = record { from = h.from; faulty = faulty }; nodes = nodes } ≡ subject_from f version h
+subject_is f version h faulty nodes same part = rw (same, part) refl
 
 -- ---- what is known
 
@@ -158,19 +158,19 @@ proof_line-passed c l text is = ap (λ (b : Bool). cond b (Ok (Some c)) (and_the
 -- ---- from the header on
 
 -- what is held at first, where the subject is that of the header
-pub formula_opened : (f : System) (h : Header) (s : Subject) (c : Checking) (opening : Stepping) → s ≡ subject_from f h → c ≡ formula_of f s → opening.rule ≡ c.rule → opening.vars ≡ c.vars → opening.database ≡ c.database → checking_of opening ≡ formula_of f (subject_from f h)
-formula_opened f h s c opening is formula rule vars database = same_checking (checking_of opening) c rule vars database ∙ formula ∙ ap (formula_of f) is
+pub formula_opened : (f : System) (version : Version) (h : Header) (s : Subject) (c : Checking) (opening : Stepping) → s ≡ subject_from f version h → c ≡ formula_of f s → opening.rule ≡ c.rule → opening.vars ≡ c.vars → opening.database ≡ c.database → checking_of opening ≡ formula_of f (subject_from f version h)
+formula_opened f version h s c opening is formula rule vars database = same_checking (checking_of opening) c rule vars database ∙ formula ∙ ap (formula_of f) is
 
-pub opened_known : (f : System) (h : Header) (s : Subject) (c : Checking) → s ≡ subject_from f h → IsSubject f s → c ≡ formula_of f (subject_from f h) → AreSteps f h c
-opened_known f h s c is fits formula = subst (AreSteps f h) (sym formula) (formula_known f (subject_from f h) (subst (IsSubject f) is fits))
+pub opened_known : (f : System) (version : Version) (h : Header) (s : Subject) (c : Checking) → s ≡ subject_from f version h → IsSubject f s → c ≡ formula_of f (subject_from f version h) → AreSteps f h c
+opened_known f version h s c is fits formula = subst (AreSteps f h) (sym formula) (formula_known f (subject_from f version h) (subst (IsSubject f) is fits))
 
 -- the lines of a proof whose formula is not too large
-pub verified-small : (f : System) (h : Header) (c : Checking) (l : ℕ) (unread bytes : List ℕ) → c ≡ formula_of f (subject_from f h) → c.vars ≤ MOST_VARS → l ≡ 1 → unread ≡ [] → verified f h bytes ≡ proof_lines l (Some c) (texts_of (unread ++ bytes))
+pub verified-small : (f : System) (version : Version) (h : Header) (c : Checking) (l : ℕ) (unread bytes : List ℕ) → c ≡ formula_of f (subject_from f version h) → c.vars ≤ MOST_VARS → l ≡ 1 → unread ≡ [] → verified f version h bytes ≡ proof_lines l (Some c) (texts_of (unread ++ bytes))
 unfolding verified
-verified-small f h c l unread bytes is small first none =
+verified-small f version h c l unread bytes is small first none =
     rw (first, none) (ap (λ (k : Checking). proof_of k bytes) (sym is) ∙ proof_of-small c bytes small)
 
-pub verified-large : (f : System) (h : Header) (s : Subject) (bytes : List ℕ) (e : CertError) → s ≡ subject_from f h → e ≡ TooLarge (formula_of f s).vars → MOST_VARS < (formula_of f s).vars → verified f h bytes ≡ Err e
+pub verified-large : (f : System) (version : Version) (h : Header) (s : Subject) (bytes : List ℕ) (e : CertError) → s ≡ subject_from f version h → e ≡ TooLarge (formula_of f s).vars → MOST_VARS < (formula_of f s).vars → verified f version h bytes ≡ Err e
 unfolding verified
-verified-large f h s bytes e is large many =
+verified-large f version h s bytes e is large many =
     ap (λ (k : Subject). proof_of (formula_of f k) bytes) (sym is) ∙ proof_of-large (formula_of f s) bytes many ∙ ap (λ (x : CertError). Err x) (sym large)

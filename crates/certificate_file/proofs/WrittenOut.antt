@@ -18,6 +18,10 @@ both = Some (quorum_set 2 (node 0 (node 1 none)))
 abbrev pub two : System
 two = record { names = codes "p" ∷ codes "q" ∷ []; sets = both ∷ both ∷ [] }
 
+-- the same two, of which each names itself first
+abbrev pub crossed : System
+crossed = record { names = codes "p" ∷ codes "q" ∷ []; sets = both ∷ Some (quorum_set 2 (node 1 (node 0 none))) ∷ [] }
+
 -- no nodes
 abbrev pub nobody : System
 nobody = record { names = []; sets = [] }

@@ -9,7 +9,7 @@ use Rattle.lrat_model.specs.declared.step.Progress.TheVariants.{Going as going, 
 use Rattle.lrat_checker.specs.Checking.{Checking}
 use Rattle.lrat_text.specs.Lines.{step_in}
 use Rattle.clause_encoder.specs.declared.limits.TheConstants.{MOST_VARS}
-use Rattle.clause_encoder.specs.declared.version.Version.TheVariants.{Two}
+use Rattle.clause_encoder.specs.declared.version.Version.{Version}
 use Rattle.cert_lines.specs.Limits.{unless, within_limits}
 use Rattle.cert_lines.specs.Texts.{texts_of}
 use Rattle.cert_lines.specs.Steps.{is_passed_over}
@@ -53,10 +53,10 @@ proof_lines l (Some c) (text ∷ more) = within_limits l text (and_then (λ left
 abbrev pub proof_of : Checking → List ℕ → Result (Unit {0}) CertError
 proof_of c bytes = unless (TooLarge c.vars) (nat_le c.vars MOST_VARS) (proof_lines 1 (Some c) (texts_of bytes))
 
--- the part of the system that a header speaks of, for the formula that is exported
-abbrev pub subject_from : System → Header → Subject
-subject_from f h = record { version = Two; header = h; nodes = part_from f h.from }
+-- the part of the system that a header speaks of, for the formula of a version that is exported
+abbrev pub subject_from : System → Version → Header → Subject
+subject_from f version h = record { version = version; header = h; nodes = part_from f h.from }
 
 -- what a proof is answered, for the formula of the part of a system without its faulty nodes
-unfoldable pub verified : System → Header → List ℕ → Result (Unit {0}) CertError
-verified f h bytes = proof_of (formula_of f (subject_from f h)) bytes
+unfoldable pub verified : System → Version → Header → List ℕ → Result (Unit {0}) CertError
+verified f version h bytes = proof_of (formula_of f (subject_from f version h)) bytes

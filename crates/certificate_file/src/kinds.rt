@@ -73,7 +73,7 @@ fn is_allowed(version: Version, body: Body) -> bool
             Body::Pair | Body::Steps(_) => true,
             Body::Reach(title) => is_of_one(title.shows),
         },
-        Version::Two => true,
+        Version::Two | Version::Three => true,
     }
 }
 

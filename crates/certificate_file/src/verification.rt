@@ -48,14 +48,14 @@ fn part_from(system: &System, from: Option<u32>) -> NodeSet
     }
 }
 
-/// What the header says, with the part.
-fn subject_from(system: &System, header: &Header) -> Subject
+/// What the header says, with the part, for the formula of a version.
+fn subject_from(system: &System, version: Version, header: &Header) -> Subject
     requires { FitsHeader system.now header.now }
-    ensures value { result ≡ subject_from system.now header.now }
+    ensures value { result ≡ subject_from system.now version header.now }
     ensures fits { IsSubject system.now result }
 {
     Subject {
-        version: Version::Two,
+        version,
         header: Header {
             from: header.from,
             faulty: header.faulty.copy(),
@@ -124,8 +124,8 @@ fn check_proof<D: Desk>(
 
 /// Reads the begun LRAT proof line by line up to the empty lemma, and gives the first fault where it does not come to it.
 ///
-/// The proof is one of the formula of the header's part of the system, once the faulty nodes are deleted, as it is exported:
-/// the clauses have the ids from 1 on in their order. The answer is `verified` of the bytes that are left. On any desk, where it
+/// The proof is one of the formula of this version, of the header's part of the system, once the faulty nodes are deleted, as it is
+/// exported: the clauses have the ids from 1 on in their order. The answer is `verified` of the bytes that are left. On any desk, where it
 /// is Ok every two quorums of the part share a node once the faulty nodes are deleted. A line that begins with a `c` or has no
 /// word is passed over, the last line may lack its line feed, and nothing is looked at after the line of the empty lemma.
 /// `TooLarge` comes before the first line is read, and `NotRefuted` with the number of the line that would come next. `Read` comes
@@ -137,20 +137,21 @@ fn check_proof<D: Desk>(
 pub fn check_lrat<D: Desk>(
     alloc: Global,
     system: &System,
+    version: Version,
     header: &Header,
     desk: &mut D,
 ) -> Result<(), CheckError>
     requires { FitsHeader system.now header.now }
-    ensures ok { OnOk result (IsTrue D.tells → verified system.now header.now (left_of Which.Cert (D.state desk.old)) ≡ Ok tt) }
+    ensures ok { OnOk result (IsTrue D.tells → verified system.now version header.now (left_of Which.Cert (D.state desk.old)) ≡ Ok tt) }
     ensures err { IfErr result (λ e. IsTrue D.tells → OnCert e (λ fault. (fault ≡ CertError.Memory)
-        ⊎ (verified system.now header.now (left_of Which.Cert (D.state desk.old)) ≡ Err fault))) }
+        ⊎ (verified system.now version header.now (left_of Which.Cert (D.state desk.old)) ≡ Err fault))) }
     ensures shows { OnOk result (PartIntersects system.now (part_from system.now header.now.from) header.now.faulty) }
     ensures plain { IsErrOf result CheckError.Read → IsTrue D.tells → IsTrue (D.state desk.old).plain → ⊥ }
     ensures rest { IsTrue D.tells → D.state desk.new ≡ with_left Which.Cert (left_of Which.Cert (D.state desk.new)) (D.state desk.old) }
     ensures faults { ReadFails (D.faults desk.old) (D.faults desk.new) (IsErrOf result CheckError.Read) }
 {
     let mut lines = Lines::start(alloc)?;
-    let subject = subject_from(system, header);
+    let subject = subject_from(system, version, header);
     let (checker, _) = formula_of(alloc, system, &subject)?;
     let mut checker = checker.opening();
     let mut reader = StepReader::new(alloc);

@@ -7,7 +7,7 @@ use Rattle.lrat_model.specs.Literal.{Plus, Minus}
 use Rattle.threshold_circuit.specs.Circuits.{Circuit, Inputs, always, never, leaf, at_least, end_of_gate, input}
 use Rattle.threshold_circuit.specs.Same.{same_circuit}
 use Rattle.clause_encoder.specs.declared.version.Version.{Version}
-use Rattle.clause_encoder.specs.declared.version.Version.TheVariants.{One, Two}
+use Rattle.clause_encoder.specs.declared.version.Version.TheVariants.{One, Two, Three}
 use Rattle.clause_encoder.specs.GateClauses.{gate_variable}
 use Rattle.clause_encoder.specs.CircuitClauses.{Gate, Place, Written, variable_among, one_gate_more, gate_over, used_again, circuit_clauses, inputs_clauses}
 use Rattle.clause_encoder.specs.Formula.{with_gate, node_clauses}
@@ -30,6 +30,7 @@ among_more (h ∷ gates) g c x found =
 among_one_more : (version : Version) (gates : List Gate) (d : Circuit) (y : ℕ) (c : Circuit) (x : ℕ) → variable_among gates c ≡ Some x → variable_among (one_gate_more version gates d y) c ≡ Some x
 among_one_more One gates d y c x found = found
 among_one_more Two gates d y c x found = among_more gates (record { circuit = d; variable = y }) c x found
+among_one_more Three gates d y c x found = among_more gates (record { circuit = d; variable = y }) c x found
 
 mutual
   circuit_keeps : (version : Version) (p : ℕ → ℕ) (place : Place) (d c : Circuit) (x : ℕ) → variable_among place.gates c ≡ Some x → variable_among (circuit_clauses version p place d).after.gates c ≡ Some x

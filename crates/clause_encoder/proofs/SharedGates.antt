@@ -5,7 +5,7 @@ use Rattle.threshold_circuit.specs.Circuits.{Circuit, all_inputs}
 use Rattle.threshold_circuit.specs.Same.{same_circuit}
 use Rattle.threshold_circuit.proofs.SameLaws.{same_is}
 use Rattle.clause_encoder.specs.declared.version.Version.{Version}
-use Rattle.clause_encoder.specs.declared.version.Version.TheVariants.{One, Two}
+use Rattle.clause_encoder.specs.declared.version.Version.TheVariants.{One, Two, Three}
 use Rattle.clause_encoder.specs.CircuitClauses.{Gate, Place, Written, variable_among, one_gate_more, stands_for, used_again}
 use Rattle.clause_encoder.specs.SharedGates.{EachGate, gates_of}
 use Rattle.threshold_circuit.specs.declared.Circuit as Rust
@@ -21,6 +21,7 @@ each_gate_more P (g ∷ gates) c x each new = (each.0, each_gate_more P gates c 
 pub each_one_more : (version : Version) (P : Circuit → ℕ → Type 0) (gates : List Gate) (c : Circuit) (x : ℕ) → EachGate P gates → P c x → EachGate P (one_gate_more version gates c x)
 each_one_more One P gates c x each new = each
 each_one_more Two P gates c x each new = each_gate_more P gates c x each new
+each_one_more Three P gates c x each new = each_gate_more P gates c x each new
 
 pub each_gate_map : (P Q : Circuit → ℕ → Type 0) → ((c : Circuit) (x : ℕ) → P c x → Q c x) → (gates : List Gate) → EachGate P gates → EachGate Q gates
 each_gate_map P Q go [] each = tt

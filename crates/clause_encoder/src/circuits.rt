@@ -6,6 +6,7 @@ ghost use Rattle.clause_encoder.specs.Formula.{circuit_at};
 ghost use Rattle.clause_encoder.specs.Written.{circuit_in, circuit_of_kind, AreWritable};
 
 use crate::nodes::node_circuit;
+use crate::version::Version;
 use fbas_core::System;
 use indexmap::IndexSet;
 use name_set::NodeSet;
@@ -43,6 +44,7 @@ impl Circuits {
     /// over the hashes of circuits. An equal circuit is dropped as soon as it is found.
     pub fn of(
         alloc: Global,
+        version: Version,
         system: &System,
         faulty: &NodeSet,
         greatest: &NodeSet,
@@ -50,12 +52,20 @@ impl Circuits {
         requires faulty { length faulty.now ≡ length system.now.sets }
         requires greatest { length greatest.now ≡ length system.now.sets }
         ensures n { IfOk result (λ c. length c.kinds ≡ length system.now.sets) }
-        ensures circuits { IfOk result (λ c. (v : ℕ) → v ∈ members greatest.now → circuit_in c v ≡ circuit_at system.now.sets faulty.now greatest.now v) }
+        ensures circuits { IfOk result (λ c. (v : ℕ) → v ∈ members greatest.now → circuit_in c v ≡ circuit_at version system.now.sets faulty.now greatest.now v) }
         ensures writable { IfOk result (λ c. AreWritable (length system.now.sets) c.different) }
     {
         let mut different = IndexSet::new(alloc);
         let mut kinds = Vec::new(alloc);
-        add_nodes(alloc, system, faulty, greatest, &mut different, &mut kinds)?;
+        add_nodes(
+            alloc,
+            version,
+            system,
+            faulty,
+            greatest,
+            &mut different,
+            &mut kinds,
+        )?;
         Ok(Circuits { different, kinds })
     }
 
@@ -87,6 +97,7 @@ impl Circuits {
 /// Adds each node's kind, and the circuits that no node before has.
 fn add_nodes(
     alloc: Global,
+    version: Version,
     system: &System,
     faulty: &NodeSet,
     greatest: &NodeSet,
@@ -99,11 +110,11 @@ fn add_nodes(
     requires no_kind { kinds.old.items ≡ [] }
     ensures n { OnOk result (length kinds.new.items ≡ length system.now.sets) }
     ensures below { OnOk result (All (λ k. k < length different.new.keys) kinds.new.items) }
-    ensures circuits { OnOk result ((v : ℕ) → v ∈ members greatest.now → circuit_in (record { different = different.new.keys; kinds = kinds.new.items }) v ≡ circuit_at system.now.sets faulty.now greatest.now v) }
+    ensures circuits { OnOk result ((v : ℕ) → v ∈ members greatest.now → circuit_in (record { different = different.new.keys; kinds = kinds.new.items }) v ≡ circuit_at version system.now.sets faulty.now greatest.now v) }
     ensures writable { OnOk result (AreWritable (length system.now.sets) different.new.keys) }
 {
     for v in 0..system.len() {
-        let circuit = node_circuit(alloc, system, faulty, greatest, v)?;
+        let circuit = node_circuit(alloc, version, system, faulty, greatest, v)?;
         let (kind, _) = different.insert_full(circuit)?;
         kinds.push(kind as u32)?;
     }

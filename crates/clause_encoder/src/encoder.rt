@@ -133,8 +133,10 @@ fn encode_over(
 /// have the ids from 1 on: some node of side a, some of side b, for each member that it is not on both, then on each side
 /// for each member whose circuit is not always true its gates, and that it is only true with them. A circuit's gates are
 /// written after those of their entries: where all inputs are wanted a clause for each, where one is wanted one clause, and
-/// else a sequential counter (Sinz 2005). In version 2 a side writes each gate once: a circuit that is equal to one whose gate
-/// is written stands for that gate.
+/// else a sequential counter (Sinz 2005). From version 2 on a side writes each gate once: a circuit that is equal to one whose
+/// gate is written stands for that gate. In version 3 the inputs of each gate stand in one order, those of inner gates first: nodes
+/// by their numbers, then gates by their thresholds, and those of equal thresholds by their inputs. So what differs in no more than
+/// the order of a quorum set's entries, at any depth, is one gate.
 ///
 /// `TooLarge` comes where the formula has more than `MOST_VARS` variables, which are counted before anything is written.
 /// Linear in n, in the entries of the members' quorum sets and in the formula, on average over the hashes of circuits. A quorum
@@ -161,7 +163,7 @@ pub fn encode(
 {
     let n = system.len();
     let nodes = members_of(alloc, greatest)?;
-    let circuits = Circuits::of(alloc, system, faulty, greatest)?;
+    let circuits = Circuits::of(alloc, version, system, faulty, greatest)?;
     encode_over(alloc, version, greatest, n, &nodes, &circuits)
 }
 

@@ -1,5 +1,5 @@
 //! The gates of a side that are used again.
-ghost use Rattle.std.specs.Prelude.{◌≡◌, None, IfSome, OnOk, []};
+ghost use Rattle.std.specs.Prelude.{◌≡◌, None, IfSome, OnOk, [], ◌∷◌, ◌++◌};
 ghost use Rattle.threshold_circuit.specs.Views.{circuit_view};
 ghost use Rattle.clause_encoder.specs.CircuitClauses.{variable_among, one_gate_more};
 ghost use Rattle.clause_encoder.specs.Known.{HasGate};
@@ -59,11 +59,19 @@ impl SharedGates {
     {
         match self.version {
             Version::One => Ok(()),
-            Version::Two => {
-                let key = circuit.copy(alloc)?;
-                self.gates.insert(key, variable)?;
-                Ok(())
-            }
+            Version::Two => self.add(alloc, circuit, variable),
+            Version::Three => self.add(alloc, circuit, variable),
         }
+    }
+
+    /// Keeps a gate.
+    fn add(&mut self, alloc: Global, circuit: &Circuit, variable: u64) -> Result<(), AllocError>
+        requires { variable_among (gates_in self.old) (circuit_view circuit.now) ≡ None }
+        ensures gates { OnOk result (gates_in self.new ≡ gates_in self.old ++ record { circuit = circuit_view circuit.now; variable = variable } ∷ []) }
+        ensures version { self.new.version ≡ self.old.version }
+    {
+        let key = circuit.copy(alloc)?;
+        self.gates.insert(key, variable)?;
+        Ok(())
     }
 }

@@ -7,4 +7,7 @@ pub enum Version {
     One,
     /// Once on each side: what has an equal circuit uses it again.
     Two,
+    /// Once on each side, over circuits in order: what has a circuit that differs in no more than the order of inputs uses it
+    /// again.
+    Three,
 }

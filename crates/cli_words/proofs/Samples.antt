@@ -7,6 +7,7 @@ use Rattle.cli_words.specs.Words.{order_of}
 use Rattle.cli_words.specs.Table.{row_of}
 use Rattle.cli_words.specs.Usage.{usage}
 use Rattle.cli_words.specs.declared.budget.TheConstants.{USUAL_BUDGET}
+use Rattle.cli_words.specs.declared.formula.TheConstants.{NEWEST_FORMULA}
 use Rattle.cli_words.specs.declared.orders.Command.{Command}
 use Rattle.cli_words.specs.declared.orders.Command.TheVariants.{Query, Search, Check, CheckLrat, Whatif}
 use Rattle.cli_words.specs.declared.orders.Goal.{Goal}
@@ -30,6 +31,7 @@ nothing_for command = record {
   set = None;
   budget = 0;
   trial = 0;
+  formula = 0;
 }
 
 abbrev search_of : Goal → ℕ → Ordered
@@ -64,7 +66,7 @@ program_alone = refl
 
 -- ---- the usage text
 
-usage_text : usage ≡ codes "usage: quorum_cli COMMAND\nshow CONFIG\nclosure CONFIG --node NAME\ngreatest CONFIG [COMMON]\nintersect CONFIG CERT [COMMON] [--budget UNITS]\navailable CONFIG --set NAMES [--from NAME]\ndset CONFIG CERT --set NAMES [--from NAME] [--budget UNITS]\nblocks CONFIG --set NAMES [COMMON]\nvblocks CONFIG --node NAME --set NAMES\nsplits CONFIG CERT --set NAMES [COMMON] [--budget UNITS]\nblocking CONFIG CERT [COMMON] [--budget UNITS]\ncheck CONFIG CERT [--orgs ORGS]\nexport CONFIG [COMMON]\ntrial N CERT [--budget UNITS]\ncheck-lrat CONFIG LRAT [COMMON]\nquorums CONFIG CERT [COMMON] [--budget UNITS]\nleast CONFIG CERT [COMMON] [--budget UNITS]\norg-blocking CONFIG CERT --orgs ORGS [--from NAME] [--faulty NAMES] [--faulty-orgs IDS] [--budget UNITS]\nwhatif CONFIG SCRIPT --set NAMES\nCOMMON: --from NAME --faulty NAMES --orgs ORGS --faulty-orgs IDS\n"
+usage_text : usage ≡ codes "usage: quorum_cli COMMAND\nshow CONFIG\nclosure CONFIG --node NAME\ngreatest CONFIG [COMMON]\nintersect CONFIG CERT [COMMON] [--budget UNITS]\navailable CONFIG --set NAMES [--from NAME]\ndset CONFIG CERT --set NAMES [--from NAME] [--budget UNITS]\nblocks CONFIG --set NAMES [COMMON]\nvblocks CONFIG --node NAME --set NAMES\nsplits CONFIG CERT --set NAMES [COMMON] [--budget UNITS]\nblocking CONFIG CERT [COMMON] [--budget UNITS]\ncheck CONFIG CERT [--orgs ORGS]\nexport CONFIG [COMMON] [--formula VERSION]\ntrial N CERT [--budget UNITS]\ncheck-lrat CONFIG LRAT [COMMON] [--formula VERSION]\nquorums CONFIG CERT [COMMON] [--budget UNITS]\nleast CONFIG CERT [COMMON] [--budget UNITS]\norg-blocking CONFIG CERT --orgs ORGS [--from NAME] [--faulty NAMES] [--faulty-orgs IDS] [--budget UNITS]\nwhatif CONFIG SCRIPT --set NAMES\nCOMMON: --from NAME --faulty NAMES --orgs ORGS --faulty-orgs IDS\n"
 unfolding usage row_of
 usage_text = refl
 
@@ -83,9 +85,11 @@ commands_read : AreRead (
     (codes "blocks f --set a --from b --orgs=o --faulty-orgs=", Ok (record (nothing_for (Query Blocks)) { config = codes "f"; orgs = Some (codes "o"); from = Some (codes "b"); faulty_orgs = Some []; set = Some (codes "a") })) ∷
     (codes "vblocks f --node v --set a", Ok (record (nothing_for (Query Vblocks)) { config = codes "f"; node = Some (codes "v"); set = Some (codes "a") })) ∷
     (codes "check f c", Ok (record (nothing_for Check) { config = codes "f"; cert = codes "c" })) ∷
-    (codes "export f --from a", Ok (record (nothing_for (Query Export)) { config = codes "f"; from = Some (codes "a") })) ∷
-    (codes "check-lrat f p", Ok (record (nothing_for CheckLrat) { config = codes "f"; cert = codes "p" })) ∷
-    (codes "check-lrat f p --from a --faulty b --orgs o --faulty-orgs c,d", Ok (record (nothing_for CheckLrat) { config = codes "f"; cert = codes "p"; orgs = Some (codes "o"); from = Some (codes "a"); faulty = Some (codes "b"); faulty_orgs = Some (codes "c,d") })) ∷
+    (codes "export f --from a", Ok (record (nothing_for (Query Export)) { config = codes "f"; from = Some (codes "a"); formula = NEWEST_FORMULA })) ∷
+    (codes "export f --formula 2", Ok (record (nothing_for (Query Export)) { config = codes "f"; formula = 2 })) ∷
+    (codes "check-lrat f p --formula=2", Ok (record (nothing_for CheckLrat) { config = codes "f"; cert = codes "p"; formula = 2 })) ∷
+    (codes "check-lrat f p", Ok (record (nothing_for CheckLrat) { config = codes "f"; cert = codes "p"; formula = NEWEST_FORMULA })) ∷
+    (codes "check-lrat f p --from a --faulty b --orgs o --faulty-orgs c,d", Ok (record (nothing_for CheckLrat) { formula = NEWEST_FORMULA; config = codes "f"; cert = codes "p"; orgs = Some (codes "o"); from = Some (codes "a"); faulty = Some (codes "b"); faulty_orgs = Some (codes "c,d") })) ∷
     (codes "intersect f c", Ok (search_of Intersect USUAL_BUDGET)) ∷
     (codes "intersect f c --faulty a --budget 0", Ok (record (search_of Intersect 0) { faulty = Some (codes "a") })) ∷
     (codes "dset f c --set a --from b --budget 4000000000", Ok (record (search_of Dset 4000000000) { from = Some (codes "b"); set = Some (codes "a") })) ∷
@@ -183,6 +187,10 @@ refused : AreRefused (
     codes "intersect f c --budget 01" ∷
     codes "intersect f c --budget=" ∷
     codes "greatest f --budget 1" ∷
+    codes "export f --formula 1" ∷
+    codes "export f --formula 4" ∷
+    codes "check-lrat f p --formula 03" ∷
+    codes "check f c --formula 2" ∷
     codes "dset f c" ∷
     codes "intersect f f --budget x" ∷
     codes "interse f c" ∷

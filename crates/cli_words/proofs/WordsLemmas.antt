@@ -93,10 +93,10 @@ app_by_parts row =
     ∙ rules_behind row.word (about ∷ file_rules row.second) (all_option_rules row.options)
 
 -- an order by its texts
-pub order_by_texts : (k : Command) (budget trial : ℕ) (rows : List Matched) {config cert script : Text} {orgs node from faulty faulty_orgs set : Option Text} → config ≡ text_of (target_id Config) rows → cert ≡ text_of (file_id Certificate) rows → script ≡ text_of (file_id Script) rows
+pub order_by_texts : (k : Command) (budget trial formula : ℕ) (rows : List Matched) {config cert script : Text} {orgs node from faulty faulty_orgs set : Option Text} → config ≡ text_of (target_id Config) rows → cert ≡ text_of (file_id Certificate) rows → script ≡ text_of (file_id Script) rows
     → orgs ≡ first_of (flag_id Orgs) rows → node ≡ first_of (flag_id Node) rows → from ≡ first_of (flag_id From) rows → faulty ≡ first_of (flag_id Faulty) rows → faulty_orgs ≡ first_of (flag_id FaultyOrgs) rows → set ≡ first_of (flag_id Set) rows
-    → record { command = k; config = config; cert = cert; script = script; orgs = orgs; node = node; from = from; faulty = faulty; faulty_orgs = faulty_orgs; set = set; budget = budget; trial = trial } ≡ order_in k budget trial rows
-order_by_texts k budget trial rows a b c d e f g h i = rw (a, b, c, d, e, f, g, h, i) refl
+    → record { command = k; config = config; cert = cert; script = script; orgs = orgs; node = node; from = from; faulty = faulty; faulty_orgs = faulty_orgs; set = set; budget = budget; trial = trial; formula = formula } ≡ order_in k budget trial formula rows
+order_by_texts k budget trial formula rows a b c d e f g h i = rw (a, b, c, d, e, f, g, h, i) refl
 
 -- ---- a command by its name
 

@@ -1,4 +1,5 @@
 pub mod Budget
+pub mod Formula
 pub mod Numbers
 pub mod Order
 pub mod Organisations

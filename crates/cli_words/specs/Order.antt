@@ -5,7 +5,7 @@ use Rattle.cli_words.specs.declared.orders.Command.{Command}
 use Rattle.cli_words.specs.declared.orders.Order.{Order}
 use Rattle.cli_words.specs.Table.{has_certificate, has_configuration}
 
--- a command with its texts: a path that the command does not have is empty, an option that it does not have or that was not given is `None`, a command that does not search has a budget of 0, and one that is no trial has no organisations
+-- a command with its texts: a path that the command does not have is empty, an option that it does not have or that was not given is `None`, a command that does not search has a budget of 0, one that is no trial has no organisations, and one without that option has version 0 of the formula
 pub record Ordered : Type 0 where
   pub command : Command
   pub config : List ℕ
@@ -19,6 +19,7 @@ pub record Ordered : Type 0 where
   pub set : Option (List ℕ)
   pub budget : ℕ
   pub trial : ℕ
+  pub formula : ℕ
 
 -- the order that a Rust value is
 abbrev pub order_view : Order → Ordered
@@ -35,6 +36,7 @@ order_view o = record {
   set = option_map string_bytes o.set;
   budget = o.budget;
   trial = o.trial;
+  formula = o.formula;
 }
 
 -- whether the path, where there is one, is this one

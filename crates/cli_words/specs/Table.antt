@@ -11,7 +11,7 @@ use Rattle.cli_words.specs.declared.table.Target.TheVariants.{Config, Organisati
 use Rattle.cli_words.specs.declared.table.SecondFile.{SecondFile}
 use Rattle.cli_words.specs.declared.table.SecondFile.TheVariants.{Certificate, Proof, Script}
 use Rattle.cli_words.specs.declared.table.Flag.{Flag}
-use Rattle.cli_words.specs.declared.table.Flag.TheVariants.{From, Faulty, Orgs, FaultyOrgs, Node, Set, Budget}
+use Rattle.cli_words.specs.declared.table.Flag.TheVariants.{From, Faulty, Orgs, FaultyOrgs, Node, Set, Budget, Formula}
 use Rattle.cli_words.specs.declared.table.Parameter.{Parameter}
 use Rattle.cli_words.specs.declared.table.Parameter.TheVariants.{Needs, Takes, Common}
 use Rattle.cli_words.specs.declared.table.Row.{Row as RowValue}
@@ -38,7 +38,7 @@ row_of (Query Greatest) = row (codes "greatest") Config None (Common ∷ [])
 row_of (Query Available) = row (codes "available") Config None (Needs Set ∷ Takes From ∷ [])
 row_of (Query Blocks) = row (codes "blocks") Config None (Needs Set ∷ Common ∷ [])
 row_of (Query Vblocks) = row (codes "vblocks") Config None (Needs Node ∷ Needs Set ∷ [])
-row_of (Query Export) = row (codes "export") Config None (Common ∷ [])
+row_of (Query Export) = row (codes "export") Config None (Common ∷ Takes Formula ∷ [])
 row_of (Search Intersect) = row (codes "intersect") Config (Some Certificate) (Common ∷ Takes Budget ∷ [])
 row_of (Search Dset) = row (codes "dset") Config (Some Certificate) (Needs Set ∷ Takes From ∷ Takes Budget ∷ [])
 row_of (Search Splits) = row (codes "splits") Config (Some Certificate) (Needs Set ∷ Common ∷ Takes Budget ∷ [])
@@ -48,7 +48,7 @@ row_of (Search Quorums) = row (codes "quorums") Config (Some Certificate) (Commo
 row_of (Search Least) = row (codes "least") Config (Some Certificate) (Common ∷ Takes Budget ∷ [])
 row_of (Search OrgBlocking) = row (codes "org-blocking") Config (Some Certificate) (Needs Orgs ∷ Takes From ∷ Takes Faulty ∷ Takes FaultyOrgs ∷ Takes Budget ∷ [])
 row_of Check = row (codes "check") Config (Some Certificate) (Takes Orgs ∷ [])
-row_of CheckLrat = row (codes "check-lrat") Config (Some Proof) (Common ∷ [])
+row_of CheckLrat = row (codes "check-lrat") Config (Some Proof) (Common ∷ Takes Formula ∷ [])
 row_of Whatif = row (codes "whatif") Config (Some Script) (Needs Set ∷ [])
 
 -- the commands in the order of the usage text
@@ -83,6 +83,7 @@ flag_words FaultyOrgs = (codes "faulty-orgs", codes "IDS")
 flag_words Node = (codes "node", codes "NAME")
 flag_words Set = (codes "set", codes "NAMES")
 flag_words Budget = (codes "budget", codes "UNITS")
+flag_words Formula = (codes "formula", codes "VERSION")
 
 abbrev pub flag_id : Flag → Text
 flag_id flag = (flag_words flag).0
@@ -121,3 +122,11 @@ is_budget parameter = false
 -- the commands with a budget: those that search
 abbrev pub has_budget : Command → Bool
 has_budget command = list_any is_budget (row_of command).options
+
+abbrev pub is_formula : Parameter → Bool
+is_formula (Takes Formula) = true
+is_formula parameter = false
+
+-- the commands with a version of the formula: those whose formula stands in a file of its own
+abbrev pub has_formula : Command → Bool
+has_formula command = list_any is_formula (row_of command).options

@@ -5,6 +5,7 @@ use Rattle.clap.specs.Words.{App, Row as Matched, Rule, Text, fault_of, first_of
 use Rattle.clap.specs.Walk.{is_empty}
 use Rattle.clap.specs.Simple.{new_shape}
 use Rattle.cli_words.specs.Budget.{budget_of}
+use Rattle.cli_words.specs.Formula.{formula_of}
 use Rattle.cli_words.specs.Order.{Ordered, has_same_path}
 use Rattle.cli_words.specs.Organisations.{organisations_of}
 use Rattle.cli_words.specs.Table.{Row, commands, common, file_id, flag_id, row_of, target_id}
@@ -12,7 +13,7 @@ use Rattle.cli_words.specs.declared.table.Target.TheVariants.{Config, Organisati
 use Rattle.cli_words.specs.declared.table.SecondFile.{SecondFile}
 use Rattle.cli_words.specs.declared.table.SecondFile.TheVariants.{Certificate, Script}
 use Rattle.cli_words.specs.declared.table.Flag.{Flag}
-use Rattle.cli_words.specs.declared.table.Flag.TheVariants.{From, Faulty, Orgs, FaultyOrgs, Node, Set, Budget}
+use Rattle.cli_words.specs.declared.table.Flag.TheVariants.{From, Faulty, Orgs, FaultyOrgs, Node, Set, Budget, Formula}
 use Rattle.cli_words.specs.declared.table.Parameter.{Parameter}
 use Rattle.cli_words.specs.declared.table.Parameter.TheVariants.{Needs, Takes, Common}
 use Rattle.cli_words.specs.declared.orders.Command.{Command}
@@ -78,8 +79,8 @@ abbrev pub text_of : Text → List Matched → Text
 text_of id rows = unwrap_or (first_of id rows) []
 
 -- the texts of a command: what it does not have, or what was not given, is among no rows
-abbrev pub order_in : Command → ℕ → ℕ → List Matched → Ordered
-order_in command budget trial rows = record {
+abbrev pub order_in : Command → ℕ → ℕ → ℕ → List Matched → Ordered
+order_in command budget trial formula rows = record {
   command = command;
   config = text_of (target_id Config) rows;
   cert = text_of (file_id Certificate) rows;
@@ -92,21 +93,23 @@ order_in command budget trial rows = record {
   set = first_of (flag_id Set) rows;
   budget = budget;
   trial = trial;
+  formula = formula;
 }
 
 -- one path for both files is refused
 abbrev pub path_checked : Ordered → Result Ordered OrderFault
 path_checked o = if has_same_path o then Err SamePath else Ok o
 
--- the order of a command's texts with this budget and this many organisations, if both are numbers
-abbrev pub order_with : Command → List Matched → Option ℕ → Option ℕ → Result Ordered OrderFault
-order_with command rows None trial = Err Words
-order_with command rows (Some budget) None = Err Words
-order_with command rows (Some budget) (Some trial) = path_checked (order_in command budget trial rows)
+-- the order of a command's texts with this budget, this many organisations and this version of the formula, if all are numbers
+abbrev pub order_with : Command → List Matched → Option ℕ → Option ℕ → Option ℕ → Result Ordered OrderFault
+order_with command rows None trial formula = Err Words
+order_with command rows (Some budget) None formula = Err Words
+order_with command rows (Some budget) (Some trial) None = Err Words
+order_with command rows (Some budget) (Some trial) (Some formula) = path_checked (order_in command budget trial formula rows)
 
 -- the order of a command's texts
 abbrev pub order_among : Command → List Matched → Result Ordered OrderFault
-order_among command rows = order_with command rows (budget_of command (first_of (flag_id Budget) rows)) (organisations_of command (first_of (target_id Organisations) rows))
+order_among command rows = order_with command rows (budget_of command (first_of (flag_id Budget) rows)) (organisations_of command (first_of (target_id Organisations) rows)) (formula_of command (first_of (flag_id Formula) rows))
 
 -- the order that a command's own words give, which begin with its name
 unfoldable pub order_by : Command → List Text → Result Ordered OrderFault

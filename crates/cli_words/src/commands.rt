@@ -11,6 +11,14 @@ use clap::error::ErrorKind;
 use clap::{Arg, ArgMatches};
 use std::alloc::{AllocError, Global};
 
+/// What the texts of an order say as numbers: the budget, how many organisations the trial has, and the version of the formula.
+#[derive(Clone, Copy)]
+pub struct Numbers {
+    pub budget: u64,
+    pub trial: u32,
+    pub formula: u64,
+}
+
 // A word that must be there, by its place among these.
 fn positional<'a>(alloc: Global, id: &'a str) -> Arg<'a>
     ensures rule { rule_of result ≡ spec_positional id.entry.now }
@@ -178,7 +186,7 @@ fn put_if_any(
 // Puts the texts that the matches give: an option that the command lacks is among no matches.
 fn put_texts(alloc: Global, order: &mut Order, matches: &ArgMatches<'_>) -> Result<(), AllocError>
     ensures { OnOk result (order_view order.new
-        ≡ order_in order.old.command order.old.budget order.old.trial (rows_of (found_of matches.now))) }
+        ≡ order_in order.old.command order.old.budget order.old.trial order.old.formula (rows_of (found_of matches.now))) }
 {
     put_text(alloc, &mut order.config, matches, Target::Config.id())?;
     put_text(
@@ -201,14 +209,13 @@ fn put_texts(alloc: Global, order: &mut Order, matches: &ArgMatches<'_>) -> Resu
 pub fn order_from(
     alloc: Global,
     command: Command,
-    budget: u64,
-    trial: u32,
+    numbers: Numbers,
     matches: &ArgMatches<'_>,
 ) -> Result<Order, OrderFault>
-    ensures texts { IfOk result (λ o. order_view o ≡ order_in command budget trial (rows_of (found_of matches.now))) }
+    ensures texts { IfOk result (λ o. order_view o ≡ order_in command numbers.budget numbers.trial numbers.formula (rows_of (found_of matches.now))) }
     ensures command { IfOk result (λ o. o.command ≡ command) }
-    ensures budget { IfOk result (λ o. o.budget ≡ budget) }
-    ensures trial { IfOk result (λ o. o.trial ≡ trial) }
+    ensures budget { IfOk result (λ o. o.budget ≡ numbers.budget) }
+    ensures trial { IfOk result (λ o. o.trial ≡ numbers.trial) }
     ensures memory { IfErr result (λ e. e ≡ OrderFault.Memory) }
 {
     let mut order = Order {
@@ -222,8 +229,9 @@ pub fn order_from(
         faulty: None,
         faulty_orgs: None,
         set: None,
-        budget,
-        trial,
+        budget: numbers.budget,
+        trial: numbers.trial,
+        formula: numbers.formula,
     };
     match put_texts(alloc, &mut order, matches) {
         Ok(()) => Ok(order),

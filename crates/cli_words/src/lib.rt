@@ -12,6 +12,7 @@ ghost use Rattle.cli_words.specs.declared.organisations.TheConstants.{MOST_ORGAN
 
 mod budget;
 mod commands;
+mod formula;
 mod numbers;
 mod orders;
 mod organisations;
@@ -21,7 +22,9 @@ mod usage_text;
 use budget::budget_of;
 pub use budget::{MOST_BUDGET, USUAL_BUDGET};
 use clap::ArgMatches;
-use commands::{matched, order_from, text_at, text_or_empty};
+use commands::{Numbers, matched, order_from, text_at, text_or_empty};
+use formula::formula_of;
+pub use formula::{NEWEST_FORMULA, OLDEST_FORMULA};
 pub use orders::{Command, Goal, Order, OrderFault, Query};
 pub use organisations::MOST_ORGANISATIONS;
 use organisations::organisations_of;
@@ -84,28 +87,34 @@ fn command_order(alloc: Global, command: Command, words: &[String]) -> Result<Or
     ensures organisations { IfOk result (λ o. has_configuration o.command ≡ false → (1 ≤ o.trial) × (o.trial ≤ MOST_ORGANISATIONS)) }
 {
     let matches = matched(alloc, command, words)?;
-    let Some((budget, trial)) = numbers_of(command, &matches) else {
+    let Some(numbers) = numbers_of(command, &matches) else {
         return Err(OrderFault::Words);
     };
     if has_same_path(command, &matches) {
         return Err(OrderFault::SamePath);
     }
-    order_from(alloc, command, budget, trial, &matches)
+    order_from(alloc, command, numbers, &matches)
 }
 
-// The budget and how many organisations the trial has, if the texts of both are numbers.
-fn numbers_of(command: Command, matches: &ArgMatches<'_>) -> Option<(u64, u32)>
+// What the texts say as numbers, if all of them are numbers.
+fn numbers_of(command: Command, matches: &ArgMatches<'_>) -> Option<Numbers>
     ensures none { result ≡ None → order_among command (rows_of (found_of matches.now)) ≡ Err OrderFault.Words }
-    ensures some { IfSome result (λ n. order_among command (rows_of (found_of matches.now)) ≡ path_checked (order_in command n.0 n.1 (rows_of (found_of matches.now)))) }
-    ensures few { IfSome result (λ n. n.0 ≤ MOST_BUDGET) }
-    ensures organisations { IfSome result (λ n. has_configuration command ≡ false → (1 ≤ n.1) × (n.1 ≤ MOST_ORGANISATIONS)) }
+    ensures some { IfSome result (λ n. order_among command (rows_of (found_of matches.now)) ≡ path_checked (order_in command n.budget n.trial n.formula (rows_of (found_of matches.now)))) }
+    ensures few { IfSome result (λ n. n.budget ≤ MOST_BUDGET) }
+    ensures organisations { IfSome result (λ n. has_configuration command ≡ false → (1 ≤ n.trial) × (n.trial ≤ MOST_ORGANISATIONS)) }
 {
-    let budget = budget_of(command, text_at(matches, Flag::Budget.id()));
-    budget.zip(organisations_of(command, text_at(matches, Target::Organisations.id())))
+    let budget = budget_of(command, text_at(matches, Flag::Budget.id()))?;
+    let trial = organisations_of(command, text_at(matches, Target::Organisations.id()))?;
+    let formula = formula_of(command, text_at(matches, Flag::Formula.id()))?;
+    Some(Numbers {
+        budget,
+        trial,
+        formula,
+    })
 }
 
 fn has_same_path(command: Command, matches: &ArgMatches<'_>) -> bool
-    ensures { (budget trial : ℕ) → result ≡ spec_has_same_path (order_in command budget trial (rows_of (found_of matches.now))) }
+    ensures { (budget trial formula : ℕ) → result ≡ spec_has_same_path (order_in command budget trial formula (rows_of (found_of matches.now))) }
 {
     let cert = text_or_empty(matches, SecondFile::Certificate.id());
     has_certificate(command)

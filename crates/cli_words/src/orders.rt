@@ -112,6 +112,8 @@ pub struct Order {
     pub budget: u64,
     /// How many organisations the trial has, 0 where the command is none.
     pub trial: u32,
+    /// The version of the formula, 0 if the command takes none.
+    pub formula: u64,
 }
 
 impl From<AllocError> for OrderFault {

@@ -1,9 +1,9 @@
 //! The table of the commands: a row for each, from which all that depends on the command follows.
 ghost use Rattle.std.specs.Prelude.{◌≡◌};
-ghost use Rattle.cli_words.specs.Table.{commands, file_id, file_place, flag_id, flag_place, flag_words, has_budget as spec_has_budget, has_certificate as spec_has_certificate, row_of as spec_row_of, row_view, target_id, target_place};
+ghost use Rattle.cli_words.specs.Table.{commands, file_id, file_place, flag_id, flag_place, flag_words, has_budget as spec_has_budget, has_certificate as spec_has_certificate, has_formula as spec_has_formula, row_of as spec_row_of, row_view, target_id, target_place};
 
 use crate::orders::{Command, Goal, Query};
-use crate::table::Flag::{Budget, Faulty, FaultyOrgs, From, Node, Orgs, Set};
+use crate::table::Flag::{Budget, Faulty, FaultyOrgs, Formula, From, Node, Orgs, Set};
 use crate::table::Parameter::{Common, Needs, Takes};
 use crate::table::SecondFile::{Certificate, Proof, Script};
 use crate::table::Target::{Config, Organisations};
@@ -38,6 +38,7 @@ pub enum Flag {
     Node,
     Set,
     Budget,
+    Formula,
 }
 
 /// What a command has of options.
@@ -120,6 +121,7 @@ impl Flag {
             Flag::Node => ("node", "NAME"),
             Flag::Set => ("set", "NAMES"),
             Flag::Budget => ("budget", "UNITS"),
+            Flag::Formula => ("formula", "VERSION"),
         }
     }
 
@@ -178,7 +180,7 @@ pub fn row_of<'a>(command: Command) -> Row<'a>
             None,
             &[Needs(Node), Needs(Set)],
         ),
-        Command::Query(Query::Export) => Row::of("export", Config, None, &[Common]),
+        Command::Query(Query::Export) => Row::of("export", Config, None, &[Common, Takes(Formula)]),
         Command::Search(Goal::Intersect) => Row::of(
             "intersect",
             Config,
@@ -234,7 +236,7 @@ pub fn row_of<'a>(command: Command) -> Row<'a>
             ],
         ),
         Command::Check => Row::of("check", Config, Some(Certificate), &[Takes(Orgs)]),
-        Command::CheckLrat => Row::of("check-lrat", Config, Some(Proof), &[Common]),
+        Command::CheckLrat => Row::of("check-lrat", Config, Some(Proof), &[Common, Takes(Formula)]),
         Command::Whatif => Row::of("whatif", Config, Some(Script), &[Needs(Set)]),
     }
 }
@@ -283,4 +285,14 @@ pub fn has_budget(command: Command) -> bool
         .options
         .iter()
         .any(|option| matches!(option, Parameter::Takes(Flag::Budget)))
+}
+
+/// Whether the command has a version of the formula.
+pub fn has_formula(command: Command) -> bool
+    ensures { result ≡ spec_has_formula command }
+{
+    row_of(command)
+        .options
+        .iter()
+        .any(|option| matches!(option, Parameter::Takes(Flag::Formula)))
 }

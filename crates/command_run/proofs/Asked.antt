@@ -32,6 +32,7 @@ use Rattle.request_reading.specs.declared.operands.Operands.{Operands}
 use Rattle.request_reading.specs.declared.reading.Asked.{Asked}
 use Rattle.request_reading.specs.declared.reading.Asked.TheVariants as asked
 use Rattle.request_reading.specs.Answers.{file_within, file_in, system_in, or_config_refused, orgs_given, operands_among, operands_of, cert_status, body_status, accepted_status, checked_answer, verified_answer, claim_answer, claim_in, claim_by, is_check, command_asked, config_asked, file_asked, trial_asked, order_asked, or_words_refused, asked_of}
+use Rattle.request_reading.specs.Formulas.{version_of}
 use Rattle.request_reading.specs.Given.{given_by, orgs_among}
 use Rattle.request_reading.specs.Names.{names_of}
 use Rattle.request_reading.specs.Reading.{◌>>=◌, IsRefusal}
@@ -70,7 +71,7 @@ over_file (Query q) is = absurd cc
 over_file (Search goal) is = absurd cc
 
 claimed : (k : Command) (o : Ordered) (config : List ℕ) (s : Operands) (files : Files) (file : List ℕ) → IsTrue (is_check k) → files o.cert ≡ Some file
-    → command_asked k o config s files ≡ Ok (asked.Checked (claim_answer s.system (claim_by k config s.system s.orgs s.named) file))
+    → command_asked k o config s files ≡ Ok (asked.Checked (claim_answer s.system (claim_by k o.formula config s.system s.orgs s.named) file))
 claimed Check o config s files file is has = rw has refl
 claimed CheckLrat o config s files file is has = rw has refl
 claimed Whatif o config s files file is has = absurd cc
@@ -83,11 +84,11 @@ there f c (Some bytes) answer h = (bytes, refl)
 
 has_file : (k : Command) (o : Ordered) (config : List ℕ) (s : Operands) (files : Files) (a : Asked) → IsTrue (is_check k) → command_asked k o config s files ≡ Ok a → (bytes : List ℕ) × (files o.cert ≡ Some bytes)
 has_file Check o config s files a is h =
-    let c = claim_by Check config s.system s.orgs s.named in
+    let c = claim_by Check o.formula config s.system s.orgs s.named in
     let answer = bound (claim_in s.system c (files o.cert)) (λ answer. Ok (asked.Checked answer)) a h in
     there s.system c (files o.cert) answer.0 answer.1
 has_file CheckLrat o config s files a is h =
-    let c = claim_by CheckLrat config s.system s.orgs s.named in
+    let c = claim_by CheckLrat o.formula config s.system s.orgs s.named in
     let answer = bound (claim_in s.system c (files o.cert)) (λ answer. Ok (asked.Checked answer)) a h in
     there s.system c (files o.cert) answer.0 answer.1
 has_file Whatif o config s files a is h = absurd cc
@@ -101,7 +102,7 @@ operands_there o f files orgs nodes given named =
 
 -- what is said of the file
 abbrev answer_in : {words : List (List ℕ)} {files : Files} → ReadsCheck words files → Command → Answer
-answer_in r k = claim_answer r.system (claim_by k r.config r.system r.orgs r.nodes) r.file
+answer_in r k = claim_answer r.system (claim_by k r.order.formula r.config r.system r.orgs r.nodes) r.file
 
 checked_is : (words : List (List ℕ)) (files : Files) (k : Command) (r : ReadsCheck words files) → r.order.command ≡ k → IsTrue (is_check k) → asked_of words files ≡ Ok (asked.Checked (answer_in r k))
 checked_is words files k r command is =
@@ -200,14 +201,14 @@ shown_there words files r m =
     let bytes : is.cert.bytes ≡ r.file = same_some is.cert.bytes r.file (sym is.cert.held ∙ r.has) in
     subst (λ (x : Option GivenOrgs). Shows r.system (given_by r.config x) r.file) orgs (subst (λ (x : List ℕ). Shows r.system (given_by r.config is.orgs) x) bytes is.cert.means)
 
-verified_there : (words : List (List ℕ)) (files : Files) (r : ReadsCheck words files) → NamesVerified words files → Verifies r.system (header_in r) r.file
+verified_there : (words : List (List ℕ)) (files : Files) (r : ReadsCheck words files) → NamesVerified words files → Verifies r.system (version_of r.order.formula) (header_in r) r.file
 verified_there words files r m =
     let is = in_order words files (λ o f config. HasVerified o f files) r m in
     let orgs : is.orgs ≡ r.orgs = same_ok is.orgs r.orgs (sym is.given ∙ r.given) in
     let named : names_of r.system (orgs_among r.orgs) r.order ≡ Ok is.nodes = subst (λ (x : Option GivenOrgs). names_of r.system (orgs_among x) r.order ≡ Ok is.nodes) orgs is.named in
     let nodes : is.nodes ≡ r.nodes = same_ok is.nodes r.nodes (sym named ∙ r.named) in
     let bytes : is.proof.bytes ≡ r.file = same_some is.proof.bytes r.file (sym is.proof.held ∙ r.has) in
-    subst (λ (x : NamedNodes). Verifies r.system (header_of r.system x) r.file) nodes (subst (λ (x : List ℕ). Verifies r.system (header_of r.system is.nodes) x) bytes is.proof.means)
+    subst (λ (x : NamedNodes). Verifies r.system (version_of r.order.formula) (header_of r.system x) r.file) nodes (subst (λ (x : List ℕ). Verifies r.system (version_of r.order.formula) (header_of r.system is.nodes) x) bytes is.proof.means)
 
 -- ---- what a check that was answered says
 

@@ -20,6 +20,7 @@ use Rattle.request_reading.specs.declared.reading.Asked.TheVariants as asked
 use Rattle.request_reading.specs.declared.searches.Search.{Search}
 use Rattle.whatif_session.specs.Scripts.{states_of}
 use Rattle.whatif_session.specs.declared.faults.ScriptFault.{ScriptFault}
+use Rattle.request_reading.specs.Formulas.{version_of}
 use Rattle.command_run.specs.Edits.{states_answer, edits_answer}
 use Rattle.command_run.specs.QuestionAnswers.{Answers, AnswersExport, export_answer}
 use Rattle.command_run.specs.Replies.{IsLarge}
@@ -59,7 +60,7 @@ by_size n text more a is = elim (cases_Bool (nat_le n MOST_VARS)) [
       (λ large. omega arith, λ less. ap (λ (x : Answer). x.status) said)
 ]
 
-export_large : (f : System) (origin : Origin) (b : Table) (a : Answer) → AnswersExport f origin b a → (a.status ≡ TooLarge) ↔ IsLarge f b
+export_large : (f : System) (origin : Origin) (b : Table) (a : Answer) → AnswersExport f origin b a → (a.status ≡ TooLarge) ↔ IsLarge (version_of origin.formula) f b
 export_large f origin b a is = by_size _ _ _ a (is.said ∙ ap (export_answer f origin b) is.counted)
 
 answer_large : (f : System) (q : Question) (a : Answer) → Answers f q a → (a.status ≡ TooLarge) ↔ IsLargeQuestion f q

@@ -1,4 +1,4 @@
--- The certificates of what is found begin with the title of version 2.
+-- The certificates of what is found begin with the title of version 3.
 use Rattle.std.proofs.Common.{ℕ, List, [], ◌∷◌, ◌++◌, codes, refl}
 use Rattle.hex.specs.Hex.{encode_lower}
 use Rattle.fbas_model.specs.Names.{Name}
@@ -26,25 +26,25 @@ use Rattle.cli_words.specs.declared.orders.Goal.TheVariants.{Intersect, Dset, Sp
 use Rattle.request_reading.specs.declared.searches.Search.{Search}
 use Rattle.command_run.specs.Sought.{request}
 use Rattle.command_run.specs.Meanings.{cert_of, meaning_of}
-use Rattle.command_run.specs.Showing.{IsOfVersionTwo}
+use Rattle.command_run.specs.Showing.{IsOfVersionThree}
 
 -- the header after its first line
 abbrev behind_title : List Name → List ℕ → Header → List Text
 behind_title names digest h = worded (codes "config") (encode_lower digest ∷ []) ∷ worded (codes "from") (name_if_any names h.from) ∷ listed (codes "faulty") names h.faulty ∷ []
 
-titled : (names : List Name) (digest : List ℕ) (h : Header) (lines : List Text) → IsOfVersionTwo (joined (header_lines names digest h ++ lines))
+titled : (names : List Name) (digest : List ℕ) (h : Header) (lines : List Text) → IsOfVersionThree (joined (header_lines names digest h ++ lines))
 titled names digest h lines = (joined (behind_title names digest h ++ lines), refl)
 
-answer_titled : (s : Search) (found : Shown) → IsOfVersionTwo (shared_cert s.whole s.digest s.header found)
+answer_titled : (s : Search) (found : Shown) → IsOfVersionThree (shared_cert s.whole s.digest s.header found)
 answer_titled s (shared.Yes log size) = titled s.whole.names s.digest s.header (log_lines aim.Refutation size.vars size.clauses log)
 answer_titled s (shared.No pair) = titled s.whole.names s.digest s.header (pair_lines (part_of s.whole s.header.from).names pair)
 answer_titled s (shared.Spent log size) = titled s.whole.names s.digest s.header (log_lines aim.Partial size.vars size.clauses log)
 
-list_titled : (which : Kind) (s : Search) (found : ListOutcome) → IsOfVersionTwo (list_cert_over which s.whole s.digest s.header found)
+list_titled : (which : Kind) (s : Search) (found : ListOutcome) → IsOfVersionThree (list_cert_over which s.whole s.digest s.header found)
 list_titled which s (outcome.Whole sets journal) = titled s.whole.names s.digest s.header (list_lines (part_of s.whole s.header.from).names which kind.Whole journal)
 list_titled which s (outcome.Spent journal) = titled s.whole.names s.digest s.header (list_lines (part_of s.whole s.header.from).names which kind.Partial journal)
 
-pub title_there : (goal : Goal) (s : Search) (found : (meaning_of goal).Finding) → IsOfVersionTwo (cert_of (meaning_of goal) (request s) found)
+pub title_there : (goal : Goal) (s : Search) (found : (meaning_of goal).Finding) → IsOfVersionThree (cert_of (meaning_of goal) (request s) found)
 title_there Intersect s found = answer_titled s found
 title_there Splits s found = answer_titled s found
 title_there Dset s found = answer_titled s found

@@ -18,6 +18,7 @@ use Rattle.printed_lines.specs.Lines.{accepted, verified_lines}
 use Rattle.request_reading.specs.declared.files.TheConstants.{MAX_FILE}
 use Rattle.request_reading.specs.declared.names.NamedNodes.{NamedNodes}
 use Rattle.request_reading.specs.Answers.{orgs_given}
+use Rattle.request_reading.specs.Formulas.{version_of}
 use Rattle.request_reading.specs.Given.{given_by, orgs_among}
 use Rattle.request_reading.specs.Names.{names_of}
 use Rattle.request_reading.specs.Searches.{header_of}
@@ -50,7 +51,7 @@ abbrev pub cert_verdict : {words : List (List ℕ)} {files : Files} → ReadsChe
 cert_verdict r = checked r.system (given_in r) r.file
 
 abbrev pub proof_verdict : {words : List (List ℕ)} {files : Files} → ReadsCheck words files → Result (Unit {0}) CertError
-proof_verdict r = verified r.system (header_in r) r.file
+proof_verdict r = verified r.system (version_of r.order.formula) (header_in r) r.file
 
 -- the certificate is accepted, what it says is so, and just that is printed
 pub record SaysAccepted (words : List (List ℕ)) (old new : DeskState) : Type 0 where
@@ -73,7 +74,7 @@ pub record IsLargeCert (words : List (List ℕ)) (files : Files) : Type 0 where
   pub vars : ℕ
   pub first : cert_verdict reads ≡ Err (TooLarge vars)
 
--- the formula that the proof is for has too many variables
+-- the formula of the version that the proof is for has too many variables
 pub record IsLargeProof (words : List (List ℕ)) (files : Files) : Type 0 where
   pub reads : ReadsCheck words files
   pub vars : ℕ

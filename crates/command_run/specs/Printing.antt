@@ -5,6 +5,7 @@ use Rattle.fbas_model.specs.Systems.{System}
 use Rattle.request_reading.specs.declared.searches.Search.{Search}
 use Rattle.command_run.specs.Sought.{part, deleted, request}
 use Rattle.command_run.specs.Meanings.{Meaning, cert_of, IsCertified, AreTooMany, meaning_of}
+use Rattle.request_reading.specs.Formulas.{version_of}
 use Rattle.command_run.specs.Replies.{IsLarge, too_large_answer}
 use Rattle.command_run.specs.Putting.{PutsBoth, CameTo}
 use Rattle.request_reading.specs.declared.status.Status.{Status}
@@ -126,7 +127,7 @@ PrintsPart (Err early) old new = PrintsEarlyPart early old new
 -- ---- a formula that is too large
 
 abbrev pub IsLargeQuestion : System → Question → Type 0
-IsLargeQuestion f (Export origin b) = IsLarge f b
+IsLargeQuestion f (Export origin b) = IsLarge (version_of origin.formula) f b
 IsLargeQuestion f question = ⊥
 
 abbrev pub IsLargeAsked : Asked → Type 0

@@ -6,7 +6,7 @@ use Rattle.fbas_model.specs.Fbas.{all_nodes, IsClosure, IsGreatestQuorum, Availa
 use Rattle.fbas_model.specs.Nodes.{◌∖◌}
 use Rattle.greatest_quorum.specs.Greatest.{greatest_of}
 use Rattle.clause_encoder.specs.Formula.{formula_vars, formula_clauses}
-use Rattle.clause_encoder.specs.declared.version.Version.TheVariants.{Two}
+use Rattle.request_reading.specs.Formulas.{version_of}
 use Rattle.clause_encoder.specs.declared.limits.TheConstants.{MOST_VARS}
 use Rattle.clause_encoder.specs.Dimacs.{dimacs}
 use Rattle.printed_lines.specs.Lines.{Text, closure as printed_closure, exported, too_large, greatest, unavailable, not_blocking, shown}
@@ -66,13 +66,13 @@ pub record SaysNotBlocks (f : System) (s b : Table) (a : Answer) : Type 0 where
 abbrev pub AnswersVblocks : System → ℕ → Table → Answer → Type 0
 AnswersVblocks f v s a = (BlocksNode f.sets v (members s) × says (codes "vblocks yes\n") a) ⊎ ((BlocksNode f.sets v (members s) → ⊥) × denies (codes "vblocks no\n") a)
 
--- the formula that says whether quorums intersect, or that it has too many variables
+-- the formula of the version that is asked for, which says whether quorums intersect, or that it has too many variables
 abbrev pub export_answer : System → Origin → Table → Table → Answer
 export_answer f origin b greatest =
-    if nat_le (formula_vars Two f.sets b greatest) MOST_VARS then record {
+    if nat_le (formula_vars (version_of origin.formula) f.sets b greatest) MOST_VARS then record {
       status = Yes;
-      text = exported origin.digest origin.from f.names b (dimacs f.names (record { greatest = greatest; count = formula_vars Two f.sets b greatest }) (formula_clauses Two f.sets b greatest));
-    } else record { status = TooLarge; text = too_large (formula_vars Two f.sets b greatest) }
+      text = exported origin.formula origin.digest origin.from f.names b (dimacs f.names (record { greatest = greatest; count = formula_vars (version_of origin.formula) f.sets b greatest }) (formula_clauses (version_of origin.formula) f.sets b greatest));
+    } else record { status = TooLarge; text = too_large (formula_vars (version_of origin.formula) f.sets b greatest) }
 
 -- the intersection formula over the greatest quorum is printed, once b is deleted
 pub record AnswersExport (f : System) (origin : Origin) (b : Table) (a : Answer) : Type 0 where

@@ -8,7 +8,9 @@ use Rattle.group_lists.specs.declared.outcome.GroupOutcome.{GroupOutcome}
 use Rattle.group_lists.specs.declared.outcome.GroupOutcome.TheVariants as found_groups
 use Rattle.fbas_model.specs.Fbas.{Available, AreUnmet}
 use Rattle.fbas_model.specs.Systems.{System}
-use Rattle.quorum_questions.specs.Evidence.{vars_of}
+use Rattle.greatest_quorum.specs.Greatest.{greatest_of}
+use Rattle.clause_encoder.specs.Formula.{formula_vars}
+use Rattle.clause_encoder.specs.declared.version.Version.{Version}
 use Rattle.quorum_questions.specs.declared.answers.Size.{Size}
 use Rattle.quorum_questions.specs.declared.answers.Answer.{Answer as Shown}
 use Rattle.quorum_questions.specs.declared.answers.Answer.TheVariants.{Yes as together, No as apart, Spent as spent}
@@ -132,9 +134,9 @@ pub record RepliesTrial (f : System) (budget : ℕ) (found : Shown) (a : Answer)
 
 -- ---- a formula that is too large
 
--- the formula has too many variables
-abbrev pub IsLarge : System → Table → Type 0
-IsLarge f deleted = MOST_VARS < vars_of f.sets deleted
+-- the formula of the version has too many variables
+abbrev pub IsLarge : Version → System → Table → Type 0
+IsLarge version f deleted = MOST_VARS < formula_vars version f.sets deleted (greatest_of f.sets deleted)
 
 abbrev pub too_large_answer : ℕ → Answer
 too_large_answer n = record { status = TooLarge; text = too_large n }

@@ -30,15 +30,15 @@ use Rattle.command_run.specs.Replies.{size_lines, list_word, unknown_word}
 abbrev pub IsAccepted : Search → Text → Conclusion → Type 0
 IsAccepted s cert answer = checked s.whole (given_of (request s)) cert ≡ Ok (record { header = s.header; answer = answer })
 
--- the first line is the title of version 2
-abbrev pub IsOfVersionTwo : Text → Type 0
-IsOfVersionTwo cert = (rest : Text) × (cert ≡ codes "fbas-cert 2\n" ++ rest)
+-- the first line is the title of version 3
+abbrev pub IsOfVersionThree : Text → Type 0
+IsOfVersionThree cert = (rest : Text) × (cert ≡ codes "fbas-cert 3\n" ++ rest)
 
 -- the certificate is accepted, for the asked node and the deleted nodes
 pub record WritesAccepted (s : Search) (new : DeskState) : Type 0 where
   pub cert : Text
   pub held : new.files s.path ≡ Some cert
-  pub title : IsOfVersionTwo cert
+  pub title : IsOfVersionThree cert
   pub answer : Conclusion
   pub accepted : IsAccepted s cert answer
 

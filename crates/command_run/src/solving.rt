@@ -10,11 +10,11 @@ ghost use Rattle.clause_encoder.specs.Dimacs.{dimacs};
 ghost use Rattle.lrat_model.specs.Runs.{formula_database};
 
 use crate::replies::too_large;
-use clause_encoder::{EncodeError, VarMap, Version, encode, push_dimacs};
+use clause_encoder::{EncodeError, VarMap, encode, push_dimacs};
 use clause_store::Store;
 use fbas_core::System;
 use name_set::NodeSet;
-use request_reading::{Origin, Question, Reply, Status, says};
+use request_reading::{Origin, Question, Reply, Status, says, version_of};
 use std::alloc::{AllocError, Global};
 
 fn show(alloc: Global, system: &System) -> Result<Reply, AllocError>
@@ -104,10 +104,17 @@ fn formula_text(
     requires same_n { length faulty.now ≡ length system.now.sets }
     requires places { length map.now.greatest ≡ length system.now.names }
     ensures { (clauses : List (List Literal)) → store.now ≡ formula_database clauses
-        → IfOk result (says (exported origin.now.digest origin.now.from system.now.names faulty.now (dimacs system.now.names map.now clauses))) }
+        → IfOk result (says (exported origin.now.formula origin.now.digest origin.now.from system.now.names faulty.now (dimacs system.now.names map.now clauses))) }
 {
     let from = from_of(origin);
-    let mut text = printed_lines::export_comments(alloc, &origin.digest, from, system, faulty)?;
+    let mut text = printed_lines::export_comments(
+        alloc,
+        origin.formula,
+        &origin.digest,
+        from,
+        system,
+        faulty,
+    )?;
     push_dimacs(&mut text, store, map, system)?;
     Ok(Reply::new(Status::Yes, text))
 }
@@ -126,7 +133,7 @@ fn formula(
     requires greatest { IsGreatestQuorum system.now.sets (members faulty.now) (all_nodes system.now.sets) (members greatest.now) }
     ensures { IfOk result (λ a. a ≡ export_answer system.now origin.now faulty.now greatest.now) }
 {
-    match encode(alloc, Version::Two, system, faulty, greatest) {
+    match encode(alloc, version_of(origin.formula), system, faulty, greatest) {
         Ok((store, map)) => formula_text(alloc, system, origin, faulty, &store, &map),
         Err(EncodeError::TooLarge(vars)) => too_large(alloc, vars),
         Err(EncodeError::Memory) => Err(AllocError),

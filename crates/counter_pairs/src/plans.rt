@@ -21,7 +21,7 @@ pub fn has_rivals(alloc: Global, formula: &Store, vars: u64) -> Result<bool, All
     has_own_rival(alloc, &side)
 }
 
-/// The plan for an intersection formula of version 2 among this many variables, if it is worth following: where half of all pairs
+/// The plan for an intersection formula of version 2 or 3 among this many variables, if it is worth following: where half of all pairs
 /// of members, one of each side, have gates that exclude each other; or any, if there are no gates worth writing out.
 pub fn plan_of(alloc: Global, formula: &Store, vars: u64) -> Result<Option<Plan>, AllocError> {
     let first = read_side(alloc, formula, range_of(formula, vars, true))?;

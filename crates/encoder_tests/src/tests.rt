@@ -23,6 +23,10 @@ const TWO_OF_THREE: &str =
 const INNER_SET: &str =
     r#"[{"publicKey":"x","quorumSet":{"threshold":2,"validators":["x"],"innerQuorumSets":[{"threshold":1,"validators":["x","y"]}]}},{"publicKey":"y","quorumSet":{"threshold":1,"validators":["x","y"]}}]"#;
 
+/// Two of two, of which each names itself first.
+const CROSSED: &str =
+    r#"[{"publicKey":"p","quorumSet":{"threshold":2,"validators":["p","q"]}},{"publicKey":"q","quorumSet":{"threshold":2,"validators":["q","p"]}}]"#;
+
 /// The DIMACS text of a system's formula in a version after deletion of some nodes.
 fn formula(
     alloc: Global,
@@ -105,6 +109,24 @@ fn in_version_2_an_inner_set_is_shared_too(rt: HostRuntime) {
     let lines =
         "c 1 a x\nc 2 a y\nc 3 b x\nc 4 b y\np cnf 8 14\n1 2 0\n3 4 0\n-1 -3 0\n-2 -4 0\n-5 1 2 0\n-6 1 0\n-6 5 0\n-1 6 0\n-2 5 0\n-7 3 4 0\n-8 3 0\n-8 7 0\n-3 8 0\n-4 7 0\n";
     same_formula(&rt, shown, lines);
+}
+
+#[test]
+fn in_version_3_sets_that_differ_in_their_order_have_one_gate_on_a_side(rt: HostRuntime) {
+    let alloc = rt.alloc();
+    let apart = text(alloc, Version::Two, CROSSED, "");
+    let lines =
+        "c 1 a p\nc 2 a q\nc 3 b p\nc 4 b q\np cnf 8 16\n1 2 0\n3 4 0\n-1 -3 0\n-2 -4 0\n-5 1 0\n-5 2 0\n-1 5 0\n-6 2 0\n-6 1 0\n-2 6 0\n-7 3 0\n-7 4 0\n-3 7 0\n-8 4 0\n-8 3 0\n-4 8 0\n";
+    same_formula(&rt, apart, lines);
+    let shared = text(alloc, Version::Three, CROSSED, "");
+    let lines =
+        "c 1 a p\nc 2 a q\nc 3 b p\nc 4 b q\np cnf 6 12\n1 2 0\n3 4 0\n-1 -3 0\n-2 -4 0\n-5 1 0\n-5 2 0\n-1 5 0\n-2 5 0\n-6 3 0\n-6 4 0\n-3 6 0\n-4 6 0\n";
+    same_formula(&rt, shared, lines);
+    // a node stands before an inner set, which is written first all the same
+    let inner = text(alloc, Version::Three, INNER_SET, "");
+    let lines =
+        "c 1 a x\nc 2 a y\nc 3 b x\nc 4 b y\np cnf 8 14\n1 2 0\n3 4 0\n-1 -3 0\n-2 -4 0\n-5 1 2 0\n-6 1 0\n-6 5 0\n-1 6 0\n-2 5 0\n-7 3 4 0\n-8 3 0\n-8 7 0\n-3 8 0\n-4 7 0\n";
+    same_formula(&rt, inner, lines);
 }
 
 /// Whether the values make each clause of the store true.

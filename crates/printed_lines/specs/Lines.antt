@@ -253,18 +253,18 @@ abbrev pub worded_if_any : Text → Option Text → Text
 worded_if_any text None = text
 worded_if_any text (Some word) = worded text word
 
--- the first comment lines of an exported formula: the digest of the configuration, and the node of whose trust closure
--- the formula speaks
-abbrev pub export_head : List ℕ → Option Name → Text
-export_head digest from = line (worded (codes "c config") (encode_lower digest)) ++ line (worded_if_any (codes "c from") from)
+-- the first comment lines of an exported formula: its version, the digest of the configuration, and the node of whose trust
+-- closure the formula speaks
+abbrev pub export_head : ℕ → List ℕ → Option Name → Text
+export_head version digest from = line (numbered (codes "c formula") version) ++ (line (worded (codes "c config") (encode_lower digest)) ++ line (worded_if_any (codes "c from") from))
 
 -- the comment lines of an exported formula, the faulty nodes the last of them
-abbrev pub export_comments : List ℕ → Option Name → List Name → Table → Text
-export_comments digest from names faulty = with_list (export_head digest from) (codes "c faulty") names faulty
+abbrev pub export_comments : ℕ → List ℕ → Option Name → List Name → Table → Text
+export_comments version digest from names faulty = with_list (export_head version digest from) (codes "c faulty") names faulty
 
 -- an exported formula: its comment lines, and its DIMACS text
-abbrev pub exported : List ℕ → Option Name → List Name → Table → Text → Text
-exported digest from names faulty dimacs = export_comments digest from names faulty ++ dimacs
+abbrev pub exported : ℕ → List ℕ → Option Name → List Name → Table → Text → Text
+exported version digest from names faulty dimacs = export_comments version digest from names faulty ++ dimacs
 
 -- how large a trial is: its organisations and their nodes, and the variables and clauses of its intersection formula
 abbrev pub trial_size : ℕ → ℕ → ℕ → ℕ → Text

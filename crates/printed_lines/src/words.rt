@@ -362,12 +362,19 @@ pub fn counts(alloc: Global, system: &System) -> Result<Vec<u8>, AllocError>
     Ok(text)
 }
 
-// The first comment lines of an exported formula: the digest of the configuration, and the node of whose trust closure the
-// formula speaks.
-fn export_head(alloc: Global, digest: &[u8; 32], from: Option<&[u8]>) -> Result<Vec<u8>, AllocError>
-    ensures { IfOk result (λ text. text.items ≡ spec_export_head digest.now (option_map (λ name. name.now) from.entry)) }
+// The first comment lines of an exported formula: its version, the digest of the configuration, and the node of whose trust
+// closure the formula speaks.
+fn export_head(
+    alloc: Global,
+    version: u64,
+    digest: &[u8; 32],
+    from: Option<&[u8]>,
+) -> Result<Vec<u8>, AllocError>
+    ensures { IfOk result (λ text. text.items ≡ spec_export_head version digest.now (option_map (λ name. name.now) from.entry)) }
 {
-    let mut text = Vec::from_slice(alloc, b"c config")?;
+    let mut text = Vec::new(alloc);
+    push_count(&mut text, "c formula", version)?;
+    push_word(&mut text, "c config")?;
     push_behind(&mut text, digest_text::digits(digest).as_slice())?;
     push_word(&mut text, "\nc from")?;
     if let Some(name) = from {
@@ -377,19 +384,20 @@ fn export_head(alloc: Global, digest: &[u8; 32], from: Option<&[u8]>) -> Result<
     Ok(text)
 }
 
-/// The comment lines of an exported formula. They name the digest of the configuration, the node of whose trust closure the
-/// formula speaks, and the faulty nodes.
+/// The comment lines of an exported formula. They name its version, the digest of the configuration, the node of whose trust
+/// closure the formula speaks, and the faulty nodes.
 pub fn export_comments(
     alloc: Global,
+    version: u64,
     digest: &[u8; 32],
     from: Option<&[u8]>,
     system: &System,
     faulty: &NodeSet,
 ) -> Result<Vec<u8>, AllocError>
     requires { length faulty.now ≡ length system.now.sets }
-    ensures { IfOk result (λ text. text.items ≡ spec_export_comments digest.now (option_map (λ name. name.now) from.entry) system.now.names faulty.now) }
+    ensures { IfOk result (λ text. text.items ≡ spec_export_comments version digest.now (option_map (λ name. name.now) from.entry) system.now.names faulty.now) }
 {
-    let mut text = export_head(alloc, digest, from)?;
+    let mut text = export_head(alloc, version, digest, from)?;
     push_list(&mut text, "c faulty", system, faulty)?;
     Ok(text)
 }

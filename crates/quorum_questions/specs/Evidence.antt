@@ -11,7 +11,7 @@ use Rattle.lrat_model.specs.Lemmas.{IsDue}
 use Rattle.lrat_text.specs.Texts.{HasNumbers, HasLiterals}
 use Rattle.cdcl_core.specs.Log.{AreLemmas, EndsEmpty, HasNoEmptyLemma, IsBoundedLog, units}
 use Rattle.clause_encoder.specs.Formula.{formula_clauses, formula_vars}
-use Rattle.clause_encoder.specs.declared.version.Version.TheVariants.{Two}
+use Rattle.clause_encoder.specs.declared.version.Version.TheVariants.{Three}
 use Rattle.clause_encoder.specs.declared.limits.TheConstants.{MOST_VARS, MOST_CLAUSES}
 use Rattle.witness_pair.specs.Pairs.{IsPair}
 use Rattle.witness_pair.specs.declared.Pair.{Pair}
@@ -21,10 +21,10 @@ use Rattle.quorum_questions.specs.declared.answers.Answer.TheVariants.{Yes, No, 
 
 -- the intersection formula once b is deleted, each gate once on a side: its variables, and its clauses
 abbrev pub vars_of : Fbas → Table → ℕ
-vars_of f b = formula_vars Two f b (greatest_of f b)
+vars_of f b = formula_vars Three f b (greatest_of f b)
 
 abbrev pub clauses_of : Fbas → Table → List (List Literal)
-clauses_of f b = formula_clauses Two f b (greatest_of f b)
+clauses_of f b = formula_clauses Three f b (greatest_of f b)
 
 -- how many variables and clauses the formula has
 pub record IsSize (f : Fbas) (b : Table) (size : Size) : Type 0 where

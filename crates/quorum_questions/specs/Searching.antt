@@ -7,7 +7,7 @@ use Rattle.lrat_model.specs.Clauses.{IsUnsatisfiable, Satisfies, numbered}
 use Rattle.lrat_model.specs.Ranges.{AreInRange}
 use Rattle.lrat_model.specs.Runs.{formula_database}
 use Rattle.lrat_text.specs.Texts.{HasNumbers}
-use Rattle.clause_encoder.specs.declared.version.Version.TheVariants.{Two}
+use Rattle.clause_encoder.specs.declared.version.Version.TheVariants.{Three}
 use Rattle.clause_encoder.specs.Variables.{Variables}
 use Rattle.clause_encoder.specs.Formula.{formula_clauses}
 use Rattle.clause_encoder.specs.Meaning.{value_of}
@@ -60,7 +60,7 @@ pub record Tells (asked : Asked) (map : Variables) (values : List Bool) : Type 0
   pub places : length map.greatest ≡ length asked.system.now.sets
   pub greatest : IsGreatestQuorum asked.system.now.sets (members asked.faulty.now) (all_nodes asked.system.now.sets) (members map.greatest)
   pub valued : length values ≡ map.count
-  pub satisfied : Satisfies (value_of values) (numbered 1 (formula_clauses Two asked.system.now.sets asked.faulty.now map.greatest))
+  pub satisfied : Satisfies (value_of values) (numbered 1 (formula_clauses Three asked.system.now.sets asked.faulty.now map.greatest))
 
 -- what the end of a search shows, where the numbers of its log are in range, as they are once the solver hands it out
 abbrev pub Ends : Fbas → Table → ℕ → Search → End → Type 0

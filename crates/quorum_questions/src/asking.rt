@@ -29,7 +29,7 @@ const CLAUSES_PER_UNIT: u64 = 200;
 /// Whether every two quorums (Mazières 2015) share a node once the faulty nodes are deleted, with the evidence: a log that
 /// refutes the intersection formula, or two quorums that share none, or the log of a search that spent the budget.
 ///
-/// The formula is that of version 2. Of the budget each lemma with a literal takes a unit. `TooLarge` comes exactly where the
+/// The formula is that of version 3. Of the budget each lemma with a literal takes a unit. `TooLarge` comes exactly where the
 /// formula has more than 4,000,000 variables. Where there is a plan that counts both sides, or writing the formula's gates out
 /// takes many of its variables away, the search begins anew that way once 64 to 200 lemmas over the formula, as it is small or
 /// large, decided nothing; what these took counts nothing. Else, and where gates written out led nowhere, it goes over the

@@ -26,7 +26,7 @@ pub struct Asked<'a> {
     pub budget: u64,
 }
 
-/// The intersection formula of version 2 once the faulty nodes are deleted, what its variables stand for, and its size.
+/// The intersection formula of version 3 once the faulty nodes are deleted, what its variables stand for, and its size.
 #[derive(Drop)]
 pub struct Formula {
     pub store: Store,
@@ -49,7 +49,7 @@ pub fn formula_of(alloc: Global, asked: &Asked) -> Result<Formula, AskError>
     ensures too_large { (vars : ℕ) → result ≡ Err (AskError.TooLarge vars) → (vars ≡ vars_of asked.now.system.now.sets asked.now.faulty.now) × (MOST_VARS < vars) }
 {
     let greatest = greatest(asked.system, asked.faulty);
-    match encode(alloc, Version::Two, asked.system, asked.faulty, &greatest) {
+    match encode(alloc, Version::Three, asked.system, asked.faulty, &greatest) {
         Ok((store, map)) => {
             let size = Size {
                 vars: map.vars(),

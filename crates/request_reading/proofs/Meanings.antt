@@ -18,6 +18,7 @@ use Rattle.request_reading.specs.Given.{given_by, orgs_among}
 use Rattle.request_reading.specs.Names.{names_of}
 use Rattle.request_reading.specs.Reading.{◌>>=◌}
 use Rattle.request_reading.specs.Searches.{header_of}
+use Rattle.request_reading.specs.Formulas.{version_of}
 use Rattle.request_reading.specs.Meaning.{HasFile, Shows, ShowsClaim, Verifies, MeansYes, OfWords, NamesAccepted, NamesVerified, WordsMean, YesMeans, IsCheck, IsCheckLrat, ChecksFile}
 
 pub YesMeans-weaker : (A B : Type 0) (a : Asked) → (A → B) → YesMeans A a → YesMeans B a
@@ -77,7 +78,7 @@ operands_read f o (Err early) s e = absurd cc
 
 -- what was shown of the file is what the command's yes means
 pub means_by : (k : Command) (o : Ordered) (f : System) (config : List ℕ) (files : Files) (s : Operands) → IsTrue (is_check k) → operands_of o f files ≡ Ok s
-    → HasFile (ShowsClaim s.system (claim_by k config s.system s.orgs s.named)) files o.cert → MeansYes k o f config files
+    → HasFile (ShowsClaim s.system (claim_by k o.formula config s.system s.orgs s.named)) files o.cert → MeansYes k o f config files
 means_by Check o f config files s is read shows =
     let parts = operands_read f o (orgs_given f.names files o.orgs) s read in
     record {
@@ -92,7 +93,7 @@ means_by CheckLrat o f config files s is read shows =
       given = parts.0;
       nodes = s.named;
       named = parts.1.0;
-      proof = subst (λ (g : System). HasFile (Verifies g (header_of g s.named)) files o.cert) (sym parts.1.1) shows;
+      proof = subst (λ (g : System). HasFile (Verifies g (version_of o.formula) (header_of g s.named)) files o.cert) (sym parts.1.1) shows;
     }
 means_by Whatif o f config files s is read shows = absurd cc
 means_by (Query q) o f config files s is read shows = absurd cc

@@ -23,6 +23,7 @@ use Rattle.certificate_file.specs.Acceptance.{checked}
 use Rattle.certificate_file.specs.Known.{FitsHeader}
 use Rattle.certificate_file.specs.Organisations.{FitsGiven}
 use Rattle.certificate_file.specs.Verification.{verified}
+use Rattle.request_reading.specs.Formulas.{version_of}
 use Rattle.certificate_file.specs.declared.given.GivenOrgs.{GivenOrgs}
 use Rattle.certificate_file.specs.declared.places.Header.{Header}
 use Rattle.certificate_file.specs.declared.places.Accepted.{Accepted}
@@ -148,22 +149,22 @@ verified_answer names h (Err e) = refused_answer names e
 -- what is given is over the system
 abbrev pub FitsClaim : System → Claim → Type 0
 FitsClaim f (claim.Cert given) = FitsGiven f given
-FitsClaim f (claim.Proof h) = FitsHeader f h
+FitsClaim f (claim.Proof version h) = FitsHeader f h
 
--- what is said of the bytes of a file: as a certificate, or as a proof for a part of the system without the faulty nodes
+-- what is said of the bytes of a file: as a certificate, or as a proof of the formula of a version, for a part of the system without the faulty nodes
 abbrev pub claim_answer : System → Claim → List ℕ → Answer
 claim_answer f (claim.Cert given) cert = checked_answer f.names (checked f given cert)
-claim_answer f (claim.Proof h) proof = verified_answer f.names h (verified f h proof)
+claim_answer f (claim.Proof version h) proof = verified_answer f.names h (verified f version h proof)
 
 -- what is said of a file
 abbrev pub claim_in : System → Claim → Option (List ℕ) → Result Answer Early
 claim_in f c None = Err Read
 claim_in f c (Some bytes) = Ok (claim_answer f c bytes)
 
--- what the file of a check is held to be: a certificate of the configuration, or a proof for the part and the faulty nodes that the options name
-abbrev pub claim_by : Command → List ℕ → System → Option GivenOrgs → NamedNodes → Claim
-claim_by command.CheckLrat config f orgs named = claim.Proof (header_of f named)
-claim_by k config f orgs named = claim.Cert (given_by config orgs)
+-- what the file of a check is held to be: a certificate of the configuration, or a proof of the formula of the version that this number means, for the part and the faulty nodes that the options name
+abbrev pub claim_by : Command → ℕ → List ℕ → System → Option GivenOrgs → NamedNodes → Claim
+claim_by command.CheckLrat formula config f orgs named = claim.Proof (version_of formula) (header_of f named)
+claim_by k formula config f orgs named = claim.Cert (given_by config orgs)
 
 -- ---- what is asked
 
@@ -197,7 +198,7 @@ command_asked command.Whatif o config s files = do
   edits ← edits_of o s.system files
   Ok (asked.Edits edits)
 command_asked k o config s files = do
-  answer ← claim_in s.system (claim_by k config s.system s.orgs s.named) (files o.cert)
+  answer ← claim_in s.system (claim_by k o.formula config s.system s.orgs s.named) (files o.cert)
   Ok (asked.Checked answer)
 
 -- what an order asks over the bytes of its configuration

@@ -1,6 +1,7 @@
 pub mod Status
 pub mod Reading
 pub mod Names
+pub mod Formulas
 pub mod Given
 pub mod Questions
 pub mod Searches

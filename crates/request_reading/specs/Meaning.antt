@@ -11,6 +11,8 @@ use Rattle.node_json.specs.Configuration.{system_of}
 use Rattle.certificate_file.specs.Acceptance.{checked}
 use Rattle.certificate_file.specs.Meaning.{Holds, PartIntersects, part_from}
 use Rattle.certificate_file.specs.Verification.{verified}
+use Rattle.clause_encoder.specs.declared.version.Version.{Version}
+use Rattle.request_reading.specs.Formulas.{version_of}
 use Rattle.certificate_file.specs.declared.given.Given.{Given}
 use Rattle.certificate_file.specs.declared.given.GivenOrgs.{GivenOrgs}
 use Rattle.certificate_file.specs.declared.places.Header.{Header}
@@ -53,27 +55,27 @@ pub record HasAccepted (order : Ordered) (system : System) (config : List ℕ) (
   pub given : orgs_given system.names files order.orgs ≡ Ok orgs
   pub cert : HasCert system (given_by config orgs) files order.cert
 
--- the proof is verified for a part of the system without its faulty nodes, and every two quorums of it share a node
-pub record Verifies (system : System) (header : Header) (proof : List ℕ) : Type 0 where
-  pub verifies : verified system header proof ≡ Ok tt
+-- the proof is verified for the formula of a version, of a part of the system without its faulty nodes, and every two quorums of it share a node
+pub record Verifies (system : System) (version : Version) (header : Header) (proof : List ℕ) : Type 0 where
+  pub verifies : verified system version header proof ≡ Ok tt
   pub meets : PartIntersects system (part_from system header.from) header.faulty
 
 -- the named file is such a proof
-abbrev pub HasProof : System → Header → Files → List ℕ → Type 0
-HasProof system header files name = HasFile (Verifies system header) files name
+abbrev pub HasProof : System → Version → Header → Files → List ℕ → Type 0
+HasProof system version header files name = HasFile (Verifies system version header) files name
 
 -- what a yes means of the bytes that are checked
 abbrev pub ShowsClaim : System → Claim → List ℕ → Type 0
 ShowsClaim system (Cert given) = Shows system given
-ShowsClaim system (Proof header) = Verifies system header
+ShowsClaim system (Proof version header) = Verifies system version header
 
--- the order names such a proof for the part and the faulty nodes that its options name
+-- the order names such a proof for the version of the formula, the part and the faulty nodes that its options name
 pub record HasVerified (order : Ordered) (system : System) (files : Files) : Type 0 where
   pub orgs : Option GivenOrgs
   pub given : orgs_given system.names files order.orgs ≡ Ok orgs
   pub nodes : NamedNodes
   pub named : names_of system (orgs_among orgs) order ≡ Ok nodes
-  pub proof : HasProof system (header_of system nodes) files order.cert
+  pub proof : HasProof system (version_of order.formula) (header_of system nodes) files order.cert
 
 -- what a yes means that is said of a file that was checked: the certificate is accepted, or the proof is verified
 abbrev pub MeansYes : Command → Ordered → System → List ℕ → Files → Type 0

@@ -69,7 +69,7 @@ node_needed (Some v) = Ok v
 
 -- where an exported formula comes from
 abbrev pub origin_of : List ℕ → Ordered → Origin
-origin_of config o = record { digest = sha256 config; from = o.from }
+origin_of config o = record { digest = sha256 config; from = o.from; formula = o.formula }
 
 -- what an order with this question asks of a part of the system of a configuration's bytes, by the nodes that it names there
 abbrev pub question_of : Query → Ordered → List ℕ → Option ℕ → Table → Table → Result Question Early

@@ -12,12 +12,14 @@ ghost use Rattle.request_reading.specs.Reading.{GivesReading, ReadsDesk};
 ghost use Rattle.request_reading.specs.Status.{is_answer};
 
 use crate::early::Early;
+use crate::formula::version_of;
 use crate::names::NamedNodes;
 use crate::operands::Operands;
 use crate::reply::Reply;
 use crate::searches::header_of;
 use crate::status::Status;
 use certificate_file::{Accepted, CertError, CheckError, Conclusion, Given, GivenOrgs, Header};
+use clause_encoder::Version;
 use cli_words::{Command, Order};
 use desk_io::{Desk, Which};
 use digest_text::digest;
@@ -30,8 +32,8 @@ use std::alloc::{AllocError, Global};
 pub enum Claim {
     /// A certificate, which is held against this.
     Cert(Given),
-    /// A proof for this part of the system, without its faulty nodes.
-    Proof(Header),
+    /// A proof of the formula of this version, for this part of the system, without its faulty nodes.
+    Proof(Version, Header),
 }
 
 // How the program ends where a certificate has this fault.
@@ -129,11 +131,13 @@ fn check_begun<D: Desk>(
             Err(CheckError::Cert(fault)) => Ok(refuse(alloc, system, fault)?),
             Err(CheckError::Read) => Err(Early::Read),
         },
-        Claim::Proof(header) => match certificate_file::check_lrat(alloc, system, header, desk) {
-            Ok(()) => Ok(verified(alloc, system, header)?),
-            Err(CheckError::Cert(fault)) => Ok(refuse(alloc, system, fault)?),
-            Err(CheckError::Read) => Err(Early::Read),
-        },
+        Claim::Proof(version, header) => {
+            match certificate_file::check_lrat(alloc, system, *version, header, desk) {
+                Ok(()) => Ok(verified(alloc, system, header)?),
+                Err(CheckError::Cert(fault)) => Ok(refuse(alloc, system, fault)?),
+                Err(CheckError::Read) => Err(Early::Read),
+            }
+        }
     }
 }
 
@@ -162,6 +166,7 @@ fn check_file<D: Desk>(
 // What the file of a check is held to be, by what its order names in the system.
 fn claim_by(
     command: Command,
+    formula: u64,
     system: &System,
     config: &[u8],
     orgs: Option<GivenOrgs>,
@@ -169,11 +174,11 @@ fn claim_by(
 ) -> Claim
     requires over { AreOver system.now orgs }
     requires named { FitsNamed (length system.now.sets) named }
-    ensures value { result ≡ spec_claim_by command config.now system.now orgs named }
+    ensures value { result ≡ spec_claim_by command formula config.now system.now orgs named }
     ensures fits { FitsClaim system.now result }
 {
     match command {
-        Command::CheckLrat => Claim::Proof(header_of(system, named)),
+        Command::CheckLrat => Claim::Proof(version_of(formula), header_of(system, named)),
         _ => Claim::Cert(Given {
             digest: digest(config),
             orgs,
@@ -191,10 +196,10 @@ pub fn check<D: Desk>(
 ) -> Result<Reply, Early>
     requires { FitsOperands operands }
     ensures gives { IsTrue D.tells → GivesReading (D.state desk.old).plain result
-        (claim_in operands.system (spec_claim_by order.now.command config.now operands.system operands.orgs operands.named) ((D.state desk.old).files (order_view order.now).cert)) }
+        (claim_in operands.system (spec_claim_by order.now.command order.now.formula config.now operands.system operands.orgs operands.named) ((D.state desk.old).files (order_view order.now).cert)) }
     ensures answers { IfOk result (λ a. IsTrue (is_answer a.status)) }
     ensures shows { IfOk result (λ a. IsTrue D.tells → a.status ≡ Status.Yes →
-        HasFile (ShowsClaim operands.system (spec_claim_by order.now.command config.now operands.system operands.orgs operands.named)) (D.state desk.old).files (order_view order.now).cert) }
+        HasFile (ShowsClaim operands.system (spec_claim_by order.now.command order.now.formula config.now operands.system operands.orgs operands.named)) (D.state desk.old).files (order_view order.now).cert) }
     ensures failing { IfErr result (λ e. (e ≡ Early.Read) ⊎ (e ≡ Early.Memory)) }
     ensures desk { ReadsDesk D.tells D.state D.faults desk.old desk.new (IsErrOf result Early.Read) }
 {
@@ -203,7 +208,7 @@ pub fn check<D: Desk>(
         orgs,
         named,
     } = operands;
-    let claim = claim_by(order.command, &system, config, orgs, named);
+    let claim = claim_by(order.command, order.formula, &system, config, orgs, named);
     let reply = check_file(alloc, &system, &claim, desk, &order.cert);
     drop(system);
     drop(claim);

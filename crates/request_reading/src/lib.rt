@@ -5,6 +5,7 @@ mod checking;
 mod early;
 mod edits;
 mod files;
+mod formula;
 mod names;
 mod operands;
 mod orgs;
@@ -18,6 +19,7 @@ mod word;
 
 pub use early::Early;
 pub use edits::Edits;
+pub use formula::version_of;
 pub use question::{Origin, Question};
 pub use reading::{Asked, ask_by_words};
 pub use reply::{Reply, Text, says};

@@ -19,6 +19,8 @@ pub struct Origin {
     pub digest: [u8; 32],
     /// The node of whose trust closure the formula speaks, if it is one.
     pub from: Option<Word>,
+    /// The version of the formula, by its number.
+    pub formula: u64,
 }
 
 /// A question about a system, with the sets of nodes that it speaks of.
@@ -58,6 +60,7 @@ fn origin_of(alloc: Global, order: &Order, config: &[u8]) -> Result<Origin, Allo
     Ok(Origin {
         digest: digest(config),
         from,
+        formula: order.formula,
     })
 }
 

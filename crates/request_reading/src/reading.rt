@@ -131,7 +131,7 @@ fn command<D: Desk>(
     ensures refused { IfErr result IsRefusal }
     ensures fits { IfOk result FitsAsked }
     ensures shows { IfOk result (λ asked. IsTrue (is_check order.now.command) → IsTrue D.tells → YesMeans
-        (HasFile (ShowsClaim operands.system (claim_by order.now.command config.now operands.system operands.orgs operands.named)) (D.state desk.old).files (order_view order.now).cert) asked) }
+        (HasFile (ShowsClaim operands.system (claim_by order.now.command order.now.formula config.now operands.system operands.orgs operands.named)) (D.state desk.old).files (order_view order.now).cert) asked) }
     ensures desk { ReadsDesk D.tells D.state D.faults desk.old desk.new (IsErrOf result Early.Read) }
 {
     match order.command {

@@ -152,14 +152,14 @@ pub fn outcome_of_text(alloc: Global, text: &str, units: u64) -> Result<Outcome>
     solve(alloc, store, vars, units)
 }
 
-/// The intersection formula of a system in version 2, no node deleted, and how many variables it has.
+/// The intersection formula of a system in version 3, no node deleted, and how many variables it has.
 fn formula(alloc: Global, system: &System) -> Result<(Store, u64)>
     ensures small { IfOk result (λ r. r.1 < 2 ^ 31) }
     ensures range { IfOk result (λ r. AreInRange r.1 r.0.held) }
 {
     let faulty = NodeSet::new(system.len());
     let greatest = greatest(system, &faulty);
-    let (store, map) = encode(alloc, Version::Two, system, &faulty, &greatest)?;
+    let (store, map) = encode(alloc, Version::Three, system, &faulty, &greatest)?;
     Ok((store, map.vars()))
 }
 

@@ -1,11 +1,11 @@
 -- What `==` says of circuits: the trees that they show are equal.
-use Rattle.std.proofs.Common.{◌≡◌, ℕ, ◌==◌, ◌&&◌, Bool, true, false, List, [], ◌∷◌, refl, ap, ◌∙◌}
+use Rattle.std.proofs.Common.{◌≡◌, ◌==◌, ◌&&◌, Bool, List, refl, ap, ◌∙◌}
 use mathlib.Core.Former.{Count}
 use Rattle.std.specs.Cmp.Lexicographic.{pointwise}
 use Rattle.threshold_circuit.specs.Same.{same_circuit, same_inputs}
 use Rattle.threshold_circuit.specs.declared.Circuit.{Circuit, Always, Never, Node, AtLeast', Row_of-Circuit, end_of-Circuit, more_of-Circuit}
 use Rattle.threshold_circuit.specs.declared.Circuit.TheBlock.{items-the_row-Circuit, shown-the_row-Circuit-0, items_shown-the_row-Circuit-0}
-use Rattle.threshold_circuit.specs.Views.{circuit_view, row_view, inputs_view}
+use Rattle.threshold_circuit.specs.Views.{circuit_view, row_view}
 use Rattle.threshold_circuit.specs.contracts.CircuitPartialEq.TheImpl as own
 use Rattle.threshold_circuit.specs.contracts.CircuitPartialEq.TheImpl.Laws as laws
 

@@ -7,3 +7,8 @@ pub mod Sizes
 pub mod CountLaws
 pub mod SameLaws
 pub mod EqLaws
+pub mod OrderedLaws
+pub mod OrderLaws
+pub mod PermutedLaws
+pub mod CmpLaws
+pub mod SortedLaws

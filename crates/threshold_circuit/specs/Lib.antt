@@ -5,3 +5,4 @@ pub mod Gates
 pub mod Same
 pub mod Views
 pub mod Gathering
+pub mod Ordered

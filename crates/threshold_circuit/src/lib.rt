@@ -8,13 +8,16 @@ ghost use Rattle.fbas_model.specs.Trees.{QuorumSet as Tree};
 ghost use Rattle.fbas_model.specs.QuorumSets.{HasChoiceWithin, IsBelow, all_entries};
 ghost use Rattle.fbas_model.specs.Lists.{entries_of};
 ghost use Rattle.fbas_model.specs.declared.TheConstants.{MOST_ENTRIES};
-ghost use Rattle.threshold_circuit.specs.Circuits.{NodesBelow, HasThresholds, IsReduced, all_inputs};
+ghost use Rattle.threshold_circuit.specs.Circuits.{Circuit as Tree_of, Inputs, input, at_least, NodesBelow, HasThresholds, IsReduced, all_inputs};
 ghost use Rattle.threshold_circuit.specs.Gathering.{joined};
 ghost use Rattle.threshold_circuit.specs.Gates.{gate_variables, own_variables};
 ghost use Rattle.threshold_circuit.specs.Simplified.{simplified, simplified_entries, validator_circuit, always_count, undecided};
 ghost use Rattle.threshold_circuit.specs.Same.{same_circuit};
 ghost use Rattle.threshold_circuit.specs.Value.{circuit_value};
 ghost use Rattle.threshold_circuit.specs.Views.{circuit_view, inputs_view};
+ghost use Rattle.threshold_circuit.specs.Ordered.{ordered, compared};
+ghost use Rattle.std.specs.Cmp.{IsTotalOrder};
+ghost use Rattle.std.specs.declared.cmp.Ordering.TheVariants.{Equal};
 
 mod gathered;
 
@@ -24,7 +27,7 @@ use quorum_set::QuorumSet;
 use std::alloc::{AllocError, Global};
 
 /// A circuit over the nodes, without negation.
-#[derive(Debug, Drop, PartialEq, Eq, Hash)]
+#[derive(Debug, Drop, PartialEq, Eq, PartialOrd, Ord, Hash)]
 pub enum Circuit {
     /// True.
     Always,
@@ -58,6 +61,26 @@ impl Circuit {
                     copies.push(entry.copy(alloc)?)?;
                 }
                 Ok(Circuit::AtLeast(*threshold, copies))
+            }
+        }
+    }
+
+    /// The same with the inputs of each gate in order, as `<` says, so that circuits which differ in no more than the order of
+    /// their inputs become equal: O(e log e) comparisons for e entries at all depths.
+    pub fn ordered(&self, alloc: Global) -> Result<Circuit, AllocError>
+        ensures { IfOk result (λ c. circuit_view c ≡ ordered (circuit_view self.now)) }
+    {
+        match self {
+            Circuit::Always => Ok(Circuit::Always),
+            Circuit::Never => Ok(Circuit::Never),
+            Circuit::Node(node) => Ok(Circuit::Node(*node)),
+            Circuit::AtLeast(threshold, entries) => {
+                let mut sorted = Vec::new(alloc);
+                for entry in entries {
+                    sorted.push(entry.ordered(alloc)?)?;
+                }
+                sorted.sort()?;
+                Ok(Circuit::AtLeast(*threshold, sorted))
             }
         }
     }
@@ -191,3 +214,17 @@ pub fn circuit_of(
     }
     Ok(gathered.circuit())
 }
+
+/// The same value, sizes, nodes and thresholds: what the laws of the formula ask of a circuit.
+pub fn a_circuit_in_order_is_as_good()
+    ensures value { (u : Nodes) (c : Tree_of) → circuit_value u (ordered c) ≡ circuit_value u c }
+    ensures reduced { (nodes : Nodes) (c : Tree_of) → IsReduced nodes c → IsReduced nodes (ordered c) }
+    ensures below { (n : ℕ) (c : Tree_of) → NodesBelow n c → NodesBelow n (ordered c) }
+    ensures thresholds { (c : Tree_of) → HasThresholds c → HasThresholds (ordered c) }
+    ensures inputs { (c : Tree_of) → all_inputs (ordered c) ≡ all_inputs c }
+    ensures gates { (c : Tree_of) → gate_variables (ordered c) ≡ gate_variables c }
+    ensures order { IsTotalOrder compared }
+    ensures swapped { (k : ℕ) (before after : Inputs) (c d : Tree_of) → ordered (at_least k (joined before (input c (input d after)))) ≡ ordered (at_least k (joined before (input d (input c after)))) }
+    ensures deep { (k : ℕ) (before after : Inputs) (c d : Tree_of) → ordered c ≡ ordered d → ordered (at_least k (joined before (input c after))) ≡ ordered (at_least k (joined before (input d after))) }
+    ensures different { (c d : Tree_of) → compared c d ≡ Equal → c ≡ d }
+{}

@@ -22,11 +22,11 @@ pub returns-then-has_same_path-clause-err : goal.returns-then-has_same_path-clau
 returns-then-has_same_path-clause-err c =
     inr (order_by-taken c.args.command (map string_bytes c.args.words.now) (rows_of (found_of c.in_ok-matches.matches)) c.in_ok-matches.ensures.taken c.in_ok-matches.ensures.rows
     ∙ (c.in-Some.ensures.some
-    ∙ path_checked-same (order_in c.args.command c.in-Some.budget c.in-Some.trial (rows_of (found_of c.in_ok-matches.matches))) (sym (c.if-has_same_path.ensures c.in-Some.budget c.in-Some.trial))))
+    ∙ path_checked-same (order_in c.args.command c.in-Some.numbers.budget c.in-Some.numbers.trial c.in-Some.numbers.formula (rows_of (found_of c.in_ok-matches.matches))) (sym (c.if-has_same_path.ensures c.in-Some.numbers.budget c.in-Some.numbers.trial c.in-Some.numbers.formula))))
 
 pub returns-clause-ok : goal.returns-clause-ok
 returns-clause-ok c = IfOk-weaker c.order_from.result _ _ (λ o texts.
     order_by-taken c.args.command (map string_bytes c.args.words.now) (rows_of (found_of c.in_ok-matches.matches)) c.in_ok-matches.ensures.taken c.in_ok-matches.ensures.rows
     ∙ (c.in-Some.ensures.some
-    ∙ (path_checked-other (order_in c.args.command c.in-Some.budget c.in-Some.trial (rows_of (found_of c.in_ok-matches.matches))) (sym (c.if-has_same_path.ensures c.in-Some.budget c.in-Some.trial))
+    ∙ (path_checked-other (order_in c.args.command c.in-Some.numbers.budget c.in-Some.numbers.trial c.in-Some.numbers.formula (rows_of (found_of c.in_ok-matches.matches))) (sym (c.if-has_same_path.ensures c.in-Some.numbers.budget c.in-Some.numbers.trial c.in-Some.numbers.formula))
     ∙ ap Ok (sym texts)))) c.order_from.ensures.texts

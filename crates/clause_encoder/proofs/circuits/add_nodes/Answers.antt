@@ -9,11 +9,11 @@ use Rattle.clause_encoder.proofs.CircuitTables.{filled_none, filled_more}
 use Rattle.clause_encoder.proofs.circuits.add_nodes.Goals as goal
 
 pub loop-v-init : goal.loop-v-init
-loop-v-init c = filled_none (length c.args.system.now.sets) (members c.args.greatest.now) (circuit_at c.args.system.now.sets c.args.faulty.now c.args.greatest.now) _ _ c.requires.no_circuit c.requires.no_kind
+loop-v-init c = filled_none (length c.args.system.now.sets) (members c.args.greatest.now) (circuit_at c.args.version c.args.system.now.sets c.args.faulty.now c.args.greatest.now) _ _ c.requires.no_circuit c.requires.no_kind
 
 pub loop-v-preserved : goal.loop-v-preserved
 loop-v-preserved c =
-    let f = circuit_at c.args.system.now.sets c.args.faulty.now c.args.greatest.now in
+    let f = circuit_at c.args.version c.args.system.now.sets c.args.faulty.now c.args.greatest.now in
     let circuit = c.in_ok-circuit.circuit in
     let kind = c.in_ok-kind.kind in
     let keys = c.in_ok-kind.ensures.keys in

@@ -5,4 +5,4 @@ use Rattle.clause_encoder.proofs.CircuitTables.{Filled}
 use Rattle.clause_encoder.proofs.circuits.add_nodes.Given as goal
 
 abbrev pub invariant-loop-v : goal.invariant-loop-v
-invariant-loop-v l = Filled (length l.system.sets) (members l.greatest) (circuit_at l.system.sets l.faulty l.greatest) l.v l.different.keys l.kinds.items
+invariant-loop-v l = Filled (length l.system.sets) (members l.greatest) (circuit_at l.version l.system.sets l.faulty l.greatest) l.v l.different.keys l.kinds.items

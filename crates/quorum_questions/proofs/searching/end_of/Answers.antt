@@ -5,7 +5,7 @@ use Rattle.lrat_model.specs.Clauses.{Held, clause_at, has_id}
 use Rattle.lrat_model.specs.Steps.{ProofStep, Database}
 use Rattle.lrat_model.specs.Runs.{formula_database}
 use Rattle.clause_encoder.specs.Formula.{formula_clauses}
-use Rattle.clause_encoder.specs.declared.version.Version.TheVariants.{Two}
+use Rattle.clause_encoder.specs.declared.version.Version.TheVariants.{Three}
 use Rattle.clause_encoder.specs.Variables.{Variables}
 use Rattle.cdcl_core.specs.Log.{live_in}
 use Rattle.cdcl_core.specs.declared.run.Verdict.TheVariants.{Sat, Unsat, Spent}
@@ -27,7 +27,7 @@ told-requires-clause-tells c =
       greatest = s.greatest;
       valued = search rules;
       satisfied = λ id clause at.
-          let at_g = subst (λ (m : Variables). clause_at (formula_database (formula_clauses Two f b m.greatest)).held id ≡ Some clause) s.map at in
+          let at_g = subst (λ (m : Variables). clause_at (formula_database (formula_clauses Three f b m.greatest)).held id ≡ Some clause) s.map at in
           let at_held = subst (λ (d : Database). clause_at d.held id ≡ Some clause) (sym s.database) at_g in
           c.in_ok-solve.ensures.sat (ap Ok c.in-Sat.is) id clause (still_held old.log c.solve.new.self.database.held id clause s.log (c.solve.ensures.kept id clause at_held));
     }

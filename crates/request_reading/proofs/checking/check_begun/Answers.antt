@@ -10,5 +10,5 @@ returns-in_ok-reply-in-Ok-clause-shows g c = λ tells yes.
 
 pub returns-in_ok-verified-in-Ok-check_lrat-clause-shows : goal.returns-in_ok-verified-in-Ok-check_lrat-clause-shows
 returns-in_ok-verified-in-Ok-check_lrat-clause-shows g c = λ tells yes.
-    let shows : Verifies c.args.system.now c.in-Proof.header (left_of Cert (g.D.Desk.state c.args.desk.now)) = record { verifies = c.in-Ok-check_lrat.ensures.ok tells; meets = c.in-Ok-check_lrat.ensures.shows } in
+    let shows : Verifies c.args.system.now c.in-Proof.version c.in-Proof.header (left_of Cert (g.D.Desk.state c.args.desk.now)) = record { verifies = c.in-Ok-check_lrat.ensures.ok tells; meets = c.in-Ok-check_lrat.ensures.shows } in
     rw c.in-Proof.is shows

@@ -19,5 +19,5 @@ returns-clause-shows g c =
       system = c.in_ok-system.system;
       read = system_read config c.in_ok-system.system c.in_ok-system.ensures.gives;
       means = means_by k o c.in_ok-system.system config (g.D.Desk.state c.args.desk.now).files s is (c.in_ok-operands.ensures.gives tells)
-          (subst (λ (d : DeskState). HasFile (ShowsClaim s.system (claim_by k config s.system s.orgs s.named)) d.files o.cert) (c.in_ok-operands.ensures.desk.reads tells) shows);
+          (subst (λ (d : DeskState). HasFile (ShowsClaim s.system (claim_by k o.formula config s.system s.orgs s.named)) d.files o.cert) (c.in_ok-operands.ensures.desk.reads tells) shows);
     }) (has is tells)) c.command.ensures.shows

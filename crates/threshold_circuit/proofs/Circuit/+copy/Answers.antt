@@ -1,7 +1,4 @@
-use Rattle.std.proofs.Common.{◌≡◌, ◌+◌, List, length, drop, ap, sym, ◌∙◌}
-use Rattle.threshold_circuit.specs.Circuits.{Inputs, end_of_gate}
-use Rattle.threshold_circuit.specs.Gathering.{joined}
-use Rattle.threshold_circuit.specs.Views.{circuit_view, inputs_view}
+use Rattle.std.proofs.Common.{◌∙◌}
 use Rattle.threshold_circuit.proofs.ViewLaws.{gate_view, circuit_view_at_least}
 use Rattle.threshold_circuit.proofs.GatheredLaws.{copied_more, copied_all}
 use Rattle.threshold_circuit.proofs.Circuit.+copy.Goals as goal

@@ -1,4 +1,4 @@
-use Rattle.std.proofs.Common.{◌≡◌, ◌∙◌, refl}
+use Rattle.std.proofs.Common.{◌∙◌}
 use Rattle.threshold_circuit.proofs.EqLaws.{eq_is}
 use Rattle.threshold_circuit.proofs.Circuit.same.Goals as goal
 
