@@ -25,8 +25,8 @@ typedef struct quorum_end {
  *
  * The words are those of the command line without the program's name, a zero byte between two: "intersect\0config\0made". They name
  * the files config, orgs, script and cert, and a search makes the certificate made. A file that is not given is empty: NULL, 0.
- * The certificate is written to the front of the room, and the text to its end. If the room is too small for both, the status is 7:
- * the question is then worked on twice in the one call, the second time to measure the room that the answer wants.
+ * The certificate is written to the front of the room, and the text to its end. If the room is too small for both, the status is 7.
+ * The question is then worked on twice in the one call, the second time to measure the room that the answer wants.
  * With status 6, 7 or 8 there is no answer in the room, and text and cert are 0.
  *
  * The room and the end overlap no other buffer, and no buffer changes during the call. Calls on several threads may run at once.

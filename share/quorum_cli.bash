@@ -17,9 +17,9 @@ _quorum_cli() {
     splits) options='--set --budget --from --faulty --orgs --faulty-orgs --seconds --progress' ;;
     blocking) options='--budget --from --faulty --orgs --faulty-orgs --seconds --progress' ;;
     check) options='--orgs --progress' ;;
-    export) options='--from --faulty --orgs --faulty-orgs --progress' ;;
+    export) options='--formula --from --faulty --orgs --faulty-orgs --progress' ;;
     trial) options='--budget --seconds --progress' ;;
-    check-lrat) options='--from --faulty --orgs --faulty-orgs --progress' ;;
+    check-lrat) options='--formula --from --faulty --orgs --faulty-orgs --progress' ;;
     quorums) options='--budget --from --faulty --orgs --faulty-orgs --seconds --progress' ;;
     least) options='--budget --from --faulty --orgs --faulty-orgs --seconds --progress' ;;
     org-blocking) options='--orgs --from --faulty --faulty-orgs --budget --seconds --progress' ;;
@@ -27,7 +27,7 @@ _quorum_cli() {
   esac
   case $before in
   --orgs) mapfile -t COMPREPLY < <(compgen -f -- "$word") ;;
-  --node|--from|--faulty|--faulty-orgs|--set|--budget|--seconds) COMPREPLY=() ;;
+  --node|--from|--faulty|--faulty-orgs|--set|--budget|--formula|--seconds) COMPREPLY=() ;;
   *)
     if [[ $word == -* ]]; then
       mapfile -t COMPREPLY < <(compgen -W "$options" -- "$word")

@@ -53,10 +53,11 @@ INNER = (
     '[{"publicKey":"x","quorumSet":{"threshold":2,"validators":["x"],"innerQuorumSets":[{"threshold":1,'
     '"validators":["x","y"]}]}},{"publicKey":"y","quorumSet":{"threshold":1,"validators":["x","y"]}}]'
 )
-# 200 nodes, of which each needs half of all: all in one order, or each from itself on.
+# 200 nodes, of which each needs half of all: all in one order, or each from itself on, or of all but itself.
 NUMBERED = [chr(97 + it // 20) + chr(97 + it % 20) for it in range(200)]
 HALF = system(NUMBERED, 100)
 ROTATED = system(NUMBERED, 100, is_rotated=True)
+LEFT_OUT = system(NUMBERED, 100, leaves_out=True)
 
 
 def alone(names):
@@ -124,6 +125,10 @@ NO_ORDERS = [
     ("check config config", 3, "usage same-path\n"),
     ("check config missing", 6, ""),
     ("check missing cert", 6, ""),
+    ("export config --formula 1", 3, USAGE),
+    ("export config --formula 4", 3, USAGE),
+    ("check-lrat config cert --formula 02", 3, USAGE),
+    ("check config cert --formula 2", 3, USAGE),
 ]
 
 # Configurations, words and the answers.
@@ -179,6 +184,35 @@ ORGANISED = [
     ("greatest config --orgs orgs", "{}", 4, "orgs not-orgs\n"),
 ]
 
+# Two nodes that need both, of which each names itself first, and its formula by the version.
+TWO_ORDERS = system("pq", 2, is_rotated=True)
+VERSIONS = [
+    (
+        2,
+        0,
+        (
+            f"c formula 2\nc config {sha256(TWO_ORDERS)}\nc from\nc faulty\nc 1 a p\nc 2 a q\nc 3 b p\nc 4 b q\np cnf"
+            " 8 16\n1 2 0\n3 4 0\n-1 -3 0\n-2 -4 0\n-5 1 0\n-5 2 0\n-1 5 0\n-6 2 0\n-6 1 0\n-2 6 0\n-7 3 0\n-7 4"
+            " 0\n-3 7 0\n-8 4 0\n-8 3 0\n-4 8 0\n"
+        ),
+    ),
+    (
+        3,
+        0,
+        (
+            f"c formula 3\nc config {sha256(TWO_ORDERS)}\nc from\nc faulty\nc 1 a p\nc 2 a q\nc 3 b p\nc 4 b q\np cnf"
+            " 6 12\n1 2 0\n3 4 0\n-1 -3 0\n-2 -4 0\n-5 1 0\n-5 2 0\n-1 5 0\n-2 5 0\n-6 3 0\n-6 4 0\n-3 6 0\n-4 6 0\n"
+        ),
+    ),
+]
+# Proofs of these formulas: what is said of the second in each version.
+ORDERS_PROOF = "13 -1 0 7 6 3 4 2 0\n14 0 13 1 8 5 0\n"
+ORDERS_LINES = [
+    ("check-lrat config cert", 0, "verified\nfrom\nfaulty\n"),
+    ("check-lrat config cert --formula 3", 0, "verified\nfrom\nfaulty\n"),
+    ("check-lrat config cert --formula 2", 5, "refused step 1 id-order 16 13\n"),
+]
+
 # Configurations, words, and the formula that is written.
 EXPORTED = [
     (
@@ -186,9 +220,9 @@ EXPORTED = [
         "export config",
         0,
         (
-            "c config d5ccec4a141b4b11eb0b80bb62d235f24e373c62aa2fa9f6fb33f6b1e2871f41\nc from\nc faulty\nc 1 a p\nc 2"
-            " a q\nc 3 b p\nc 4 b q\np cnf 6 12\n1 2 0\n3 4 0\n-1 -3 0\n-2 -4 0\n-5 1 0\n-5 2 0\n-1 5 0\n-2 5 0\n-6 3"
-            " 0\n-6 4 0\n-3 6 0\n-4 6 0\n"
+            "c formula 3\nc config d5ccec4a141b4b11eb0b80bb62d235f24e373c62aa2fa9f6fb33f6b1e2871f41\nc from\nc"
+            " faulty\nc 1 a p\nc 2 a q\nc 3 b p\nc 4 b q\np cnf 6 12\n1 2 0\n3 4 0\n-1 -3 0\n-2 -4 0\n-5 1 0\n-5 2"
+            " 0\n-1 5 0\n-2 5 0\n-6 3 0\n-6 4 0\n-3 6 0\n-4 6 0\n"
         ),
     ),
     (
@@ -196,9 +230,9 @@ EXPORTED = [
         "export config --faulty a",
         0,
         (
-            "c config f823e204944abcff32c8dadffba2a0178a590a613358f9a6f271b651cd4e6fbb\nc from\nc faulty a\nc 1 a b\nc"
-            " 2 a c\nc 3 b b\nc 4 b c\np cnf 6 10\n1 2 0\n3 4 0\n-1 -3 0\n-2 -4 0\n-5 1 2 0\n-1 5 0\n-2 5 0\n-6 3 4"
-            " 0\n-3 6 0\n-4 6 0\n"
+            "c formula 3\nc config f823e204944abcff32c8dadffba2a0178a590a613358f9a6f271b651cd4e6fbb\nc from\nc faulty"
+            " a\nc 1 a b\nc 2 a c\nc 3 b b\nc 4 b c\np cnf 6 10\n1 2 0\n3 4 0\n-1 -3 0\n-2 -4 0\n-5 1 2 0\n-1 5 0\n-2"
+            " 5 0\n-6 3 4 0\n-3 6 0\n-4 6 0\n"
         ),
     ),
     (
@@ -206,8 +240,8 @@ EXPORTED = [
         "export config",
         0,
         (
-            "c config 4f53cda18c2baa0c0354bb5f9a3ecbe5ed12ab4d8e11ba873c2f11161202b945\nc from\nc faulty\np cnf 0"
-            " 2\n0\n0\n"
+            "c formula 3\nc config 4f53cda18c2baa0c0354bb5f9a3ecbe5ed12ab4d8e11ba873c2f11161202b945\nc from\nc"
+            " faulty\np cnf 0 2\n0\n0\n"
         ),
     ),
 ]
@@ -1024,12 +1058,19 @@ def questions():
     ]
     yield "formulas", [row(words, status, text, config=config) for config, words, status, text in EXPORTED]
     yield "the formula of a shared inner quorum set", [
-        row("export config", 0, f"c config {sha256(INNER)}\n{SHARED_INNER}", config=INNER)
+        row("export config", 0, f"c formula 3\nc config {sha256(INNER)}\n{SHARED_INNER}", config=INNER)
     ]
-    yield "a formula with each gate once on a side", [
-        row("export config", 0, lambda it: "p cnf 30500 60402" in it.split("\n"), config=HALF)
+    yield "a formula with each gate once on a side, in any order", [
+        row(words, 0, lambda it: "p cnf 30500 60402" in it.split("\n"), config=config)
+        for words, config in (("export config --formula 2", HALF), ("export config", HALF), ("export config", ROTATED))
     ]
-    yield "a formula that is too large", [row("export config", 9, "too-large 6020400\n", config=ROTATED)]
+    yield "formulas that are too large", [
+        row("export config --formula 2", 9, "too-large 6020400\n", config=ROTATED),
+        row("export config", 9, "too-large 5980400\n", config=LEFT_OUT),
+    ]
+    yield "the versions of the formula", [
+        row(f"export config --formula {it}", status, text, config=TWO_ORDERS) for it, status, text in VERSIONS
+    ]
 
 
 def readings():
@@ -1066,7 +1107,7 @@ def readings():
 def searches():
     """What the searches answer, and that their certificates are accepted."""
     spent = {
-        name: certificate(THREE, 2, kind, body)
+        name: certificate(THREE, 3, kind, body)
         for name, kind, body in (("c", "partial", "formula 16 25\nend\n"), ("cert", "partial-blocking", "end\n"))
     }
     groups = "org-blocking 3\nset org:P org:Q\nset org:P org:R\nset org:Q org:R\n"
@@ -1079,7 +1120,7 @@ def searches():
         for config, words, status, text in REFUSED_SEARCHES
     ]
     yield "searches that are too large", [
-        row("intersect config c", 9, "too-large 6020400\n", holds=is_not_made, config=ROTATED),
+        row("intersect config c", 9, "too-large 5980400\n", holds=is_not_made, config=LEFT_OUT),
         row(
             "least config c", 9, "too-large 4000205\n", holds=is_not_made, config=alone(f"n{it}" for it in range(2827))
         ),
@@ -1203,6 +1244,9 @@ def checks():
     ]
     yield "words of proofs", [
         row(words, status, text, config=TWO, orgs=ORG, cert="8 0 1 2 3 0\n") for words, status, text in PROOF_LINES
+    ]
+    yield "proofs by the version of the formula", [
+        row(words, status, text, config=TWO_ORDERS, cert=ORDERS_PROOF) for words, status, text in ORDERS_LINES
     ]
 
 

@@ -110,7 +110,7 @@ def trial_config(count):
 
 def sizes_of_trial(system):
     """What 'trial' prints before the answer."""
-    formula = plain.Formula(system, set(), 2)
+    formula = plain.Formula(system, set(), 3)
     nodes = len(system)
     return (
         f"trial {nodes // 3}\nnodes {nodes}\nvariables {formula.variables}\nclauses"
@@ -197,7 +197,10 @@ class Subject:
     def __init__(self, rng, data):
         self.data = data
         self.digest = hashlib.sha256(data).hexdigest()
-        self.version = rng.choice([1, 2])
+        self.version = rng.choice([1, 2, 3])
+        # the version of a formula that stands in a file of its own, and its option, which may be left out for the newest
+        self.exported = rng.choice([2, 3])
+        self.formula = [] if self.exported == 3 and rng.random() < 0.5 else [f"--formula={self.exported}"]
         try:
             self.whole = plain.system_of(data)
         except plain.Fault:
@@ -336,7 +339,7 @@ def fault_of_units(subject, cert):
         held = {i: frozenset(it) for i, it in enumerate(plain.counter_of(len(order)), 1)}
         lines = lines[1:]
     if lines and lines[0].startswith("formula"):
-        held = {i: frozenset(it) for i, it in enumerate(plain.Formula(subject.system, subject.faulty, 2).clauses, 1)}
+        held = {i: frozenset(it) for i, it in enumerate(plain.Formula(subject.system, subject.faulty, 3).clauses, 1)}
         lines = lines[1:]
     for line in lines:
         words = line.split(" ")
@@ -451,7 +454,7 @@ def random_body(rng, subject, kind):
 def random_proof(rng, subject):
     """The lines of a proof of the exported formula, where short proofs are found by chance, with comments between
     them."""
-    formula = plain.Formula(subject.system, subject.faulty, 2)
+    formula = plain.Formula(subject.system, subject.faulty, subject.exported)
     held = {i: frozenset(it) for i, it in enumerate(formula.clauses, 1)}
     lines, last = random_steps(rng, held, formula.variables, len(held), True)
     lines += empty_lemma(held, last)
@@ -621,6 +624,7 @@ def mutated_words(rng, words):
                         "--orgs=orgs",
                         "--faulty-orgs=A",
                         "--budget=0",
+                        "--formula=2",
                         "--budget=4000000000",
                         "--budget=4000000001",
                         "--budget=-1",
@@ -740,7 +744,9 @@ class Program:
             return self.said
         if case.kind == "proof":
             subject = case.wanted
-            self.said = plain.check_lrat(subject.data, case.files["cert"], subject.start, set(subject.given))
+            self.said = plain.check_lrat(
+                subject.data, case.files["cert"], subject.start, set(subject.given), subject.exported
+            )
             return self.said
         if case.kind == "whatif":
             return plain.whatif(case.files["config"], case.files["script"], case.wanted)
@@ -891,9 +897,10 @@ def wanted_of_question(case):
 
 def exported(subject):
     """What 'export' prints, small formulas only."""
-    formula = plain.Formula(subject.system, subject.faulty, 2)
+    formula = plain.Formula(subject.system, subject.faulty, subject.exported)
     order = sorted(subject.shrunk(set(subject.system)))
-    lines = ["c " + line for line in subject.header("")[1:3]] + ["c faulty" + plain.spelled(subject.faulty)]
+    lines = [f"c formula {subject.exported}"] + ["c " + line for line in subject.header("")[1:3]]
+    lines.append("c faulty" + plain.spelled(subject.faulty))
     lines += [f"c {i} {side} {it}" for i, (side, it) in enumerate(((side, it) for side in "ab" for it in order), 1)]
     lines.append(f"p cnf {formula.variables} {len(formula.clauses)}")
     return "".join(line + "\n" for line in lines + [" ".join(map(str, clause + [0])) for clause in formula.clauses])
@@ -938,8 +945,8 @@ class Maker:
         rng = self.rng
         if self.written and rng.random() < 0.4:
             subject, lines = rng.choice(self.written)
-            # a search writes version 2; a pair and a list are the same in both
-            lines = (["fbas-cert 1"] if rng.random() < 0.3 else lines[:1]) + lines[1:]
+            # a search writes version 3; a pair and a list are the same in all
+            lines = ([f"fbas-cert {rng.choice([1, 2])}"] if rng.random() < 0.5 else lines[:1]) + lines[1:]
         else:
             subject = Subject(rng, self.config())
             kind = rng.choice(plain.KINDS)
@@ -969,7 +976,7 @@ class Maker:
             proof = mutated_bytes(rng, proof)
         if rng.random() < 0.2:
             proof = proof[:-1]
-        words = ["check-lrat", "config", "cert"] + subject.options()
+        words = ["check-lrat", "config", "cert"] + subject.options() + subject.formula
         return Case("proof", words, {"config": subject.data, "cert": proof}, subject)
 
     def search(self):
@@ -1008,7 +1015,7 @@ class Maker:
             self.accepted[said.split("\n")[0].split(" ")[1], case.files["cert"][10:11].decode()] += 1
 
     def told(self):
-        kinds = ", ".join(f"{kind} {self.accepted[kind, '1']} and {self.accepted[kind, '2']}" for kind in plain.KINDS)
+        kinds = ", ".join(" ".join([kind] + [str(self.accepted[kind, it]) for it in "123"]) for kind in plain.KINDS)
         return f"{kinds}; proofs of other solvers that were verified: {self.verified}"
 
     def keep(self, case):
@@ -1031,6 +1038,7 @@ class Maker:
         words = [command, "config"] + (["--from=" + subject.start] if subject.start else [])
         words += ["--faulty=" + ",".join(subject.given)] if subject.given else []
         words += ["--node=" + node] if command in ("closure", "vblocks") else []
+        words += subject.formula if command == "export" else []
         words += ["--set=" + ",".join(sorted(given))] if command in ("available", "blocks", "vblocks") else []
         return Case("question", words, {"config": subject.data}, (command, subject, node, given))
 
@@ -1068,7 +1076,14 @@ class Maker:
     def words_of(self, row, names):
         """The words of a command, with all that it needs and some of what it takes."""
         files = {"CONFIG": "config", "CERT": "cert", "LRAT": "cert", "SCRIPT": "script", "N": "1"}
-        values = {"NAME": "a", "NAMES": names, "ORGS": "orgs", "IDS": "A", "UNITS": self.rng.choice("0239")}
+        values = {
+            "NAME": "a",
+            "NAMES": names,
+            "ORGS": "orgs",
+            "IDS": "A",
+            "UNITS": self.rng.choice("0239"),
+            "VERSION": self.rng.choice("23"),
+        }
         words = [row["word"], *(files[it] for it in row["files"])]
         for option in row["options"]:
             if option["needed"] or option["value"] == "UNITS" or self.rng.random() < 0.3:
@@ -1156,7 +1171,7 @@ def main():
                 failed += 1
                 if failed <= 10:
                     show(program, number, case)
-    print(f"fuzz: certificates that were accepted, of version 1 and of version 2: {maker.told()}")
+    print(f"fuzz: certificates that were accepted, of versions 1, 2 and 3: {maker.told()}")
     print(f"fuzz: {passed} passed, {failed} failed")
     return 1 if failed else 0
 

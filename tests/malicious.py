@@ -65,6 +65,15 @@ SHARED = (
     head(TWO, "refutation").replace(b"fbas-cert 1", b"fbas-cert 2")
     + b"formula 6 12\n13 -1 0 7 6 3 4 2 0\n14 0 13 1 8 5 0\nend\n"
 )
+# Two nodes that need both, of which each names itself first.
+CROSSED = TWO.replace(b'"q","quorumSet":{"threshold":2,"validators":["p","q"]', b'"q","quorumSet":{"threshold":2,"validators":["q","p"]')
+
+
+def crossed(version):
+    """A refutation for them in which their gates are one."""
+    return head(CROSSED, "refutation", version=version) + SHARED.partition(b"refutation\n")[2]
+
+
 PAIR = head(THREE, "pair", faulty=" a") + b"first b\nsecond c\nend\n"
 PARTIAL = head(TWO, "partial") + b"formula 8 16\n" + LEMMA + b"\nend\n"
 RAT = head(THREE, "partial") + b"formula 36 53\n54 9 -2 -7 0 -8 -9 0\nend\n"
@@ -321,7 +330,10 @@ CERTIFICATES = [
         5,
         "refused formula 6\n",
     ),
-    ("version 3", TWO, SHARED.replace(b"fbas-cert 2", b"fbas-cert 3"), 5, "refused bad-line 1\n"),
+    ("each gate once, in version 3", TWO, SHARED.replace(b"fbas-cert 2", b"fbas-cert 3"), 0, REFUTED),
+    ("gates in order, in version 3", CROSSED, crossed(3), 0, REFUTED),
+    ("gates in order, in version 2", CROSSED, crossed(2), 5, "refused formula 6\n"),
+    ("version 4", TWO, SHARED.replace(b"fbas-cert 2", b"fbas-cert 4"), 5, "refused bad-line 1\n"),
     ("no lemma", TWO, head(TWO, "refutation") + b"formula 8 16\nend\n", 5, "refused not-refuted 7\n"),
     ("the last line feed missing", TWO, REFUTATION[:-1], 5, "refused truncated 9\n"),
     ("end missing", TWO, REFUTATION[:-4], 5, "refused truncated 9\n"),
@@ -399,7 +411,8 @@ CERTIFICATES = [
     ("a pair", THREE, PAIR, 0, "accepted pair\nfrom\nfaulty a\n"),
     ("a carriage return on line 1", THREE, PAIR.replace(b"cert 1", b"cert 1\r"), 5, "refused bad-line 1\n"),
     ("no byte of a pair", THREE, b"", 5, "refused truncated 1\n"),
-    ("version 3 and no more", THREE, b"fbas-cert 3\n", 5, "refused bad-line 1\n"),
+    ("version 3 and no more", THREE, b"fbas-cert 3\n", 5, "refused truncated 2\n"),
+    ("version 4 and no more", THREE, b"fbas-cert 4\n", 5, "refused bad-line 1\n"),
     (
         "a carriage return behind the kind",
         THREE,

@@ -36,7 +36,7 @@ KINDS = (
     "partial-least",
 )
 KINDS += ("org-blocking", "partial-org-blocking")
-# The kinds of version 2 alone.
+# The kinds that version 1 lacks.
 LATER = KINDS[5:]
 # The letter of the sets that a list is of.
 SOUGHT = {"blocking": b"b", "quorums": b"q", "least": b"s", "org-blocking": b"b"}
@@ -279,6 +279,19 @@ def circuit_of(quorum_set, greatest, faulty):
     return (threshold, tuple(inputs)) if threshold <= len(inputs) else NEVER
 
 
+def in_order(circuit):
+    """The circuit with the inputs of each gate in one order: nodes by their names, then gates by their thresholds, and those of equal
+    thresholds by their inputs."""
+    if circuit == ALWAYS or len(circuit) == 1:
+        return circuit
+    return (circuit[0], tuple(sorted(map(in_order, circuit[1]), key=place_of)))
+
+
+def place_of(circuit):
+    """What a circuit in order is sorted by."""
+    return (0, circuit[0]) if len(circuit) == 1 else (1, circuit[0], [place_of(each) for each in circuit[1]])
+
+
 def counted(size, i, j):
     """The variable of a counter of so many names that tells whether at least j of the first i are true."""
     return size + i * (i - 1) // 2 + j
@@ -301,6 +314,8 @@ class Formula:
     def __init__(self, system, faulty, version):
         order = sorted(greatest_in(system, faulty, set(system)))
         circuits = [circuit_of(system[name], set(order), faulty) for name in order]
+        if version >= 3:
+            circuits = [in_order(circuit) for circuit in circuits]
         g = len(order)
         self.version = version
         self.clauses = [list(range(1, g + 1)), list(range(g + 1, 2 * g + 1))]
@@ -328,8 +343,8 @@ class Formula:
         """The variable of a circuit, once its clauses are written."""
         if len(circuit) == 1:
             return self.numbers[circuit[0]]
-        # Version 2 writes a circuit once on a side: equal thresholds over equal inputs in order are one gate.
-        known = self.shared.get(circuit) if self.version == 2 else None
+        # From version 2 on a circuit is written once on a side: equal thresholds over equal inputs in order are one gate.
+        known = self.shared.get(circuit) if self.version >= 2 else None
         if known is None:
             known = self.shared[circuit] = self.new_gate(*circuit)
         return known
@@ -561,7 +576,7 @@ class Check:
 
     def accepted(self):
         """The status and the text of what is accepted."""
-        (digit,) = self.matching(rb"fbas-cert ([12])")
+        (digit,) = self.matching(rb"fbas-cert ([123])")
         self.version = int(digit)
         (digits,) = self.matching(rb"config ([0-9a-f]{64})")
         if digits.decode() != self.digest:
@@ -763,15 +778,16 @@ class Verification(Check):
     """Goes through a proof of another solver line by line, of the part of the system from a node on, without the
     faulty nodes."""
 
-    def __init__(self, system, start, faulty, data):
+    def __init__(self, system, start, faulty, data, version):
         super().__init__(system, None, data)
+        self.version = version
         part = closure(system, start) if start else set(system)
         self.start, self.faulty = start, faulty & part
         self.system = {name: system[name] for name in part}
 
     def verified(self):
         """The status and the text of a proof that comes to the empty lemma."""
-        formula = Formula(self.system, self.faulty, 2)
+        formula = Formula(self.system, self.faulty, self.version)
         if formula.variables > MOST_VARS:
             raise Refused(f"too-large {formula.variables}", 9)
         self.held = Held(formula.variables, formula.clauses, takes_rat=True)
@@ -935,15 +951,15 @@ def state(number, system, given):
     )
 
 
-def check_lrat(config, proof, start, faulty):
+def check_lrat(config, proof, start, faulty, version=3):
     """The status and the text of 'check-lrat' of these bytes, with a node and with faulty nodes that the configuration
-    names."""
+    names, for a version of the formula."""
     try:
         system = system_of(config)
     except Fault as fault:
         return 4, f"config {fault}\n"
     try:
-        return Verification(system, start, faulty, proof).verified()
+        return Verification(system, start, faulty, proof, version).verified()
     except Refused as refused:
         return refused.status, refused.text
 

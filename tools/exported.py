@@ -4,7 +4,8 @@ import sys
 
 
 class Exported:
-    """The header of a certificate, the numbers of the formula, and what the nodes' variables stand for."""
+    """The version of the formula, the header of a certificate, the numbers of the formula, and what the nodes' variables stand
+    for."""
 
     def __init__(self, path):
         self.sides = {}
@@ -16,6 +17,8 @@ class Exported:
                     self.variables, self.clauses = words[2:]
                     break
                 comments.append(line[2:].rstrip("\n"))
+        # an export without the line of the version is of version 2
+        self.version = comments.pop(0).split(" ")[1] if comments and comments[0].startswith("formula ") else "2"
         if [line.split(" ")[0] for line in comments[:3]] != ["config", "from", "faulty"]:
             raise ValueError(f"{path} is not what `quorum_cli export` puts out")
         self.header = comments[:3]
@@ -24,7 +27,7 @@ class Exported:
             self.sides[int(variable)] = (side, name)
 
     def certificate(self, kind, body):
-        return "".join(line + "\n" for line in ["fbas-cert 2", *self.header, "kind " + kind, *body, "end"])
+        return "".join(line + "\n" for line in [f"fbas-cert {self.version}", *self.header, "kind " + kind, *body, "end"])
 
 
 def run(make):

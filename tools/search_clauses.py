@@ -136,7 +136,7 @@ def main():
         sys.exit(__doc__)
     folder, growth = sys.argv[2], int(sys.argv[3]) if len(sys.argv) == 4 else 16
     system = plain_checker.system_of(trials.configuration(sys.argv[1]).encode())
-    formula = plain_checker.Formula(system, set(), 2)
+    formula = plain_checker.Formula(system, set(), 3)
     sides = len(formula.clauses[0]) + len(formula.clauses[1])
     os.makedirs(folder, exist_ok=True)
     write(os.path.join(folder, "exported.cnf"), formula.clauses)

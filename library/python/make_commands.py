@@ -45,7 +45,7 @@ class Commands:
     ) -> Answer:
         raise NotImplementedError
 '''
-TYPES = {"NAME": "str", "NAMES": "Several", "IDS": "Several", "UNITS": "int"}
+TYPES = {"NAME": "str", "NAMES": "Several", "IDS": "Several", "UNITS": "int", "VERSION": "int"}
 SECOND = {"CERT": "certificate", "LRAT": "proof", "SCRIPT": "script"}
 
 

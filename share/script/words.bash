@@ -46,6 +46,15 @@ nearest() {
   [ -z "$found" ] || printf '; the nearest is %s' "$found"
 }
 
+# The least and the most of a number.
+range_of() {
+  case $1 in
+  N) echo "1 to $most_organisations" ;;
+  --formula) echo "$oldest_formula to $newest_formula" ;;
+  *) echo "0 to $most_units" ;;
+  esac
+}
+
 # What is wrong with the words, in one line.
 fault_line() {
   local usage word=${fault[1]-} name=${words[0]-}
@@ -63,7 +72,7 @@ fault_line() {
   lacks) echo "$word is missing: $usage" ;;
   extra) echo "$(shown "$word") is one word too many: $usage" ;;
   needs) echo "$word is missing: $usage" ;;
-  number) echo "$word is a number from $(if [ "$word" = N ]; then echo "1 to $most_organisations"; else echo "0 to $most_units"; fi), not $(shown "${fault[2]}")" ;;
+  number) echo "$word is a number from $(range_of "$word"), not $(shown "${fault[2]}")" ;;
   esac
 }
 

@@ -45,8 +45,8 @@ const ROWS = [
   [{"word": "trial", "files": ["N", "CERT"], "options": ["budget"], "needs": [], "usage": "trial N CERT [--budget UNITS]", "makes": {"yes": "refutation", "unknown": "partial"}}, ofTrial],
   [{"word": "check", "files": ["CONFIG", "CERT"], "options": ["orgs"], "needs": [], "usage": "check CONFIG CERT [--orgs ORGS]"}, ofCheck],
   [{"word": "show", "files": ["CONFIG"], "options": [], "needs": [], "usage": "show CONFIG"}, ofShow],
-  [{"word": "export", "files": ["CONFIG"], "options": ["from", "faulty", "orgs", "faulty-orgs"], "needs": [], "usage": "export CONFIG [COMMON]"}, ofExport],
-  [{"word": "check-lrat", "files": ["CONFIG", "LRAT"], "options": ["from", "faulty", "orgs", "faulty-orgs"], "needs": [], "usage": "check-lrat CONFIG LRAT [COMMON]"}, ofCheckLrat],
+  [{"word": "export", "files": ["CONFIG"], "options": ["from", "faulty", "orgs", "faulty-orgs", "formula"], "needs": [], "usage": "export CONFIG [COMMON] [--formula VERSION]"}, ofExport],
+  [{"word": "check-lrat", "files": ["CONFIG", "LRAT"], "options": ["from", "faulty", "orgs", "faulty-orgs", "formula"], "needs": [], "usage": "check-lrat CONFIG LRAT [COMMON] [--formula VERSION]"}, ofCheckLrat],
 ];
 /** @type {Record<string, import('../types').QuestionWords>} */
 const WORDS = SENTENCES.questions;

@@ -31,7 +31,7 @@ class TooLarge(ValueError):
 
 def spelled(name: str, place: str, value: object) -> str:
     """The text of an option's value: a number, a name, or some names. Raises TypeError with the argument's name."""
-    if place == "UNITS":
+    if place in ("UNITS", "VERSION"):
         return str(binding.as_count(name, value))
     if isinstance(value, str):
         return value

@@ -239,17 +239,19 @@ class Commands:
         from_node: Optional[str] = None,
         faulty: Optional[Several] = None,
         faulty_orgs: Optional[Several] = None,
+        formula: Optional[int] = None,
         timeout: Optional[float] = None,
         stop: Optional[Stop] = None,
     ) -> Answer:
         """The intersection formula in DIMACS form, for any SAT solver.
 
-        `export CONFIG [COMMON]`
+        `export CONFIG [COMMON] [--formula VERSION]`
         """
         options: dict[str, object] = {
             "from_node": from_node,
             "faulty": faulty,
             "faulty_orgs": faulty_orgs,
+            "formula": formula,
         }
         return self.ask("export", options, timeout=timeout, stop=stop)
 
@@ -260,17 +262,19 @@ class Commands:
         from_node: Optional[str] = None,
         faulty: Optional[Several] = None,
         faulty_orgs: Optional[Several] = None,
+        formula: Optional[int] = None,
         timeout: Optional[float] = None,
         stop: Optional[Stop] = None,
     ) -> Answer:
         """Whether another solver's LRAT proof refutes the exported formula.
 
-        `check-lrat CONFIG LRAT [COMMON]`
+        `check-lrat CONFIG LRAT [COMMON] [--formula VERSION]`
         """
         options: dict[str, object] = {
             "from_node": from_node,
             "faulty": faulty,
             "faulty_orgs": faulty_orgs,
+            "formula": formula,
         }
         return self.ask("check-lrat", options, proof, timeout=timeout, stop=stop)
 
