@@ -6,8 +6,8 @@ Any other name in backquotes that is written as names of the code are (`is_risin
 somewhere in the repository. A sentence has fewer than 30 words, a cell of a table fewer than 200 characters, and a
 paragraph or an item of a list fewer than six lines. A line of these has at most 140 characters. Excepted are code
 blocks, and what tools make: the tables of numbers that bench/tables.py fills in (from `<!-- tables.py PART -->` to
-`<!-- end -->`), what stands from `<!-- made by TOOL from here -->` to `<!-- to here -->`, and docs/SPECIFICATION.md.
-That one is compared with the specs. The last line is 'documents: N passed, M failed'.
+`<!-- end -->`), what stands from `<!-- .. from here -->` to `<!-- to here -->`, and docs/SPECIFICATION.md. That one
+is compared with the specs. The last line is 'documents: N passed, M failed'.
 """
 
 from __future__ import annotations
@@ -32,7 +32,7 @@ CODED = re.compile(r"`((?:[A-Za-z]\w*::)*[A-Za-z]\w*(?:\.antt|\.rt|\.py|\.edit)?
 MOST_WORDS, MOST_CELL, MOST_LINES, WIDTH = 30, 200, 6, 140
 # What is made by a tool, and read as it is: a document, and parts of one.
 MADE = {"docs/SPECIFICATION.md"}
-FILLED = "<!-- tables\\.py .*?<!-- end -->|<!-- made by .*? from here -->.*?<!-- to here -->"
+FILLED = "<!-- tables\\.py .*?<!-- end -->|<!--[^>]* from here -->.*?<!-- to here -->"
 # Words for which the documents have plainer ones: after, given, borrowed, the number of.
 UNUSUAL = re.compile(r"\b(behind|told|lent|so many)\b", re.I)
 # Names of the toolchain that the documents cite.
