@@ -70,6 +70,7 @@ LONG = {
     "questions": "questions.py",
     "random_lists": "random_lists.py",
     "edits": "edits.py",
+    "snapshots": "python/snapshots.py",
 }
 
 
@@ -123,10 +124,10 @@ class Runner:
         script, began = os.path.join(TOP, "tests", script), time.monotonic()
         if "PAGE" in line and not self.is_of_dist:
             status, said = 0, "skipped, since the page of dist/ is of other sources than those here"
-        elif not os.path.isdir(script):
+        elif not line.startswith("python"):
             status, said = self.ran([*HEEDING, sys.executable, script, *words])
         elif python := with_pytest():
-            status, said = self.ran([*HEEDING, python, "-m", "pytest", "-q", "-rs", script, *words])
+            status, said = self.ran([*HEEDING, python, *["-m", "pytest", "-q", "-rs"] * os.path.isdir(script), script, *words])
         else:
             status, said = 0, "skipped, there is no pytest"
         ended = Ended(name, status, said, time.monotonic() - began)
