@@ -75,9 +75,10 @@ LONG = {
 
 
 def with_pytest():
-    """A Python that has pytest: this one, or the system's, since Debian's package is for that one; none where neither has it."""
+    """A Python that has pytest: this one, or the system's, for which Debian's package is; else none."""
     for it in (sys.executable, "/usr/bin/python3"):
-        if os.path.exists(it) and subprocess.run([it, "-c", "import pytest"], stderr=subprocess.DEVNULL).returncode == 0:
+        asked = [it, "-c", "import pytest"]
+        if os.path.exists(it) and subprocess.run(asked, stderr=subprocess.DEVNULL).returncode == 0:
             return it
     return None
 
@@ -127,7 +128,8 @@ class Runner:
         elif not line.startswith("python"):
             status, said = self.ran([*HEEDING, sys.executable, script, *words])
         elif python := with_pytest():
-            status, said = self.ran([*HEEDING, python, *["-m", "pytest", "-q", "-rs"] * os.path.isdir(script), script, *words])
+            how = ["-m", "pytest", "-q", "-rs"] * os.path.isdir(script)
+            status, said = self.ran([*HEEDING, python, *how, script, *words])
         else:
             status, said = 0, "skipped, there is no pytest"
         ended = Ended(name, status, said, time.monotonic() - began)

@@ -59,14 +59,16 @@ class Trial:
 
     def program(self, rows):
         """The program's seconds of processor for the questions of all rows that differ."""
-        room = os.path.join(os.path.splitext(self.table)[0] + "-certificates", "")
-        cert, began = str(self.folder / "asked.cert"), used()
-        for config, view, *orgs in {(it["config"], it["view"], *(it[f"blocking_by_{by}_orgs"] for by in QUESTIONS.by)) for it in rows}:
-            file, seen, units = f"{room}{config}.json", ["--from", view] if view else [], ["--budget", str(QUESTIONS.budget)]
-            lists = [["org-blocking", file, cert, "--orgs", f"{room}{it}.orgs.json", *seen, *units] for it in orgs]
-            closure = [["closure", file, "--node", view]] if view else []
-            searches = [[word, file, cert, *seen, *units] for word in ("intersect", "blocking", "least")]
-            for words in [["greatest", file], ["greatest", file, *seen], *closure, ["intersect", file, cert, *units], *searches, *lists]:
+        room = os.path.splitext(self.table)[0] + "-certificates/"
+        cert, began, units = str(self.folder / "asked.cert"), used(), ["--budget", str(QUESTIONS.budget)]
+        columns = ["config", "view", *(f"blocking_by_{by}_orgs" for by in QUESTIONS.by)]
+        for config, view, *orgs in {tuple(row[it] for it in columns) for row in rows}:
+            file, seen = f"{room}{config}.json", ["--from", view] if view else []
+            asked = [["greatest", file], ["greatest", file, *seen], ["intersect", file, cert, *units]]
+            asked += [["closure", file, "--node", view]] if view else []
+            asked += [[word, file, cert, *seen, *units] for word in ("intersect", "blocking", "least")]
+            asked += [["org-blocking", file, cert, "--orgs", f"{room}{it}.orgs.json", *seen, *units] for it in orgs]
+            for words in asked:
                 subprocess.run([chosen.PROGRAM, *words], stdout=subprocess.DEVNULL)
         return used() - began
 
@@ -76,8 +78,15 @@ class Trial:
         place.mkdir()
         cluster, table = test_bulk.Cluster(place, count), str(place / "table.csv")
 
+        def half():
+            try:
+                with open(table + ".part", encoding="utf-8") as it:
+                    return len(it.readlines()) > self.asked.count / 2
+            except OSError:
+                return False
+
         def kill():
-            while not (os.path.exists(table + ".part") and sum(1 for _ in open(table + ".part")) > self.asked.count / 2):
+            while not half():
                 time.sleep(0.05)
             cluster.workers[0].kill()
 
@@ -116,7 +125,8 @@ class Trial:
     def calls(self):
         """A call through the package beside a run of the program, each the least of thirty."""
         network = drifting.Network(1, watchers=NODES - 21, organisations=7)
-        data, config, cert = json.dumps(network.nodes(1)).encode(), self.folder / "one.json", str(self.folder / "one.cert")
+        config, cert = self.folder / "one.json", str(self.folder / "one.cert")
+        data = json.dumps(network.nodes(1)).encode()
         config.write_bytes(data)
         for word, more in (("greatest", []), ("intersect", [cert])):
             words = [chosen.PROGRAM, word, str(config), *more]
