@@ -1,10 +1,12 @@
 #!/usr/bin/env python3
-"""Has each call of the outside of ten whole runs fail once with each error, and cuts reads and writes short, on the built program.
+"""Has each call of the outside of ten whole runs fail once with each error, and cuts reads and writes short, on the
+built program.
 
-A small library that is loaded before the system's (desk.c, made with cc) does so. Whatever call fails: the program ends with the status that it
-would have, or with 6 (read) or 7 (written). What is put out is all of the text, or with 7 a proper prefix and with 6 nothing. Under the
-certificate's name is what was there or the new one, whole; a file that is no certificate is kept beside it; and after an answer the new
-one is there. From the calls it is read that a certificate is on the disk before it takes its name, and its name before the answer.
+A small library that is loaded before the system's (desk.c, made with cc) does so. Whatever call fails: the program
+ends with the status that it would have, or with 6 (read) or 7 (written). What is put out is all of the text, or with
+7 a proper prefix and with 6 nothing. Under the certificate's name is what was there or the new one, whole; a file
+that is no certificate is kept beside it; and after an answer the new one is there. From the calls it is read that a
+certificate is on the disk before it takes its name, and its name before the answer.
 
 usage: tests/coverage/desk.py [PROGRAM]; its last line is 'desk: N passed, M failed'.
 """
@@ -24,7 +26,8 @@ sys.path.insert(0, os.path.dirname(HERE))
 import chosen  # noqa: E402
 
 OLD, OTHER = b"fbas-cert 2\nold\n", b"a letter\n"
-EXAMPLES = ("three.json", "two.json", "groups.json", "two.lrat", "pair.cert", "groups.cert", "network.json", "leaving.script")
+EXAMPLES = ("three.json", "two.json", "network.json", "groups.json", "two.lrat", "pair.cert", "groups.cert")
+EXAMPLES += ("leaving.script",)
 SEARCHED = "t"
 # The errors of each call; an interrupted one is among them.
 ERRORS = {
@@ -99,7 +102,8 @@ class Desk:
             os.remove(log)
         given = {f"DESK_{name.upper()}": str(value) for name, value in limits.items()}
         env = {**os.environ, "LD_PRELOAD": self.library, "DESK_LOG": log, **given}
-        ended = subprocess.run([self.program, *asked.words.split()], cwd=room, env=env, stdin=subprocess.DEVNULL, capture_output=True, timeout=60)
+        words = [self.program, *asked.words.split()]
+        ended = subprocess.run(words, cwd=room, env=env, stdin=subprocess.DEVNULL, capture_output=True, timeout=60)
         files = {}
         for name in set(os.listdir(room)) - {*EXAMPLES}:
             with open(os.path.join(room, name), "rb") as it:
@@ -144,14 +148,16 @@ class Desk:
 
     def all_errors(self, asked: Asked) -> None:
         ample = self.run(asked)
-        self.judge(ample.status in (0, 1, 2) and (SEARCHED in ample.files) == asked.searches(), f"{asked.words}: {ample.status}, {sorted(ample.files)}")
+        is_right = ample.status in (0, 1, 2) and (SEARCHED in ample.files) == asked.searches()
+        self.judge(is_right, f"{asked.words}: {ample.status}, {sorted(ample.files)}")
         for at, (call, *_) in enumerate(ample.calls, 1):
             for error in ERRORS.get(call, USUAL):
                 found = self.run(asked, at=at, error=error)
                 wrong, one = self.fault(asked, ample, found), self.status(ample, at, error)
                 if one is not None and found.status != one:
                     wrong = f"status {found.status} and not {one}"
-                self.judge(not wrong, f"{asked.words}: call {at} ({' '.join(ample.calls[at - 1])}) fails with {errno.errorcode[error]}: {wrong}")
+                what = f"call {at} ({' '.join(ample.calls[at - 1])}) fails with {errno.errorcode[error]}"
+                self.judge(not wrong, f"{asked.words}: {what}: {wrong}")
         for most in (1, 7):
             found = self.run(asked, most=most)
             # (of an old certificate of which only a part is read a copy is kept)
@@ -169,8 +175,9 @@ class Desk:
         written = max((i for i, it in enumerate(calls) if it[:2] == ["write", part]), default=MORE_THAN_ALL)
         kept = next((i for i, it in enumerate(calls) if it[:2] == ["fsync", part] and i > written), MORE_THAN_ALL)
         folder = [it[2] for it in calls if it[0] == "open" and it[3] == "."]
-        folder_kept = next((i for i, it in enumerate(calls) if it[0] == "fsync" and it[1] in folder and i > named), MORE_THAN_ALL)
-        self.judge(written < kept < named < folder_kept < told, f"{asked.words}: the order of the calls is {[' '.join(it) for it in calls]}")
+        folders = (i for i, it in enumerate(calls) if it[0] == "fsync" and it[1] in folder and i > named)
+        is_right = written < kept < named < next(folders, MORE_THAN_ALL) < told
+        self.judge(is_right, f"{asked.words}: the order of the calls is {[' '.join(it) for it in calls]}")
 
 
 def main(program: str = chosen.PROGRAM) -> int:
@@ -180,7 +187,8 @@ def main(program: str = chosen.PROGRAM) -> int:
         return 0
     with tempfile.TemporaryDirectory() as folder:
         desk = Desk(folder, program)
-        subprocess.run([compiler, "-shared", "-fPIC", "-O1", "-o", desk.library, os.path.join(HERE, "desk.c"), "-ldl"], check=True)
+        made = [compiler, "-shared", "-fPIC", "-O1", "-o", desk.library, os.path.join(HERE, "desk.c"), "-ldl"]
+        subprocess.run(made, check=True)
         os.mkdir(os.path.join(folder, "examples"))
         for name in EXAMPLES:
             shutil.copy(os.path.join(TOP, "examples", name), os.path.join(folder, "examples", name))

@@ -1,8 +1,9 @@
 /* Asks all cases of the files given: run [--refuse N] [--keep FOLDER] [--reached FILE] FILE..
  *
  * Each answer is judged; with --refuse also those with each N-th growth of memory refused. With --keep the cases, and the checks
- * of certificates that are made, are put into the folder, each with its status and text, for a second checker. With --reached, in a build that counts, the file gets
- * a line for each branch: its place in the program, and whether it was reached with ample memory and, after that, without. */
+ * of certificates that are made, are put into the folder, each with its status and text, for a second checker.
+ * With --reached, in a build that counts, nothing is judged, and the file gets a line for each branch: its place in the program, and
+ * whether it was reached with ample memory and, after that, without. */
 #define _GNU_SOURCE
 #include "cases.h"
 #include <stdio.h>
@@ -59,6 +60,17 @@ static void keep(const char *folder, const struct asked *asked, unsigned long at
     text_free(&words);
 }
 
+static void ask_once(const struct asked *asked) {
+    struct text words = {0};
+    struct asked bounded = *asked;
+    if (bound(asked, &words)) {
+        bounded.part[WORDS].at = words.at, bounded.part[WORDS].len = words.len;
+        struct answer found = ask(&bounded, 1 << 18);
+        answer_free(&found);
+    }
+    text_free(&words);
+}
+
 static void write_reached(const char *path, const uint8_t *ample) {
     FILE *file = fopen(path, "wb");
     if (!file) perror(path), exit(1);
@@ -88,6 +100,7 @@ int main(int count, char **words) {
                 struct timespec begun, ended;
                 clock_gettime(CLOCK_PROCESS_CPUTIME_ID, &begun);
                 if (pass) refused += judge_heap(&asked, 1 + turn++ % stride, stride);
+                else if (reached) ask_once(&asked), cases++;
                 else judge(&asked, 8), cases++;
                 clock_gettime(CLOCK_PROCESS_CPUTIME_ID, &ended);
                 double took = (double)(ended.tv_sec - begun.tv_sec) + (double)(ended.tv_nsec - begun.tv_nsec) / 1e9;

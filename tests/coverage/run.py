@@ -1,18 +1,22 @@
 #!/usr/bin/env python3
-"""Asks the library all cases of tests/coverage/corpus, judges the answers, and searches for more cases that are guided by coverage.
+"""Asks the library all cases of tests/coverage/corpus, judges the answers, and searches for more cases that are guided
+by coverage.
 
 usage: tests/coverage/run.py [--refuse N] [--fuzz SECONDS] [--table] [--merge FOLDER] [TARGET..]
 
-A case is the words of a question and the files that they name. Each is asked in guarded memory, over a heap that counts: the answer is the same
-twice; a certificate that a search made is accepted, and without its last byte refused; nodes that are renamed in order, elements that are
-turned round and members that are skipped change no more than they have to; with one unit more a certificate begins alike; in a room of one
-byte less there is no answer; no byte beside the room and no block of memory is left over. What 'check', 'check-lrat' and 'whatif' say is
-what tests/plain_checker.py says. With each N-th growth of memory refused, by itself and with all later ones, the answer is the same, or 8.
+A case is the words of a question and the files that they name. Each is asked in guarded memory, over a heap that
+counts: the answer is the same twice; a certificate that a search made is accepted, and without its last byte
+refused; nodes that are renamed in order, elements that are turned round and members that are skipped change no more
+than they have to; with one unit more a certificate begins alike; in a room of one byte less there is no answer; no
+byte beside the room and no block of memory is left over. What 'check', 'check-lrat' and 'whatif' say is what
+tests/plain_checker.py says. With each N-th growth of memory refused, by itself and with all later ones, the answer
+is the same, or 8.
 
-With --fuzz libFuzzer then changes the cases of each target for so many seconds. The library is compiled anew for that, with its branches
-counted: that of tools/library --bitcode, else one without proofs; without the toolchain it is that of dist/, uncounted. With --table
-docs/TESTING.md gets the branches reached. With --merge the corpus becomes what of the cases in FOLDER/TARGET/ and in the corpus reaches more.
-Its last line is 'coverage: N passed, M failed, K skipped'.
+With --fuzz libFuzzer then changes the cases of each target for so many seconds. The library is compiled anew for
+that, with its branches counted: that of tools/library --bitcode, else one without proofs; without the toolchain it
+is that of dist/, uncounted. With --table docs/TESTING.md gets the branches reached. With --merge the corpus becomes
+what of the cases in FOLDER/TARGET/ and in the corpus reaches more. Its last line is 'coverage: N passed, M failed, K
+skipped'.
 """
 
 import argparse
@@ -35,7 +39,7 @@ CORPUS = os.path.join(build.HERE, "corpus")
 # What a search is of; for each a file of cases.
 TARGETS = ("config", "orgs", "script", "words", "pair", "refutation", "list", "least", "groups", "lrat", "search")
 # Bytes of a case, and of a target's cases in the repository.
-MOST_CASE, MOST_CASES = 16384, 170000
+MOST_CASE, MOST_CASES = 16384, 130000
 # Of how many of the found cases the second checker is asked.
 MOST_SECOND = 2000
 # Seconds for one case, and for all.
@@ -69,7 +73,8 @@ def options(words: list[bytes]) -> dict[str, str] | None:
     for word in given:
         name, equals, value = word.partition(b"=")
         value = value if equals else next(given, b"-")
-        if not name.startswith(b"--") or (value.startswith(b"-") and not equals) or not value.isascii() or name.decode("latin-1") in found:
+        is_value = value.isascii() and (equals or not value.startswith(b"-"))
+        if not name.startswith(b"--") or not is_value or name.decode("latin-1") in found:
             return None
         found[name.decode("latin-1")] = value.decode()
     return found
@@ -103,7 +108,8 @@ def second_word(status: int, parts: list[bytes]) -> tuple[int, str] | None:
     if command == b"check" and (not given or given == {"--orgs": "orgs"}):
         return plain.check(config, cert, orgs if given else None)
     if command == b"check-lrat" and {*given} <= {"--faulty", "--from"} and status != 3:
-        return plain.check_lrat(config, cert, given.get("--from"), {*filter(None, given.get("--faulty", "").split(","))})
+        faulty = {*filter(None, given.get("--faulty", "").split(","))}
+        return plain.check_lrat(config, cert, given.get("--from"), faulty)
     return None
 
 
@@ -139,7 +145,8 @@ class Coverage:
             self.program = build.linked(build.RUN, "run", build.archive())
         kept = tempfile.mkdtemp(dir=self.folder)
         ended = self.run([self.program, "--refuse", str(refuse), "--keep", kept, path])
-        self.judge(ended.returncode == 0, f"{target}: {ended.stderr.decode('utf-8', 'replace')[-1500:]}{self.keep_wrong(target)}")
+        said = ended.stderr.decode("utf-8", "replace")[-1500:]
+        self.judge(ended.returncode == 0, f"{target}: {said}{self.keep_wrong(target)}")
         for name in sorted(os.listdir(kept), key=int)[-most:]:
             self.ask_second(target, held(os.path.join(kept, name)))
         shutil.rmtree(kept)
@@ -150,7 +157,7 @@ class Coverage:
 
     def keep_wrong(self, target: str) -> str:
         """Where the case lies at which the answer was wrong."""
-        found = [*glob.glob(os.path.join(self.folder, "wrong.case")), *glob.glob(os.path.join(self.folder, "*-????????????????????????????????????????"))]
+        found = [it for name in ("wrong.case", "*-" + "?" * 40) for it in glob.glob(os.path.join(self.folder, name))]
         if not found:
             return ""
         room = os.path.join(build.OUT, "found")
@@ -168,7 +175,8 @@ class Coverage:
         if wanted is None:
             return
         found = (status, text.decode("latin-1"))
-        self.judge(found == wanted, f"{target}: the second checker says {wanted} and not {found} of {rest[length:][:3000]!r}")
+        what = f"the second checker says {wanted} and not {found}"
+        self.judge(found == wanted, f"{target}: {what} of {rest[length:][:3000]!r}")
 
     # ---- The search
 
@@ -183,15 +191,23 @@ class Coverage:
         program = build.linked(build.FUZZ, "fuzz", library, by=compiler, more=("-fsanitize=fuzzer", "-no-pie"))
         for target in self.targets:
             room = self.unpacked(target)
-            words = [program, f"-max_total_time={seconds}", f"-max_len={MOST_CASE}", "-len_control=0", f"-timeout={MOST_SECONDS}", "-rss_limit_mb=2000"]
-            words += [f"-dict={os.path.join(build.HERE, 'formats.dict')}", "-print_final_stats=1", room]
-            ended = subprocess.run(words, cwd=self.folder, env={**os.environ, "COVERAGE_TARGET": target}, stdin=subprocess.DEVNULL, stderr=subprocess.PIPE)
+            words = [f"-max_total_time={seconds}", "-len_control=0", "-rss_limit_mb=2000", "-print_final_stats=1"]
+            words += [f"-dict={os.path.join(build.HERE, 'formats.dict')}", room]
+            ended = self.libfuzzer(target, program, *words)
             said = ended.stderr.decode("utf-8", "replace")
             runs, reached = (re.findall(it, said) for it in (r"number_of_executed_units: (\d+)", r"cov: (\d+)"))
-            print(f"coverage: {target}: {runs[-1] if runs else 0} runs, {reached[-1] if reached else 0} branches reached (the library {of_what})", flush=True)
+            what = f"{runs[-1] if runs else 0} runs, {reached[-1] if reached else 0} branches reached"
+            print(f"coverage: {target}: {what} (the library {of_what})", flush=True)
             kept = self.keep_wrong(target)
-            self.judge(ended.returncode == 0, f"{target}: {' '.join(it for it in said.splitlines() if it.startswith(('coverage:', 'SUMMARY')))} {kept}")
+            told = " ".join(it for it in said.splitlines() if it.startswith(("coverage:", "SUMMARY")))
+            self.judge(ended.returncode == 0, f"{target}: {told} {kept}")
             self.ask_cases(target, self.packed(room), 0, most=MOST_SECOND)
+
+    def libfuzzer(self, target: str, program: str, *words: str) -> "subprocess.CompletedProcess[bytes]":
+        how = {"cwd": self.folder, "env": {**os.environ, "COVERAGE_TARGET": target}, "stdin": subprocess.DEVNULL}
+        limits = [f"-max_len={MOST_CASE}", f"-timeout={MOST_SECONDS}"]
+        words = (program, *limits, *words)
+        return subprocess.run(words, stderr=subprocess.PIPE, **how)  # type: ignore[call-overload, no-any-return]
 
     def unpacked(self, target: str) -> str:
         room = os.path.join(self.folder, "cases", target)
@@ -213,13 +229,12 @@ class Coverage:
         library, _ = build.counting("-O1")
         program = build.linked(build.FUZZ, "fuzz", library, by=build.fuzzer(), more=("-fsanitize=fuzzer", "-no-pie"))
         for target in self.targets:
-            new, made = os.path.join(folder, target), os.path.join(self.folder, "merged", target)
-            os.makedirs(made)
-            rooms = [self.unpacked(target) if os.path.exists(self.corpus(target)) else "", new if os.path.isdir(new) else ""]
-            words = [program, "-merge=1", f"-max_len={MOST_CASE}", f"-timeout={MOST_SECONDS}", made, *filter(None, rooms)]
-            ended = subprocess.run(words, cwd=self.folder, env={**os.environ, "COVERAGE_TARGET": target}, stdin=subprocess.DEVNULL, stderr=subprocess.DEVNULL)
-            self.judge(ended.returncode == 0, f"{target}: the merge ended with {ended.returncode}")
-            found = sorted((held(os.path.join(made, name)) for name in os.listdir(made)), key=lambda it: (len(it), it))
+            new = os.path.join(folder, target)
+            rooms = [self.unpacked(target)] if os.path.exists(self.corpus(target)) else []
+            rooms += [new] if os.path.isdir(new) else []
+            # what reaches each branch, and then what reaches one more often
+            found = self.reaching(target, program, rooms, "-use_counters=0")
+            found += [it for it in self.reaching(target, program, rooms, "-use_counters=1") if it not in found]
             kept: list[bytes] = []
             for case in found:
                 if sum(map(len, kept)) + len(case) <= MOST_CASES and case.startswith(b"case "):
@@ -228,12 +243,20 @@ class Coverage:
                 it.write(b"".join(kept))
             print(f"coverage: {target}: {len(kept)} of {len(found)} cases, {sum(map(len, kept))} bytes", flush=True)
 
+    def reaching(self, target: str, program: str, rooms: list[str], how: str) -> list[bytes]:
+        """The cases in these folders that together reach all, the smallest first."""
+        made = tempfile.mkdtemp(dir=self.folder)
+        ended = self.libfuzzer(target, program, "-merge=1", how, made, *rooms)
+        self.judge(ended.returncode == 0, f"{target}: the merge ended with {ended.returncode}")
+        return sorted((held(os.path.join(made, name)) for name in os.listdir(made)), key=lambda it: (len(it), it))
+
     def table(self, refuse: int) -> None:
         """Writes into docs/TESTING.md what the corpus reaches."""
         library, is_proved = build.counting("-O0")
         program = build.linked(build.RUN, "run_counting", library, more=("-no-pie",))
         reached = os.path.join(self.folder, "reached")
-        ended = self.run([program, "--refuse", str(refuse), "--reached", reached, *(self.corpus(it) for it in self.targets)])
+        corpora = [self.corpus(it) for it in self.targets]
+        ended = self.run([program, "--refuse", str(refuse), "--reached", reached, *corpora])
         self.judge(ended.returncode == 0, f"the table: {ended.stderr.decode('utf-8', 'replace')[-1500:]}")
         if not ended.returncode:
             table.write(program, held(reached).decode(), is_proved)

@@ -1,10 +1,11 @@
 #!/usr/bin/env python3
-"""Writes the first corpus: the rows of tests/malicious.py, the questions of tests/library.py, the examples, and made-up cases of tests/fuzz.py.
+"""Writes the first corpus: rows of tests/malicious.py, questions of tests/library.py, the examples, and made-up
+cases of tests/fuzz.py.
 
 usage: tests/coverage/seeds.py FOLDER [--cases N] [--seed S]
 
-A file TARGET.cases for each target of tests/coverage/run.py, of cases up to 8 kB; tests/coverage/run.py --merge keeps of such
-files what reaches more.
+A file TARGET.cases for each target of tests/coverage/run.py, of cases up to 8 kB; tests/coverage/run.py --merge
+keeps of such files what reaches more.
 """
 
 import argparse
@@ -24,7 +25,8 @@ import malicious  # noqa: E402
 MOST_BYTES = 8192
 FILES = ("config", "orgs", "script", "cert")
 LISTS = ("blocking", "partial-blocking", "quorums", "partial-quorums")
-TARGETS = {"pair": "pair", "refutation": "refutation", "partial": "refutation", "least": "least", "partial-least": "least"}
+TARGETS = {"pair": "pair", "refutation": "refutation", "partial": "refutation"}
+TARGETS |= {"least": "least", "partial-least": "least"}
 TARGETS |= {it: "list" for it in LISTS} | {"org-blocking": "groups", "partial-org-blocking": "groups"}
 Files = dict[str, bytes]
 
@@ -37,7 +39,8 @@ def case_of(words: list[str], files: Files) -> bytes:
 def target_of(words: list[str], files: Files) -> str:
     command = os.fsdecode(words[0]) if words else ""
     if command == "check":
-        kinds = [line[5:].decode("latin-1") for line in files.get("cert", b"").split(b"\n") if line.startswith(b"kind ")]
+        lines = files.get("cert", b"").split(b"\n")
+        kinds = [line[5:].decode("latin-1") for line in lines if line.startswith(b"kind ")]
         return TARGETS.get(kinds[0] if kinds else "", "pair")
     if command in ("check-lrat", "whatif"):
         return {"check-lrat": "lrat", "whatif": "script"}[command]

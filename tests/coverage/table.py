@@ -1,4 +1,4 @@
-"""The table of docs/TESTING.md: which branches of the library the corpus reaches, by crate, and which functions it does not reach."""
+"""The table of docs/TESTING.md: which branches of the library the corpus reaches, by crate."""
 
 import bisect
 import collections
@@ -23,6 +23,9 @@ class Branches:
         self.ample += ample
         self.reached += ample or reached
 
+    def take(self, it: "Branches") -> None:
+        self.all, self.ample, self.reached = self.all + it.all, self.ample + it.ample, self.reached + it.reached
+
     def share(self, count: int) -> str:
         return f"{100 * count / self.all:.1f} %" if self.all else "none"
 
@@ -32,17 +35,20 @@ def own_crates() -> list[str]:
         return [line.split(":")[0].split()[0] for line in it if ":" in line and not line.startswith("#")]
 
 
+def symbols(*words: str) -> list[str]:
+    ended = subprocess.run(["nm", *words], stdout=subprocess.PIPE, check=True)
+    return ended.stdout.decode("utf-8", "replace").splitlines()
+
+
 def functions(program: str) -> tuple[list[int], list[str]]:
     """The places at which functions begin, and their names without the types that they are made for."""
-    said = subprocess.run(["nm", "-n", "--defined-only", program], stdout=subprocess.PIPE, check=True).stdout.decode("utf-8", "replace")
-    rows = [line.split(" ", 2) for line in said.splitlines()]
+    rows = [line.split(" ", 2) for line in symbols("-n", "--defined-only", program)]
     found = [(int(at, 16), re.sub(r"::<#?\w*>", "", name)) for at, kind, name in rows if kind in "tTwW"]
     return [at for at, _ in found], [name for _, name in found]
 
 
 def origin(program: str) -> int:
-    said = subprocess.run(["nm", program], stdout=subprocess.PIPE, check=True).stdout.decode("utf-8", "replace")
-    return next(int(line.split()[0], 16) for line in said.splitlines() if line.endswith(" __executable_start"))
+    return next(int(line.split()[0], 16) for line in symbols(program) if line.endswith(" __executable_start"))
 
 
 def counted(program: str, reached: str) -> dict[str, Branches]:
@@ -64,21 +70,22 @@ def write(program: str, reached: str, is_proved: bool) -> None:
         crate = name.split("::")[0]
         if crate in own:
             whole = by_crate.setdefault(crate, Branches())
-            whole.all, whole.ample, whole.reached = whole.all + it.all, whole.ample + it.ample, whole.reached + it.reached
+            whole.take(it)
     whole = Branches()
     rows = []
     for crate in (it for it in own if it in by_crate):
         it = by_crate[crate]
-        whole.all, whole.ample, whole.reached = whole.all + it.all, whole.ample + it.ample, whole.reached + it.reached
+        whole.take(it)
         rows.append(f"| `{crate}` | {it.all} | {it.share(it.ample)} | {it.share(it.reached)} |")
     rows.append(f"| all | {whole.all} | {whole.share(whole.ample)} | {whole.share(whole.reached)} |")
-    kind = "the proved library" if is_proved else "the same sources compiled without proofs, where a branch more is each check that a proof spares"
+    kind = "the proved library" if is_proved else "the same sources compiled without proofs"
     head = [f"Of {kind}:", "", "| Crate | Branches | Reached | Also as memory is refused |", "|---|---|---|---|"]
     with open(PAGE, encoding="utf-8") as page:
         before, _, rest = page.read().partition(BEGIN)
     with open(PAGE, "w", encoding="utf-8") as page:
         page.write(before + "\n".join([BEGIN, "", *head, *rows, "", END]) + rest.partition(END)[2])
     with open(LISTED, "w", encoding="utf-8") as listed:
-        missing = [(it.all - it.reached, it.all, name) for name, it in by_function.items() if name.split("::")[0] in own and it.reached < it.all]
+        of_own = [(it, name) for name, it in by_function.items() if name.split("::")[0] in own]
+        missing = [(it.all - it.reached, it.all, name) for it, name in of_own if it.reached < it.all]
         listed.writelines(f"{missed} of {every} {name}\n" for missed, every, name in sorted(missing, reverse=True))
-    print(f"coverage: {whole.reached} of {whole.all} branches of the crates are reached; {LISTED} has the functions with others")
+    print(f"coverage: {whole.reached} of {whole.all} branches of the crates are reached; {LISTED} has the others")
