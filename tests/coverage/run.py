@@ -259,7 +259,7 @@ class Coverage:
         ended = self.run([program, "--refuse", str(refuse), "--reached", reached, *corpora])
         self.judge(ended.returncode == 0, f"the table: {ended.stderr.decode('utf-8', 'replace')[-1500:]}")
         if not ended.returncode:
-            table.write(program, held(reached).decode(), is_proved)
+            table.write(program, held(reached).decode(), is_proved, refuse)
 
 
 def main() -> int:

@@ -62,7 +62,7 @@ def counted(program: str, reached: str) -> dict[str, Branches]:
     return dict(found)
 
 
-def write(program: str, reached: str, is_proved: bool) -> None:
+def write(program: str, reached: str, is_proved: bool, refuse: int) -> None:
     by_function = counted(program, reached)
     by_crate: dict[str, Branches] = {}
     own = own_crates()
@@ -79,7 +79,8 @@ def write(program: str, reached: str, is_proved: bool) -> None:
         rows.append(f"| `{crate}` | {it.all} | {it.share(it.ample)} | {it.share(it.reached)} |")
     rows.append(f"| all | {whole.all} | {whole.share(whole.ample)} | {whole.share(whole.reached)} |")
     kind = "the proved library" if is_proved else "the same sources compiled without proofs"
-    head = [f"Of {kind}:", "", "| Crate | Branches | Reached | Also as memory is refused |", "|---|---|---|---|"]
+    head = [f"Of {kind}, with each {refuse}-th growth of memory refused by itself and with all later ones:", ""]
+    head += ["| Crate | Branches | Reached | Also as memory is refused |", "|---|---|---|---|"]
     with open(PAGE, encoding="utf-8") as page:
         before, _, rest = page.read().partition(BEGIN)
     with open(PAGE, "w", encoding="utf-8") as page:
