@@ -5,20 +5,22 @@ certificate checked.
 The package is installed by `pip install dist/quorums-*.whl`.
 """
 
+from __future__ import annotations
+
 import sys
 
 from quorums import Quorums, Refused
 
 
-def main(path, *faulty):
+def main(path: str, *faulty: str) -> str | int:
     with open(path, "rb") as it:
         network = Quorums(it.read())
     try:
         found = network.intersect(faulty=faulty)
     except Refused as refused:
-        return refused
+        return str(refused)
     if found.yes is False:
-        print(f"it can fork: {' '.join(found['first'])} / {' '.join(found['second'])}")
+        print(f"it can fork: {' '.join(map(str, found['first']))} / {' '.join(map(str, found['second']))}")
     else:
         print("it cannot fork" if found.yes else "not known")
     print("the checker: " + network.check(found.certificate).text.splitlines()[0])

@@ -1,13 +1,16 @@
 """Reads what `quorum_cli export` puts out, and writes the lines of a certificate that it tells."""
 
+from __future__ import annotations
+
 import sys
+from collections.abc import Callable
 
 
 class Exported:
     """The version of the formula, the header of a certificate, the numbers of the formula, and what the nodes' variables stand
     for."""
 
-    def __init__(self, path):
+    def __init__(self, path: str) -> None:
         self.sides = {}
         comments = []
         with open(path) as it:
@@ -27,13 +30,15 @@ class Exported:
             self.sides[int(variable)] = (side, name)
 
     def certificate(self, kind, body):
-        return "".join(line + "\n" for line in [f"fbas-cert {self.version}", *self.header, "kind " + kind, *body, "end"])
+        return "".join(
+            line + "\n" for line in [f"fbas-cert {self.version}", *self.header, "kind " + kind, *body, "end"]
+        )
 
 
-def run(make):
+def run(make: Callable[[Exported, str], str]) -> int:
     """Puts out the certificate of the two files that the words name; 1 where there is none, 2 for other words."""
     if len(sys.argv) != 3:
-        print(sys.modules["__main__"].__doc__.strip(), file=sys.stderr)
+        print((sys.modules["__main__"].__doc__ or "").strip(), file=sys.stderr)
         return 2
     try:
         sys.stdout.write(make(Exported(sys.argv[1]), sys.argv[2]))

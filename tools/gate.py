@@ -17,40 +17,50 @@ begin with, runs in a folder of its own. If a kit numbers no edits, the first ch
 the proof that its edits begin with, and the rest as edits. Time and memory of each are read every half second, so its
 last half second may be missing.
 """
+from __future__ import annotations
+
 import json
 import os
 import re
 import subprocess
 import sys
 import time
+from collections.abc import Callable
+from typing import TypeAlias
 
 TICKS = os.sysconf("SC_CLK_TCK")
 CRATE = re.compile(rb"--crate-name\0([a-z0-9_]+)\0")
 OVER = re.compile(rb"--incremental\0[^\0]*/([^\0/]+)\0")
 # the folder of the first check over each folder of kept work
-FIRST = {}
+FIRST: dict[str, str] = {}
 # what is no check of a crate: rt itself, linking, and the runs of tests and programs
 OTHER = "rt itself, and the runs of tests and programs"
 PROGRAM = "quorum_cli"
 # megabytes of the largest process of a crate's proof
 MEMORY = "memory of the proof"
 COSTS = "tools/costs"
+# of each process, by its number and when it began: its crate and what it is for, its processor time and its memory
+Seen: TypeAlias = dict[tuple[int, bytes], tuple[tuple[str, str], float, int]]
+# of each crate what its parts took: processor seconds, and the memory of its proof
+Kept: TypeAlias = dict[str, dict[str, float]]
+# processor seconds and megabytes by crate
+Costs: TypeAlias = dict[str, tuple[float, int]]
 
 
-def crates():
+def crates() -> dict[str, list[str]]:
     """Each crate of the repository, with those that it uses."""
     with open("crates.txt", encoding="utf-8") as it:
         lines = [line.partition(":") for line in it if ":" in line and not line.startswith("#")]
     return {name.split()[0]: uses.split() for name, _, uses in lines}
 
 
-def edits_of(crate):
+def edits_of(crate: str) -> list[str]:
     """The crate's must-fail edits, in the order in which rt numbers them."""
     folder = f"crates/{crate}/must-fail"
     return sorted(it for it in os.listdir(folder) if it.endswith(".edit")) if os.path.isdir(folder) else []
 
 
-def has_tests(crate):
+def has_tests(crate: str) -> bool:
     for folder, _, names in os.walk(f"crates/{crate}/src"):
         for name in names:
             with open(os.path.join(folder, name), encoding="utf-8") as it:
@@ -59,7 +69,7 @@ def has_tests(crate):
     return False
 
 
-def part_of(words, room, crate):
+def part_of(words: bytes, room: str, crate: str) -> str:
     """What a check with these words in this folder is for."""
     if "/rt-edit-" not in room:
         return "tests" if b"--test\0" in words else "proof"
@@ -73,14 +83,14 @@ def part_of(words, room, crate):
     return "base" if number else "edit " + ([*edits_of(crate), "?"][0] if len(edits_of(crate)) == 1 else "?")
 
 
-def largest(pid):
+def largest(pid: int) -> int:
     """The most megabytes that a process has had."""
     with open(f"/proc/{pid}/status", encoding="ascii", errors="replace") as it:
         found = re.search(r"VmHWM:\s+(\d+)", it.read())
     return int(found[1]) // 1024 if found else 0
 
 
-def look(top, seen):
+def look(top: int, seen: Seen) -> None:
     """Notes of each process below `top` what it is for, its processor time and its memory."""
     above, times = {}, {}
     for pid in filter(str.isdigit, os.listdir("/proc")):
@@ -92,18 +102,18 @@ def look(top, seen):
         above[int(pid)] = int(fields[1])
         times[int(pid)] = fields[19], (int(fields[11]) + int(fields[12])) / TICKS
 
-    def is_ours(pid):
+    def is_ours(pid: int) -> bool:
         while pid > 1 and pid != top:
             pid = above.get(pid, 0)
         return pid == top
 
-    for pid, (began, spent) in times.items():
-        if not is_ours(pid):
+    for number, (began, spent) in times.items():
+        if not is_ours(number):
             continue
         try:
-            with open(f"/proc/{pid}/cmdline", "rb") as it:
+            with open(f"/proc/{number}/cmdline", "rb") as it:
                 words = it.read()
-            room, size = os.readlink(f"/proc/{pid}/cwd"), largest(pid)
+            room, size = os.readlink(f"/proc/{number}/cwd"), largest(number)
         except OSError:
             continue
         crate = CRATE.search(words)
@@ -112,13 +122,13 @@ def look(top, seen):
             what = name, part_of(words, room, name)
         else:
             # (one that has just ended has no words left)
-            what, _, size = seen.get((pid, began), ((OTHER, "rest"), 0, 0))
-        seen[pid, began] = what, spent, size
+            what, _, size = seen.get((number, began), ((OTHER, "rest"), 0, 0))
+        seen[number, began] = what, spent, size
 
 
-def added(kept, seen):
+def added(kept: Kept, seen: Seen) -> Kept:
     """What was kept, with what this run was seen to do in its place."""
-    run = {}
+    run: Kept = {}
     for (crate, part), spent, size in seen.values():
         parts = run.setdefault(crate, {})
         parts[part] = parts.get(part, 0.0) + spent
@@ -127,7 +137,7 @@ def added(kept, seen):
     return {crate: {**kept.get(crate, {}), **run.get(crate, {})} for crate in {**kept, **run}}
 
 
-def columns(crate, parts):
+def columns(crate: str, parts: dict[str, float]) -> list[float]:
     """Processor minutes of the crate's proof, of its tests, of the proof that its edits begin with, and of its
     edits."""
     edits = {"edit " + it for it in edits_of(crate)} | {"edit ?"}
@@ -135,7 +145,7 @@ def columns(crate, parts):
     return [it / 60 for it in found]
 
 
-def unseen(crate, parts):
+def unseen(crate: str, parts: dict[str, float]) -> str:
     """What of the crate no run was seen to do."""
     said = [] if "proof" in parts else ["its proof"]
     if has_tests(crate) and "tests" not in parts:
@@ -144,10 +154,10 @@ def unseen(crate, parts):
     missing = [it for it in edits if "edit " + it not in parts]
     if missing and "edit ?" not in parts:
         said.append(f"{len(missing)} of {len(edits)} edits")
-    return said and f"`{crate}` ({', '.join(said)})"
+    return f"`{crate}` ({', '.join(said)})" if said else ""
 
 
-def stack(uses, crate, found):
+def stack(uses: dict[str, list[str]], crate: str, found: list[str]) -> list[str]:
     """Adds a crate that is not there yet, after those that it stands on."""
     for it in uses.get(crate, []):
         if it in uses and it not in found:
@@ -156,16 +166,17 @@ def stack(uses, crate, found):
     return found
 
 
-def longest_chain(uses, cost):
+def longest_chain(uses: dict[str, list[str]], cost: dict[str, float]) -> tuple[float, list[str]]:
     """Of all chains of crates that use one another, up to the program, the one that costs most."""
-    ways = {}
+    ways: dict[str, tuple[float, list[str]]] = {}
+    nothing: tuple[float, list[str]] = (0.0, [])
     for crate in stack(uses, PROGRAM, []):
-        below = max((ways[it] for it in uses[crate] if it in ways), key=lambda it: it[0], default=(0, []))
+        below = max((ways[it] for it in uses[crate] if it in ways), key=lambda it: it[0], default=nothing)
         ways[crate] = below[0] + cost.get(crate, 0), [*below[1], crate]
     return ways[PROGRAM]
 
 
-def first_build(uses, cost):
+def first_build(uses: dict[str, list[str]], cost: dict[str, float]) -> str:
     """What the first build takes, and its longest chain: less than that no number of processors takes."""
     names = stack(uses, PROGRAM, [])
     total, (longest, chain) = sum(cost.get(it, 0) for it in names), longest_chain(uses, cost)
@@ -176,13 +187,13 @@ def first_build(uses, cost):
     )
 
 
-def share(crate, cost, names):
+def share(crate: str, cost: dict[str, float], names: list[str]) -> str:
     """A crate's part of the first build, in hundredths."""
     total = sum(cost.get(it, 0) for it in names)
     return f"{cost[crate] / total:.1%}" if crate in names and cost.get(crate) else ""
 
 
-def table(kept):
+def table(kept: Kept) -> str:
     """The table, the dearest crate first, and what it lacks."""
     uses = crates()
     names, cost = stack(uses, PROGRAM, []), {it: kept.get(it, {}).get("proof", 0) for it in uses}
@@ -198,11 +209,9 @@ def table(kept):
         )
     rest = kept.get(OTHER, {}).get("rest", 0) / 60
     lines.append(f"| {OTHER} | | | | | | {rest:.1f} |")
-    proof, *others = [sum(it) for it in zip(*rows.values())]
+    sums = [sum(it) for it in zip(*rows.values())]
     lines.append(
-        f"| all | {proof:.1f} | | "
-        + " | ".join(f"{it:.1f}" for it in others)
-        + f" | {proof + sum(others) + rest:.1f} |"
+        f"| all | {sums[0]:.1f} | | " + " | ".join(f"{it:.1f}" for it in sums[1:]) + f" | {sum(sums) + rest:.1f} |"
     )
     lines += ["", first_build(uses, cost)]
     edits, tried = sum(len(edits_of(it)) for it in uses), sum(len(edits_of(it)) > 0 for it in uses)
@@ -212,19 +221,19 @@ def table(kept):
     return "\n".join(lines)
 
 
-def table_of_build(costs):
+def table_of_build(costs: Costs) -> str:
     """The same of a first build alone, where each crate's proof, library and all else that it needs is counted."""
     uses = crates()
     names, cost = stack(uses, PROGRAM, []), {it: seconds for it, (seconds, _) in costs.items()}
     lines = ["| crate | processor minutes | of the first build | memory |", "|---|---|---|---|"]
-    for crate in sorted(names, key=lambda it: -cost.get(it, 0)):
+    for crate in sorted(names, key=lambda it: -cost.get(it, 0.0)):
         seconds, megabytes = costs.get(crate, (0, 0))
         lines.append(f"| `{crate}` | {seconds / 60:.1f} | {share(crate, cost, names)} | {megabytes} MB |")
     lacks = [f"`{it}`" for it in names if it not in costs]
     return "\n".join([*lines, "", first_build(uses, cost), "Not measured: " + (", ".join(lacks) or "nothing") + "."])
 
 
-def read_costs(file):
+def read_costs(file: str) -> Costs:
     """Processor seconds and megabytes by crate; a later line takes the place of an earlier one."""
     if not os.path.exists(file):
         return {}
@@ -233,7 +242,7 @@ def read_costs(file):
     return {row[0]: (float(row[1]), int(row[2])) for row in rows if len(row) == 3}
 
 
-def write_costs(found):
+def write_costs(found: Costs) -> None:
     """Puts what was found into tools/costs; of the crates that were not seen it keeps what it had."""
     costs = {**read_costs(COSTS), **found}
     lines = [
@@ -244,14 +253,16 @@ def write_costs(found):
     write(COSTS, "\n".join(lines))
 
 
-def proofs(kept):
+def proofs(kept: Kept) -> Costs:
     """What was seen of the proofs, as tools/costs has it."""
     return {
-        it: (parts["proof"], parts[MEMORY]) for it, parts in kept.items() if "proof" in parts and parts.get(MEMORY)
+        it: (parts["proof"], int(parts[MEMORY]))
+        for it, parts in kept.items()
+        if "proof" in parts and parts.get(MEMORY)
     }
 
 
-def anew():
+def anew() -> list[str]:
     """The words by which rt takes nothing from earlier runs: some kits have one for it, and others never take any."""
     said = subprocess.run(
         ["rt", "help"], stdin=subprocess.DEVNULL, stdout=subprocess.PIPE, stderr=subprocess.STDOUT
@@ -259,23 +270,25 @@ def anew():
     return ["rt", "ci", "--anew"] if b"--anew" in said else ["rt", "ci"]
 
 
-def read(file):
+def read(file: str | None) -> Kept:
     if file and os.path.exists(file):
         with open(file, encoding="utf-8") as it:
-            return json.load(it)
+            kept: Kept = json.load(it)
+            return kept
     return {}
 
 
-def write(file, text):
+def write(file: str | None, text: str) -> None:
     if file:
         with open(file + ".new", "w", encoding="utf-8") as it:
             it.write(text + "\n")
         os.replace(file + ".new", file)
 
 
-def watch(top, goes_on, file, kept):
+def watch(top: int, goes_on: Callable[[], bool], file: str | None, kept: Kept) -> Kept:
     """Looks at the processes below `top` while the run goes on, and returns what is kept then."""
-    seen, rounds = {}, 0
+    seen: Seen = {}
+    rounds = 0
     while goes_on():
         look(top, seen)
         rounds += 1
@@ -285,7 +298,7 @@ def watch(top, goes_on, file, kept):
     return added(kept, seen)
 
 
-def seen_by(given, file, kept):
+def seen_by(given: dict[str, str], file: str | None, kept: Kept) -> tuple[Kept, int]:
     """What is kept after a run, and its status."""
     if "--watch" in given:
         top = int(given["--watch"])
@@ -296,11 +309,11 @@ def seen_by(given, file, kept):
     return kept, run.returncode
 
 
-def main(words):
+def main(words: list[str]) -> int:
     os.chdir(os.path.join(os.path.dirname(os.path.abspath(__file__)), ".."))
     given = {}
     if words[:1] == ["--built"]:
-        text, costs = words[1:] and os.path.abspath(words[1]), read_costs("out/costs")
+        text, costs = os.path.abspath(words[1]) if words[1:] else None, read_costs("out/costs")
         write_costs(costs)
         made = table_of_build(costs)
         print(made)
@@ -312,7 +325,7 @@ def main(words):
         print(__doc__.split("\n\n")[1], file=sys.stderr)
         return 2
     file = given.get("--add") or given.get("--show")
-    file, text = file and os.path.abspath(file), words and os.path.abspath(words[0])
+    file, text = file and os.path.abspath(file), os.path.abspath(words[0]) if words else None
     kept, status = read(file), 0
     if "--show" not in given:
         kept, status = seen_by(given, file, kept)

@@ -17,6 +17,8 @@ in about the same time. With `--gates` the formula's gates are written out, and 
 there is one. So what only guides the search can be tried in a minute, where a proof takes ten; what is found is then
 written into the crate and proved. Wants a `rustc` that knows the edition of 2024; nothing of the gate uses it.
 """
+from __future__ import annotations
+
 import glob
 import os
 import re
@@ -198,7 +200,7 @@ fn main() {
 """
 
 
-def end_of_braces(text, at):
+def end_of_braces(text: str, at: int) -> int:
     """The place behind the brace that closes the one at a place."""
     depth = 0
     while True:
@@ -208,14 +210,14 @@ def end_of_braces(text, at):
             return at
 
 
-def without(text, pattern):
+def without(text: str, pattern: re.Pattern[str]) -> str:
     """The text without each part that begins so and ends with its closing brace."""
     while found := pattern.search(text):
         text = text[: found.start()] + text[end_of_braces(text, found.end() - 1) :]
     return text
 
 
-def plain(text, crate):
+def plain(text: str, crate: str) -> str:
     """A file of a crate without its contracts, as one of a module of this name."""
     text = without(without(text, CLAUSE), VIEW)
     text = re.sub(
@@ -231,12 +233,12 @@ def plain(text, crate):
     return text.replace("vec![in ", "filled![in ").replace("#[inline]", "#[inline(always)]")
 
 
-def root(text, crate):
+def root(text: str, crate: str) -> str:
     """The root of a crate as the root of a module: what it takes from its own files it names as such."""
     return re.sub(r"\bpub use (?!crate::)", "pub use self::", plain(text, crate))
 
 
-def write(folder):
+def write(folder: str) -> None:
     for crate in CRATES:
         top = f"crates/{crate}/src"
         for path in sorted(glob.glob(f"{top}/**/*.rt", recursive=True)):
@@ -257,7 +259,7 @@ def write(folder):
             it.write(text)
 
 
-def main():
+def main() -> None:
     if len(sys.argv) != 2 or sys.argv[1].startswith("-"):
         sys.exit(__doc__)
     folder = sys.argv[1]

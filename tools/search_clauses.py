@@ -15,11 +15,15 @@ Variables are numbered anew without gaps. What is found over the last two is not
 (docs/history/searches-and-times-2026-11.md, 'Trials'): these are for trials of a search alone, and nothing of the gate
 uses them.
 """
+from __future__ import annotations
+
 import heapq
 import itertools
 import os
 import sys
 from collections import defaultdict
+from collections.abc import Iterable
+from typing import Any
 
 TOP = os.path.dirname(os.path.dirname(os.path.abspath(__file__)))
 sys.path[:0] = [os.path.join(TOP, "tests"), os.path.join(TOP, "bench")]
@@ -34,11 +38,11 @@ MOST_PAIRS = 600
 class Written(plain_checker.Formula):
     """The formula with its small gates written out, whose variables are kept."""
 
-    def __init__(self, *words):
-        self.outputs = []
+    def __init__(self, *words: Any) -> None:
+        self.outputs: list[int] = []
         super().__init__(*words)
 
-    def new_gate(self, k, inputs):
+    def new_gate(self, k: int, inputs: tuple[Any, ...]) -> int:
         x = [self.gate(each) for each in inputs]
         if not 1 < k < len(x) <= MOST_INPUTS:
             return super().new_gate(k, inputs)
@@ -52,14 +56,14 @@ class Written(plain_checker.Formula):
 class Clauses:
     """Clauses without those that others subsume, found by their literals."""
 
-    def __init__(self, clauses):
-        self.held = {}
-        self.having = defaultdict(set)
+    def __init__(self, clauses: Iterable[Iterable[int]]) -> None:
+        self.held: dict[int, frozenset[int]] = {}
+        self.having: defaultdict[int, set[int]] = defaultdict(set)
         self.count = 0
         for clause in clauses:
             self.add(frozenset(clause))
 
-    def add(self, clause):
+    def add(self, clause: frozenset[int]) -> None:
         if any(self.held[number] <= clause for literal in clause for number in self.having[literal]):
             return
         rarest = min(clause, key=lambda literal: len(self.having[literal]))
@@ -70,11 +74,11 @@ class Clauses:
         for literal in clause:
             self.having[literal].add(self.count)
 
-    def remove(self, number):
+    def remove(self, number: int) -> None:
         for literal in self.held.pop(number):
             self.having[literal].discard(number)
 
-    def resolvents(self, variable):
+    def resolvents(self, variable: int) -> list[frozenset[int]] | None:
         """The resolvents of a variable, each once and without contradictions; none where there are too many pairs."""
         first, second = self.having[variable], self.having[-variable]
         if len(first) * len(second) > MOST_PAIRS:
@@ -82,15 +86,15 @@ class Clauses:
         found = {(self.held[p] - {variable}) | (self.held[q] - {-variable}) for p in first for q in second}
         return [it for it in found if not any(-literal in it for literal in it)]
 
-    def cost(self, variable):
+    def cost(self, variable: int) -> int | None:
         """How many clauses more there are without a variable."""
         found = self.resolvents(variable)
         return None if found is None else len(found) - len(self.having[variable]) - len(self.having[-variable])
 
-    def eliminate(self, variable):
+    def eliminate(self, variable: int) -> set[int]:
         """Puts the resolvents of a variable in place of its clauses; the variables of these."""
-        found = self.resolvents(variable)
-        beside = set()
+        found = self.resolvents(variable) or []
+        beside: set[int] = set()
         for number in self.having[variable] | self.having[-variable]:
             beside.update(map(abs, self.held[number]))
             self.remove(number)
@@ -99,7 +103,7 @@ class Clauses:
         return beside - {variable}
 
 
-def eliminated(clauses, variables, growth):
+def eliminated(clauses: Iterable[Iterable[int]], variables: Iterable[int], growth: int) -> list[list[int]]:
     """The clauses once each of these variables is eliminated that may be."""
     left = Clauses(clauses)
     queue = [(cost, it) for it in variables for cost in [left.cost(it)] if cost is not None]
@@ -120,7 +124,7 @@ def eliminated(clauses, variables, growth):
     return [sorted(it, key=abs) for it in left.held.values()]
 
 
-def write(path, clauses):
+def write(path: str, clauses: list[list[int]]) -> None:
     numbers = {
         it: number for number, it in enumerate(sorted({abs(literal) for clause in clauses for literal in clause}), 1)
     }
@@ -131,7 +135,7 @@ def write(path, clauses):
     print(os.path.basename(path), len(numbers), "variables", len(clauses), "clauses")
 
 
-def main():
+def main() -> None:
     if len(sys.argv) not in (3, 4) or sys.argv[1].startswith("-"):
         sys.exit(__doc__)
     folder, growth = sys.argv[2], int(sys.argv[3]) if len(sys.argv) == 4 else 16

@@ -1,5 +1,7 @@
 """Asks the program: each question is one run of it, and each certificate is checked by another."""
 
+from __future__ import annotations
+
 import hashlib
 import json
 import os
@@ -9,6 +11,12 @@ import signal
 import subprocess
 import sys
 import time
+from collections.abc import Callable, Sequence
+from typing import Any, TYPE_CHECKING
+
+if TYPE_CHECKING:
+    from network_page.network import Organisation
+    from network_page.writing import Beside
 
 # The status of an answer by its word: yes or a whole list, no, and a part.
 STATUS_OF = {"yes": 0, "all": 0, "no": 1, "unknown": 2}
@@ -49,18 +57,18 @@ class OutOfTime(Exception):
 class View:
     """The system that a question is about: what one node depends on, or with no node the whole file."""
 
-    def __init__(self, node, keys):
+    def __init__(self, node: str | None, keys: list[str] | set[str]) -> None:
         self.node = node
         self.keys = set(keys)
 
-    def words(self):
+    def words(self) -> list[str]:
         return ["--from=" + self.node] if self.node is not None else []
 
 
 class Certificate:
     """A file that `check` has accepted, with what `check` said of it and the words that made it."""
 
-    def __init__(self, path, accepted, command, about):
+    def __init__(self, path: str, accepted: str, command: str, about: str) -> None:
         self.name = os.path.basename(path)
         self.accepted = accepted
         self.command = command
@@ -75,7 +83,15 @@ class Verdict:
     """Whether every two quorums share a node: `yes`, `no` or `unknown`, with the units that were spent, or why it was
     not asked."""
 
-    def __init__(self, view, word, first=(), second=(), work="", certificate=None):
+    def __init__(
+        self,
+        view: View,
+        word: str,
+        first: Sequence[str] = (),
+        second: Sequence[str] = (),
+        work: str = "",
+        certificate: Certificate | None = None,
+    ) -> None:
         self.view = view
         self.word = word
         self.first = first
@@ -88,36 +104,36 @@ class Blocking:
     """The minimal blocking sets with their certificate: all of them, or some of those found until so many units were
     spent."""
 
-    def __init__(self, sets, found, work, certificate):
+    def __init__(self, sets: list[list[str]], found: int, work: str | None, certificate: Certificate | None) -> None:
         self.sets = sets
         self.found = found
         self.work = work
         self.certificate = certificate
 
-    def is_whole(self):
+    def is_whole(self) -> bool:
         return self.work is None
 
 
 class Clock:
     """The time that a question may take, and all of them."""
 
-    def __init__(self, question, in_all):
+    def __init__(self, question: float, in_all: float) -> None:
         self.question = question
         self.in_all = in_all
         self.began = time.monotonic()
         self.ended = False
         self.at_work = ""
 
-    def spent(self):
+    def spent(self) -> float:
         return time.monotonic() - self.began
 
-    def until(self):
+    def until(self) -> float:
         """When a question that begins now has to be answered."""
         if self.ended:
             return 0.0
         return min(time.monotonic() + self.question, self.began + self.in_all)
 
-    def is_up(self):
+    def is_up(self) -> bool:
         return self.ended or self.spent() >= self.in_all
 
 
@@ -125,13 +141,13 @@ class Searched:
     """What a search came to: its status and lines, with the budget of the run that gave them; or with no status that
     there was no time for any."""
 
-    def __init__(self, status, lines, budget, took):
+    def __init__(self, status: int | None, lines: list[str], budget: int, took: float) -> None:
         self.status = status
         self.lines = lines
         self.budget = budget
         self.took = took
 
-    def work(self):
+    def work(self) -> str:
         """With how much work it was not answered."""
         if self.status is None:
             return "no time was left for it"
@@ -145,7 +161,9 @@ class Searched:
 class Program:
     """The program on one configuration."""
 
-    def __init__(self, path, config, orgs, beside, budget, clock):
+    def __init__(
+        self, path: str, config: str, orgs: str | None, beside: Beside, budget: int | None, clock: Clock
+    ) -> None:
         self.path = path
         self.config = config
         self.orgs = orgs
@@ -153,12 +171,12 @@ class Program:
         self.budget = budget if budget is not None else MOST_BUDGET
         self.clock = clock
         self.prefix = ""
-        self.certificates = []
-        self.commands = []
-        self.unanswered = []
-        self.named = set()
+        self.certificates: list[Certificate] = []
+        self.commands: list[str] = []
+        self.unanswered: list[tuple[str, str, str]] = []
+        self.named: set[str] = set()
 
-    def on(self, name, text):
+    def on(self, name: str, text: str) -> Program:
         """The program on another configuration, which is written beside; what it leaves has that name before its
         own."""
         other = Program.__new__(Program)
@@ -171,13 +189,13 @@ class Program:
 
     # What it is at.
 
-    def say(self, text):
+    def say(self, text: str) -> None:
         """The question that is at work, on standard error."""
         self.clock.at_work = text
         self.clear()
         print(f"network-report: {self.clock.spent():5.1f} s  {text}", file=sys.stderr, flush=True)
 
-    def tick(self, budget, began):
+    def tick(self, budget: int, began: float) -> None:
         """On a terminal, the line of a search that takes longer."""
         if sys.stderr.isatty():
             text = (
@@ -188,13 +206,13 @@ class Program:
             sys.stderr.flush()
 
     @staticmethod
-    def clear():
+    def clear() -> None:
         if sys.stderr.isatty():
             sys.stderr.write("\r\x1b[K")
 
     # Runs.
 
-    def run(self, *words, until=None, budget=0):
+    def run(self, *words: str, until: float | None = None, budget: int = 0) -> tuple[int, list[str]]:
         """The status and the lines of one run; statuses that are no answer fail, and a run past its time is ended."""
         began = time.monotonic()
         try:
@@ -211,7 +229,7 @@ class Program:
         try:
             while True:
                 try:
-                    text, error = running.communicate(timeout=0.5)
+                    printed, error = running.communicate(timeout=0.5)
                     break
                 except subprocess.TimeoutExpired:
                     if until is not None and (time.monotonic() >= until or self.clock.ended):
@@ -220,7 +238,7 @@ class Program:
                         self.tick(budget, began)
         finally:
             end(running)
-        text = text.decode("ascii", "replace")
+        text = printed.decode("ascii", "replace")
         if running.returncode not in (0, 1, 2, 3, 4, 5, 9, 10):
             raise Failed(
                 "`%s` gave no answer: %s"
@@ -228,25 +246,25 @@ class Program:
             )
         return running.returncode, text.split("\n")[:-1]
 
-    def answer(self, *words, **how):
+    def answer(self, *words: str, **how: Any) -> tuple[int, list[str]]:
         """The status and the lines of an answer; a refusal fails with the program's own line."""
         status, lines = self.run(*words, **how)
         if status in (3, 4, 5, 10):
             raise Failed(f"`{words[0]}` was refused: {lines[0] if lines else status}")
         return status, lines
 
-    def noted(self, *words):
+    def noted(self, *words: str) -> tuple[int, list[str]]:
         """An answer whose command the page shows."""
         command = self.shown(words)
         if command not in self.commands:
             self.commands.append(command)
         return self.answer(*words)
 
-    def shown(self, words):
+    def shown(self, words: tuple[str, ...] | list[str]) -> str:
         """A command as whoever has the page and the files beside it can repeat it."""
         return " ".join(["quorum_cli", *(shlex.quote(self.here(word)) for word in words)])
 
-    def here(self, word):
+    def here(self, word: str) -> str:
         """A word in which a file is named as it lies beside the page."""
         option = "--orgs=" if word.startswith("--orgs=") else ""
         path = word[len(option) :]
@@ -256,33 +274,33 @@ class Program:
 
     # Questions without a certificate.
 
-    def closure(self, node):
+    def closure(self, node: str) -> list[str]:
         """The trust closure of a node."""
         return self.listed("closure", self.config, "--node=" + node)
 
-    def show(self):
+    def show(self) -> list[str]:
         self.say("reading the configuration")
         return self.noted("show", self.config)[1]
 
-    def greatest(self, view):
+    def greatest(self, view: View) -> list[str]:
         return self.listed("greatest", self.config, *view.words())
 
-    def listed(self, *words):
+    def listed(self, *words: str) -> list[str]:
         """The names on the one line that the command prints."""
         return self.noted(*words)[1][0].split(" ")[1:]
 
-    def blocks(self, view, keys, asked=None):
+    def blocks(self, view: View, keys: list[str], asked: Callable[..., Any] | None = None) -> tuple[bool, list[str]]:
         """Whether the keys stop every agreement, else the greatest quorum that goes on without them."""
         return yes_or_names((asked or self.answer)("blocks", self.config, "--set=" + ",".join(keys), *view.words()))
 
-    def available(self, view, keys):
+    def available(self, view: View, keys: list[str]) -> tuple[bool, list[str]]:
         """Whether all other nodes have a slice left without the keys, else those that have none."""
         return yes_or_names(self.noted("available", self.config, "--set=" + ",".join(keys), *view.words()))
 
-    def v_blocks(self, node, keys):
+    def v_blocks(self, node: str, keys: list[str]) -> bool:
         return self.answer("vblocks", self.config, "--node=" + node, "--set=" + ",".join(keys))[0] == 0
 
-    def retired(self, keys, name, scripted):
+    def retired(self, keys: list[str], name: str, scripted: list[str]) -> list[list[str]]:
         """The greatest quorum of the whole file at first, and after each of the scripted keys has retired."""
         script = self.beside.script(self.prefix + name, ["retire " + key for key in scripted])
         lines = self.noted("whatif", self.config, script, "--set=" + ",".join(keys))[1]
@@ -290,7 +308,7 @@ class Program:
 
     # Searches.
 
-    def cert_name(self, view, name):
+    def cert_name(self, view: View, name: str) -> str:
         """What the certificate of a question is called: of a second node's view another name."""
         stem = self.prefix + ("from-" if view.node is not None else "") + name
         at, held = 1, stem
@@ -303,13 +321,14 @@ class Program:
         """What a search came to within its time, its certificate as `check` accepts it, and the sets in that. What an earlier run left is taken, or gone on with."""
         kinds, path = KINDS[words[0]], self.beside.certificate(self.cert_name(view, name))
         words = [words[0], self.config, path, *words[1:], *view.words()]
-        held = self.left_over(kinds, view, faulty, path, words[0], *more)
+        held: tuple[Searched, list[str] | None] | None = self.left_over(kinds, view, faulty, path, words[0], *more)
         if held is None or (held[0].status == 2 and held[0].budget < self.budget):
             ended = self.with_budgets(words, held[0].budget * 4 if held else FIRST_BUDGET)
             if ended.status in kinds:
                 held = ended, self.accepted(path, kinds[ended.status], view, faulty, *more)
             elif held is None or ended.status is not None:
                 held = ended, None
+        assert held is not None
         ended, lines = held
         if ended.status not in (0, 1):
             self.unanswered.append((self.clock.at_work, words[0], ended.work()))
@@ -320,7 +339,7 @@ class Program:
         )
         return ended, self.certificates[-1], [line.split(" ")[1:] for line in lines[3:]]
 
-    def with_budgets(self, words, budget):
+    def with_budgets(self, words: list[str], budget: int) -> Searched:
         """The last run that ended in time, each with four times as many units as the one before."""
         began, until, ended = time.monotonic(), self.clock.until(), Searched(None, [], 0, 0.0)
         while ended.status is None or (ended.status == 2 and ended.budget < self.budget):
@@ -336,7 +355,9 @@ class Program:
         self.clear()
         return ended
 
-    def left_over(self, kinds, view, faulty, path, command, *more):
+    def left_over(
+        self, kinds: dict[int, str], view: View, faulty: Sequence[str], path: str, command: str, *more: str
+    ) -> tuple[Searched, list[str]] | None:
         """What an earlier run left under this name, if `check` accepts it of this very question."""
         if not self.beside.left(path):
             return None
@@ -366,7 +387,8 @@ class Program:
         if ended.status == 0:
             return Verdict(view, "yes", certificate=certificate)
         if ended.status == 1:
-            return Verdict(view, "no", *(line.split(" ")[1:] for line in ended.lines[1:3]), certificate=certificate)
+            first, second = (line.split(" ")[1:] for line in ended.lines[1:3])
+            return Verdict(view, "no", first, second, certificate=certificate)
         return Verdict(view, "unknown", work=ended.work(), certificate=certificate)
 
     def blocking(self, view, most):
@@ -386,24 +408,24 @@ class Program:
         return (sets, certificate) if ended.status == 0 else None
 
     @staticmethod
-    def pair_in(path):
+    def pair_in(path: str) -> list[str]:
         """The two sets of a pair, which `check` does not print again."""
         with open(path, encoding="ascii") as it:
             return [line for line in it.read().split("\n") if line.startswith(("first ", "second "))]
 
     @staticmethod
-    def found_in(path):
+    def found_in(path: str) -> list[list[str]]:
         """The sets that a part of a list has, the smallest first."""
         with open(path, encoding="ascii") as it:
             return sorted((line[:-1].split(" ")[2:] for line in it if line.startswith("b ")), key=len)
 
-    def is_minimal(self, view, keys):
+    def is_minimal(self, view: View, keys: list[str]) -> bool:
         """Whether the keys stop every agreement, and without any one of them they do not."""
         return self.blocks(view, keys)[0] and not any(
             self.blocks(view, [it for it in keys if it != key])[0] for key in keys
         )
 
-    def accepted(self, path, kind, view, faulty, *more):
+    def accepted(self, path: str, kind: str, view: View, faulty: Sequence[str], *more: str) -> list[str]:
         """The lines of `check`, which has to accept a certificate as one of this kind, for this view and for exactly
         these faulty nodes."""
         status, lines = self.run("check", self.config, path, *more)
@@ -417,7 +439,7 @@ class Program:
 
     # The program itself.
 
-    def file(self):
+    def file(self) -> str:
         """The program itself: if this is the script of a repository, the one that it runs."""
         chooser = os.path.join(os.path.dirname(os.path.realpath(self.path)), "tools", "program")
         if not os.path.exists(chooser):
@@ -428,16 +450,16 @@ class Program:
             .rstrip("\n")
         )
 
-    def is_proved(self):
+    def is_proved(self) -> bool:
         """Whether the program is not the one that is compiled without proofs."""
         return os.path.basename(os.path.dirname(os.path.realpath(self.file()))) != "unproved"
 
-    def digest(self):
+    def digest(self) -> str:
         """The SHA-256 of the program."""
         with open(self.file(), "rb") as it:
             return hashlib.sha256(it.read()).hexdigest()
 
-    def version(self):
+    def version(self) -> str | None:
         """What the file VERSION of the repository says in which the program lies, if it lies in one."""
         folder = os.path.dirname(os.path.realpath(self.path))
         while not os.path.isfile(os.path.join(folder, "VERSION")):
@@ -448,7 +470,7 @@ class Program:
             return it.read().strip()
 
 
-def end(running):
+def end(running: subprocess.Popen[bytes]) -> None:
     """Ends a run that still goes on, with all that it has started."""
     for it in (signal.SIGTERM, signal.SIGKILL):
         if running.poll() is None:
@@ -458,10 +480,11 @@ def end(running):
             except subprocess.TimeoutExpired:
                 pass
     for pipe in (running.stdout, running.stderr):
-        pipe.close()
+        if pipe is not None:
+            pipe.close()
 
 
-def yes_or_names(answered):
+def yes_or_names(answered: tuple[int, list[str]]) -> tuple[bool, list[str]]:
     """Whether the answer is yes, and else the names of its second line."""
     status, lines = answered
     return status == 0, lines[1].split(" ")[1:] if len(lines) > 1 else []

@@ -1,10 +1,14 @@
 """Writes the page: one file with its style and picture in it, which loads nothing."""
 
+from __future__ import annotations
+
 import html
 import os
 import re
 import time
 import urllib.parse
+from collections.abc import Callable, Iterable
+from typing import Any, TYPE_CHECKING
 
 from network_page import picture
 from network_page.asking import KINDS_OF_ORGS
@@ -13,6 +17,11 @@ from network_page.sentences import MOST_NAMED, Saying, by_size, counted, filled
 from network_page.style import STYLE
 from network_page.summary import summary, texts
 
+if TYPE_CHECKING:
+    from network_page.asking import Certificate, Program, Verdict
+    from network_page.findings import Found, Leaving, OwnNode, Part, Together, Turn
+    from network_page.network import Network, Organisation, QuorumSet
+
 # So many sets that stop the network are listed, the smallest ones; the certificate has all.
 MOST_LISTED = 60
 # So many oddities of quorum sets are shown at once, and so many quorum sets that only watchers have.
@@ -20,15 +29,15 @@ MOST_ODD = 12
 MOST_SETS = 40
 
 
-def escaped(text):
+def escaped(text: str) -> str:
     return html.escape(str(text))
 
 
-def fold(head, body):
+def fold(head: str, body: str) -> str:
     return f"<details><summary>{head}</summary>{body}</details>"
 
 
-def table(heads, rows, kind=""):
+def table(heads: list[str], rows: list[list[str]], kind: str = "") -> str:
     """A table whose first cell of each row is its heading; of facts, where no column has one."""
     head = "<thead><tr>%s</tr></thead>" % "".join(f'<th scope="col">{it}</th>' for it in heads) if heads else ""
     lines = "\n".join(
@@ -41,28 +50,28 @@ def table(heads, rows, kind=""):
 class Names:
     """Nodes and organisations as the page shows them."""
 
-    def __init__(self, network):
+    def __init__(self, network: Network) -> None:
         self.network = network
         self.by_id = {"org:" + org.id: org for org in network.orgs}
 
-    def node(self, key):
+    def node(self, key: str) -> str:
         """A node by its name, which leads to its key."""
         return f'<a class="node" href="#n{self.network.place[key]}">{escaped(self.network.names[key])}</a>'
 
-    def text(self, text):
+    def text(self, text: str) -> str:
         """An organisation or node, as `org:` with an id or `node:` with a key."""
         return escaped(self.by_id[text].name) if text in self.by_id else self.node(text.partition(":")[2])
 
-    def order(self, text):
+    def order(self, text: str) -> tuple[list[tuple[int, int, str]], str]:
         """By which those are sorted."""
         name = self.by_id[text].name if text in self.by_id else self.network.names[text.partition(":")[2]]
         return natural(name), text
 
-    def each(self, keys):
+    def each(self, keys: Iterable[str]) -> str:
         """Nodes in the order of their names."""
         return ", ".join(self.node(key) for key in sorted(keys, key=lambda key: self.order("node:" + key)))
 
-    def nodes(self, keys):
+    def nodes(self, keys: Iterable[str]) -> str:
         """Nodes by their names, or if they are many by their organisations."""
         keys = set(keys)
         if len(keys) <= MOST_NAMED:
@@ -81,7 +90,7 @@ class Names:
             parts.append(f"{outside} of no organisation")
         return counted(len(keys), "node") + (f" ({', '.join(parts)})" if parts else "")
 
-    def quorum_set(self, held):
+    def quorum_set(self, held: QuorumSet) -> str:
         """A quorum set in words: so many of these, with an organisation's name for its keys."""
         parts = [self.inner(it) for it in held.inner] + [self.node(key) for key in held.validators]
         return "<b>%d of %d</b>: %s" % (
@@ -90,7 +99,7 @@ class Names:
             ", ".join(sorted(parts, key=lambda part: re.sub(r"<[^>]*>", "", part).lower())),
         )
 
-    def inner(self, held):
+    def inner(self, held: QuorumSet) -> str:
         orgs = {self.network.org_of.get(key) for key in held.validators}
         org = orgs.pop() if len(orgs) == 1 else None
         if org and not held.inner and held.validators == org.keys:
@@ -101,7 +110,9 @@ class Names:
 class Page:
     """The sections, each a text."""
 
-    def __init__(self, files, network, shown, found, program):
+    def __init__(
+        self, files: dict[str, str], network: Network, shown: list[str], found: Found, program: Program
+    ) -> None:
         self.title = escaped(files["config"])
         self.network = network
         self.shown = shown
@@ -116,7 +127,7 @@ class Page:
 
     # What is common to sections.
 
-    def link(self, certificate):
+    def link(self, certificate: Certificate | None) -> str:
         """A certificate as a link."""
         if certificate is None:
             return ""
@@ -124,13 +135,13 @@ class Page:
             urllib.parse.quote(f"{self.program.beside.name}/{certificate.name}")
         )
 
-    def heading(self, at):
+    def heading(self, at: int) -> str:
         """Of several parts, which one this is."""
         if len(self.found.parts) == 1:
             return ""
         return f"<h3>{self.whose(at, self.found.parts[at])}</h3>"
 
-    def whose(self, at, part):
+    def whose(self, at: int, part: Part) -> str:
         """What a part is about."""
         if part.own is not None:
             return "As your node sees it"
@@ -141,12 +152,12 @@ class Page:
             else "The network"
         )
 
-    def by_part(self, section):
+    def by_part(self, section: Callable[..., Any]) -> str:
         """A section of each part that has one, under its heading."""
         parts = [(at, section(part)) for at, part in enumerate(self.found.parts)]
         return "".join(self.heading(at) + text for at, text in parts if text)
 
-    def seen(self, verdict):
+    def seen(self, verdict: Verdict) -> str:
         """Whom a verdict speaks of."""
         if verdict.view.node is not None:
             return f"As {self.names.node(verdict.view.node)} sees it"
@@ -156,7 +167,7 @@ class Page:
             else "Among the nodes that others name"
         )
 
-    def about(self):
+    def about(self) -> str:
         """What the page is about."""
         texts = [self.about_view(part) for part in self.found.parts]
         if self.own is None and self.found.parts[0].view.node is not None:
@@ -165,7 +176,7 @@ class Page:
             texts.append("<b>Asked as things are now</b>: the nodes that the file marks as down are taken as silent.")
         return " ".join(texts)
 
-    def about_view(self, part):
+    def about_view(self, part: Part) -> str:
         view = part.view
         if view.node is None:
             return f"Each answer is about all {counted(len(self.network.keys), 'node')} of the file."
@@ -181,7 +192,7 @@ class Page:
 
     # The summary.
 
-    def summary(self):
+    def summary(self) -> str:
         unproved = (
             ""
             if self.program.is_proved()
@@ -196,7 +207,7 @@ class Page:
             text += "".join(self.heading(at) + self.lines(part["lines"]) for at, part in enumerate(self.data["parts"]))
         return f"{text}{self.unanswered()}<p>{self.about()}</p>"
 
-    def lines(self, sentences):
+    def lines(self, sentences: list[dict[str, Any]]) -> str:
         """Lines of the summary: a label, and what is said one sentence after another."""
         rows = [
             self.saying.line([it for it in sentences if it["line"] == line])
@@ -204,7 +215,7 @@ class Page:
         ]
         return '<dl class="summary">%s</dl>' % "".join("<dt>%s</dt><dd>%s</dd>" % row for row in rows)
 
-    def unanswered(self):
+    def unanswered(self) -> str:
         """What was not answered, and with how much work."""
         rows = ["<li>%s (<code>%s</code>): %s</li>" % tuple(map(escaped, it)) for it in self.program.unanswered]
         head = (
@@ -215,7 +226,7 @@ class Page:
 
     # The sections.
 
-    def fork(self):
+    def fork(self) -> str:
         forks = self.found.forks
         asked = [
             verdict
@@ -225,7 +236,7 @@ class Page:
         ]
         return "".join(self.verdict(verdict) for verdict in forks.verdicts + asked)
 
-    def verdict(self, verdict):
+    def verdict(self, verdict: Verdict) -> str:
         where, kind = self.seen(verdict), "open"
         if verdict.word == "yes":
             head, kind = (
@@ -242,7 +253,7 @@ class Page:
             head = f"not decided:</b> {escaped(verdict.work)}."
         return f'<div class="verdict {kind}"><b>{where} {head} {self.link(verdict.certificate)}</div>'
 
-    def pair(self):
+    def pair(self) -> Verdict | None:
         """The two quorums that share no node, of the validators or of a view."""
         verdicts = [*self.found.forks.verdicts[-1:], *(part.verdict for part in self.found.parts if part.verdict)]
         return next(
@@ -255,7 +266,7 @@ class Page:
             None,
         )
 
-    def paint(self, marked=([], "")):
+    def paint(self, marked: tuple[list[str], str] = ([], "")) -> picture.Paint:
         within = set().union(*(part.view.keys for part in self.found.parts))
         return picture.Paint(
             set(self.found.greatest) | self.greatest,
@@ -266,14 +277,14 @@ class Page:
             self.network.unknown(),
         )
 
-    def drawing(self):
+    def drawing(self) -> str:
         """Of a network that forks the two quorums, else a set that stops it too."""
         return picture.draw(
             self.network,
             self.paint(([], "") if self.pair() or len(self.found.parts) > 1 else self.found.parts[0].marked()),
         )
 
-    def in_turn(self, part):
+    def in_turn(self, part: Part) -> str:
         if not part.turns:
             return ""
         asked = any(turn.word for turn in part.turns)
@@ -291,7 +302,7 @@ class Page:
             + self.left_out(part)
         )
 
-    def from_domain(self):
+    def from_domain(self) -> str:
         if self.network.has_orgs_file:
             return ""
         return (
@@ -299,11 +310,11 @@ class Page:
             " nodes that quorum sets name.</p>"
         )
 
-    def left_out(self, part):
+    def left_out(self, part: Part) -> str:
         names = [escaped(org.name) for org in self.network.orgs if org.keys and org not in part.orgs]
         return f'<p>Nobody here depends on a key of {", ".join(names)}.</p>' if names else ""
 
-    def turn(self, part, turn, asked):
+    def turn(self, part: Part, turn: Turn, asked: bool) -> list[str]:
         inside = len(set(turn.org.keys) & set(part.greatest))
         down = len(set(turn.org.keys) & set(self.network.down()))
         name = (
@@ -312,7 +323,7 @@ class Page:
         )
         return ["", name, *([self.lying(turn)] if asked else []), self.silent(part, turn)]
 
-    def lying(self, turn):
+    def lying(self, turn: Turn) -> str:
         return "<br>".join(self.lie(turn, verdict) for verdict in turn.verdicts) + (
             "<br>"
             + self.saying.line(
@@ -330,7 +341,7 @@ class Page:
             else ""
         )
 
-    def lie(self, turn, verdict):
+    def lie(self, turn: Turn, verdict: Verdict) -> str:
         where = self.seen(verdict)[0].lower() + self.seen(verdict)[1:]
         if verdict.word == "yes":
             text = (
@@ -349,7 +360,7 @@ class Page:
             text = f"Not decided, {where}: {escaped(verdict.work)}"
         return f"{text} {self.link(verdict.certificate)}"
 
-    def silent(self, part, turn):
+    def silent(self, part: Part, turn: Turn) -> str:
         if turn.stops:
             return '<span class="bad">%s</span>: it stops the network' % self.words["turns"]["silent"]["stops"]
         text = self.going_on(part, set(turn.goes_on), turn.org)
@@ -358,12 +369,12 @@ class Page:
             f"; {self.names.nodes(lost)} {'loses' if len(lost) == 1 else 'lose'} every slice" if lost else ""
         )
 
-    def going_on(self, part, left, org):
+    def going_on(self, part: Part, left: set[str], org: Organisation) -> str:
         """How many of the greatest quorum are left without an organisation."""
         others = set(part.greatest) - set(org.keys)
         return f"{len(left & others)} of the other {counted(len(others), 'node')} go on"
 
-    def who_stops(self, part):
+    def who_stops(self, part: Part) -> str:
         if part.stopping is None:
             return "<p>There is no quorum, so there is nothing to stop.</p>"
         text = "<p>These together stop every agreement if they fall silent, as the file has it.</p>" + self.stopping(
@@ -378,10 +389,10 @@ class Page:
             text += '<p class="bad">As things are now no quorum is left.</p>'
         return text + self.blocking(part)
 
-    def stopping(self, together):
+    def stopping(self, together: Together) -> str:
         return self.sets(together, "stops it") + f'<p class="small">{self.how_known(together)}</p>'
 
-    def how_known(self, sets):
+    def how_known(self, sets: Together) -> str:
         if sets.certificate is None:
             return "Asked by <code>blocks</code> of the keys of all of them."
         return (
@@ -389,7 +400,7 @@ class Page:
             f" {self.link(sets.certificate)}"
         )
 
-    def sets(self, sets, does):
+    def sets(self, sets: Together, does: str) -> str:
         """Minimal sets of organisations, the smallest first; those that are just any so many of some in one line."""
         upto = f" More than {sets.most} were not asked about together." if sets.most is not None else ""
         if not sets.sets:
@@ -413,7 +424,7 @@ class Page:
         )
         return "<ol>%s</ol>%s<p>In each of these none can be left out.%s</p>" % (listed, more, upto)
 
-    def blocking(self, part):
+    def blocking(self, part: Part) -> str:
         blocking = part.blocking
         if blocking is None:
             return ""
@@ -422,7 +433,7 @@ class Page:
             "<li>%s</li>" % (self.names.each(keys) or self.words["common"]["nobody"]["said"]) for keys in rows
         )
         if not blocking.is_whole():
-            head = f"The sets of nodes were not all found: {escaped(blocking.work)}"
+            head = f"The sets of nodes were not all found: {escaped(blocking.work or '')}"
             how = (
                 f"<p>{len(rows)} of the {blocking.found} found, the smallest; <code>blocks</code> says yes of each,"
                 " and no once any one node is left out.</p>"
@@ -442,7 +453,7 @@ class Page:
             listed,
         )
 
-    def leaving(self, part):
+    def leaving(self, part: Part) -> str:
         if not part.leaving:
             return ""
         text = (
@@ -455,7 +466,7 @@ class Page:
             "thirds",
         )
 
-    def leave(self, part, leaving):
+    def leave(self, part: Part, leaving: Leaving) -> list[str]:
         others, left = set(part.greatest) - set(leaving.org.keys), leaving.left()
         if not left:
             after, last = leaving.stopped_after(), len(leaving.quorums) - 1
@@ -468,7 +479,7 @@ class Page:
             text += '; <span class="bad">your node stops</span>'
         return ["", escaped(leaving.org.name), text, self.stopped_then(leaving.then)]
 
-    def stopped_then(self, then):
+    def stopped_then(self, then: Together | None) -> str:
         if then is None:
             return "not asked"
         upto = f"; more than {then.most} together were not asked about" if then.most is not None else ""
@@ -477,7 +488,7 @@ class Page:
         text = self.saying.as_sets(texts(then.sets)) + upto
         return f'<span class="warn">{text}</span>' if len(then.sets[0]) == 1 else text
 
-    def own_node(self, part):
+    def own_node(self, part: Part) -> str:
         own = part.own
         if own is None:
             return ""
@@ -512,13 +523,13 @@ class Page:
             + v_blocking
         )
 
-    def own_turn(self, own, org):
+    def own_turn(self, own: OwnNode, org: Organisation) -> list[str]:
         if own.key in org.keys:
             return ["", escaped(org.name), "it is one of its keys", "it is one of its keys"]
         goes = "yes" if org in own.goes_on_without else '<span class="bad">no</span>'
         return ["", escaped(org.name), goes, '<span class="bad">no</span>' if org in own.unmet_by else "yes"]
 
-    def quorum_sets(self):
+    def quorum_sets(self) -> str:
         """The quorum sets of nodes that others name, each with those who have it; and those that only watchers
         have."""
         waited = [
@@ -548,7 +559,7 @@ class Page:
             )
         return text
 
-    def having(self, keys):
+    def having(self, keys: list[str]) -> str:
         named, others = [key for key in keys if key in self.network.named], [
             key for key in keys if key not in self.network.named
         ]
@@ -562,7 +573,7 @@ class Page:
         )
         return " and ".join(parts)
 
-    def what_it_is(self):
+    def what_it_is(self) -> str:
         numbers = dict(line.split(" ") for line in self.shown[:3])
         watchers, down = len(self.network.watchers()), self.network.down()
         rows = [
@@ -605,7 +616,7 @@ class Page:
             )
         return table([], rows, "facts") + self.odd()
 
-    def odd(self):
+    def odd(self) -> str:
         odd = [f"<li>{self.finding(line.split(' '))}</li>" for line in self.shown[3:]]
         if not odd:
             return "<p>%s</p>" % self.words["show"]["even"]["said"]
@@ -633,7 +644,7 @@ class Page:
             )
         return filled(show["repeated"], node=who, where=where, other=self.names.node(words[3]))
 
-    def how(self):
+    def how(self) -> str:
         version, config = self.program.version(), f"<code>{self.network.digest}</code>"
         rows = [["", "Configuration", f"{self.title}, SHA-256 {config}"]]
         rows.append(
@@ -674,7 +685,7 @@ class Page:
             "<pre>%s</pre>" % escaped("\n".join(self.program.commands)),
         )
 
-    def certified(self, it):
+    def certified(self, it: Certificate) -> str:
         """A certificate with what `check` says of it, its size and digest, and the command that makes it."""
         place = escaped(urllib.parse.quote(f"{self.program.beside.name}/{it.name}"))
         about = "" if it.about == os.path.basename(self.program.config) else f" about <code>{escaped(it.about)}</code>"
@@ -683,7 +694,7 @@ class Page:
             f" {it.size} bytes<br>SHA-256 <code>{it.digest}</code><br><code>{escaped(it.command)}</code>"
         )
 
-    def keys(self):
+    def keys(self) -> str:
         paint = self.paint()
         rows = []
         for at, key in enumerate(self.network.keys):
@@ -705,7 +716,7 @@ class Page:
             )
         return table(["Name", "Organisation", "In the greatest quorum", "Key"], rows, "keys")
 
-    def sections(self):
+    def sections(self) -> list[tuple[str, str, str]]:
         """Each section with its mark and heading, and its text; one without a text is left out. Another question of
         the network is another line."""
         return [
@@ -721,7 +732,7 @@ class Page:
             ("keys", "Names and keys", self.keys()),
         ]
 
-    def whole(self):
+    def whole(self) -> str:
         sections = [it for it in self.sections() if it[2]]
         contents = '<nav aria-label="Contents"><ul>%s</ul></nav>' % "".join(
             '<li><a href="#%s">%s</a></li>' % it[:2] for it in sections
@@ -740,7 +751,9 @@ class Page:
         )
 
 
-def write(config, orgs, network, told, found, program):
+def write(
+    config: str, orgs: str | None, network: Network, told: list[str], found: Found, program: Program
+) -> tuple[str, dict[str, list[dict[str, Any]]]]:
     """The text of the page, and the summary's data."""
     files = {
         name: shown(os.path.basename(path)) if path is not None else ""

@@ -1,11 +1,19 @@
 """The summary as data: which sentences are said, and of what. web/words/summary.js decides the same; tests/summary.py holds both against trying all sets."""
 
+from __future__ import annotations
 
-def says(line, say, **data):
+from typing import Any, TYPE_CHECKING
+
+if TYPE_CHECKING:
+    from network_page.findings import Found, Part, Together
+    from network_page.network import Network, Organisation
+
+
+def says(line: str, say: str, **data: Any) -> dict[str, Any]:
     return {"line": line, "say": say, **data}
 
 
-def texts(sets):
+def texts(sets: list[frozenset[Organisation | str]]) -> list[list[str]]:
     """Sets of organisations and nodes as texts: `org:` and an id, or `node:` and a key; in order."""
     return sorted(
         (sorted("node:" + it if isinstance(it, str) else "org:" + it.id for it in some) for some in sets),
@@ -13,12 +21,12 @@ def texts(sets):
     )
 
 
-def summary(network, found):
+def summary(network: Network, found: Found) -> dict[str, list[dict[str, Any]]]:
     """The lines about the whole file, and those of each part."""
     return {"lines": whole_lines(network, found), "parts": [part(network, found, it) for it in found.parts]}
 
 
-def whole_lines(network, found):
+def whole_lines(network: Network, found: Found) -> list[dict[str, Any]]:
     lines = []
     if network.lost():
         lines.append(says("orgs", "lost", lost=network.lost(), of=network.listed))
@@ -31,7 +39,7 @@ def whole_lines(network, found):
     return lines + fork_lines(network, found)
 
 
-def fork_lines(network, found):
+def fork_lines(network: Network, found: Found) -> list[dict[str, Any]]:
     forks, unknown = found.forks, network.unknown()
     if forks.word == "none":
         lines = [says("fork", "none-known" if unknown else "none")]
@@ -50,7 +58,7 @@ def fork_lines(network, found):
     return lines
 
 
-def part(network, found, it):
+def part(network: Network, found: Found, it: Part) -> dict[str, Any]:
     """What is said of one view, with each organisation lying, silent and leaving."""
     lines = [
         *seen_lines(network, found, it),
@@ -80,7 +88,7 @@ def part(network, found, it):
     return {"from": it.view.node, "greatest": sorted(it.greatest), "lines": lines, "turns": turns, "leaving": left}
 
 
-def seen_lines(network, found, it):
+def seen_lines(network: Network, found: Found, it: Part) -> list[dict[str, Any]]:
     """As one node sees it: of one's own, of each of several networks, and where the whole file is not decided."""
     node = it.own.key if it.own is not None else it.view.node
     if node is None or (it.own is None and len(found.parts) == 1 and found.forks.word in ("no", "none")):
@@ -92,7 +100,7 @@ def seen_lines(network, found, it):
     return [says("seen", {"yes": "no"}.get(it.verdict.word, "undecided"), node=node)]
 
 
-def lies_lines(network, found, it):
+def lies_lines(network: Network, found: Found, it: Part) -> list[dict[str, Any]]:
     """What the lies of one organisation do."""
     if not network.orgs:
         return [says("lies", "unknown")]
@@ -123,7 +131,7 @@ def lies_lines(network, found, it):
     return lines + ([says("lies", "split", of=len(network.watchers()), orgs=split)] if split else [])
 
 
-def stop_lines(found, it):
+def stop_lines(found: Found, it: Part) -> list[dict[str, Any]]:
     if it.stopping is None or (not it.stopping.sets and it.stopping.most is None):
         return [says("stop", "none")]
     lines = [sets_line("stop", it.stopping)]
@@ -132,7 +140,7 @@ def stop_lines(found, it):
     return lines
 
 
-def sets_line(line, together):
+def sets_line(line: str, together: Together) -> dict[str, Any]:
     """Sets that stop it: all of them, or those of few."""
     sets = texts(together.sets)
     if together.most is not None:
@@ -140,7 +148,7 @@ def sets_line(line, together):
     return says(line, "alone" if len(sets[0]) == 1 else "sets", sets=sets)
 
 
-def now_lines(network, found, it):
+def now_lines(network: Network, found: Found, it: Part) -> list[dict[str, Any]]:
     """Both margins: what the nodes that are down leave of it."""
     if not network.has_marks():
         return []
@@ -152,7 +160,7 @@ def now_lines(network, found, it):
     return [*lines, sets_line("now", it.stopping_now)] if it.stopping_now is not None else lines
 
 
-def node_lines(network, it):
+def node_lines(network: Network, it: Part) -> list[dict[str, Any]]:
     own = it.own
     if own is None:
         return []

@@ -1,5 +1,7 @@
 """Writes the page and its certificates beside those that are there, and puts them in their place at the end."""
 
+from __future__ import annotations
+
 import json
 import os
 import re
@@ -7,6 +9,10 @@ import shutil
 import signal
 import sys
 import tempfile
+from typing import Any, TYPE_CHECKING
+
+if TYPE_CHECKING:
+    from network_page.network import Organisation
 
 from network_page.asking import ASKED
 
@@ -25,7 +31,7 @@ class Beside:
     """A page and its certificates in the making, which are taken away where they do not take the place of the old
     ones."""
 
-    def __init__(self, page, read, data=None):
+    def __init__(self, page: str, read: list[str | None], data: str | None = None) -> None:
         """Refuses, before anything is asked, a page in the place of a file that is read, whatever it is called."""
         for out, option in ((page, "-o"), (data, "--json")):
             if out is None:
@@ -44,10 +50,10 @@ class Beside:
         stem = os.path.splitext(page)[0]
         self.name = os.path.basename(stem) + "-certificates"
         self.folder = os.path.realpath(stem + "-certificates")
-        self.part = None
-        self.texts = {}
+        self.part = ""
+        self.texts: dict[str, str] = {}
 
-    def __enter__(self):
+    def __enter__(self) -> Beside:
         for it in (signal.SIGINT, signal.SIGTERM, signal.SIGHUP):
             # (a run that was told to outlive its terminal does so)
             if signal.getsignal(it) != signal.SIG_IGN:
@@ -60,24 +66,24 @@ class Beside:
             os.close(handle)
         return self
 
-    def __exit__(self, *_):
+    def __exit__(self, *_: Any) -> None:
         shutil.rmtree(self.part, ignore_errors=True)
         for text in self.texts.values():
             if os.path.exists(text):
                 os.unlink(text)
 
-    def path(self, name):
+    def path(self, name: str) -> str:
         """Where a file of that name is in the making."""
         return os.path.join(self.part, name)
 
-    def place(self, name, ending):
+    def place(self, name: str, ending: str) -> str:
         return self.path(re.sub(r"[^A-Za-z0-9._-]", "_", name)[:80] + ending)
 
-    def certificate(self, name):
+    def certificate(self, name: str) -> str:
         """Where the certificate of this name is written."""
         return self.place(name, ".cert")
 
-    def left(self, path):
+    def left(self, path: str) -> bool:
         """Puts what an earlier run left under this name in its place, and says whether there was anything."""
         old = os.path.join(self.folder, os.path.basename(path))
         if not os.path.isfile(old):
@@ -85,27 +91,27 @@ class Beside:
         shutil.copyfile(old, path)
         return True
 
-    def written(self, name, text):
+    def written(self, name: str, text: str) -> str:
         """Writes a file of this name, and says where."""
         with open(self.path(name), "w", encoding="utf-8") as it:
             it.write(text)
         return self.path(name)
 
-    def script(self, name, lines):
+    def script(self, name: str, lines: list[str]) -> str:
         """Writes a script of edits, and says where."""
         path = self.place(name, ".script")
         with open(path, "w", encoding="ascii") as it:
             it.writelines(line + "\n" for line in lines)
         return path
 
-    def organisations(self, orgs):
+    def organisations(self, orgs: list[Organisation]) -> str:
         """Writes organisations that stand in no file, and says where."""
         text = json.dumps(
             [{"id": org.id, "name": org.name, "validators": org.keys} for org in orgs], ensure_ascii=False, indent=1
         )
         return self.written("organisations.json", text + "\n")
 
-    def exchange(self, texts):
+    def exchange(self, texts: list[str]) -> None:
         """Puts the certificates and then the page and its data in the place of the old ones; what of those is stale
         goes."""
         for path, text in zip((self.page, self.data), texts):
@@ -124,7 +130,7 @@ class Beside:
             os.replace(self.texts[path], path)
 
 
-def mask():
+def mask() -> int:
     """The file mode mask, which can be read only by setting it."""
     now = os.umask(0)
     os.umask(now)
