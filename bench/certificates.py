@@ -6,9 +6,13 @@ is known of it ten million times, under rising ids, in the second of them each d
 next one has come, so that few are held at a time. In the last that lemma stands once, and after its conflict come
 130,000,000 bytes of hints on the same line. Each figure is of the least of three runs.
 """
+from __future__ import annotations
+
 import hashlib
 import os
 import tempfile
+from collections.abc import Iterator
+from typing import Any
 
 import runs
 import trials
@@ -21,13 +25,13 @@ LINE_BYTES = 130_000_000
 SEARCHED, SHORT = "random:80:8:5:1", "random:40:10:6:1"
 
 
-def write_head(cert):
+def write_head(cert: Any) -> None:
     with open(CONFIG, "rb") as config:
         digest = hashlib.sha256(config.read()).hexdigest()
     cert.write(f"fbas-cert 1\nconfig {digest}\nfrom\nfaulty\nkind refutation\nformula 8 {CLAUSES}\n")
 
 
-def write_line(path, size):
+def write_line(path: str, size: int) -> None:
     """One lemma with hints after its conflict, all on one line."""
     hints = " 7 6 3 4 2" * 1000
     with open(path, "w") as cert:
@@ -38,7 +42,7 @@ def write_line(path, size):
         cert.write(" 0\n18 0 17 1 10 8 0\nend\n")
 
 
-def write_lemmas(path, lemmas, deletes):
+def write_lemmas(path: str, lemmas: Any, deletes: Any) -> None:
     with open(path, "w") as cert:
         write_head(cert)
         last = CLAUSES
@@ -50,13 +54,13 @@ def write_lemmas(path, lemmas, deletes):
         cert.write(f"{last + 1} 0 {last} 1 10 8 0\nend\n")
 
 
-def write_log(program, config, cert, system):
+def write_log(program: str, config: str, cert: Any, system: Any) -> None:
     with open(config, "w", encoding="utf-8") as it:
         it.write(trials.configuration(system))
     runs.run([program, "intersect", config, cert])
 
 
-def row(program, name, config, cert):
+def row(program: Any, name: str, config: str, cert: Any) -> Any:
     checked = runs.least([program, "check", config, cert], 3)
     if not checked.text.startswith("accepted refutation"):
         raise SystemExit(f"{name}: {checked.text!r}")
@@ -71,7 +75,7 @@ def row(program, name, config, cert):
     )
 
 
-def made(program, quick):
+def made(program: str, quick: Any) -> Iterator[Any]:
     """The lines of the table, one by one."""
     yield from runs.head(["certificate", "MB", "`check`, s", "memory, MB", "`sha256sum`, s"])
     share = 100 if quick else 1

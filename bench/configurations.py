@@ -1,21 +1,25 @@
 #!/usr/bin/env python3
 """Configurations in stellarbeat's shape that are slow to read or to answer: bench/configurations.py FOLDER writes
 them."""
+from __future__ import annotations
+
 import json
 import os
 import sys
+from collections.abc import Callable, Iterable
+from typing import Any
 
 
-def key(number):
+def key(number: int) -> str:
     """A key as long as Stellar's: 56 bytes, in an order that is not that of the numbers."""
     return f"G{(number * 2654435761) % 10_000_019:07d}" + "A" * 48
 
 
-def ordered_key(number):
+def ordered_key(number: int) -> Any:
     return f"G{number:07d}" + "A" * 48
 
 
-def node(name, quorum_set):
+def node(name: str, quorum_set: dict[str, Any]) -> dict[str, Any]:
     return {
         "publicKey": name,
         "name": "node " + name[:8],
@@ -25,12 +29,12 @@ def node(name, quorum_set):
     }
 
 
-def short_key(number):
+def short_key(number: int) -> str:
     """A key of four bytes, so that a million entries fit into 16 MiB."""
     return f"{number * 40503 % 65536:04x}"
 
 
-def dense(nodes, entries, name):
+def dense(nodes: int, entries: int, name: Callable[..., Any]) -> list[dict[str, Any]]:
     """Each node lists as many others as make this many entries in all, in inner quorum sets of 50.
 
     Each lists those after it, round and round, so that the trust closure of each is all.
@@ -57,7 +61,7 @@ def dense(nodes, entries, name):
     return out
 
 
-def chain(nodes, name, step):
+def chain(nodes: int, name: Any, step: Any) -> Any:
     """Node v needs node v + step, so that one node without a slice takes all others with it.
 
     The trust closure of the node at the other end is the whole chain, reached node by node.
@@ -72,7 +76,7 @@ def chain(nodes, name, step):
     return out
 
 
-def zigzag(nodes, entries):
+def zigzag(nodes: int, entries: Any) -> Any:
     """A chain whose next node stands in the upper and in the lower half of the names in turn, so that sweeps take out
     one each.
 
@@ -85,7 +89,7 @@ def zigzag(nodes, entries):
     return out
 
 
-def behind(nodes, share):
+def behind(nodes: int, share: Any) -> Any:
     """Each node needs one of the next `share` nodes by name, and the last has no quorum set.
 
     So the nodes fall from the last to the first, each when all that it names have fallen, and those that name one that
@@ -102,7 +106,7 @@ def behind(nodes, share):
     return out
 
 
-def write(path, nodes):
+def write(path: str, nodes: list[dict[str, Any]]) -> None:
     with open(path, "w") as file:
         json.dump(nodes, file, separators=(",", ":"))
 
@@ -126,7 +130,7 @@ FILES = {
 }
 
 
-def write_all(folder, names=FILES):
+def write_all(folder: str, names: Iterable[str] = FILES) -> None:
     os.makedirs(folder, exist_ok=True)
     for name in names:
         write(os.path.join(folder, name + ".json"), FILES[name]())

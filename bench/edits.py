@@ -5,9 +5,13 @@ prints it.
 What a script costs is the processor time of `whatif` with it less that with an empty script, which reads the same
 system and says what is so of it once; each is the least of three runs, and prints to /dev/null.
 """
+from __future__ import annotations
+
 import os
 import sys
 import tempfile
+from collections.abc import Callable, Iterator
+from typing import Any
 
 import configurations
 import reading
@@ -17,11 +21,11 @@ import runs
 TOO_HIGH = 99
 
 
-def names_of(system):
+def names_of(system: Any) -> list[str]:
     return [node["publicKey"] for node in system]
 
 
-def changing(system, count):
+def changing(system: list[dict[str, Any]], count: int) -> list[str]:
     """Edits of which each second one changes the greatest quorum.
 
     Of each four the first takes a node out of it and the third brings the node back; the second names that node once
@@ -40,7 +44,7 @@ def changing(system, count):
     return out
 
 
-def keeping(system, count):
+def keeping(system: list[dict[str, Any]], count: int) -> list[str]:
     """Edits that change no answer: a name more and the same name less, and the threshold of an inner quorum set down
     and up."""
     names, out = names_of(system), []
@@ -56,34 +60,34 @@ def keeping(system, count):
     return out
 
 
-def bringing(system, count, name):
+def bringing(system: list[dict[str, Any]], count: int, name: Callable[..., Any]) -> list[str]:
     """Edits that bring a name each: in turn a node with a quorum set, and an entry of a quorum set."""
     names = names_of(system)
     new = [name(len(names) + at) for at in range(count)]
     return [f"add {names[at % len(names)]} .0 {it}" if at % 2 else "declare " + it for at, it in enumerate(new)]
 
 
-def chained(nodes, name):
+def chained(nodes: int, name: Any) -> Any:
     """A chain in which each node needs the next one, and the last itself."""
     last = {"threshold": 1, "validators": [name(nodes - 1)], "innerQuorumSets": []}
     return configurations.chain(nodes, name, 1)[:-1] + [configurations.node(name(nodes - 1), last)]
 
 
-def toppling(system, count):
+def toppling(system: list[dict[str, Any]], count: int) -> Any:
     """Edits of the last node of a chain, which take all nodes out of the greatest quorum and bring them back in
     turn."""
     return [f"threshold {names_of(system)[-1]} . {at % 2 or 2}" for at in range(count)]
 
 
-def small():
+def small() -> list[dict[str, Any]]:
     return configurations.dense(202, 8_612, configurations.key)
 
 
-def large():
+def large() -> list[dict[str, Any]]:
     return configurations.dense(16_384, 983_040, configurations.short_key)
 
 
-def with_room():
+def with_room() -> Any:
     """Nearly as large, and a thousand nodes below the limit."""
     return configurations.dense(15_384, 980_000, configurations.short_key)
 
@@ -104,7 +108,7 @@ ROWS = [
 QUICK = 3
 
 
-def written(folder, row):
+def written(folder: str, row: tuple[str, Callable[..., Any], Callable[..., Any]]) -> tuple[str, str, int, str]:
     """Writes the system and the script of a row; gives their paths, how many edits there are, and a name of the
     system."""
     _, system_of, lines_of = row
@@ -117,7 +121,7 @@ def written(folder, row):
     return config, script, len(lines), names_of(system)[-1]
 
 
-def cost(program, config, script, names):
+def cost(program: str, config: str, script: str, names: str) -> tuple[runs.Run, float]:
     """The run of a script, and the seconds that it takes beyond reading."""
     with open(os.devnull, "wb") as out:
         ours, without = (
@@ -126,7 +130,7 @@ def cost(program, config, script, names):
     return ours, max(0.0, ours.seconds - without.seconds)
 
 
-def made(program, quick):
+def made(program: str, quick: bool) -> Iterator[str]:
     """The lines of the table, one by one."""
     yield from runs.head(["edits", "of them", "nodes", "entries", "s beyond reading", "memory, MB"])
     for row in ROWS[:QUICK] if quick else ROWS:
@@ -146,7 +150,7 @@ def made(program, quick):
             )
 
 
-def main(program):
+def main(program: str) -> None:
     for line in made(program, False):
         print(line, flush=True)
 

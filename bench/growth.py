@@ -1,6 +1,10 @@
 #!/usr/bin/env python3
 """Pictures of how times grow: a line a program, both axes by their logarithms, as SVG."""
+from __future__ import annotations
+
 import math
+from collections.abc import Iterator
+from typing import Any
 
 WIDTH, HEIGHT, LEFT, RIGHT, HIGH, LOW = 560, 320, 60, 130, 20, 40
 COLOURS = ["#1f6f43", "#b3541e", "#2b6cb0", "#7b4397"]
@@ -9,20 +13,20 @@ COLOURS = ["#1f6f43", "#b3541e", "#2b6cb0", "#7b4397"]
 class Axes:
     """Where a size and a time stand in the picture."""
 
-    def __init__(self, sizes, times):
+    def __init__(self, sizes: Any, times: Any) -> None:
         self.sizes = math.log(min(sizes)), math.log(max(sizes))
         self.times = math.floor(math.log10(min(times))), math.ceil(math.log10(max(times)))
 
-    def across(self, size):
+    def across(self, size: int) -> Any:
         low, high = self.sizes
         return LEFT + (math.log(size) - low) / (high - low) * (WIDTH - LEFT - RIGHT)
 
-    def up(self, seconds):
+    def up(self, seconds: float) -> Any:
         low, high = self.times
         return HEIGHT - LOW - (math.log10(seconds) - low) / (high - low) * (HEIGHT - LOW - HIGH)
 
 
-def grid(axes, sizes, label):
+def grid(axes: Any, sizes: Any, label: Any) -> Iterator[Any]:
     """The lines of the times, and the sizes below."""
     for power in range(axes.times[0], axes.times[1] + 1):
         y = axes.up(10**power)
@@ -35,7 +39,7 @@ def grid(axes, sizes, label):
     yield f'<text x="{(LEFT + WIDTH - RIGHT) / 2:.0f}" y="{HEIGHT - 4}" text-anchor="middle">{label}</text>'
 
 
-def line(axes, name, colour, points, y):
+def line(axes: Any, name: str, colour: Any, points: Any, y: Any) -> Iterator[Any]:
     """A program's times up to the first that did not end, which is drawn at its limit, by a broken line; its name at a
     height."""
     places = [(axes.across(size), axes.up(seconds)) for size, seconds, _ in points]
@@ -50,7 +54,7 @@ def line(axes, name, colour, points, y):
     yield f'<text x="{WIDTH - RIGHT + 8}" y="{y:.1f}" fill="{colour}">{said}</text>'
 
 
-def picture(title, label, lines):
+def picture(title: str, label: str, lines: dict[str, Any]) -> str:
     """The picture of some programs' times: for each name the sizes, the seconds and whether the run ended, in order of
     size."""
     cut = {}
@@ -76,7 +80,7 @@ def picture(title, label, lines):
     return "\n".join([*out, "</svg>"]) + "\n"
 
 
-def power(points):
+def power(points: Any) -> Any:
     """The exponent by which a quantity grows from the first size to the last."""
     (small, little), (large, much) = points[0], points[-1]
     return math.log(much / little) / math.log(large / small)

@@ -6,31 +6,38 @@ our run has listed; for quorums the subset-minimal answer sets of the system as 
 minimizes over these. It proves nothing, and gringo's time is not counted. A row has single runs: processor time and
 largest memory of the list with its certificate, and of `check`. Both numbers of sets have to agree.
 """
+from __future__ import annotations
+
 import json
 import os
 import re
 import subprocess
 import sys
 import tempfile
+from collections.abc import Iterator
+from typing import Any
 
 TOP = os.path.dirname(os.path.dirname(os.path.abspath(__file__)))
 sys.path[:0] = [os.path.join(TOP, "tests"), os.path.join(TOP, "bench")]
 import runs
 import watchers
 
+
 BUDGET = "1000000000"
 LIMIT = 300
 
 
-def quorum_set(threshold, validators, inner=()):
+def quorum_set(
+    threshold: int, validators: list[Any] | range, inner: tuple[()] | list[dict[str, Any]] = ()
+) -> dict[str, Any]:
     return {"threshold": threshold, "validators": [f"n{v:03d}" for v in validators], "innerQuorumSets": list(inner)}
 
 
-def network(nodes, wanted):
+def network(nodes: Any, wanted: dict[str, Any]) -> list[dict[str, Any]]:
     return [{"publicKey": f"n{v:03d}", "quorumSet": wanted} for v in range(nodes)]
 
 
-def organisations(count, needed, size, threshold):
+def organisations(count: int, needed: int, size: int, threshold: int) -> list[dict[str, Any]]:
     """All nodes want `needed` of `count` organisations, and `threshold` of the `size` nodes of each."""
     inner = [quorum_set(threshold, range(size * o, size * o + size)) for o in range(count)]
     return network(count * size, quorum_set(needed, [], inner))
@@ -57,18 +64,18 @@ LEAST = {
 }
 
 
-def owned(names, size):
+def owned(names: list[str], size: int) -> list[dict[str, Any]]:
     """Organisations of so many of the nodes each, in order."""
     return [{"id": f"o{at // size:04d}", "validators": names[at : at + size]} for at in range(0, len(names), size)]
 
 
-def grouped(count, needed, size, threshold):
+def grouped(count: int, needed: int, size: int, threshold: int) -> tuple[list[dict[str, Any]], list[dict[str, Any]]]:
     """The same organisations as nodes and as a file of them."""
     nodes = organisations(count, needed, size, threshold)
     return nodes, owned([node["publicKey"] for node in nodes], size)
 
 
-def apart(count, size):
+def apart(count: int, size: int) -> tuple[list[dict[str, Any]], list[dict[str, Any]]]:
     """Organisations that agree each by itself."""
     names = [f"n{v:05d}" for v in range(count * size)]
     wanted = [{"threshold": size - 1, "validators": names[at : at + size]} for at in range(0, count * size, size)]
@@ -88,7 +95,7 @@ class Listed:
     """An answer with its certificate: the number that is printed, the runs, the units, and the quorums of the
     certificate."""
 
-    def __init__(self, program, word, nodes, folder, orgs):
+    def __init__(self, program: str, word: str, nodes: list[dict[str, Any]], folder: str, orgs: Any) -> None:
         config, cert, given = (os.path.join(folder, it) for it in ("config", "cert", "orgs"))
         for path, tree in ((config, nodes), (given, orgs)):
             with open(path, "w") as it:
@@ -109,18 +116,21 @@ class Listed:
                 self.quorums += [words[2:]] if words[0] == "q" else []
 
 
-def hitting(names, quorums):
+def hitting(names: list[str], quorums: Any) -> str:
     """A logic program whose minimal answer sets are those that meet each quorum."""
     numbers = {name: i for i, name in enumerate(names)}
     met = [":- " + ", ".join(f"not v({numbers[name]})" for name in quorum) + "." for quorum in quorums]
     return "\n".join([f"{{v(0..{len(names) - 1})}}.", "#show v/1.", *met])
 
 
-def logic(nodes):
+def logic(nodes: list[dict[str, Any]]) -> Any:
     """A logic program whose answer sets are the quorums: the nodes of which in(..) holds."""
-    numbers, out, sets, known = {node["publicKey"]: i for i, node in enumerate(nodes)}, [], [], {}
+    numbers = {node["publicKey"]: i for i, node in enumerate(nodes)}
+    out = []
+    sets: list[Any] = []
+    known: dict[str, Any] = {}
 
-    def name(wanted):
+    def name(wanted: dict[str, Any]) -> Any:
         at = len(sets)
         sets.append(None)
         inner = [name(it) for it in wanted.get("innerQuorumSets") or []]
@@ -143,7 +153,7 @@ def logic(nodes):
     return "\n".join(out) + "\nany :- in(X). :- not any. #show in/1.\n"
 
 
-def clasp(program, options, word, wanted):
+def clasp(program: str, options: Any, word: str, wanted: Any) -> Any:
     """Clasp's run on a logic program, which has to print the same number."""
     ground = subprocess.run(["gringo"], input=program, capture_output=True, text=True, check=True).stdout
     made = runs.run(["clasp", "0", "--quiet=2", *options], LIMIT, ground)
@@ -153,26 +163,26 @@ def clasp(program, options, word, wanted):
     return made
 
 
-def minimal(program, mod, wanted):
+def minimal(program: str, mod: Any, wanted: Any) -> Any:
     """Its run to all minimal answer sets."""
     return clasp(program, ["--heuristic=Domain", "--enum-mode=domRec", "--dom-mod=" + mod], "Models", wanted)
 
 
-def smallest(program, wanted):
+def smallest(program: str, wanted: Any) -> Any:
     """Its run to an answer set with as few nodes as any, core-guided."""
     return clasp(program + "#minimize { 1,X : in(X) }.\n", ["--opt-strategy=usc"], "Optimization", wanted)
 
 
-def by_group(quorums, orgs):
+def by_group(quorums: Any, orgs: list[dict[str, Any]]) -> Any:
     """The organisations that have a node in each quorum, and its nodes that are in none."""
-    owners = {}
+    owners: dict[str, Any] = {}
     for org in orgs:
         for name in org["validators"]:
             owners.setdefault(name, []).append("org:" + org["id"])
     return [sorted({text for name in quorum for text in owners.get(name, ["node:" + name])}) for quorum in quorums]
 
 
-def beside(word, nodes, it, orgs):
+def beside(word: str, nodes: list[dict[str, Any]], it: Any, orgs: Any) -> Any:
     """Clasp's run on the same question."""
     if word == "quorums":
         return minimal(logic(nodes), "5,16", it.sets)
@@ -182,7 +192,7 @@ def beside(word, nodes, it, orgs):
     return minimal(hitting(sorted({name for quorum in quorums for name in quorum}), quorums), "false,show", it.sets)
 
 
-def listed(program, word, name, nodes, orgs=None):
+def listed(program: str, word: str, name: str, nodes: list[dict[str, Any]], orgs: Any = None) -> Any:
     with tempfile.TemporaryDirectory(dir=runs.MEMORY) as folder:
         it = Listed(program, word, nodes, folder, orgs)
     if not it.run.ended:
@@ -200,7 +210,7 @@ def listed(program, word, name, nodes, orgs=None):
     return runs.row([*cells, runs.beside(it.run, its)])
 
 
-def made(program, quick):
+def made(program: str, quick: Any) -> Iterator[Any]:
     """The lines of the tables, one by one."""
     for word, systems in (("blocking", BLOCKING), ("org-blocking", ORGS), ("quorums", QUORUMS), ("least", LEAST)):
         yield from runs.head(
@@ -215,6 +225,6 @@ def made(program, quick):
                 "clasp, s",
             ]
         )
-        for name in list(systems)[: 1 if quick else None]:
-            yield listed(program, word, name, *(systems[name] if word == "org-blocking" else (systems[name],)))
+        for name in list(systems)[: 1 if quick else None]:  # type: ignore[call-overload]
+            yield listed(program, word, name, *(systems[name] if word == "org-blocking" else (systems[name],)))  # type: ignore[index]  # noqa: E501
         yield ""

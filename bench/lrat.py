@@ -18,6 +18,8 @@ about. In `pairs` the formula says that x1 implies x2, x2 implies x3, and so on,
 implications of them. In `sets` each of many groups has the clause `a1 .. a10`, and each ai is equivalent to its bi;
 the lemmas are the clause with some of its literals put for their equivalents, one more or less from lemma to lemma.
 """
+from __future__ import annotations
+
 import os
 import subprocess
 import sys
@@ -33,7 +35,7 @@ VARIABLES = 19
 CLAUSES = 10
 
 
-def group(number):
+def group(number: int) -> Any:
     """The clauses of a group: ten literals x, and the chain of literals y."""
     first = number * VARIABLES + 1
     x = list(range(first, first + 10))
@@ -45,11 +47,11 @@ def group(number):
     return x, clauses
 
 
-def words(numbers):
+def words(numbers: Any) -> str:
     return " ".join(str(number) for number in numbers)
 
 
-def write(path, additions, kept):
+def write(path: str, additions: Any, kept: Any) -> Any:
     """A log of this many additions. Where `kept` is a number, each lemma is deleted when so many others came after
     it."""
     groups = [group(number) for number in range(GROUPS)]
@@ -73,7 +75,7 @@ def write(path, additions, kept):
     return given
 
 
-def write_lines(path, clauses, lemmas):
+def write_lines(path: str, clauses: Any, lemmas: Any) -> Any:
     """A formula, and lemmas with their hints behind it. Gives the number of clauses and of lemmas."""
     last = 0
     with open(path, "w") as log:
@@ -87,13 +89,13 @@ def write_lines(path, clauses, lemmas):
     return given, last - given
 
 
-def write_pairs(path, additions):
+def write_pairs(path: str, additions: Any) -> Any:
     """About so many implications. Gives the numbers of variables and clauses."""
     count = 3
     while (count - 1) * (count - 2) // 2 < additions:
         count += 1
 
-    def lemmas():
+    def lemmas() -> Iterator[Any]:
         last = count - 1
         for i in range(1, count - 1):
             before = i
@@ -106,7 +108,7 @@ def write_pairs(path, additions):
     return count, given
 
 
-def write_sets(path, additions):
+def write_sets(path: str, additions: Any) -> Any:
     """About so many lemmas, in groups of 1,023. Gives the numbers of variables and clauses."""
     groups = additions // 1023
     clauses = []
@@ -116,7 +118,7 @@ def write_sets(path, additions):
         for x in a:
             clauses += [[-x, x + 10], [x, -x - 10]]
 
-    def lemmas():
+    def lemmas() -> Iterator[Any]:
         last = len(clauses)
         for number in range(groups):
             lits = list(range(number * 20 + 1, number * 20 + 11))
@@ -133,13 +135,13 @@ def write_sets(path, additions):
     return groups * 20, given
 
 
-def write_definitions(path, additions):
+def write_definitions(path: str, additions: Any) -> Any:
     """About so many lemmas over a formula of a tenth as many clauses. Gives the numbers of variables and clauses."""
     clauses = [[x, x + 1, x + 2] for x in range(1, additions // 10 + 1)]
     variables = len(clauses) + 2
     definitions = additions // 3
 
-    def lemmas():
+    def lemmas() -> Iterator[Any]:
         last = len(clauses)
         for number in range(definitions):
             z, a = variables + number + 1, number % (variables - 1) + 1
@@ -152,7 +154,7 @@ def write_definitions(path, additions):
     return variables + definitions, given
 
 
-def run(path, arguments):
+def run(path: str, arguments: Any) -> Any:
     """The least processor time of three runs, the largest memory in MB, and what was printed."""
     best, most, text = None, 0, b""
     for _ in range(3):
@@ -167,7 +169,7 @@ def run(path, arguments):
     return best, most, " ".join(text.decode().split())
 
 
-def main():
+def main() -> None:
     folder = sys.argv[1] if len(sys.argv) > 1 else "/tmp/gemzulat-bench"
     additions = int(sys.argv[2]) if len(sys.argv) > 2 else 1_000_000
     os.makedirs(folder, exist_ok=True)

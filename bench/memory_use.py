@@ -4,9 +4,13 @@ its stack.
 
 A run that takes no more than SMALL megabytes has no row.
 """
+from __future__ import annotations
+
 import os
 import sys
 import tempfile
+from collections.abc import Iterator
+from typing import Any
 
 TOP = os.path.dirname(os.path.dirname(os.path.abspath(__file__)))
 sys.path[:0] = [os.path.join(TOP, "tests"), os.path.join(TOP, "bench")]
@@ -14,15 +18,16 @@ import malicious
 import memory
 import runs
 
+
 SMALL = 100
 
 
-def right(ended, answer, name):
+def right(ended: Any, answer: Any, name: str) -> None:
     if (ended.status, ended.text) != answer:
         raise SystemExit(f"{name}: status {ended.status}, {ended.text[:100]!r}")
 
 
-def show(trial, name, data, text):
+def show(trial: memory.Trial, name: str, data: bytes, text: str) -> Any:
     trial.put("config", data)
     ended = memory.Ended([trial.program, "show", "config"], trial.folder)
     right(ended, (0, text), name)
@@ -32,14 +37,14 @@ def show(trial, name, data, text):
     )
 
 
-def check(trial, name, pieces, answer):
+def check(trial: memory.Trial, name: str, pieces: Any, answer: Any) -> Any:
     trial.put("config", malicious.TWO)
     ended = memory.Ended([trial.program, "check", "config", "/dev/stdin"], trial.folder, pieces=pieces)
     right(ended, answer, name)
     return ended.memory, runs.row(["`check`, " + name, f"{ended.memory:.0f}", f"{ended.time:.2f}", "-", "-"])
 
 
-def stack_line(trial):
+def stack_line(trial: memory.Trial) -> str:
     rows = trial.stack_rows()
     for size, less in zip(memory.STACKS, memory.STACKS[1:]):
         bad = trial.fails_under(less, rows)
@@ -51,7 +56,7 @@ def stack_line(trial):
     return f"Under a stack of {memory.STACKS[-1]} kB every file is answered."
 
 
-def measured(trial, quick):
+def measured(trial: memory.Trial, quick: Any) -> Iterator[Any]:
     """The largest memory of each run, and its row."""
     configurations = list(memory.configurations())
     for name, data, text in configurations[-1:] if quick else configurations:
@@ -60,7 +65,7 @@ def measured(trial, quick):
         yield check(trial, name, pieces, answer)
 
 
-def made(program, quick):
+def made(program: str, quick: Any) -> Iterator[Any]:
     """The lines of the table, one by one."""
     yield from runs.head(["run", "memory, MB", "s", "`jq`: MB", "s"])
     with tempfile.TemporaryDirectory() as folder:

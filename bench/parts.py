@@ -8,11 +8,15 @@ set, and those there are taken. BESIDE names other programs that check the same 
 as "before=PATH"; each gets three columns. JOBS rows are made at a time, one without it; a run ends after LIMIT seconds
 of processor time.
 """
+from __future__ import annotations
+
 import json
 import multiprocessing
 import os
 import tempfile
+from collections.abc import Iterator
 from dataclasses import dataclass
+from typing import Any
 
 import growth
 import lists
@@ -52,7 +56,7 @@ class Searched:
     literals: int
     size: int
 
-    def check(self, program):
+    def check(self, program: str) -> Any:
         """The run of `check` of least processor time."""
         words = [program, "check", self.config, self.cert]
         least = runs.run(words, LIMIT)
@@ -63,7 +67,7 @@ class Searched:
         return least
 
 
-def lemmas_of(cert):
+def lemmas_of(cert: Any) -> tuple[int, int]:
     """The number of lemmas of a certificate, and of their literals; a set that is listed is one too."""
     lemmas = literals = 0
     with open(cert, "rb") as it:
@@ -75,7 +79,7 @@ def lemmas_of(cert):
     return lemmas, literals
 
 
-def searched(program, system, budget, folder):
+def searched(program: str, system: str, budget: int, folder: str) -> Any:
     """The search of a system up to a budget, or what an earlier run left of it."""
     command = "blocking" if system in lists.BLOCKING else "intersect"
     stem = os.path.join(folder, "".join(it if it.isalnum() else "-" for it in f"{system} {budget}"))
@@ -87,7 +91,8 @@ def searched(program, system, budget, folder):
         if not made.ended:
             raise SystemExit(f"{system}: the search did not end")
         os.rename(cert + ".new", cert)
-    return Searched(system, config, cert, *lemmas_of(cert), os.path.getsize(cert))
+    lemmas, literals = lemmas_of(cert)
+    return Searched(system, config, cert, lemmas, literals, os.path.getsize(cert))
 
 
 @dataclass
@@ -98,12 +103,12 @@ class Pair:
     whole: Searched
     checks: list
 
-    def times(self, part_check, whole_check):
+    def times(self, part_check: Any, whole_check: Any) -> str:
         """How many times as long as a byte of the whole one a byte of the part takes."""
         ratio = (part_check.seconds / self.part.size) / (whole_check.seconds / self.whole.size)
         return f"{'' if part_check.ended else 'over '}{ratio:.1f}"
 
-    def row(self):
+    def row(self) -> Any:
         it = self.part
         cells = [
             it.system,
@@ -118,7 +123,7 @@ class Pair:
         return runs.row([*cells, self.checks[0][0].memory])
 
 
-def measured(task):
+def measured(task: Any) -> Any:
     """A pair, made of a program, a row of PAIRS and a folder."""
     program, (system, budget, whole_system), folder = task
     part = searched(program, system, budget, folder)
@@ -128,7 +133,7 @@ def measured(task):
     return Pair(part, whole, list(zip(part_checks, [whole.check(it) for it in programs])))
 
 
-def growth_line(system, pairs):
+def growth_line(system: Any, pairs: Any) -> str:
     """How the time of each program grows from the smallest part of a system to the largest."""
     powers = []
     for at, name in enumerate(("`check`", *BESIDE)):
@@ -142,7 +147,7 @@ def growth_line(system, pairs):
     return f"On `{system}` time grows: {', '.join(powers)}."
 
 
-def made(program, quick):
+def made(program: str, quick: Any) -> Iterator[Any]:
     """The lines of the table, one by one."""
     head = ["part of", "lemmas", "literals each", "MB", "whole, MB", "`check`, s", "whole, s", "times"]
     for name in BESIDE:

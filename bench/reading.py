@@ -1,9 +1,13 @@
 #!/usr/bin/env python3
 """The table of reading: `show` beside `jq -c length` on generated configurations, the least processor time of five
 runs."""
+from __future__ import annotations
+
 import json
 import os
 import tempfile
+from collections.abc import Iterator
+from typing import Any
 
 import configurations
 import runs
@@ -11,10 +15,10 @@ import runs
 FILES = ["whole", "long-keys", "zigzag-even", "behind"]
 
 
-def counted(path):
+def counted(path: str) -> tuple[int, int]:
     """How many nodes a configuration has, and how many entries in all."""
 
-    def entries(quorum_set):
+    def entries(quorum_set: dict[str, Any]) -> int:
         inner = quorum_set.get("innerQuorumSets") or []
         return len(quorum_set.get("validators") or []) + len(inner) + sum(map(entries, inner))
 
@@ -23,7 +27,7 @@ def counted(path):
     return len(nodes), sum(entries(node["quorumSet"]) for node in nodes if node.get("quorumSet"))
 
 
-def made(program, quick):
+def made(program: str, quick: Any) -> Iterator[Any]:
     """The lines of the table, one by one."""
     yield from runs.head(
         ["file", "nodes", "entries", "MB", "`show`, s", "its memory, MB", "`jq`, s", "its memory, MB"]

@@ -5,6 +5,8 @@ The page of examples/network.json with its certificates, and those of the networ
 certificates are not kept. The pictures need Chromium (Debian's package of that name). Wants some minutes.
 """
 
+from __future__ import annotations
+
 import os
 import shutil
 import subprocess
@@ -25,7 +27,7 @@ KINDS = [*watchers.KINDS, "split"]
 PICTURES = {"network": 905, "split": 1085}
 
 
-def report(page, config, orgs, *words):
+def report(page: str, config: str, orgs: str, *words: str) -> None:
     subprocess.run(
         [browser.TOOL, config, "--orgs", orgs, *words, "-o", page, "--program", browser.PROGRAM],
         check=True,
@@ -33,7 +35,7 @@ def report(page, config, orgs, *words):
     )
 
 
-def picture(chromium, name):
+def picture(chromium: str, name: str) -> None:
     with tempfile.TemporaryDirectory() as profile:
         shown = browser.Browser(chromium, profile)
         shown.open(os.path.join(REPORTS, name + ".html"), 1060, "light")
@@ -41,7 +43,7 @@ def picture(chromium, name):
         shown.end()
 
 
-def main():
+def main() -> int:
     examples = os.path.join(TOP, "examples")
     report(
         os.path.join(REPORTS, "network.html"),

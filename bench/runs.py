@@ -1,12 +1,15 @@
 #!/usr/bin/env python3
 """A run of a program: what it prints, its processor time and its largest memory; and the cells of tables made of
 these."""
+from __future__ import annotations
+
 import os
 import shutil
 import subprocess
 import sys
 import tempfile
 from dataclasses import dataclass
+from typing import Any, BinaryIO
 
 TOP = os.path.dirname(os.path.dirname(os.path.abspath(__file__)))
 sys.path.append(os.path.join(TOP, "tests"))
@@ -60,26 +63,26 @@ def run(words, limit=MOST_SECONDS, given="", out=None):
     return Run(text, took, memory, not os.WIFSIGNALED(ended), limit)
 
 
-def least(words, times=5, out=None):
+def least(words: list[str], times: int = 5, out: BinaryIO | None = None) -> Run:
     """The run of least processor time of some, which other work on the machine hardly changes."""
     return min((run(words, out=out) for _ in range(times)), key=lambda it: it.seconds)
 
 
-def has(tool):
+def has(tool: str) -> bool:
     return shutil.which(tool) is not None
 
 
 # ---- cells
 
 
-def seconds(it):
+def seconds(it: Run) -> str:
     """A time in seconds, or that it did not end."""
     if not it.ended:
         return f"over {it.limit}"
     return f"{it.seconds:.3f}" if it.seconds < 0.1 else f"{it.seconds:.2f}"
 
 
-def beside(ours, its):
+def beside(ours: Run, its: Run | None) -> str:
     """Another program's time, and in brackets how many times it ours is, unless one did not end or both are too short
     to compare."""
     if its is None:
@@ -90,13 +93,13 @@ def beside(ours, its):
     return "%s (%s)" % (seconds(its), f"{ratio:.0f}" if ratio >= 10 else f"{ratio:.2g}")
 
 
-def megabytes(count):
+def megabytes(count: int) -> str:
     return f"{count / 1e6:.1f}" if count < 10e6 else f"{count / 1e6:.0f}"
 
 
-def row(cells):
+def row(cells: Any) -> str:
     return "| " + " | ".join(str(it) for it in cells) + " |"
 
 
-def head(cells):
+def head(cells: list[str]) -> list[str]:
     return [row(cells), "|---" * len(cells) + "|"]

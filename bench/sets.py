@@ -5,10 +5,13 @@ Builds crates/sets_bench (with its proofs, some minutes the first time), and pri
 nodes, and for each call of the systems of `bench/configurations.py` that are written into FOLDER, the least processor
 time of three runs of many calls, of which what the rounds themselves cost, or the reading, is taken off.
 """
+from __future__ import annotations
+
 import os
 import resource
 import subprocess
 import sys
+from typing import Any
 
 TOP = os.path.dirname(os.path.dirname(os.path.abspath(__file__)))
 CRATE = os.path.join(TOP, "crates", "sets_bench")
@@ -30,7 +33,7 @@ ROUNDS = 1_000_000
 SYSTEM_ROUNDS = 10
 
 
-def spent(words, path=os.devnull):
+def spent(words: list[str], path: str = os.devnull) -> Any:
     """The least processor time of three runs, in seconds."""
     best = None
     for _ in range(3):
@@ -43,7 +46,7 @@ def spent(words, path=os.devnull):
     return best
 
 
-def main():
+def main() -> None:
     folder = sys.argv[1] if len(sys.argv) > 1 else "/tmp/gemzulat-bench"
     subprocess.run(["rt", "run"], cwd=CRATE, stdout=subprocess.DEVNULL, check=True)
     subprocess.run([os.path.join(TOP, "bench", "configurations.py"), folder], check=True)

@@ -11,6 +11,8 @@ literal; of random formulas the sums. A run ends after LIMIT seconds of processo
 formula, the search and the check of the log; the others (Debian's packages) run with their own settings. Each model of
 ours is checked here, each refutation by the proved checker.
 """
+from __future__ import annotations
+
 import json
 import os
 import random
@@ -18,6 +20,7 @@ import re
 import resource
 import subprocess
 import sys
+from typing import Any
 
 TOP = os.path.dirname(os.path.dirname(os.path.abspath(__file__)))
 sys.path.insert(0, os.path.join(TOP, "tests"))
@@ -36,11 +39,11 @@ OTHERS = {
 }
 
 
-def limit():
+def limit() -> None:
     resource.setrlimit(resource.RLIMIT_CPU, (LIMIT, LIMIT + 1))
 
 
-def timed(words, good):
+def timed(words: list[str], good: Any) -> Any:
     """The output of a run, or None where it did not end in time, and its processor time. `good` are the statuses of
     answers."""
     before = resource.getrusage(resource.RUSAGE_CHILDREN)
@@ -52,12 +55,12 @@ def timed(words, good):
     return (run.stdout if run.returncode in good else None), seconds
 
 
-def clauses_of(path):
+def clauses_of(path: str) -> Any:
     with open(path) as file:
         return [[int(word) for word in line.split()][:-1] for line in file if line[0] not in "cp"]
 
 
-def ours(path):
+def ours(path: str) -> Any:
     """The verdict, the lemmas and the time of our solver on a file."""
     output, seconds = timed([PROGRAM, "file", path], [0])
     if output is None:
@@ -72,7 +75,7 @@ def ours(path):
     return verdict, int(re.search(r"lemmas (\d+)", output).group(1)), seconds
 
 
-def other(name, path):
+def other(name: str, path: str) -> Any:
     """The conflicts and the time of another solver on a file."""
     words, pattern = OTHERS[name]
     output, seconds = timed(words + [path], [10, 20])
@@ -82,7 +85,7 @@ def other(name, path):
     return (int(found.group(1)) if found else 0), seconds
 
 
-def row(name, paths):
+def row(name: Any, paths: list[str]) -> None:
     answers = [ours(path) for path in paths]
     verdicts = sorted(set(answer[0] for answer in answers))
     cells = [
@@ -97,12 +100,12 @@ def row(name, paths):
     print("| " + " | ".join(str(cell) for cell in cells) + " |", flush=True)
 
 
-def total(numbers):
+def total(numbers: Any) -> Any:
     numbers = list(numbers)
     return "did not end" if None in numbers else sum(numbers)
 
 
-def trial(organisations):
+def trial(organisations: Any) -> Any:
     """The trial configuration: three nodes each, of which two speak for the organisation; more than two thirds of
     all."""
     inner = [{"threshold": 2, "validators": [f"t{3 * i + j:03d}" for j in range(3)]} for i in range(organisations)]
@@ -112,7 +115,7 @@ def trial(organisations):
     ).encode()
 
 
-def written(folder, name, config, version):
+def written(folder: str, name: str, config: Any, version: int) -> Any:
     """The formula of a configuration in a version, written by the plain checker of the tests."""
     path = os.path.join(folder, f"{name}-{version}.cnf")
     formula = plain_checker.Formula(plain_checker.system_of(config), set(), version)
@@ -123,7 +126,7 @@ def written(folder, name, config, version):
     return path
 
 
-def random_formula(folder, seed):
+def random_formula(folder: str, seed: int) -> Any:
     """A formula of three different variables a clause, each negated or not."""
     path = os.path.join(folder, f"random-{seed}.cnf")
     choice = random.Random(seed)
@@ -136,7 +139,7 @@ def random_formula(folder, seed):
     return path
 
 
-def main():
+def main() -> None:
     folder = sys.argv[1] if len(sys.argv) > 1 else "/tmp/solver_bench"
     os.makedirs(folder, exist_ok=True)
     subprocess.run(["rt", "run", "--", "2"], cwd=CRATE, check=True, capture_output=True)

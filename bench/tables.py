@@ -20,10 +20,13 @@ program built by ./quorum_cli, and Debian's packages jq, minisat, cadical, crypt
 that is missing has a `-`. With --quick a part has a few small rows, takes less than a minute, and is printed; no file
 is changed.
 """
+from __future__ import annotations
+
 import os
 import re
 import sys
 import time
+from typing import Any, TYPE_CHECKING
 
 import certificates
 import edits
@@ -33,6 +36,9 @@ import parts
 import reading
 import runs
 import trials
+
+if TYPE_CHECKING:
+    from network_page.findings import Part
 
 PARTS = {
     "reading": reading.made,
@@ -47,24 +53,24 @@ PARTS = {
 DOCUMENT = os.path.join(runs.TOP, "docs", "PERFORMANCE.md")
 
 
-def text_of(path):
+def text_of(path: str) -> Any:
     with open(path, encoding="utf-8") as it:
         return it.read()
 
 
-def write(path, text):
+def write(path: str, text: str) -> None:
     with open(path, "w", encoding="utf-8") as it:
         it.write(text)
 
 
-def machine():
+def machine() -> str:
     """The processor and how many there are."""
     names = re.findall(r"^model name\s*: (.*)$", text_of("/proc/cpuinfo"), re.M)
     name = re.sub(r"\(R\)|\(TM\)|\b(CPU|Processor)\b|@", "", names[0]) if names else os.uname().machine
     return f"{os.cpu_count()} × {' '.join(name.split())}"
 
 
-def caption(part):
+def caption(part: Part) -> Any:
     """The command, the version, the day, the machine and its load."""
     return "`bench/tables.py %s`: version %s, %s, %s, load %.1f." % (
         part,
@@ -75,7 +81,7 @@ def caption(part):
     )
 
 
-def made(part, quick):
+def made(part: Any, quick: Any) -> Any:
     """The lines of a part, and its pictures by their names."""
     out, pictures = [caption(part), ""], {}
     for line in PARTS[part](runs.PROGRAM, quick):
@@ -87,7 +93,7 @@ def made(part, quick):
     return "\n".join(out).rstrip("\n"), pictures
 
 
-def put(part, text):
+def put(part: Any, text: str) -> None:
     """Puts the lines of a part into the document, between its two marks."""
     marks = re.compile(rf"(<!-- tables.py {part} -->\n).*?(\n<!-- end -->)", re.S)
     document = text_of(DOCUMENT)
@@ -96,7 +102,7 @@ def put(part, text):
     write(DOCUMENT, marks.sub(lambda found: found[1] + text + found[2], document))
 
 
-def main(words):
+def main(words: list[str]) -> int:
     quick = words[:1] == ["--quick"]
     asked = words[quick:] or list(PARTS)
     if not set(asked) <= set(PARTS):

@@ -11,6 +11,8 @@ of the search with its certificate on a file in memory, and of `check`; then the
 packages, their own settings) on the formula that `export` writes. A run ends after SECONDS of processor time. Answers
 that differ end the script with status 1.
 """
+from __future__ import annotations
+
 import json
 import math
 import os
@@ -18,6 +20,8 @@ import random
 import re
 import sys
 import tempfile
+from collections.abc import Iterator
+from typing import Any
 
 TOP = os.path.dirname(os.path.dirname(os.path.abspath(__file__)))
 sys.path[:0] = [os.path.join(TOP, "tests"), os.path.join(TOP, "bench")]
@@ -25,6 +29,7 @@ import growth
 import organisations
 import runs
 import watchers
+
 
 SEARCHES = (
     "16 watchers:seven watchers:split random:40:10:6:1 random:40:12:7:1 random:50:10:6:1 "
@@ -49,12 +54,12 @@ SOLVERS = {
 LIMIT = 20
 
 
-def is_trial(system):
+def is_trial(system: str) -> bool:
     """Whether `trial` makes the system itself."""
     return system.isdigit() and int(system) <= 100
 
 
-def trial(count):
+def trial(count: Any) -> str:
     """The trial configuration of `count` organisations of three nodes, as the program's text."""
     names = [f"t{i:03d}" for i in range(3 * count)]
     inner = [{"innerQuorumSets": [], "threshold": 2, "validators": names[i : i + 3]} for i in range(0, 3 * count, 3)]
@@ -62,19 +67,19 @@ def trial(count):
     return json.dumps([{"publicKey": name, "quorumSet": common} for name in names], separators=(",", ":"))
 
 
-def drawn(nodes, size, threshold, seed):
+def drawn(nodes: int, size: int, threshold: int, seed: int) -> str:
     """A configuration in which each node wants `threshold` of itself and `size - 1` others, drawn at random."""
     choice = random.Random(seed)
     names = [f"n{i:03d}" for i in range(nodes)]
 
-    def quorum_set(name):
+    def quorum_set(name: str) -> dict[str, Any]:
         others = choice.sample([it for it in names if it != name], size - 1)
         return {"threshold": threshold, "validators": sorted([name, *others]), "innerQuorumSets": []}
 
     return json.dumps([{"publicKey": name, "quorumSet": quorum_set(name)} for name in names])
 
 
-def configuration(system):
+def configuration(system: Any) -> str:
     if system.isdigit():
         return trial(int(system))
     kind, *arguments = system.split(":")
@@ -91,7 +96,7 @@ def configuration(system):
 class Asked:
     """A system with what the program and the solvers made of it: runs, the lemmas and the bytes of the certificate."""
 
-    def __init__(self, program, system, solvers, limit, folder):
+    def __init__(self, program: str, system: str, solvers: dict[str, list[str]], limit: int, folder: str) -> None:
         config, cnf, self.cert = (os.path.join(folder, name) for name in ("config", "cnf", "cert"))
         with open(config, "w", encoding="utf-8") as it:
             it.write(configuration(system))
@@ -109,7 +114,7 @@ class Asked:
                 raise SystemExit(f"{system}: export did not end")
         self.others = {name: self.asked(name, cnf, limit) if runs.has(SOLVERS[name][0]) else None for name in solvers}
 
-    def counted(self):
+    def counted(self) -> Any:
         if not self.search.ended:
             return "-", 0
         with open(self.cert, "rb") as it:
@@ -118,7 +123,7 @@ class Asked:
             )
         return lemmas, os.path.getsize(self.cert)
 
-    def asked(self, name, cnf, limit):
+    def asked(self, name: str, cnf: str, limit: int) -> runs.Run:
         """Another solver's run, whose answer is ours."""
         made = runs.run([it.format(cnf) for it in SOLVERS[name]], limit)
         verdict = re.search(r"\b(UN)?SATISFIABLE\b", made.text)
@@ -128,7 +133,7 @@ class Asked:
         made.ended = made.ended and verdict is not None
         return made
 
-    def row(self):
+    def row(self) -> str:
         answer = re.search(r"^intersects (\w+)", self.search.text, re.M)
         name = os.path.basename(self.system) + (" (no)" if answer and answer.group(1) == "no" else "")
         cells = [
@@ -142,22 +147,22 @@ class Asked:
         return runs.row(cells + [runs.beside(self.search, it) for it in self.others.values()])
 
 
-def asked(program, system, solvers=SOLVERS, limit=LIMIT):
+def asked(program: str, system: str, solvers: Any = SOLVERS, limit: int = LIMIT) -> Asked:
     with tempfile.TemporaryDirectory(dir=runs.MEMORY) as folder:
         return Asked(program, system, solvers, limit, folder)
 
 
-def head():
+def head() -> list[str]:
     return runs.head(
         ["system", "lemmas", "s", "MB", "certificate, MB", "`check`, s", *(name + ", s" for name in SOLVERS)]
     )
 
 
-def point(size, it):
+def point(size: int, it: runs.Run) -> Any:
     return size, it.seconds if it.ended else it.limit, it.ended
 
 
-def lines(found):
+def lines(found: Any) -> Any:
     """For the pictures: of each program its times by the size, which is the first number in a system's name."""
     sized = sorted((int(re.search(r"\d+", it.system).group()), it) for it in found)
     out = {"quorum_cli": [point(size, it.search) for size, it in sized]}
@@ -166,7 +171,7 @@ def lines(found):
     return out
 
 
-def mean_line(program, systems):
+def mean_line(program: str, systems: Any) -> str:
     """The geometric mean of our time to minisat's over random systems."""
     ratios = []
     for system in systems:
@@ -183,7 +188,7 @@ def mean_line(program, systems):
     )
 
 
-def searches(program, quick):
+def searches(program: str, quick: Any) -> Iterator[Any]:
     """The lines of the table of searches; and the picture of random systems by nodes."""
     yield from head()
     found = []
@@ -201,7 +206,7 @@ def searches(program, quick):
         )
 
 
-def growth_line(found):
+def growth_line(found: Any) -> Any:
     """How lemmas, bytes and time grow from the first of these trials to the last."""
     if len(found) < 2:
         return "Of the trials fewer than two ended."
@@ -217,7 +222,7 @@ def growth_line(found):
     )
 
 
-def networks(program, quick):
+def networks(program: str, quick: Any) -> Iterator[Any]:
     """The lines of the table of networks of organisations, how they grow, and the picture of that."""
     yield from head()
     found = []
@@ -232,7 +237,7 @@ def networks(program, quick):
     )
 
 
-def main(words):
+def main(words: list[str]) -> None:
     limit = runs.MOST_SECONDS
     if words[:1] == ["--limit"]:
         limit, words = int(words[1]), words[2:]

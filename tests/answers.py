@@ -7,11 +7,15 @@ folder of its own with the files config, cert, orgs and script, of which those t
 search writes is checked, beside the same organisations. Its last line is 'answers: N passed, M failed'.
 """
 
+from __future__ import annotations
+
 import collections
 import os
 import subprocess
 import sys
 import tempfile
+from collections.abc import Callable, Iterable, Iterator
+from typing import Any
 
 TOP = os.path.dirname(os.path.dirname(os.path.abspath(__file__)))
 
@@ -60,7 +64,7 @@ ROTATED = system(NUMBERED, 100, is_rotated=True)
 LEFT_OUT = system(NUMBERED, 100, leaves_out=True)
 
 
-def alone(names):
+def alone(names: Iterable[str]) -> str:
     """Nodes that each need themselves alone."""
     return (
         "["
@@ -69,27 +73,27 @@ def alone(names):
     )
 
 
-def alike(names, quorum_set):
+def alike(names: list[str], quorum_set: str) -> str:
     """Nodes that have one quorum set."""
     return "[" + ",".join(f'{{"publicKey":"{it}","quorumSet":{quorum_set}}}' for it in names) + "]"
 
 
-def behind(count, node):
+def behind(count: int, node: str) -> str:
     """So many nodes without quorum sets, and another."""
     return "[" + "".join(f'{{"publicKey":"n{it}"}},' for it in range(count)) + node + "]"
 
 
-def with_set(quorum_set):
+def with_set(quorum_set: str) -> str:
     """Node x, with this quorum set."""
     return f'[{{"publicKey":"x","quorumSet":{quorum_set}}}]'
 
 
-def nested(count):
+def nested(count: int) -> str:
     """A quorum set of no entries inside so many others."""
     return '{"threshold":1,"innerQuorumSets":[' * count + '{"threshold":1}' + "]}" * count
 
 
-def validators(names):
+def validators(names: list[str]) -> str:
     return with_set('{"threshold":1,"validators":[%s]}' % ",".join(f'"{it}"' for it in names))
 
 
@@ -1007,15 +1011,15 @@ SHARED_INNER = (
 )
 
 
-def numbered_ids(count):
+def numbered_ids(count: int) -> str:
     return "[" + ",".join(f'{{"id":"o{it}"}}' for it in range(count)) + "]"
 
 
-def certificate(config, version, kind, body, start="from\nfaulty\n"):
+def certificate(config: str, version: int, kind: str, body: str, start: str = "from\nfaulty\n") -> str:
     return f"fbas-cert {version}\nconfig {sha256(config)}\n{start}kind {kind}\n{body}"
 
 
-def beside(orgs, kind, body):
+def beside(orgs: str, kind: str, body: str) -> str:
     """A certificate of this kind for THREE beside organisations."""
     return certificate(THREE, 2, kind, f"orgs {sha256(orgs)}\n{body}")
 
@@ -1026,18 +1030,20 @@ Row = collections.namedtuple("Row", "words files status text accepted holds")
 LIST_OF_GROUPS = beside(TOGETHER, "org-blocking", "q 1 a b\nb 2 org:A\n3 0 1 2 0\nend\n")
 
 
-def row(words, status, text, accepted=None, holds=None, **files):
+def row(
+    words: Any, status: int, text: Callable[..., Any] | str, accepted: Any = None, holds: Any = None, **files: Any
+) -> Row:
     return Row(words.split() if isinstance(words, str) else words, files, status, text, accepted, holds)
 
 
-def is_not_made(cert):
+def is_not_made(cert: None) -> bool:
     return cert is None
 
 
-def is_of(formula, steps):
+def is_of(formula: str | None, steps: int | None) -> Callable[..., Any]:
     """Whether a certificate is of a formula of this size and has so many steps; None is not asked for."""
 
-    def holds(cert):
+    def holds(cert: str) -> bool:
         lines = cert.split("\n")
         return (formula is None or "formula " + formula in lines) and (
             steps is None or lines.index("end") - lines.index("formula " + formula) - 1 == steps
@@ -1046,7 +1052,7 @@ def is_of(formula, steps):
     return holds
 
 
-def questions():
+def questions() -> Iterator[tuple[str, list[Row]]]:
     """What the plain questions answer, and which words are no order."""
     yield "no orders", [row(words, status, text, config=THREE) for words, status, text in NO_ORDERS]
     yield "plain questions", [row(words, status, text, config=config) for config, words, status, text in PLAIN]
@@ -1073,7 +1079,7 @@ def questions():
     ]
 
 
-def readings():
+def readings() -> Iterator[tuple[str, list[Row]]]:
     """What is read of configurations, organisations and lists of names."""
     nodes = '[{"publicKey":"a"},{"publicKey":"b"},{"publicKey":"c"}]'
     faulty, node, ids = "--faulty=", "--node=", "--faulty-orgs="
@@ -1104,7 +1110,7 @@ def readings():
     yield "closures", [row("closure config --node " + it, 0, text, config=config) for config, it, text in CLOSURES]
 
 
-def searches():
+def searches() -> Iterator[tuple[str, list[Row]]]:
     """What the searches answer, and that their certificates are accepted."""
     spent = {
         name: certificate(THREE, 3, kind, body)
@@ -1169,7 +1175,7 @@ def searches():
     yield "trials that are refused", [row(words, status, text) for words, status, text in REFUSED_TRIALS]
 
 
-def checks():
+def checks() -> Iterator[tuple[str, list[Row]]]:
     """What `check` and `check-lrat` say."""
     both = CHECK + " --orgs orgs"
     pair = "from a\nfaulty\nkind pair\nfirst a b\nsecond c d\nend\n"
@@ -1250,7 +1256,7 @@ def checks():
     ]
 
 
-def scripts():
+def scripts() -> Iterator[tuple[str, list[Row]]]:
     """What is said of edits that are tried one after another."""
     words = "whatif config script --set c"
     yield "scripts", [row(words, 0, text, config=config, script=script) for config, script, words, text in TRIED]
@@ -1265,11 +1271,11 @@ def scripts():
 
 
 class Trial:
-    def __init__(self, program):
+    def __init__(self, program: str) -> None:
         self.program = os.path.abspath(program)
         self.passed = self.failed = 0
 
-    def run(self, folder, words):
+    def run(self, folder: str, words: list[str]) -> tuple[int, str, str]:
         ended = subprocess.run(
             [self.program, *words],
             cwd=folder,
@@ -1280,14 +1286,14 @@ class Trial:
         )
         return ended.returncode, ended.stdout.decode(), ended.stderr.decode()
 
-    def judge(self, name, found, wanted):
+    def judge(self, name: str, found: tuple[int, bool | str, str], wanted: object) -> None:
         if found == wanted:
             self.passed += 1
         else:
             self.failed += 1
             print(f"answers: {name}: found {found!r:.2000}, wanted {wanted!r:.2000}")
 
-    def row(self, name, it):
+    def row(self, name: str, it: Row) -> None:
         """Runs the words of a row, and then `check` of the certificate that these name, where it is to be accepted."""
         name = f"{name}: {' '.join(it.words)}"
         with tempfile.TemporaryDirectory() as folder:
@@ -1315,21 +1321,21 @@ class Trial:
                 self.judge(name + ", its certificate", it.holds(held(os.path.join(folder, made))), True)
 
 
-def put(path, data):
+def put(path: str, data: str) -> None:
     """Writes a file; great ones are made when they are wanted."""
     data = data() if callable(data) else data
     with open(path, "wb") as it:
         it.write(data if isinstance(data, bytes) else data.encode())
 
 
-def held(path):
+def held(path: str) -> str | None:
     if not os.path.exists(path):
         return None
     with open(path, encoding="utf-8") as it:
         return it.read()
 
 
-def main(program=chosen.PROGRAM):
+def main(program: str = chosen.PROGRAM) -> int:
     trial = Trial(program)
     for part in (questions, readings, searches, checks, scripts):
         for name, rows in part():

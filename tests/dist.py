@@ -6,6 +6,8 @@ compiled; what is said of it; a checkout that cannot be written, several first c
 line is 'dist: N passed, M failed'.
 """
 
+from __future__ import annotations
+
 import hashlib
 import importlib.machinery
 import importlib.util
@@ -15,6 +17,8 @@ import subprocess
 import sys
 import tempfile
 import time
+from collections.abc import Sequence
+from typing import Any
 
 TOP = os.path.dirname(os.path.dirname(os.path.abspath(__file__)))
 CRATES = "# a comment\nlow: thiserror\nquorum_cli: low\nother: low\n"
@@ -46,12 +50,12 @@ PROVING = "make proves and builds the program, some 45 minutes on four processor
 NOBODY = 65534
 
 
-def digest(data):
+def digest(data: bytes) -> str:
     return hashlib.sha256(data).hexdigest()
 
 
 class Trial:
-    def __init__(self, folder):
+    def __init__(self, folder: str) -> None:
         self.top, self.passed, self.failed = os.path.join(folder, "a repo"), 0, 0
         shutil.copytree(os.path.join(TOP, "share", "script"), self.path("share/script"))
         shutil.copy(os.path.join(TOP, "quorum_cli"), self.path("quorum_cli"))
@@ -64,20 +68,20 @@ class Trial:
         self.write("tools/first-build", FIRST_BUILD.replace("{top}", self.top), 0o755)
         self.release()
 
-    def path(self, name):
+    def path(self, name: str) -> str:
         return os.path.join(self.top, name)
 
-    def write(self, name, text, mode=0o644):
+    def write(self, name: str, text: str, mode: int = 0o644) -> None:
         os.makedirs(os.path.dirname(self.path(name)), exist_ok=True)
         with open(self.path(name), "w") as it:
             it.write(text)
         os.chmod(self.path(name), mode)
 
-    def read(self, name):
+    def read(self, name: str) -> bytes:
         with open(self.path(name), "rb") as it:
             return it.read()
 
-    def release(self, program=PROGRAM.replace("{kind}", "dist")):
+    def release(self, program: str = PROGRAM.replace("{kind}", "dist")) -> None:
         """Makes dist/ of the sources as they are."""
         lines = [line + "\n" for line in CRATES.splitlines() if line.partition(":")[0] in NAMES]
         paths = [f"crates/{name}/{it}" for name in NAMES for it in ("specs/Words.antt", "src/lib.rt")]
@@ -93,11 +97,11 @@ class Trial:
         )
         self.sums()
 
-    def sums(self):
+    def sums(self) -> None:
         names = sorted({*os.listdir(self.path("dist"))} - {"SHA256SUMS"})
         self.write("dist/SHA256SUMS", "".join(f"{digest(self.read('dist/' + it))}  {it}\n" for it in names))
 
-    def run(self, *words, before=(), **env):
+    def run(self, *words: str, before: Sequence[str] = (), **env: str) -> tuple[int, str, str]:
         """The status, the output and standard error."""
         env = {"PATH": "/usr/bin:/bin", **env}
         ended = subprocess.run(
@@ -111,7 +115,7 @@ class Trial:
         )
         return ended.returncode, ended.stdout.decode(), ended.stderr.decode()
 
-    def calls(self):
+    def calls(self) -> list[str]:
         """How tools/first-build was called since this was asked last."""
         if not os.path.exists(self.path("calls")):
             return []
@@ -119,14 +123,14 @@ class Trial:
         os.remove(self.path("calls"))
         return found
 
-    def judge(self, name, found, wanted):
+    def judge(self, name: str, found: object, wanted: object) -> None:
         if found == wanted:
             self.passed += 1
         else:
             self.failed += 1
             print(f"dist: {name}: found {found!r}, wanted {wanted!r}")
 
-    def runs(self, name, kind, said="", calls=(), **env):
+    def runs(self, name: str, kind: str, said: str = "", calls: Sequence[str] = (), **env: Any) -> None:
         """What runs, what is said the first time and no more the second, and what was built."""
         again = UNPROVED if kind == "compiled" else ""
         self.judge(
@@ -136,7 +140,7 @@ class Trial:
             name + ", again", (self.run("show", "x", **env), self.calls()), ((0, kind + " show x\n", again), [])
         )
 
-    def compiles(self, name, why):
+    def compiles(self, name: str, why: str) -> None:
         self.runs(
             name,
             "compiled",
@@ -148,11 +152,11 @@ class Trial:
         )
         shutil.rmtree(self.path("out"))
 
-    def later(self):
+    def later(self) -> None:
         """File times tell the order from here on."""
         time.sleep(0.02)
 
-    def released(self):
+    def released(self) -> None:
         self.runs("the first call", "dist")
         self.judge("kept", os.listdir(self.path("out/choice")), ["first"])
         said = (
@@ -172,7 +176,7 @@ class Trial:
             act()
             self.runs(name, "dist")
 
-    def moved_on(self):
+    def moved_on(self) -> None:
         """A letter of a source, a new one, one that is gone, a line of crates.txt: dist/ does not run, and does again
         when that is undone."""
         for name, file, text in [
@@ -195,7 +199,7 @@ class Trial:
         os.rename(self.path("gone"), self.path("crates/low/specs/Words.antt"))
         self.runs("a file that is back", "dist")
 
-    def changed(self):
+    def changed(self) -> None:
         """A file of dist/ that was changed: nothing runs."""
         for name, text in [
             ("quorum_cli", f"#!/bin/sh\necho wrong >>'{self.path('ran')}'\n"),
@@ -229,7 +233,7 @@ class Trial:
         shutil.rmtree(self.path("out"))
         self.runs("as it was", "dist")
 
-    def machines(self):
+    def machines(self) -> None:
         """One of another kind, or on which the program does not run."""
         why = "it is for x86-64 Linux and this machine is %s %s"
         for host, system in (("aarch64", "linux-gnu"), ("x86_64", "darwin23")):
@@ -254,7 +258,7 @@ class Trial:
         self.release()
         self.runs("one that runs", "dist")
 
-    def choosing(self):
+    def choosing(self) -> None:
         self.judge(
             "built, where none is",
             (self.run("show", "x", QUORUM_CLI="built"), self.calls()),
@@ -305,7 +309,7 @@ class Trial:
         )
         self.judge("what is built meanwhile", self.calls(), ["build --unproved"])
 
-    def built(self):
+    def built(self) -> None:
         """A program that is proved and built here runs where dist/ is of other sources."""
         self.later()
         self.write("crates/low/src/lib.rt", "code of loq")
@@ -346,10 +350,10 @@ class Trial:
         shutil.move(self.path("away"), self.path("dist"))
         self.runs("dist again", "dist")
 
-    def at_once(self):
+    def at_once(self) -> None:
         for _ in range(3):
             shutil.rmtree(self.path("out"))
-            how = {
+            how: dict[str, Any] = {
                 "env": {"PATH": "/usr/bin:/bin"},
                 "stdin": subprocess.DEVNULL,
                 "stdout": subprocess.PIPE,
@@ -364,7 +368,7 @@ class Trial:
             self.judge("what they leave", os.listdir(self.path("out/choice")), ["first"])
         self.runs("after them", "dist")
 
-    def same_sum(self):
+    def same_sum(self) -> None:
         """The script sums up the sources of this repository as tools/dist does."""
         loader = importlib.machinery.SourceFileLoader("tools_dist", os.path.join(TOP, "tools", "dist"))
         tool = importlib.util.module_from_spec(importlib.util.spec_from_loader("tools_dist", loader))
@@ -375,7 +379,7 @@ class Trial:
         summed = subprocess.run(["bash", "-c", script, "bash", TOP, *names], stdout=subprocess.PIPE).stdout.decode()
         self.judge("the sum of the program's sources", summed, crates.sum(names, tool.DECIDING) + "  -\n")
 
-    def read_only(self):
+    def read_only(self) -> None:
         """A checkout that cannot be written answers all the same, each time."""
         shutil.rmtree(self.path("out"))
         before = [] if os.geteuid() else ["setpriv", f"--reuid={NOBODY}", f"--regid={NOBODY}", "--clear-groups"]
@@ -396,7 +400,7 @@ class Trial:
         self.judge("nothing is written", os.path.exists(self.path("out")), False)
 
 
-def main():
+def main() -> int:
     with tempfile.TemporaryDirectory() as folder:
         trial = Trial(folder)
         for step in (

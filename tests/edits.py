@@ -7,6 +7,8 @@ crate that is not proved, and an interrupt, which leaves all as it was. Its last
 Skipped where no toolchain is on the path.
 """
 
+from __future__ import annotations
+
 import hashlib
 import os
 import re
@@ -16,12 +18,14 @@ import subprocess
 import sys
 import tempfile
 import time
+from typing import Any
 
 TOP = os.path.dirname(os.path.dirname(os.path.abspath(__file__)))
 sys.dont_write_bytecode = True
 sys.path.insert(0, os.path.join(TOP, "tools"))
 
 import toolchain
+
 
 NAMES = ["one", "two", "three", "four", "five"]
 HEAD = """//! Sums of small numbers.
@@ -73,12 +77,12 @@ RENAMED = {
 LOWEST = [("    a + b", "    a + (b - b)")]
 
 
-def edit(pairs, file="src/lib.rt"):
+def edit(pairs: Any, file: str = "src/lib.rt") -> Any:
     return f"file: {file}\n" + "".join("old: %s\nnew: %s\n" % it for it in pairs)
 
 
 class Trial:
-    def __init__(self, folder):
+    def __init__(self, folder: str) -> None:
         self.folder, self.passed, self.failed = folder, 0, 0
         os.mkdir(os.path.join(folder, ".git"))
         os.mkdir(os.path.join(folder, "tmp"))
@@ -90,19 +94,19 @@ class Trial:
             self.write(f"crates/tiny/proofs/{name}/Answers.antt", self.of(ANSWER, at, name))
 
     @staticmethod
-    def of(text, number, name):
+    def of(text: str, number: int, name: str) -> str:
         return text.replace("NUMBER", str(number)).replace("NAME", name)
 
-    def write(self, name, text):
+    def write(self, name: str, text: str) -> None:
         path = os.path.join(self.folder, name)
         os.makedirs(os.path.dirname(path), exist_ok=True)
         with open(path, "w", encoding="utf-8") as it:
             it.write(text)
 
-    def words(self, *words):
+    def words(self, *words: str) -> Any:
         return [sys.executable, os.path.join(self.folder, "tools/edits"), *words]
 
-    def how(self):
+    def how(self) -> Any:
         return {
             "cwd": self.folder,
             "env": {**os.environ, "TMPDIR": os.path.join(self.folder, "tmp")},
@@ -111,7 +115,7 @@ class Trial:
             "errors": "replace",
         }
 
-    def edits(self, edits):
+    def edits(self, edits: Any) -> Any:
         """Tries these alone: what is said of each, the last line and the status."""
         shutil.rmtree(os.path.join(self.folder, "crates/tiny/must-fail"), ignore_errors=True)
         for name, text in edits.items():
@@ -120,14 +124,14 @@ class Trial:
         lines = re.findall(r"^must-fail tiny/(\w+)\.edit: (.*)$", ended.stdout, re.M)
         return dict(lines), ended.stdout.rstrip("\n").split("\n")[-1], ended.returncode
 
-    def judge(self, name, found, wanted):
+    def judge(self, name: str, found: object, wanted: object) -> None:
         if found == wanted:
             self.passed += 1
         else:
             self.failed += 1
             print(f"edits: {name}: found {found!r}, wanted {wanted!r}")
 
-    def rows(self, name, edits, word, status, checks=None):
+    def rows(self, name: str, edits: Any, word: str, status: int, checks: Any = None) -> Any:
         said, last, ended = self.edits({it: edit(pairs) for it, pairs in edits.items()})
         for it in edits:
             found = said.get(it, "nothing")
@@ -141,7 +145,7 @@ class Trial:
         self.judge(name + ": the status", ended, status)
         return said
 
-    def wrong(self):
+    def wrong(self) -> None:
         said = self.rows("wrong bodies", WRONG, "refused, as it must be", 0, "1 checks")
         self.judge(
             "each by its own function",
@@ -154,7 +158,7 @@ class Trial:
         )
         self.judge("the one below by itself", "[by tiny::plus" in said["lowest"], True)
 
-    def not_refused(self):
+    def not_refused(self) -> None:
         self.rows("right bodies", RIGHT, "NOT REFUSED", 1)
         said = self.rows("not to be read", UNREAD, "BAD EDIT: ", 1)
         # the first four are no Rust; the last is a contract with a word that nobody has said
@@ -183,16 +187,16 @@ class Trial:
         )
         self.judge("a wrong one beside them", "says little" in said["wrong"], False)
 
-    def stops(self):
+    def stops(self) -> None:
         for name, words, said in [
             ("no words", [], "usage: tools/edits"),
             ("a crate that is not there", ["none"], "tools/edits: there is no crate none\n"),
             ("an edit that is not there", ["tiny", "none"], "tools/edits: there is no edit none.edit\n"),
         ]:
-            ended = subprocess.run(self.words(*words), stdout=subprocess.PIPE, stderr=subprocess.PIPE, **self.how())
+            ended = subprocess.run(self.words(*words), stdout=subprocess.PIPE, stderr=subprocess.PIPE, **self.how())  # type: ignore[misc]  # noqa: E501
             self.judge(name, (ended.returncode, ended.stdout, ended.stderr[: len(said)]), (2, "", said))
 
-    def sums(self):
+    def sums(self) -> Any:
         """Of all files of the repository, and the names in the folder for temporary files."""
         found = {}
         for at, _, names in os.walk(self.folder):
@@ -201,8 +205,8 @@ class Trial:
                     found[os.path.join(at, name)] = hashlib.sha256(it.read()).hexdigest()
         return found
 
-    def interrupts(self):
-        subprocess.run(
+    def interrupts(self) -> None:
+        subprocess.run(  # type: ignore[call-overload]
             [sys.executable, os.path.join(self.folder, "tools/rt"), "check"],
             stdout=subprocess.DEVNULL,
             **{**self.how(), "cwd": os.path.join(self.folder, "crates/tiny")},
@@ -225,7 +229,7 @@ class Trial:
             self.judge(f"stopped by {number.name}", started.wait(timeout=60), 128 + number)
             self.judge(f"as it was after {number.name}", self.sums() == before, True)
 
-    def unproved(self):
+    def unproved(self) -> None:
         path = os.path.join(self.folder, "crates/tiny/src/lib.rt")
         with open(path, encoding="utf-8") as it:
             text = it.read()
@@ -241,7 +245,7 @@ class Trial:
         )
 
 
-def main():
+def main() -> Any:
     try:
         toolchain.Toolchain()
     except toolchain.Unfit as why:

@@ -8,6 +8,8 @@ in order in one new folder, with the program, the examples and the tools in it. 
 skipped with a word. The last line is 'examples: N passed, M failed'.
 """
 
+from __future__ import annotations
+
 import os
 import re
 import shutil
@@ -25,14 +27,14 @@ NOT_RUN = [".ci/run", "rt ", "apt-get ", "make "]
 PROGRAM = os.path.join(TOP, "quorum_cli")
 
 
-def blocks(text):
+def blocks(text: str) -> list[list[str]]:
     """The code blocks, each the list of its lines."""
     return [block.split("\n")[1:-1] for block in re.findall(r"^```.*?^```", text, re.S | re.M)]
 
 
-def commands(lines):
+def commands(lines: list[str]) -> list[tuple[str, list[str]]]:
     """The commands of a block, each with the lines that it prints."""
-    found = []
+    found: list[tuple[str, list[str]]] = []
     for line in lines:
         if line.startswith("$ "):
             found.append((line[2:], []))
@@ -41,13 +43,13 @@ def commands(lines):
     return found
 
 
-def rows(text):
+def rows(text: str) -> list[tuple[str, str, str]]:
     """The rows of a table of examples: the words, the first line that is printed, and the status."""
     tables = re.findall(r"^\| Example \|.*\n\|[-|]+\n((?:\|.*\n)*)", text, re.M)
     return re.findall(r"^\| `([^|`]*)` \| `([^|`]*)`[^|]*?, (\d)\b[^|]*\|", "".join(tables), re.M)
 
 
-def matches(wanted, found):
+def matches(wanted: list[str], found: list[str]) -> bool:
     """Whether the lines are those of the document, in which `..` stands for what is left out."""
     if not wanted:
         return not found
@@ -60,18 +62,18 @@ def matches(wanted, found):
 
 
 class Trial:
-    def __init__(self):
+    def __init__(self) -> None:
         self.passed = 0
         self.failed = 0
 
-    def judge(self, name, right, found):
+    def judge(self, name: str, right: bool, found: tuple[int, str] | str) -> None:
         if right:
             self.passed += 1
         else:
             self.failed += 1
             print(f"examples: {name} printed {found!r}")
 
-    def run(self, folder, command):
+    def run(self, folder: str, command: str) -> tuple[int, str]:
         ended = subprocess.run(
             ["bash", "-c", command],
             cwd=folder,
@@ -82,7 +84,7 @@ class Trial:
         )
         return ended.returncode, ended.stdout.decode("utf-8", "replace")
 
-    def block(self, name, folder, lines):
+    def block(self, name: str, folder: str, lines: list[str]) -> None:
         for command, wanted in commands(lines):
             if any(command.startswith(word) for word in NOT_RUN):
                 continue
@@ -93,7 +95,7 @@ class Trial:
             _, text = self.run(folder, command)
             self.judge(f"{name}: `{command}`", matches(wanted, text.split("\n")[:-1]), text)
 
-    def document(self, name):
+    def document(self, name: str) -> None:
         with open(os.path.join(TOP, name), encoding="utf-8") as it:
             text = it.read()
         with tempfile.TemporaryDirectory() as folder:
@@ -111,7 +113,7 @@ class Trial:
                 )
 
 
-def main():
+def main() -> int:
     trial = Trial()
     for name in DOCUMENTS:
         if os.path.exists(os.path.join(TOP, name)):

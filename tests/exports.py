@@ -6,6 +6,8 @@ minisat whether it is satisfiable, and tries all sets of nodes for two disjoint 
 tests/exports.py [COUNT [SEED]]; needs the built program and minisat (Debian's package). The last line is
 'exports: N passed, M failed', or says why it is skipped.
 """
+from __future__ import annotations
+
 import itertools
 import json
 import os
@@ -14,6 +16,7 @@ import shutil
 import subprocess
 import sys
 import tempfile
+from typing import Any
 
 import chosen
 
@@ -22,7 +25,7 @@ PROGRAM = chosen.PROGRAM
 COUNT = 300
 
 
-def random_set(names, depth):
+def random_set(names: list[str], depth: int) -> dict[str, Any]:
     validators = [random.choice(names) for _ in range(random.randint(0, 4))]
     inner = [random_set(names, depth - 1) for _ in range(random.randint(0, 2))] if depth else []
     return {
@@ -32,23 +35,23 @@ def random_set(names, depth):
     }
 
 
-def random_system():
+def random_system() -> tuple[list[str], list[dict[str, Any]]]:
     names = [f"n{i}" for i in range(random.randint(1, 7))]
-    nodes = [{"publicKey": n} for n in names]
+    nodes: list[dict[str, Any]] = [{"publicKey": n} for n in names]
     for node in nodes:
         if random.random() < 0.9:
             node["quorumSet"] = random_set(names, 2)
     return names, nodes
 
 
-def mentioned(quorum_set):
+def mentioned(quorum_set: dict[str, Any]) -> set[str]:
     found = set(quorum_set["validators"])
     for inner in quorum_set["innerQuorumSets"]:
         found |= mentioned(inner)
     return found
 
 
-def closure(sets, node):
+def closure(sets: dict[str, dict[str, Any] | None], node: str) -> set[str]:
     reached = {node}
     while True:
         more = set().union(reached, *(mentioned(sets[v]) for v in reached if sets.get(v)))
@@ -57,13 +60,15 @@ def closure(sets, node):
         reached = more
 
 
-def satisfied(quorum_set, members):
+def satisfied(quorum_set: dict[str, Any], members: set[str]) -> bool:
     met = sum(v in members for v in quorum_set["validators"])
     met += sum(satisfied(inner, members) for inner in quorum_set["innerQuorumSets"])
     return 1 <= quorum_set["threshold"] <= met
 
 
-def has_disjoint_quorums(names, sets, faulty, part):
+def has_disjoint_quorums(
+    names: list[str], sets: dict[str, dict[str, Any] | None], faulty: set[str], part: set[str]
+) -> bool:
     left = sorted(part - faulty)
     quorums = []
     for size in range(1, len(left) + 1):
@@ -74,7 +79,7 @@ def has_disjoint_quorums(names, sets, faulty, part):
     return any(not (u & w) for u, w in itertools.combinations(quorums, 2))
 
 
-def is_satisfiable(text):
+def is_satisfiable(text: bytes) -> bool:
     with tempfile.NamedTemporaryFile("wb", suffix=".cnf") as cnf:
         cnf.write(text)
         cnf.flush()
@@ -82,14 +87,14 @@ def is_satisfiable(text):
     return {10: True, 20: False}[status]
 
 
-def asked():
+def asked() -> tuple[list[str], list[dict[str, Any]], set[str], str | None]:
     """A random system, its faulty nodes and the node whose trust closure is asked about, if any."""
     names, nodes = random_system()
     faulty = {n for n in names if random.random() < 0.15}
     return names, nodes, faulty, random.choice(names) if random.random() < 0.3 else None
 
 
-def exported(nodes, faulty, start):
+def exported(nodes: list[dict[str, Any]], faulty: set[str], start: str | None) -> bytes:
     with tempfile.NamedTemporaryFile("w", suffix=".json") as config:
         json.dump(nodes, config)
         config.flush()
@@ -97,14 +102,14 @@ def exported(nodes, faulty, start):
         return subprocess.run(words + (["--from", start] if start else []), stdout=subprocess.PIPE, check=True).stdout
 
 
-def agrees(names, nodes, faulty, start):
+def agrees(names: list[str], nodes: list[dict[str, Any]], faulty: set[str], start: str | None) -> bool:
     """Whether the formula is satisfiable exactly if two quorums are disjoint."""
     sets = {node["publicKey"]: node.get("quorumSet") for node in nodes}
     part = closure(sets, start) if start else set(names)
     return is_satisfiable(exported(nodes, faulty, start)) == has_disjoint_quorums(names, sets, faulty, part)
 
 
-def main(count=COUNT, seed=1):
+def main(count: Any = COUNT, seed: int | str = 1) -> int:
     if not (os.access(PROGRAM, os.X_OK) and shutil.which("minisat")):
         print("exports: skipped, the program is not built or there is no minisat")
         return 0

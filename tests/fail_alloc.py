@@ -9,11 +9,14 @@ memory. No other file is left. Beside the gate, by hand: tests/fail_alloc.py [PR
 passed, M failed'.
 """
 
+from __future__ import annotations
+
 import hashlib
 import os
 import subprocess
 import sys
 import tempfile
+from typing import Any
 
 TOP = os.path.dirname(os.path.dirname(os.path.abspath(__file__)))
 sys.path[:0] = [os.path.join(TOP, "tests"), os.path.join(TOP, "bench")]
@@ -121,7 +124,7 @@ ALL = 2**63
 
 
 class Trial:
-    def __init__(self, folder, program):
+    def __init__(self, folder: str, program: str) -> None:
         self.folder, self.program = folder, os.path.abspath(program)
         self.passed = self.failed = 0
         self.told = os.path.join(folder, "told")
@@ -130,15 +133,15 @@ class Trial:
         self.put("refuser.c", REFUSER.encode())
         subprocess.run(["cc", "-shared", "-fPIC", "-O1", "-o", self.library, source], check=True)
 
-    def put(self, name, data):
+    def put(self, name: str, data: bytes) -> None:
         with open(os.path.join(self.folder, name), "wb") as it:
             it.write(data)
 
-    def held(self):
+    def held(self) -> bytes:
         with open(os.path.join(self.folder, "cert"), "rb") as it:
             return it.read()
 
-    def run(self, line, cert, first, last):
+    def run(self, line: str, cert: bytes, first: int, last: int) -> tuple[tuple[int, bytes, bytes, bytes, bool], bool]:
         """How a run ends whose calls from the first to the last get no memory: status, texts, certificate; and whether
         one was made."""
         self.put("cert", cert)
@@ -163,7 +166,7 @@ class Trial:
         )
         return found, os.path.exists(self.told)
 
-    def walk(self, line, config, cert):
+    def walk(self, line: str, config: bytes, cert: bytes) -> None:
         """Refuses each growth of a run in turn."""
         self.put("config", config)
         ample, _ = self.run(line, cert, ALL, 0)
@@ -180,10 +183,10 @@ class Trial:
                 number += 1
             self.judge(line, number, found == ample, found)
             counts.append(f"{wanting} of {number - 1}")
-        print("%-52s status %d; 8 at %s growths, with all later ones refused too at %s" % (line, ample[0], *counts))
+        print("%-52s status %d; 8 at %s growths, with all later ones refused too at %s" % (line, ample[0], *counts))  # type: ignore[str-format]  # noqa: E501
         sys.stdout.flush()
 
-    def judge(self, line, number, right, found):
+    def judge(self, line: str, number: int, right: bool, found: tuple[int, bytes, bytes, bytes, bool]) -> None:
         if right:
             self.passed += 1
         else:
@@ -191,7 +194,7 @@ class Trial:
             print(f"fail_alloc: growth {number} of {line}: {found!r}")
 
 
-def main(program=malicious.BUILT):
+def main(program: str = malicious.BUILT) -> Any:
     with tempfile.TemporaryDirectory() as folder:
         trial = Trial(folder, program)
         trial.put("orgs", ORGS)

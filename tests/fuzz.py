@@ -12,6 +12,8 @@ tests/fuzz.py [--cases N] [--seed S] [--kind KIND] [PROGRAM], all cases of one k
 last line is 'fuzz: N passed, M failed'.
 """
 
+from __future__ import annotations
+
 import argparse
 import collections
 import hashlib
@@ -23,6 +25,7 @@ import re
 import subprocess
 import sys
 import tempfile
+from typing import Any
 
 sys.path.insert(0, os.path.dirname(os.path.abspath(__file__)))
 import chosen
@@ -55,7 +58,7 @@ EDGES = (
 # ---- Configurations
 
 
-def random_set(rng, names, depth):
+def random_set(rng: random.Random, names: list[str], depth: int) -> dict[str, Any]:
     """A small quorum set, mostly with a threshold that a choice can meet."""
     validators = rng.sample(names, rng.randint(0 if depth else 1, min(4, len(names))))
     if rng.random() < 0.1 and validators:
@@ -69,7 +72,7 @@ def random_set(rng, names, depth):
     return dict(made, innerQuorumSets=inner) if inner else made
 
 
-def random_nodes(rng):
+def random_nodes(rng: random.Random) -> list[dict[str, Any]]:
     names = list("abcdefg")[: rng.randint(1, 7)]
     if rng.random() < 0.4:
         count = len(names)
@@ -77,22 +80,22 @@ def random_nodes(rng):
         return [{"publicKey": name, "quorumSet": common} for name in names]
     nodes = []
     for name in names:
-        node = {"publicKey": name}
+        node: dict[str, Any] = {"publicKey": name}
         if rng.random() < 0.9:
             node["quorumSet"] = random_set(rng, names, rng.choice([0, 0, 1, 2]))
         nodes.append(node)
     return nodes
 
 
-def compact(tree):
+def compact(tree: list[dict[str, Any]]) -> bytes:
     return json.dumps(tree, separators=(",", ":")).encode()
 
 
-def random_config(rng):
+def random_config(rng: random.Random) -> bytes:
     return compact(random_nodes(rng))
 
 
-def random_orgs(rng, ids="ABCD"):
+def random_orgs(rng: random.Random, ids: list[str] | str = "ABCD") -> list[dict[str, Any]]:
     """Organisations that overlap, lack members or name strangers."""
     return [
         {"id": it, "validators": rng.sample("abcdefgz", rng.randint(0, 4))}
@@ -100,7 +103,7 @@ def random_orgs(rng, ids="ABCD"):
     ]
 
 
-def trial_config(count):
+def trial_config(count: int) -> bytes:
     """The trial configuration of so many organisations of three nodes."""
     names = [f"t{i:03d}" for i in range(3 * count)]
     inner = [{"innerQuorumSets": [], "threshold": 2, "validators": names[i : i + 3]} for i in range(0, 3 * count, 3)]
@@ -108,7 +111,7 @@ def trial_config(count):
     return compact([{"publicKey": name, "quorumSet": common} for name in names])
 
 
-def sizes_of_trial(system):
+def sizes_of_trial(system: dict[str, tuple[int, list[tuple[Any, ...]]]]) -> str:
     """What 'trial' prints before the answer."""
     formula = plain.Formula(system, set(), 3)
     nodes = len(system)
@@ -138,7 +141,7 @@ JSON_WORDS = [
 ]
 
 
-def mutated_json(rng, data):
+def mutated_json(rng: random.Random, data: bytes) -> bytes:
     """JSON text with a few changes: of bytes, of numbers, of strings and of members."""
     for _ in range(rng.choice([1, 1, 1, 2, 4])):
         kind = rng.randrange(9)
@@ -165,8 +168,8 @@ def mutated_json(rng, data):
             a, b = rng.choice(marks), rng.choice(marks)
             data = cut_in(data, a, data[b[0] : b[1]])
         elif kind == 4:
-            a, b = sorted(rng.choice(marks)[0] for _ in range(2))
-            data = data[:b] + data[a:b] + data[b:] if b - a < 200 else data[:a] + data[b:]
+            low, high = sorted(rng.choice(marks)[0] for _ in range(2))
+            data = data[:high] + data[low:high] + data[high:] if high - low < 200 else data[:low] + data[high:]
         else:
             at = data.find(b"{", rng.randrange(len(data) or 1))
             member = b'"%s":%s,' % (
@@ -177,11 +180,11 @@ def mutated_json(rng, data):
     return data
 
 
-def cut_in(data, span, new):
+def cut_in(data: bytes, span: tuple[int, int], new: bytes) -> bytes:
     return data[: span[0]] + new + data[span[1] :]
 
 
-def mutated_bytes(rng, data):
+def mutated_bytes(rng: random.Random, data: bytes) -> bytes:
     at = rng.randrange(len(data) + 1)
     size = rng.choice([0, 1, 1, 2, 8])
     new = bytes(rng.choice(b'\x00\x01\t\n\r !,09az{}[]:"\\\x7f\x80\xc3\xff') for _ in range(rng.choice([0, 1, 1, 2])))
@@ -194,7 +197,7 @@ def mutated_bytes(rng, data):
 class Subject:
     """A configuration with what a certificate of it speaks of."""
 
-    def __init__(self, rng, data):
+    def __init__(self, rng: random.Random, data: bytes) -> None:
         self.data = data
         self.digest = hashlib.sha256(data).hexdigest()
         self.version = rng.choice([1, 2, 3])
@@ -215,16 +218,16 @@ class Subject:
         self.orgs = compact(random_orgs(rng))
         self.groups = plain.groups_of(plain.orgs_of(self.orgs, self.whole), part)
 
-    def touched(self):
+    def touched(self) -> list[str]:
         """The groups that have a member in the greatest quorum, in order."""
         greatest = self.shrunk(set(self.system))
         return sorted(text for text, members in self.groups.items() if members & greatest)
 
-    def groups_block(self, texts):
+    def groups_block(self, texts: Any) -> bool:
         nodes = set().union(*(self.groups[text] for text in texts))
         return plain.blocks(self.system, self.faulty, nodes - self.faulty)
 
-    def header(self, kind):
+    def header(self, kind: str) -> list[str]:
         start = " " + self.start if self.start else ""
         return [
             f"fbas-cert {self.version}",
@@ -234,14 +237,14 @@ class Subject:
             "kind " + kind,
         ]
 
-    def shrunk(self, nodes):
+    def shrunk(self, nodes: set[str]) -> set[str]:
         return plain.greatest_in(self.system, self.faulty, nodes)
 
-    def options(self):
+    def options(self) -> list[str]:
         return (["--from=" + self.start] if self.start else []) + ["--faulty=" + ",".join(self.given)]
 
 
-def quorums(subject, most):
+def quorums(subject: Subject, most: int) -> list[set[str]] | None:
     """All quorums after deletion of the faulty nodes, by trying all sets of nodes; None where there are too many
     sets."""
     names = sorted(set(subject.system) - subject.faulty)
@@ -255,7 +258,7 @@ def quorums(subject, most):
     return found
 
 
-def random_quorum(rng, subject):
+def random_quorum(rng: random.Random, subject: Subject) -> set[str]:
     """Some quorum, mostly a small one."""
     nodes = subject.shrunk(set(subject.system))
     for name in rng.sample(sorted(nodes), len(nodes)):
@@ -265,7 +268,7 @@ def random_quorum(rng, subject):
     return nodes
 
 
-def random_block(rng, subject):
+def random_block(rng: random.Random, subject: Subject) -> set[str]:
     """Some blocking set, mostly a minimal one."""
     nodes = set(subject.system) - subject.faulty
     for name in rng.sample(sorted(nodes), len(nodes)):
@@ -274,7 +277,7 @@ def random_block(rng, subject):
     return nodes
 
 
-def random_group_block(rng, subject):
+def random_group_block(rng: random.Random, subject: Subject) -> set[str]:
     """Some blocking set of groups, mostly a minimal one; now and then with a group that has no variable."""
     texts = set(subject.groups if rng.random() < 0.05 else subject.touched())
     for text in rng.sample(sorted(texts), len(texts)):
@@ -283,9 +286,11 @@ def random_group_block(rng, subject):
     return texts
 
 
-def propagated(held, literals):
+def propagated(held: dict[int, frozenset[int]], literals: list[int]) -> list[int] | None:
     """Hints that show the lemma by unit propagation, or None."""
-    true, hints, changed = {-it for it in literals}, [], True
+    true = {-it for it in literals}
+    hints: list[int] = []
+    changed = True
     while changed:
         changed = False
         for number, clause in held.items():
@@ -299,7 +304,7 @@ def propagated(held, literals):
     return None
 
 
-def made_true(held, true):
+def made_true(held: dict[int, frozenset[int]], true: set[int]) -> set[int]:
     """All literals that unit propagation makes true from these, or None where it comes to a conflict."""
     true, changed = set(true), True
     while changed:
@@ -314,7 +319,7 @@ def made_true(held, true):
     return true
 
 
-def is_useful(held, clause):
+def is_useful(held: dict[int, frozenset[int]], clause: frozenset[int]) -> bool:
     """Whether for some literal of the clause propagation from the negations of the others neither fails nor makes it
     true."""
     for literal in clause:
@@ -324,7 +329,7 @@ def is_useful(held, clause):
     return False
 
 
-def fault_of_units(subject, cert):
+def fault_of_units(subject: Subject, cert: bytes) -> Any:
     """What is wrong with the units of a partial certificate that a search wrote: one is not useful, or the clauses
     close at its end."""
     lines = cert.decode().split("\n")[4:-2]
@@ -366,7 +371,7 @@ def fault_of_units(subject, cert):
     return "the clauses close at the end" if made_true(held, set()) is None else None
 
 
-def rat_hints(held, literals):
+def rat_hints(held: dict[int, frozenset[int]], literals: list[int]) -> list[int] | None:
     """Hints that show the lemma by its first literal, a group for each clause with its negation, or None."""
     hints = []
     for number in sorted(held):
@@ -379,7 +384,9 @@ def rat_hints(held, literals):
     return hints
 
 
-def random_steps(rng, held, variables, last, takes_rat):
+def random_steps(
+    rng: random.Random, held: dict[int, frozenset[int]], variables: int, last: int, takes_rat: bool
+) -> tuple[list[str], int]:
     """Lemmas that follow, or that keep the clauses satisfiable, and deletions, as far as some were found."""
     lines = []
     for _ in range(rng.randint(0, 6)):
@@ -401,12 +408,12 @@ def random_steps(rng, held, variables, last, takes_rat):
     return lines, last
 
 
-def empty_lemma(held, last):
+def empty_lemma(held: dict[int, frozenset[int]], last: int) -> list[str]:
     hints = propagated(held, [])
     return [] if hints is None else [f"{last + 1} 0 {' '.join(map(str, hints))} 0"]
 
 
-def random_body(rng, subject, kind):
+def random_body(rng: random.Random, subject: Subject, kind: str) -> list[str]:
     """A body of the kind, mostly a right one; of a refutation only where short proofs are found by chance."""
     if kind == "pair":
         first = random_quorum(rng, subject)
@@ -451,7 +458,7 @@ def random_body(rng, subject, kind):
     return lines + ([] if kind.startswith("partial") else empty_lemma(held, last))
 
 
-def random_proof(rng, subject):
+def random_proof(rng: random.Random, subject: Subject) -> list[str]:
     """The lines of a proof of the exported formula, where short proofs are found by chance, with comments between
     them."""
     formula = plain.Formula(subject.system, subject.faulty, subject.exported)
@@ -465,7 +472,7 @@ def random_proof(rng, subject):
     return lines
 
 
-def still_a_line(rng, line, subject):
+def still_a_line(rng: random.Random, line: str, subject: Subject) -> str:
     """Another line of the same form: a name more or less in a list, a number changed in a step."""
     words = line.split(" ")
     if words[0] in ("faulty", "first", "second", "q", "b"):
@@ -495,7 +502,7 @@ def still_a_line(rng, line, subject):
     return " ".join(words)
 
 
-def mutated_lines(rng, lines, subject, others):
+def mutated_lines(rng: random.Random, lines: list[str], subject: Subject, others: list[str]) -> list[str]:
     """A certificate with a change of a line, a word, or of the order of lines."""
     lines = list(lines)
     at = rng.randrange(min(5, len(lines)) if rng.random() < 0.85 and len(lines) > 5 else 0, len(lines))
@@ -544,7 +551,7 @@ def mutated_lines(rng, lines, subject, others):
 # ---- Words
 
 
-def random_edit(rng, system):
+def random_edit(rng: random.Random, system: dict[str, tuple[int, list[Any]] | None]) -> bytes:
     """A line of a script, mostly an edit that may be made."""
     known = sorted(system)
     names = known + ["h", "i", "zz"]
@@ -574,7 +581,7 @@ def random_edit(rng, system):
     return rng.choice(
         [
             lambda: "threshold %s %s %s"
-            % (node, path or ".", rng.choice([0, 1, 1, 2, 2, 3, 4] if rng.random() < 0.9 else EDGES)),
+            % (node, path or ".", rng.choice([0, 1, 1, 2, 2, 3, 4] if rng.random() < 0.9 else EDGES)),  # type: ignore[arg-type]  # noqa: E501
             lambda: f"add {node} {path or '.'} {rng.choice(names)}",
             lambda: f"drop {node} {path or '.'} {rng.choice(own or names)}",
             lambda: "declare %s" % rng.choice([it for it in names if not system.get(it)] or names),
@@ -583,7 +590,7 @@ def random_edit(rng, system):
     )().encode()
 
 
-def random_script(rng, system):
+def random_script(rng: random.Random, system: dict[str, tuple[int, list[Any]] | None]) -> bytes:
     """Edits of the system one after another, up to one that may not be made, or to the end."""
     lines = []
     for _ in range(rng.choice([0, 1, 2, 5, 12, 40])):
@@ -601,7 +608,7 @@ def random_script(rng, system):
     return b"".join(line + b"\n" for line in lines)
 
 
-def mutated_words(rng, words):
+def mutated_words(rng: random.Random, words: list[str]) -> list[str]:
     words = list(words)
     for _ in range(rng.choice([1, 1, 2, 3])):
         at = rng.randrange(len(words) + 1)
@@ -676,7 +683,7 @@ Case = collections.namedtuple("Case", "kind words files wanted")
 class Program:
     """Runs the program in a folder of its own, and judges what it says."""
 
-    def __init__(self, program, folder):
+    def __init__(self, program: str, folder: str) -> None:
         self.program, self.folder = os.path.abspath(program), folder
         usage = self.run(Case("words", [], {}, None))[1]
         self.searches = [it for it in commands.SEARCHES if b"\n" + it.encode() + b" CONFIG CERT" in usage]
@@ -684,7 +691,7 @@ class Program:
         self.has_proofs = b"\ncheck-lrat CONFIG LRAT" in usage
         self.has_scripts = b"\nwhatif CONFIG SCRIPT" in usage
 
-    def run(self, case):
+    def run(self, case: Case) -> Any:
         """The status, what is put out, what is on standard error, and what the files then hold."""
         for name in os.listdir(self.folder):
             if name not in case.files:
@@ -709,7 +716,7 @@ class Program:
                 files[name] = it.read()
         return ended.returncode, ended.stdout, ended.stderr, files
 
-    def fault(self, case):
+    def fault(self, case: Case) -> Any:
         """What is wrong with the program's answer, or None."""
         status, text, err, files = self.run(case)
         if err or not isinstance(status, int) or status < 0:
@@ -737,7 +744,7 @@ class Program:
             return "status %d, and %s changed" % (status, " and ".join(changed))
         return self.search_fault(case, status, text.decode(), files["cert"]) if case.kind == "search" else None
 
-    def wanted(self, case):
+    def wanted(self, case: Case) -> tuple[int, str] | None:
         """The status and the text by the plain checker, where it says them."""
         if case.kind == "check":
             self.said = plain.check(case.files["config"], case.files["cert"], case.files.get("orgs"))
@@ -756,7 +763,7 @@ class Program:
             return wanted_of_question(case)
         return None
 
-    def search_fault(self, case, status, text, cert):
+    def search_fault(self, case: Case, status: int, text: str, cert: bytes) -> Any:
         if status not in (0, 1, 2):
             return f"status {status} of a search over a right configuration"
         command, subject, budget = case.wanted
@@ -782,7 +789,8 @@ class Program:
                 return fault_of_units(subject, cert)
             return f"found {(status, text)!r} with {said!r}"
         if command == "least":
-            wanted = None if every is None else min(map(len, every), default=None)
+            least: Any = None if every is None else min((len(it) for it in every), default=None)
+            wanted = least
             if (
                 kind == "least"
                 and status == 0
@@ -816,7 +824,7 @@ class Program:
         return fault_of_units(subject, cert) if answer == "unknown" else None
 
     @staticmethod
-    def says(command, answer, status, text, budget):
+    def says(command: str, answer: str, status: int, text: str, budget: int) -> bool:
         """Whether the text and the status of a search fit the kind of certificate that it wrote."""
         units = f" {budget}" if answer == "unknown" else ""
         if command == "trial":
@@ -838,12 +846,13 @@ class Program:
         )
 
 
-def minimal_sets(command, subject, every):
+def minimal_sets(command: str, subject: Subject, every: list[set[str]]) -> str:
     """What 'blocking', 'quorums' and 'org-blocking' list, by trying all sets of nodes or of groups."""
     names = sorted(subject.groups if command == "org-blocking" else set(subject.system) - subject.faulty)
-    found = []
+    found: list[set[str]] = []
     for size in range(len(names) + 1):
-        for nodes in map(set, itertools.combinations(names, size)):
+        for some in itertools.combinations(names, size):
+            nodes = set(some)
             if command == "org-blocking":
                 is_one = subject.groups_block(nodes)
             else:
@@ -856,7 +865,7 @@ def minimal_sets(command, subject, every):
     return f"{command} {len(lines)}\n" + "".join(f"set{plain.spelled(it)}\n" for it in lines)
 
 
-def wanted_of_orgs(case):
+def wanted_of_orgs(case: Case) -> tuple[int, str]:
     """What 'greatest' says with a file of organisations."""
     name, text = "config", case.words[-1].split("=", 1)[1]
     try:
@@ -871,7 +880,7 @@ def wanted_of_orgs(case):
     return 0, "greatest%s\n" % plain.spelled(plain.greatest_in(system, faulty, set(system)))
 
 
-def wanted_of_question(case):
+def wanted_of_question(case: Case) -> tuple[int, str]:
     """What a plain question or 'export' answers."""
     command, subject, node, given = case.wanted
     try:
@@ -895,7 +904,7 @@ def wanted_of_question(case):
     return 0, exported(subject)
 
 
-def exported(subject):
+def exported(subject: Subject) -> str:
     """What 'export' prints, small formulas only."""
     formula = plain.Formula(subject.system, subject.faulty, subject.exported)
     order = sorted(subject.shrunk(set(subject.system)))
@@ -912,14 +921,14 @@ def exported(subject):
 class Maker:
     """Makes cases; the certificates that searches wrote are kept, to be mutated."""
 
-    def __init__(self, rng, program):
+    def __init__(self, rng: random.Random, program: Program) -> None:
         self.rng, self.program = rng, program
-        self.others = []
-        self.written = []
-        self.accepted = collections.Counter()
+        self.others: list[str] = []
+        self.written: list[tuple[Subject, list[str]]] = []
+        self.accepted: collections.Counter[Any] = collections.Counter()
         self.verified = 0
 
-    def case(self):
+    def case(self) -> Case:
         chance = self.rng.random()
         if chance < 0.07 and self.program.has_proofs:
             return self.proof()
@@ -937,11 +946,11 @@ class Maker:
             return self.whatif()
         return self.words()
 
-    def config(self):
+    def config(self) -> bytes:
         data = random_config(self.rng)
         return mutated_json(self.rng, data) if self.rng.random() < 0.12 else data
 
-    def check(self):
+    def check(self) -> Case:
         rng = self.rng
         if self.written and rng.random() < 0.4:
             subject, lines = rng.choice(self.written)
@@ -964,7 +973,7 @@ class Maker:
             files["orgs"] = mutated_json(rng, subject.orgs) if rng.random() < 0.05 else subject.orgs
         return Case("check", ["check", "config", "cert"] + (["--orgs=orgs"] if "orgs" in files else []), files, None)
 
-    def proof(self):
+    def proof(self) -> Case:
         """A proof of a formula that is exported, mostly a changed one."""
         rng = self.rng
         subject = Subject(rng, self.config())
@@ -979,7 +988,7 @@ class Maker:
         words = ["check-lrat", "config", "cert"] + subject.options() + subject.formula
         return Case("proof", words, {"config": subject.data, "cert": proof}, subject)
 
-    def search(self):
+    def search(self) -> Case:
         rng = self.rng
         subject = Subject(rng, random_config(rng))
         command = rng.choice(self.program.searches)
@@ -997,7 +1006,7 @@ class Maker:
             files["orgs"] = subject.orgs
         return Case("search", words, files, (command, subject, budget))
 
-    def trial(self):
+    def trial(self) -> Case:
         """The trial configuration of a few organisations."""
         rng = self.rng
         count, budget = rng.choice([1, 1, 2, 2, 3, 4]), rng.choice([0, 1, 2, 5, 30, 1000000])
@@ -1006,7 +1015,7 @@ class Maker:
         words = ["trial", str(count), "cert"] + (["--budget", str(budget)] if budget != 1000000 else [])
         return Case("search", words, {"cert": b"old\n"}, ("trial", subject, budget))
 
-    def count(self, case):
+    def count(self, case: Case) -> None:
         """Counts the certificate by its kind and version, if it was accepted."""
         status, said = self.program.said
         if case.kind == "proof":
@@ -1018,14 +1027,14 @@ class Maker:
         kinds = ", ".join(" ".join([kind] + [str(self.accepted[kind, it]) for it in "123"]) for kind in plain.KINDS)
         return f"{kinds}; proofs of other solvers that were verified: {self.verified}"
 
-    def keep(self, case):
+    def keep(self, case: Case) -> None:
         """Keeps the certificate that the search wrote."""
         with open(os.path.join(self.program.folder, "cert"), "rb") as it:
             cert = it.read()
         if cert != b"old\n" and len(cert) < 5000:
             self.written = (self.written + [(case.wanted[1], cert.decode().split("\n")[:-1])])[-200:]
 
-    def question(self):
+    def question(self) -> Case:
         rng = self.rng
         subject = Subject(rng, self.config())
         command = rng.choice(["closure", "greatest", "available", "blocks", "vblocks", "export"])
@@ -1042,7 +1051,7 @@ class Maker:
         words += ["--set=" + ",".join(sorted(given))] if command in ("available", "blocks", "vblocks") else []
         return Case("question", words, {"config": subject.data}, (command, subject, node, given))
 
-    def orgs(self):
+    def orgs(self) -> Case:
         rng = self.rng
         data = compact(random_orgs(rng, ["A", "B", "C", "D,E", "F"]))
         data = mutated_json(rng, data) if rng.random() < 0.7 else data
@@ -1054,7 +1063,7 @@ class Maker:
             None,
         )
 
-    def whatif(self):
+    def whatif(self) -> Case:
         rng = self.rng
         data = self.config()
         try:
@@ -1101,7 +1110,7 @@ class Maker:
         )
         words = mutated_words(rng, words) if rng.random() < 0.8 else words
         if rng.random() < 0.02:
-            words.append(b"--set=\xff")
+            words.append(b"--set=\xff")  # type: ignore[arg-type]
         return Case(
             "words",
             words,
@@ -1115,12 +1124,12 @@ class Maker:
         )
 
 
-def parts(data):
+def parts(data: bytes) -> Any:
     """The lines of a certificate, or the marks of a JSON text."""
     return data.splitlines(keepends=True) if b"\n" in data else re.findall(rb'"[^"]*"|[0-9]+|.', data, re.DOTALL)
 
 
-def shrunk(program, case):
+def shrunk(program: Any, case: Case) -> Any:
     """The case with parts of its files left out, as long as something is wrong; tried in pieces that grow smaller."""
     for name in sorted(case.files):
         size = max(1, len(parts(case.files[name])) // 2)
@@ -1137,7 +1146,7 @@ def shrunk(program, case):
     return case
 
 
-def show(program, number, case):
+def show(program: Any, number: int, case: Case) -> None:
     """Prints a failing case, made smaller where that is no change of the question."""
     if case.kind not in ("search", "question", "proof"):
         case = shrunk(program, case)
@@ -1148,7 +1157,7 @@ def show(program, number, case):
     sys.stdout.flush()
 
 
-def main():
+def main() -> int:
     parser = argparse.ArgumentParser()
     parser.add_argument("--cases", type=int, default=400)
     parser.add_argument("--seed", type=int, default=1)

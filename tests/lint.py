@@ -20,14 +20,16 @@ SHEBANG = re.compile(rb"#!.*\b(python3|bash|sh)\n")
 KINDS = {b"python3": "python", b"bash": "shell", b"sh": "shell"}
 SUFFIXES = {".py": "python", ".bash": "shell", ".sh": "shell", ".js": "script", ".mjs": "script"}
 # The folders whose files mypy reads together, since these import one another by their bare names, with its further
-# words. What a tool or a bench imports from another folder is found, and its faults are told where that is read.
-PARTS = {
+# words. What one imports from another folder is found, and its faults are told where that is read. In tests None is
+# not told from what is there: where it should not be, the test fails anyway.
+IN_TESTS = ["--disallow-untyped-defs", "--no-strict-optional"]
+PARTS: dict[str, list[str]] = {
     "library/python": ["--strict"],
     "library": ["--strict"],
     "share": ["--strict"],
     "tools": ["--strict"],
-    "tests": [],
-    "bench": [],
+    "tests": IN_TESTS,
+    "bench": IN_TESTS,
 }
 SEARCHED = ("tests", "bench", "tools", "library/python")
 ESLINT_SETTINGS = re.compile(r"(\.eslintrc(\.(js|cjs|json|yml|yaml))?|eslint\.config\.(js|mjs|cjs))")

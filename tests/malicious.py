@@ -8,6 +8,8 @@ says that it could not write, and what was written is refused as truncated.
 tests/malicious.py [PROGRAM]; its last line is 'malicious: N passed, M failed'.
 """
 
+from __future__ import annotations
+
 import hashlib
 import os
 import re
@@ -16,6 +18,7 @@ import signal
 import subprocess
 import sys
 import tempfile
+from typing import Any
 
 import chosen
 
@@ -25,7 +28,7 @@ BUILT = chosen.PROGRAM
 MOST_LINE = 134217728
 
 
-def system(nodes, threshold):
+def system(nodes: str, threshold: int) -> bytes:
     """A configuration in which each node needs so many of all of them."""
     names = ",".join(f'"{node}"' for node in nodes)
     sets = [
@@ -34,12 +37,12 @@ def system(nodes, threshold):
     return ("[" + ",".join(sets) + "]").encode()
 
 
-def one(quorum_set):
+def one(quorum_set: bytes) -> bytes:
     """A configuration of one node, a."""
     return b'[{"publicKey":"a","quorumSet":' + quorum_set + b"}]"
 
 
-def nested(depth):
+def nested(depth: int) -> bytes:
     """A quorum set of this depth."""
     return (
         b'{"threshold":1,"innerQuorumSets":[' * (depth - 1)
@@ -48,7 +51,7 @@ def nested(depth):
     )
 
 
-def head(config, kind, start="", faulty="", version=1):
+def head(config: bytes, kind: str, start: str = "", faulty: str = "", version: int = 1) -> bytes:
     digest = hashlib.sha256(config).hexdigest()
     return f"fbas-cert {version}\nconfig {digest}\nfrom{start}\nfaulty{faulty}\nkind {kind}\n".encode()
 
@@ -79,17 +82,17 @@ PARTIAL = head(TWO, "partial") + b"formula 8 16\n" + LEMMA + b"\nend\n"
 RAT = head(THREE, "partial") + b"formula 36 53\n54 9 -2 -7 0 -8 -9 0\nend\n"
 
 
-def seventh(line):
+def seventh(line: bytes) -> bytes:
     """The refutation with other text on line 7."""
     return REFUTATION.replace(LEMMA, line)
 
 
-def before(line):
+def before(line: bytes) -> bytes:
     """The refutation with a line put before line 7."""
     return REFUTATION.replace(LEMMA, line + b"\n" + LEMMA)
 
 
-def shown(nodes, entries, unset, *found):
+def shown(nodes: int, entries: int, unset: int, *found: str) -> str:
     return f"nodes {nodes}\nentries {entries}\nunset {unset}\n" + "".join(line + "\n" for line in found)
 
 
@@ -700,7 +703,7 @@ SOME_GROUPS = head(THREE, "partial-org-blocking", version=2) + BESIDE
 STOPPED = "accepted org-blocking 1\nfrom\nfaulty\nset org:A\n"
 
 
-def beside(orgs):
+def beside(orgs: Any) -> bytes:
     """The certificate of no group, beside these organisations."""
     return (
         head(EMPTY, "org-blocking", version=2)
@@ -974,19 +977,19 @@ OLD = b"fbas-cert 2\nold\n"
 
 
 class Trial:
-    def __init__(self, folder, program):
+    def __init__(self, folder: str, program: str) -> None:
         self.folder, self.program = folder, os.path.abspath(program)
         self.passed = self.failed = 0
 
-    def put(self, name, data):
+    def put(self, name: str, data: Any) -> None:
         """Writes a file; great ones are made when they are wanted."""
         with open(os.path.join(self.folder, name), "wb") as it:
             it.write(data() if callable(data) else data)
 
-    def run(self, *words, most=None):
+    def run(self, *words: str, most: Any = None) -> tuple[int, str, str]:
         """Runs the program, which may write files of so many bytes at most."""
 
-        def prepare():
+        def prepare() -> None:
             if most is not None:
                 signal.signal(signal.SIGXFSZ, signal.SIG_IGN)
                 resource.setrlimit(resource.RLIMIT_FSIZE, (most, most))
@@ -1002,21 +1005,21 @@ class Trial:
         )
         return ended.returncode, ended.stdout.decode("latin-1"), ended.stderr.decode("latin-1")
 
-    def row(self, name, status, text, *words):
+    def row(self, name: str, status: int, text: str, *words: str) -> None:
         self.judge(name, self.run(*words), (status, text, ""))
 
-    def judge(self, name, found, wanted):
+    def judge(self, name: str, found: object, wanted: object) -> None:
         if found == wanted:
             self.passed += 1
         else:
             self.failed += 1
             print(f"malicious: {name}: found {found!r}, wanted {wanted!r}")
 
-    def held(self, name):
+    def held(self, name: str) -> bytes:
         with open(os.path.join(self.folder, name), "rb") as it:
             return it.read()
 
-    def full_files(self, *words, beside=()):
+    def full_files(self, *words: str, beside: tuple[str, ...] = ()) -> None:
         """A search whose certificate finds no room behind so many bytes, for each number below its length: the file is
         as it was."""
         self.put("config", THREE)
@@ -1043,7 +1046,7 @@ class Trial:
                 os.remove(os.path.join(self.folder, "front"))
 
 
-def rows(trial):
+def rows(trial: Trial) -> None:
     """The files made to break the program, each with its one answer."""
     for name, config, status, text in CONFIGURATIONS:
         trial.put("config", config)
@@ -1082,7 +1085,7 @@ def rows(trial):
         trial.row("script: " + name, 10, text, "whatif", "config", "script", "--set=")
 
 
-def main(program=BUILT):
+def main(program: str = BUILT) -> int:
     with tempfile.TemporaryDirectory() as folder:
         trial = Trial(folder, program)
         rows(trial)

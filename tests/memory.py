@@ -7,10 +7,14 @@ answered. Beside the gate, by hand: tests/memory.py [PROGRAM [PART..]]; a part i
 certificates, and without one all are run, which takes some minutes. The last line is 'memory: N passed, M failed'.
 """
 
+from __future__ import annotations
+
 import os
 import subprocess
 import sys
 import tempfile
+from collections.abc import Callable, Iterable, Iterator
+from typing import Any
 
 sys.path.insert(0, os.path.dirname(os.path.abspath(__file__)))
 import fuzz
@@ -24,13 +28,13 @@ STACKS = [8192, 1024, 512, 256, 192, 128, 96, 64, 48, 32, 16]
 LIMITS = [16, 24, 32, 48, 64, 96, 128, 192, 256, 384, 512, 768, 1024, 1536, 2048]
 
 
-def filled(head, piece, tail):
+def filled(head: Any, piece: Any, tail: Any) -> Any:
     """A JSON text as near to 16 MB as whole pieces allow, parted by commas."""
     count = (MOST_BYTES - len(head) - len(tail)) // (len(piece) + 1)
     return head + b",".join([piece] * count) + tail, count
 
 
-def configurations():
+def configurations() -> Iterator[Any]:
     """Names, files and the answers of 'show'."""
     nothing = b'[{"publicKey":"a","x":['
     data, _ = filled(nothing, b'{"":0}', b"]}]")
@@ -49,12 +53,12 @@ def configurations():
     yield "three nodes and blanks", malicious.THREE.ljust(MOST_BYTES), malicious.shown(3, 9, 0)
 
 
-def certificates():
+def certificates() -> Iterator[Any]:
     """Names, what makes the pieces of a certificate of 1 GB on two nodes, and the answers of 'check'."""
     start = malicious.head(malicious.TWO, "refutation") + b"formula 8 16\n"
 
-    def lemmas(deleted):
-        def pieces():
+    def lemmas(deleted: Any) -> Any:
+        def pieces() -> Iterator[Any]:
             yield start
             number, sent = 17, 0
             while sent < GREAT:
@@ -66,8 +70,8 @@ def certificates():
 
         return pieces
 
-    def long_lines(middle):
-        def pieces():
+    def long_lines(middle: Any) -> Any:
+        def pieces() -> Iterator[Any]:
             yield start
             for number in range(17, 25):
                 yield b"%d -1" % number + middle * ((GREAT // 8 - 40) // len(middle)) + b" 0 7 6 3 4 2 0\n"
@@ -75,7 +79,7 @@ def certificates():
 
         return pieces
 
-    def no_line():
+    def no_line() -> Iterator[Any]:
         for _ in range(GREAT // 1000000):
             yield b"fbas-cert" * 111111
 
@@ -105,7 +109,7 @@ with open("used", "w") as it:
 class Ended:
     """How a run ended: status, texts, largest memory in MB, seconds of processor time."""
 
-    def __init__(self, words, folder, limit=0, stack=0, pieces=None):
+    def __init__(self, words: list[str], folder: str, limit: int = 0, stack: int = 0, pieces: None = None) -> None:
         words = [sys.executable, "-S", "-c", STARTER, str(limit), str(stack)] + words
         with open(os.path.join(folder, "out"), "w+b") as out, open(os.path.join(folder, "err"), "w+b") as err:
             started = subprocess.Popen(
@@ -122,7 +126,7 @@ class Ended:
         self.status, self.memory, self.time = int(status), int(memory) / 1024, float(time)
 
     @staticmethod
-    def feed(pipe, pieces):
+    def feed(pipe: Any, pieces: Callable[[], Iterable[bytes]]) -> None:
         try:
             with pipe:
                 for piece in pieces():
@@ -130,34 +134,43 @@ class Ended:
         except BrokenPipeError:
             pass
 
-    def is_right(self, status, text):
+    def is_right(self, status: int, text: str) -> bool:
         return (self.status, self.text, self.err) == (status, text, "")
 
-    def is_want(self):
+    def is_want(self) -> bool:
         return self.is_right(8, "")
 
 
 class Trial:
-    def __init__(self, folder, program):
+    def __init__(self, folder: str, program: str) -> None:
         self.folder, self.program = folder, os.path.abspath(program)
         self.passed = self.failed = 0
 
-    def put(self, name, data):
+    def put(self, name: str, data: bytes) -> None:
         with open(os.path.join(self.folder, name), "wb") as it:
             it.write(data)
 
-    def held(self, name):
+    def held(self, name: str) -> bytes:
         with open(os.path.join(self.folder, name), "rb") as it:
             return it.read()
 
-    def judge(self, name, right, ended):
+    def judge(self, name: str, right: bool, ended: Ended | None) -> None:
         if right:
             self.passed += 1
         else:
             self.failed += 1
             print(f"memory: {name}: status {ended.status}, {ended.text[:100]!r}, {ended.err[:100]!r}")
 
-    def limits(self, name, words, status, text, pieces=None, every=LIMITS, after=None):
+    def limits(
+        self,
+        name: str,
+        words: list[str],
+        status: int,
+        text: str,
+        pieces: None = None,
+        every: list[int] = LIMITS,
+        after: Callable[..., Any] | None = None,
+    ) -> None:
         """Without a limit and under each: the answer, or 8 with nothing put out."""
         ended = Ended([self.program] + words, self.folder, pieces=pieces)
         self.judge(name, ended.is_right(status, text) and (not after or after(ended)), ended)
@@ -174,7 +187,7 @@ class Trial:
         )
         sys.stdout.flush()
 
-    def searches(self):
+    def searches(self) -> None:
         """A search leaves the certificate as it was, or whole and accepted."""
         blanks = malicious.THREE.ljust(MOST_BYTES)
         fifty = fuzz.trial_config(50)
@@ -211,7 +224,7 @@ class Trial:
             self.put("config", config)
             self.put("cert", malicious.OLD)
 
-            def after(ended):
+            def after(ended: Ended) -> bool:
                 if ended.status == 8:
                     whole = self.held("cert") == malicious.OLD
                 else:
@@ -221,7 +234,7 @@ class Trial:
 
             self.limits(name, words.split(), 0, text, after=after)
 
-    def stack_rows(self):
+    def stack_rows(self) -> list[tuple[list[str], int, str | None]]:
         """Runs over the deepest files, with their statuses and texts."""
         deep = b"[" * 127 + b"]" * 127
         skipped = b'[{"publicKey":"a","x":' + b"[" * 125 + b"]" * 125 + b"}]"
@@ -246,7 +259,7 @@ class Trial:
             (["intersect"], 3, None),
         ]
 
-    def fails_under(self, size, rows):
+    def fails_under(self, size: int, rows: list[tuple[list[str], int, str | None]]) -> list[tuple[list[str], Ended]]:
         """The runs that are not answered under a stack of this many kB."""
         bad = []
         for words, status, text in rows:
@@ -255,7 +268,7 @@ class Trial:
                 bad.append((words, ended))
         return bad
 
-    def stack(self):
+    def stack(self) -> None:
         """The least stack under which the deepest files are answered."""
         rows = self.stack_rows()
         for size in STACKS:
@@ -267,20 +280,20 @@ class Trial:
             if size == STACKS[0]:
                 self.judge("stack of 8 MB", not bad, bad[0][1] if bad else None)
 
-    def configurations(self):
+    def configurations(self) -> None:
         for name, data, text in configurations():
             self.put("config", data)
             self.limits("show, " + name, ["show", "config"], 0, text)
 
-    def certificates(self):
+    def certificates(self) -> None:
         self.put("config", malicious.TWO)
         for name, pieces, answer in certificates():
-            self.limits(
-                "check, " + name, ["check", "config", "/dev/stdin"], *answer, pieces=pieces, every=[16, 64, 256, 1024]
-            )
+            status, text = answer
+            words = ["check", "config", "/dev/stdin"]
+            self.limits("check, " + name, words, status, text, pieces=pieces, every=[16, 64, 256, 1024])
 
 
-def main(program=malicious.BUILT, *parts):
+def main(program: str = malicious.BUILT, *parts: str) -> Any:
     with tempfile.TemporaryDirectory() as folder:
         trial = Trial(folder, program)
         for part in parts or ("stack", "searches", "configurations", "certificates"):

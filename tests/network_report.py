@@ -5,6 +5,8 @@ unchecked.
 Its last line is 'network-report: N passed, M failed'. Where the program is not built it says so, and tries nothing.
 """
 
+from __future__ import annotations
+
 import hashlib
 import html
 import html.parser
@@ -19,6 +21,8 @@ import subprocess
 import sys
 import tempfile
 import time
+from collections.abc import Callable
+from typing import Any
 
 import chosen
 
@@ -57,7 +61,7 @@ WAITING = (
 )
 
 
-def contents(folder):
+def contents(folder: str) -> dict[str, bytes]:
     """The files below a folder, with their bytes."""
     found = {}
     for here, _, names in os.walk(folder):
@@ -70,18 +74,18 @@ def contents(folder):
 class Tags(html.parser.HTMLParser):
     """The tags that are opened, and those that are closed in the wrong place."""
 
-    def __init__(self):
+    def __init__(self) -> None:
         super().__init__()
-        self.opened = []
-        self.wrong = []
+        self.opened: list[str] = []
+        self.wrong: list[Any] = []
 
-    def handle_starttag(self, tag, attrs):
+    def handle_starttag(self, tag: str, attrs: list[tuple[str, str]]) -> None:
         if tag in ("div", "p", "ol", "ul", "table", "details", "section") and "p" in self.opened:
             self.wrong.append(tag + " in p")
         if tag not in ("meta", "br"):
             self.opened.append(tag)
 
-    def handle_endtag(self, tag):
+    def handle_endtag(self, tag: str) -> None:
         if self.opened and self.opened[-1] == tag:
             self.opened.pop()
         else:
@@ -89,38 +93,38 @@ class Tags(html.parser.HTMLParser):
 
 
 class Trial:
-    def __init__(self, folder):
+    def __init__(self, folder: str) -> None:
         self.folder = folder
         self.passed = 0
         self.failed = 0
 
-    def path(self, name):
+    def path(self, name: str) -> str:
         return os.path.join(self.folder, name)
 
-    def judge(self, name, right, shown=""):
+    def judge(self, name: str, right: bool, shown: Any = "") -> None:
         if right:
             self.passed += 1
         else:
             self.failed += 1
             print(f"network-report: {name}: {shown}")
 
-    def written(self, name, text, mode=0o644):
+    def written(self, name: str, text: str, mode: int = 0o644) -> str:
         with open(self.path(name), "w") as it:
             it.write(text)
         os.chmod(self.path(name), mode)
         return self.path(name)
 
-    def run(self, *words, program=PROGRAM):
+    def run(self, *words: str, program: str = PROGRAM) -> tuple[int, str, str | None]:
         """The status, standard error and the page (None: there is none)."""
         page = self.path("page.html")
         if os.path.exists(page):
             os.remove(page)
-        words = [TOOL, *words, "-o", page, "--program", program]
+        words = [TOOL, *words, "-o", page, "--program", program]  # type: ignore[assignment]
         ended = subprocess.run(words, stdout=subprocess.PIPE, stderr=subprocess.PIPE, timeout=600)
         text = open(page, encoding="utf-8").read() if os.path.exists(page) else None
         return ended.returncode, ended.stderr.decode(), text
 
-    def loads_nothing(self, page):
+    def loads_nothing(self, page: str) -> None:
         """One page: no script, no style, font or picture from elsewhere, each inner link leads somewhere, and each tag
         is closed."""
         found = re.findall(r"<script|<link|<img|src=|url\(|@import|https?:", page)
@@ -136,34 +140,34 @@ class Trial:
         )
         self.judge("the summary comes first", page.index("</dl>") < page.index("<h2"))
 
-    def summary(self, page):
+    def summary(self, page: str) -> dict[str, str]:
         """The lines by their labels, without markup; of several parts the last."""
         return {
             label: html.unescape(re.sub(r"<[^>]*>", "", line))
             for label, line in re.findall(r"<dt>(.*?)</dt><dd>(.*?)</dd>", page)
         }
 
-    def says(self, name, page, wanted):
+    def says(self, name: str, page: str, wanted: dict[str, str]) -> None:
         """The summary says this under these labels."""
         found = self.summary(page)
         self.judge(name, all(found.get(label) == line for label, line in wanted.items()), found)
 
     @staticmethod
-    def asked(*words):
+    def asked(*words: str) -> list[str]:
         """The lines that the program prints."""
         return subprocess.run([PROGRAM, *words], stdout=subprocess.PIPE).stdout.decode().split("\n")[:-1]
 
-    def knows(self, command):
+    def knows(self, command: str) -> bool:
         return any(line.startswith(command + " ") for line in self.asked())
 
-    def beside(self, config, word):
+    def beside(self, config: str, word: str) -> str:
         """A word of a command of the page, with the files where they lie here."""
         option, path = ("--orgs=", word[7:]) if word.startswith("--orgs=") else ("", word)
         return option + {os.path.basename(config): config, "orgs.json": ORGS}.get(
             path, self.path(path) if path.startswith("page-certificates/") else path
         )
 
-    def certificates(self, config, page):
+    def certificates(self, config: str, page: str) -> int:
         """Each certificate of the page's list lies beside it, has the digest that the page says, is accepted, and is
         made anew by the command that stands there."""
         row = (
@@ -185,11 +189,11 @@ class Trial:
             with open(self.path("again.cert"), "rb") as it:
                 self.judge("made again: " + command, words[0] == "quorum_cli" and it.read() == held)
         named = re.findall(r'href="(page-certificates/[^"]+)"', page)
-        held = {"page-certificates/" + it for it in contents(self.path("page-certificates")) if it.endswith(".cert")}
+        held = {"page-certificates/" + it for it in contents(self.path("page-certificates")) if it.endswith(".cert")}  # type: ignore[assignment]  # noqa: E501
         self.judge("each is in the list, and in the folder", set(named) == {it[0] for it in listed} == held, named)
         return len(listed)
 
-    def leaving(self, config, page):
+    def leaving(self, config: str, page: str) -> list[list[str]]:
         """Each organisation that leaves: the script retires its keys, and of the greatest quorum just those are left
         that are without them. The rows of the table, without markup."""
         asked = [
@@ -228,7 +232,7 @@ class Trial:
             )
         return [[it for it in row.split("|") if it] for row in rows]
 
-    def a_network(self):
+    def a_network(self) -> None:
         status, error, page = self.run(NETWORK, "--orgs", ORGS, "--node", "GAAA1")
         self.judge("a page of the example", status == 0 and page is not None, error)
         if page is None:
@@ -284,7 +288,7 @@ class Trial:
         self.judge("progress on standard error", "organisation 3 of 3: Cedar" in error, error)
         self.judge("sets of organisations have a certificate of their own", "its certificate shows that" in page)
 
-    def a_watcher(self):
+    def a_watcher(self) -> None:
         """The node of one's own of which no quorum set is known is said to be so."""
         status, error, page = self.run(NETWORK, "--orgs", ORGS, "--node", "GWATCH")
         self.judge("a page for a watcher", status == 0 and page is not None, error)
@@ -304,7 +308,7 @@ class Trial:
             )
             self.judge("unknown is not no", "no quorum:" not in page and "never agrees" not in page)
 
-    def one_needed(self):
+    def one_needed(self) -> None:
         """Organisations by home domain, each of which all need, and one that nobody needs."""
         orgs = {"a.example": ["a1", "a2", "a3"], "b.example": ["b1"], "c.example": ["c1"]}
         inner = [{"threshold": 2, "validators": orgs["a.example"]}, {"threshold": 1, "validators": ["b1"]}]
@@ -345,7 +349,7 @@ class Trial:
         ]
         self.judge("what stops as it leaves", rows == right, rows)
 
-    def split_off(self):
+    def split_off(self) -> None:
         """A fork of the whole file that only splits off a watcher: said so, and not in red."""
         validators = [
             {
@@ -390,7 +394,7 @@ class Trial:
             [text for text in wanted if text not in page],
         )
 
-    def certificates_of_domains(self, config, page):
+    def certificates_of_domains(self, config: str, page: str) -> None:
         """Without a file of organisations the lying keys stand in the command."""
         self.judge(
             "the lying keys by name",
@@ -404,7 +408,7 @@ class Trial:
             is not None,
         )
 
-    def spent(self):
+    def spent(self) -> None:
         """Where the budget is spent the page says so, and lists what was found until then."""
         status, error, page = self.run(NETWORK, "--orgs", ORGS, "--node", "GAAA1", "--budget", "60")
         self.judge("a page with little budget", status == 0 and page is not None, error)
@@ -434,13 +438,13 @@ class Trial:
         )
 
     @staticmethod
-    def blocks(keys):
+    def blocks(keys: list[str]) -> bool:
         return (
             subprocess.run([PROGRAM, "blocks", NETWORK, "--set", ",".join(keys)], stdout=subprocess.DEVNULL).returncode
             == 0
         )
 
-    def odd_names(self):
+    def odd_names(self) -> None:
         config = self.written("odd.json", json.dumps(ODD))
         status, error, page = self.run(
             config, "--orgs", self.written("odd-orgs.json", json.dumps(ODD_ORGS)), "--node=-x<i>"
@@ -461,7 +465,7 @@ class Trial:
         ]
         self.judge("what is odd", all(text in page for text in wanted), [text for text in wanted if text not in page])
 
-    def two_apart(self):
+    def two_apart(self) -> None:
         """Two quorums that share no node, and a blocking set: every kind of circle is explained."""
         config = self.written(
             "apart.json",
@@ -485,7 +489,7 @@ class Trial:
                 {"Can it fork?": "It can fork: it is 2 networks that do not depend on one another. a against b."},
             )
 
-    def unproved(self):
+    def unproved(self) -> None:
         """A page of the program that is compiled without proofs says so, and does not say that anything is proved."""
         copy = self.path("unproved/quorum_cli")
         os.makedirs(os.path.dirname(copy))
@@ -496,7 +500,7 @@ class Trial:
             error,
         )
 
-    def shown_names(self):
+    def shown_names(self) -> None:
         """Signs that turn or hide a name stand as escapes; organisations of one name are told apart, and one without a
         name goes by its domain."""
         nodes = [
@@ -528,7 +532,7 @@ class Trial:
                 "organisations apart", all(text in page for text in ("Same (one)", "Same (two)", "c.example\\u200b"))
             )
 
-    def as_things_are(self):
+    def as_things_are(self) -> None:
         """With a node that is down both margins are said, and --now asks all with it as silent."""
         nodes = [
             {"publicKey": it, "isValidating": it != "a", "quorumSet": {"threshold": 3, "validators": list("abcd")}}
@@ -558,7 +562,7 @@ class Trial:
             with open(self.path("down-data.json"), encoding="utf-8") as it:
                 self.judge("data beside it", len(json.load(it)["parts"][0]["greatest"]) == left)
 
-    def by_the_clock(self):
+    def by_the_clock(self) -> None:
         """Questions end when their time is up; what is there and accepted is taken by the next run, and what is not is
         asked again."""
         log, slow, page = self.path("words"), self.path("waits"), self.path("page.html")
@@ -616,7 +620,7 @@ class Trial:
         self.a_part(log, program, asked)
         self.interrupted(program, page)
 
-    def a_part(self, log, program, asked):
+    def a_part(self, log: str, program: str, asked: Callable[..., Any]) -> None:
         """A part of a list is gone on with: with four times its units."""
         shutil.rmtree(self.path("page-certificates"), ignore_errors=True)
         self.run(NETWORK, "--orgs", ORGS, "--budget", "20", program=program)
@@ -628,7 +632,7 @@ class Trial:
             asked(),
         )
 
-    def interrupted(self, program, page):
+    def interrupted(self, program: str, page: str) -> None:
         """Ctrl-C on a terminal ends the searches, and the page is written; the second ends at once. A hangup leaves
         all as it was, unless it is ignored."""
         for signals, wanted in ([signal.SIGINT], 0), ([signal.SIGINT, signal.SIGINT], 130), ([signal.SIGHUP], 129):
@@ -659,7 +663,7 @@ class Trial:
                 (status, left),
             )
 
-    def nothing_unchecked(self):
+    def nothing_unchecked(self) -> None:
         for name, text in (("refusing", REFUSING % PROGRAM), ("about-others", ABOUT_OTHERS % (PROGRAM, PROGRAM))):
             status, error, page = self.run(NETWORK, "--orgs", ORGS, program=self.written(name, text, 0o755))
             self.judge(
@@ -668,7 +672,7 @@ class Trial:
                 error,
             )
 
-    def refusals(self):
+    def refusals(self) -> None:
         status, error, page = self.run(self.written("bad.json", "{"))
         self.judge("a refused configuration", status == 1 and page is None and "config not-json" in error, error)
         status, error, page = self.run(self.path("missing.json"))
@@ -683,7 +687,7 @@ class Trial:
         self.aliases(log, program)
         self.stopped(slow, program)
 
-    def aliases(self, log, program):
+    def aliases(self, log: str, program: str) -> None:
         """A page in the place of a file that is read is refused before anything is asked, whatever it is called."""
         folder = os.path.join(self.folder, "aliases")
         os.mkdir(folder)
@@ -701,7 +705,7 @@ class Trial:
             right = ended.returncode == 2 and not os.path.exists(log) and contents(folder) == before
             self.judge("the page is not to be " + name, right, ended.stderr)
 
-    def stopped(self, slow, program):
+    def stopped(self, slow: str, program: str) -> None:
         """A run that fails or is stopped leaves the old page and its certificates, and nothing beside them."""
         folder = os.path.join(self.folder, "stopped")
         os.mkdir(folder)
@@ -739,7 +743,7 @@ class Trial:
         )
 
 
-def main():
+def main() -> int:
     if not os.path.exists(PROGRAM):
         print("network-report: skipped, the program is not built")
         return 0

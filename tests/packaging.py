@@ -6,6 +6,8 @@ does the installed program where none is built. The last line is
 'packaging: N passed, M failed, K skipped'.
 """
 
+from __future__ import annotations
+
 import os
 import pty
 import re
@@ -16,6 +18,7 @@ import subprocess
 import sys
 import tempfile
 import time
+from typing import Any
 
 import chosen
 
@@ -39,18 +42,18 @@ ZSH = (
 COUNTS = {"passed": 0, "failed": 0, "skipped": 0}
 
 
-def run(words, **more):
+def run(words: list[str], **more: Any) -> tuple[int, str, str]:
     ended = subprocess.run(words, stdout=subprocess.PIPE, stderr=subprocess.PIPE, timeout=120, **more)
     return ended.returncode, ended.stdout.decode(errors="replace"), ended.stderr.decode(errors="replace")
 
 
-def judge(right, what):
+def judge(right: bool, what: str) -> None:
     COUNTS["passed" if right else "failed"] += 1
     if not right:
         print("packaging: " + what)
 
 
-def share(name):
+def share(name: str) -> str:
     return os.path.join(TOP, "share", name)
 
 
@@ -77,7 +80,7 @@ def pages():
         COUNTS["skipped"] += 1
 
 
-def shown(terminal, wanted, seconds=30):
+def shown(terminal: Any, wanted: Any, seconds: float = 30) -> bool:
     """Whether the text comes on a terminal in time, whatever moves of the cursor stand in it."""
     text, until = "", time.monotonic() + seconds
     while wanted not in re.sub(r"\x1b\[[0-9;?]*[A-Za-z]|[\r\x07]", "", text):
@@ -88,7 +91,7 @@ def shown(terminal, wanted, seconds=30):
     return True
 
 
-def zsh_completes(typed, wanted):
+def zsh_completes(typed: Any, wanted: Any) -> Any:
     """Whether an interactive zsh makes the one of the other, at a tab."""
     child, terminal = pty.fork()
     if not child:
@@ -103,7 +106,7 @@ def zsh_completes(typed, wanted):
     return found
 
 
-def completions():
+def completions() -> None:
     for typed, wanted in TYPED:
         offered = run(["bash", "-c", BASH, "bash", share("quorum_cli.bash"), *typed])[1].split()
         judge(wanted in offered, f"bash does not offer {wanted} after {typed}")
@@ -114,13 +117,13 @@ def completions():
         else:
             COUNTS["skipped"] += 1
     if shutil.which("zsh"):
-        for typed, wanted in ZSH_TYPED.items():
+        for typed, wanted in ZSH_TYPED.items():  # type: ignore[assignment]
             judge(zsh_completes(typed, wanted), f"zsh does not complete {typed!r}")
     else:
         COUNTS["skipped"] += 1
 
 
-def installed(folder):
+def installed(folder: str) -> None:
     """What `make install` puts there answers from another folder."""
     if not (os.access(PROGRAM, os.X_OK) and shutil.which("make")):
         COUNTS["skipped"] += 1
@@ -153,7 +156,7 @@ def installed(folder):
         judge(os.path.isfile(os.path.join(folder, "a b", "share", name)), name + " is not installed")
 
 
-def main():
+def main() -> int:
     pages()
     completions()
     with tempfile.TemporaryDirectory() as folder:

@@ -7,11 +7,15 @@ and reads organisations, so that tests/fuzz.py can compare the two. Nothing here
 tests/plain_checker.py CONFIG CERT [ORGS]
 """
 
+from __future__ import annotations
+
 import hashlib
 import json
 import math
 import re
 import sys
+from collections.abc import Callable, Iterator
+from typing import Any, NoReturn
 
 MOST_BYTES = 16777216
 MOST_SCRIPT = 1048576
@@ -24,7 +28,7 @@ MOST_LINE = 134217728
 MOST_ID = 2**63 - 1
 MOST_LIT = 2**31 - 1
 
-KINDS = (
+KINDS: tuple[str, ...] = (
     "pair",
     "refutation",
     "partial",
@@ -53,7 +57,7 @@ class Fault(Exception):
 # ---- JSON, configurations and organisations
 
 
-def whole_or_float(text):
+def whole_or_float(text: str) -> Any:
     """A number without fraction and exponent: whole where 64 bits hold it, else a float, as -0 is."""
     number = int(text) if len(text) < 30 else None
     if number is not None and text != "-0" and -(2**63) <= number < 2**64:
@@ -61,18 +65,18 @@ def whole_or_float(text):
     return finite(text)
 
 
-def finite(text):
+def finite(text: str) -> float:
     number = float(text)
     if math.isinf(number):
         raise ValueError("no binary64 holds it")
     return number
 
 
-def no_constant(text):
+def no_constant(text: str) -> None:
     raise ValueError(text)
 
 
-def tree_of(data):
+def tree_of(data: bytes) -> list[dict[str, Any]]:
     """The tree of a JSON text; of a member that comes twice the last one counts."""
     try:
         text = data.decode("utf-8")
@@ -89,18 +93,18 @@ def tree_of(data):
         raise Fault("not-json")
 
 
-def is_key(it):
+def is_key(it: str) -> bool:
     return isinstance(it, str) and re.fullmatch(r"[!-+\--~]{1,128}", it) is not None
 
 
-def keys_of(it):
+def keys_of(it: list[str]) -> list[str]:
     """A list of keys that may be missing or null; None where it is something else."""
     if it is None:
         return []
     return it if isinstance(it, list) and all(is_key(key) for key in it) else None
 
 
-def quorum_set_of(it, place, depth):
+def quorum_set_of(it: dict[str, Any], place: int, depth: int) -> tuple[int, list[Any]]:
     """A quorum set: its threshold and its entries, which are names and quorum sets."""
     if depth > MOST_DEPTH:
         raise Fault(f"too-deep {place}")
@@ -118,7 +122,7 @@ def quorum_set_of(it, place, depth):
     return threshold, validators + [quorum_set_of(each, place, depth + 1) for each in inner or []]
 
 
-def mentioned(quorum_set):
+def mentioned(quorum_set: tuple[int, list[Any]]) -> Iterator[str]:
     for entry in quorum_set[1]:
         if isinstance(entry, str):
             yield entry
@@ -126,18 +130,18 @@ def mentioned(quorum_set):
             yield from mentioned(entry)
 
 
-def entries(quorum_set):
+def entries(quorum_set: tuple[int, list[Any]]) -> int:
     return sum(1 if isinstance(entry, str) else 1 + entries(entry) for entry in quorum_set[1])
 
 
-def system_of(data):
+def system_of(data: Any) -> dict[str, tuple[int, list[Any]] | None]:
     """The system of a configuration: a quorum set, or None, by name."""
     if len(data) > MOST_BYTES:
         raise Fault("too-long")
     return system_in(data)
 
 
-def system_in(data):
+def system_in(data: bytes) -> dict[str, tuple[int, list[Any]] | None]:
     """The same without a limit on the bytes."""
     tree = tree_of(data)
     if not isinstance(tree, list):
@@ -162,7 +166,7 @@ def system_in(data):
     return {name: declared.get(name) for name in names}
 
 
-def orgs_of(data, system):
+def orgs_of(data: bytes, system: dict[str, tuple[int, list[Any]] | None]) -> dict[str, set[str]]:
     """The organisations: their members among the system's nodes, by id."""
     if len(data) > MOST_BYTES:
         raise Fault("too-long")
@@ -184,14 +188,14 @@ def orgs_of(data, system):
     return orgs
 
 
-def groups_of(orgs, part):
+def groups_of(orgs: dict[str, set[str]], part: set[str]) -> dict[str, set[str]]:
     """The organisations by their texts, members cut to the part, and each node of the part that is in none."""
     groups = {"org:" + name: members & part for name, members in orgs.items()}
     groups.update({"node:" + node: {node} for node in part.difference(*orgs.values())})
     return groups
 
 
-def listed(text, known):
+def listed(text: str, known: dict[str, Any]) -> set[str]:
     """The items of a list of names on the command line, or its first fault with its place."""
     items = text.split(",") if text else []
     for place, item in enumerate(items, 1):
@@ -207,22 +211,22 @@ def listed(text, known):
 # ---- Quorums
 
 
-def satisfied(quorum_set, inside):
+def satisfied(quorum_set: tuple[int, list[Any]], inside: set[str]) -> bool:
     """Whether some choice of the quorum set lies inside the set."""
     threshold, entry_list = quorum_set
     met = sum(entry in inside if isinstance(entry, str) else satisfied(entry, inside) for entry in entry_list)
     return 1 <= threshold <= len(entry_list) and met >= threshold
 
 
-def has_slice(system, node, inside):
+def has_slice(system: dict[str, tuple[int, list[Any]] | None], node: str, inside: set[str]) -> bool:
     return system[node] is not None and satisfied(system[node], inside)
 
 
-def is_quorum(system, faulty, nodes):
+def is_quorum(system: dict[str, tuple[int, list[Any]] | None], faulty: set[str], nodes: set[str]) -> bool:
     return bool(nodes) and not nodes & faulty and all(has_slice(system, node, nodes | faulty) for node in nodes)
 
 
-def greatest_in(system, faulty, nodes):
+def greatest_in(system: dict[str, tuple[int, list[Any]] | None], faulty: set[str], nodes: set[str]) -> set[str]:
     """The greatest quorum among the nodes, empty where there is none."""
     left = nodes - faulty
     while True:
@@ -232,18 +236,18 @@ def greatest_in(system, faulty, nodes):
         left = stays
 
 
-def blocks(system, faulty, nodes):
+def blocks(system: dict[str, tuple[int, list[Any]] | None], faulty: set[str], nodes: Any) -> bool:
     return not greatest_in(system, faulty, set(system) - nodes)
 
 
-def availability(system, given):
+def availability(system: dict[str, tuple[int, list[Any]] | None], given: set[str]) -> tuple[int, str]:
     """The status and the text of 'available' without these nodes."""
     others = set(system) - given
     unmet = [node for node in others if not has_slice(system, node, others)]
     return (1, f"available no\nunmet{spelled(unmet)}\n") if unmet else (0, "available yes\n")
 
 
-def closure(system, node):
+def closure(system: dict[str, tuple[int, list[Any]] | None], node: Any) -> set[str]:
     reached, fresh = {node}, [node]
     while fresh:
         quorum_set = system[fresh.pop()]
@@ -259,7 +263,7 @@ def closure(system, node):
 ALWAYS, NEVER = "always", "never"
 
 
-def circuit_of(quorum_set, greatest, faulty):
+def circuit_of(quorum_set: tuple[int, list[Any]], greatest: set[str], faulty: set[str]) -> Any:
     """Always, never, or how many are wanted of which inputs: names and such pairs."""
     threshold, entry_list = quorum_set
     if not 1 <= threshold <= len(entry_list):
@@ -297,7 +301,7 @@ def counted(size, i, j):
     return size + i * (i - 1) // 2 + j
 
 
-def counter_of(size):
+def counter_of(size: int) -> list[list[int]]:
     """The clauses of the counter, in order."""
     clauses = []
     for i in range(1, size + 1):
@@ -311,7 +315,7 @@ def counter_of(size):
 class Formula:
     """The intersection formula in a version: the number of its variables, and its clauses in order."""
 
-    def __init__(self, system, faulty, version):
+    def __init__(self, system: dict[str, tuple[int, list[Any]] | None], faulty: set[str], version: int) -> None:
         order = sorted(greatest_in(system, faulty, set(system)))
         circuits = [circuit_of(system[name], set(order), faulty) for name in order]
         if version >= 3:
@@ -323,23 +327,23 @@ class Formula:
         self.variables = 2 * g
         for side in (0, g):
             self.numbers = {name: side + i for i, name in enumerate(order, 1)}
-            self.shared = {}
+            self.shared: dict[Any, int] = {}
             for i, circuit in enumerate(circuits, 1):
                 if circuit != ALWAYS:
                     self.add([-(side + i), self.gate(circuit)])
 
-    def add(self, clause):
+    def add(self, clause: list[int]) -> None:
         """Keeps a clause while the formula is not too large: of one that is, the number of variables alone is
         wanted."""
         if self.variables <= MOST_VARS:
             self.clauses.append(clause)
 
-    def fresh(self, count=1):
+    def fresh(self, count: int = 1) -> int:
         """New variables; the first of them."""
         self.variables += count
         return self.variables - count + 1
 
-    def gate(self, circuit):
+    def gate(self, circuit: tuple[Any, ...]) -> int:
         """The variable of a circuit, once its clauses are written."""
         if len(circuit) == 1:
             return self.numbers[circuit[0]]
@@ -349,7 +353,7 @@ class Formula:
             known = self.shared[circuit] = self.new_gate(*circuit)
         return known
 
-    def new_gate(self, k, inputs):
+    def new_gate(self, k: int, inputs: tuple[Any, ...]) -> int:
         x = [self.gate(each) for each in inputs]
         n = len(x)
         if k == n:
@@ -377,14 +381,14 @@ class Formula:
 # ---- Steps
 
 
-def number_in(word, least, most):
+def number_in(word: str, least: int, most: int) -> int:
     if re.fullmatch(r"0|-?[1-9][0-9]*", word) and len(word) < 30 and least <= int(word) <= most:
         return int(word)
     raise ValueError(word)
 
 
-def numbers_up_to_zero(words, least, most):
-    numbers = []
+def numbers_up_to_zero(words: Iterator[Any], least: int, most: int) -> list[int]:
+    numbers: list[int] = []
     for word in words:
         number = number_in(word, least, most)
         if number == 0:
@@ -393,7 +397,7 @@ def numbers_up_to_zero(words, least, most):
     raise ValueError("no zero")
 
 
-def step_in(line):
+def step_in(line: bytes) -> tuple[int | None, list[int], list[int]]:
     """The step of a line: its id with literals and hints, or None with the ids that it deletes. ValueError where it is
     none."""
     if re.search(rb"[^\t -~]", line):
@@ -404,7 +408,7 @@ def step_in(line):
     number = number_in(words[0], 1, MOST_ID)
     if words[1:2] == ["d"]:
         rest = iter(words[2:])
-        step = (None, numbers_up_to_zero(rest, 0, MOST_ID), [])
+        step: tuple[int | None, list[int], list[int]] = (None, numbers_up_to_zero(rest, 0, MOST_ID), [])
     else:
         rest = iter(words[1:])
         literals = numbers_up_to_zero(rest, -MOST_LIT, MOST_LIT)
@@ -417,24 +421,24 @@ def step_in(line):
 class Held:
     """The clauses that are held, by id, with the last id."""
 
-    def __init__(self, variables, clauses, takes_rat):
+    def __init__(self, variables: int, clauses: list[list[int]], takes_rat: bool) -> None:
         self.variables, self.takes_rat = variables, takes_rat
         self.clauses = {i: frozenset(clause) for i, clause in enumerate(clauses, 1)}
         self.last = len(clauses)
 
-    def in_order(self, number):
+    def in_order(self, number: int) -> None:
         if number <= self.last:
             raise Fault(f"id-order {self.last} {number}")
 
-    def hold(self, number, literals):
+    def hold(self, number: int, literals: list[int]) -> None:
         self.clauses[number] = frozenset(literals)
         self.last = number
 
-    def covers(self, literals):
-        literals = set(literals)
-        return any(clause <= literals for clause in self.clauses.values())
+    def covers(self, literals: list[int]) -> bool:
+        held = set(literals)
+        return any(clause <= held for clause in self.clauses.values())
 
-    def delete(self, numbers):
+    def delete(self, numbers: list[int]) -> None:
         gone = set()
         for number in numbers:
             if number not in self.clauses or number in gone:
@@ -443,7 +447,7 @@ class Held:
         for number in numbers:
             del self.clauses[number]
 
-    def follows(self, number, literals, hints):
+    def follows(self, number: int, literals: list[int], hints: list[int]) -> None:
         """Takes no addition; raises the fault of one that may not be added."""
         self.in_order(number)
         true = set()
@@ -471,7 +475,7 @@ class Held:
         if missing:
             raise Fault(f"rat-missing {min(missing)}")
 
-    def come_to_conflict(self, true, hints, first_place):
+    def come_to_conflict(self, true: set[int], hints: list[int], first_place: int) -> bool:
         """Makes true what the hints do, and tells whether the clause of one is false."""
         for place, hint in enumerate(hints, first_place):
             if hint < 0:
@@ -486,7 +490,7 @@ class Held:
             true |= open_ones
         return False
 
-    def take_group(self, true, left_out, number, hints, place):
+    def take_group(self, true: set[int], left_out: int, number: int, hints: list[int], place: int) -> None:
         """Raises the fault of a group: the hint at this place names this clause."""
         if number not in self.clauses:
             raise Fault(f"no-such-clause {number}")
@@ -500,7 +504,7 @@ class Held:
             raise Fault("no-conflict")
 
 
-def group_end(hints, at):
+def group_end(hints: list[int], at: int) -> int:
     """The place of the first negative hint from here on, or that behind the last hint."""
     return next((place for place in range(at, len(hints)) if hints[place] < 0), len(hints))
 
@@ -511,12 +515,12 @@ def group_end(hints, at):
 class Refused(Exception):
     """The status and the line of a certificate that is not accepted."""
 
-    def __init__(self, text, status=5):
+    def __init__(self, text: str, status: int = 5) -> None:
         super().__init__(text)
         self.status, self.text = status, text + "\n"
 
 
-def names_of(rest):
+def names_of(rest: bytes) -> list[str]:
     """The names of a list: one space before each, strictly rising."""
     if rest and not re.fullmatch(rb"( [!-~]+)+", rest):
         raise ValueError("no list")
@@ -526,23 +530,30 @@ def names_of(rest):
     return names
 
 
-def spelled(names):
+def spelled(names: Any) -> str:
     return "".join(" " + name for name in sorted(names))
 
 
 class Check:
     """Goes through a certificate line by line."""
 
-    def __init__(self, system, digest, data, orgs=None, orgs_digest=None):
+    def __init__(
+        self,
+        system: dict[str, tuple[int, list[Any]] | None],
+        digest: str | None,
+        data: bytes,
+        orgs: Any = None,
+        orgs_digest: str | None = None,
+    ) -> None:
         self.whole, self.digest, self.data = system, digest, data
         self.orgs, self.orgs_digest = orgs, orgs_digest
         self.at = 0
         self.line_number = 0
 
-    def refuse(self, word, *rest):
+    def refuse(self, word: str, *rest: str) -> NoReturn:
         raise Refused(" ".join(["refused", word, str(self.line_number)] + list(rest)))
 
-    def line(self):
+    def line(self) -> bytes:
         self.line_number += 1
         end = self.data.find(b"\n", self.at)
         if (len(self.data) if end < 0 else end) - self.at > MOST_LINE:
@@ -552,37 +563,37 @@ class Check:
         line, self.at = self.data[self.at : end], end + 1
         return line
 
-    def exactly(self, text):
+    def exactly(self, text: bytes) -> None:
         if self.line() != text:
             self.refuse("bad-line")
 
-    def matching(self, pattern, line=None):
+    def matching(self, pattern: bytes, line: bytes | None = None) -> tuple[bytes | None, ...]:
         """The groups of the pattern that the line is."""
         found = re.fullmatch(pattern, self.line() if line is None else line, re.DOTALL)
         if not found:
             self.refuse("bad-line")
         return found.groups()
 
-    def names(self, rest):
+    def names(self, rest: bytes) -> list[str]:
         try:
             return names_of(rest)
         except ValueError:
             self.refuse("bad-line")
 
-    def known(self, names, system):
+    def known(self, names: list[str], system: list[str] | dict[str, tuple[int, list[Any]] | None]) -> set[str]:
         if not set(names) <= set(system):
             self.refuse("unknown-node")
         return set(names)
 
-    def accepted(self):
+    def accepted(self) -> tuple[int, str]:
         """The status and the text of what is accepted."""
         (digit,) = self.matching(rb"fbas-cert ([123])")
         self.version = int(digit)
         (digits,) = self.matching(rb"config ([0-9a-f]{64})")
         if digits.decode() != self.digest:
             raise Refused(f"refused digest {digits.decode()} {self.digest}")
-        (start,) = self.matching(rb"from( [!-~]+)?")
-        start = start.decode()[1:] if start else None
+        (found,) = self.matching(rb"from( [!-~]+)?")
+        start = found.decode()[1:] if found else None
         part = closure(self.whole, start) if self.known([start] if start else [], self.whole) else set(self.whole)
         (rest,) = self.matching(rb"faulty(.*)")
         self.faulty = self.known(self.names(rest), self.whole) & part
@@ -596,7 +607,7 @@ class Check:
         head = f"accepted {answer}\nfrom{spelled([start] if start else [])}\nfaulty{spelled(self.faulty)}\n"
         return status, head + lines
 
-    def body(self, kind):
+    def body(self, kind: str) -> tuple[str, int, str] | None:
         if kind == "pair":
             self.pair()
             return "pair", 0, ""
@@ -622,7 +633,7 @@ class Check:
             return f"{kind} {len(set(sets))}", 0, "".join(f"set{spelled(each)}\n" for each in sorted(set(sets)))
         return f"{kind} {units}", 2, ""
 
-    def pair(self):
+    def pair(self) -> None:
         (rest,) = self.matching(rb"first(.*)")
         first = self.quorum(rest)
         (rest,) = self.matching(rb"second(.*)")
@@ -631,13 +642,13 @@ class Check:
             self.refuse("overlap", min(first & second))
         self.exactly(b"end")
 
-    def quorum(self, rest):
+    def quorum(self, rest: bytes) -> set[str]:
         nodes = self.known(self.names(rest), self.system)
         if not is_quorum(self.system, self.faulty, nodes):
             self.refuse("not-quorum")
         return nodes
 
-    def formula(self):
+    def formula(self) -> None:
         said = self.matching(rb"formula (0|[1-9][0-9]*) ([1-9][0-9]*)")
         if any(len(it) > 19 or int(it) > MOST_ID for it in said):
             self.refuse("bad-line")
@@ -648,7 +659,7 @@ class Check:
             self.refuse("formula")
         self.held = Held(formula.variables, formula.clauses, takes_rat=True)
 
-    def groups_line(self, greatest):
+    def groups_line(self, greatest: set[str]) -> list[str]:
         """The groups that have a variable, in order, once the digest of the organisations is compared."""
         (digits,) = self.matching(rb"orgs ([0-9a-f]{64})")
         if self.orgs is None:
@@ -658,7 +669,7 @@ class Check:
         self.groups = groups_of(self.orgs, set(self.system))
         return sorted(text for text, members in self.groups.items() if members & greatest)
 
-    def counter(self):
+    def counter(self) -> None:
         said = self.matching(rb"counter (0|[1-9][0-9]*) (0|[1-9][0-9]*)")
         if any(len(it) > 19 or int(it) > MOST_ID for it in said):
             self.refuse("bad-line")
@@ -670,10 +681,12 @@ class Check:
             self.refuse("formula")
         self.held = Held(variables, counter_of(size), takes_rat=False)
 
-    def steps(self, kind):
+    def steps(self, kind: str) -> tuple[int, list[tuple[str, ...]]]:
         """The number of units, and the sets that a list is of, in their order."""
         whole = not kind.startswith("partial")
-        units, sets, closed = 0, [], False
+        units = 0
+        sets: list[tuple[str, ...]] = []
+        closed = False
         while True:
             line = self.line()
             if line == b"end":
@@ -698,7 +711,7 @@ class Check:
             closed = not literals
             units += 1
 
-    def step(self, line):
+    def step(self, line: bytes) -> tuple[int | None, list[int], list[int]]:
         """The step of a line, its number none where it deletes; a deletion is made at once."""
         try:
             number, literals, hints = step_in(line)
@@ -708,18 +721,18 @@ class Check:
             self.judged(self.held.delete, literals)
         return number, literals, hints
 
-    def judged(self, call, *words):
+    def judged(self, call: Callable[..., Any], *words: Any) -> None:
         try:
             call(*words)
         except Fault as fault:
             self.refuse("step", str(fault))
 
-    def hold(self, number, literals, new):
+    def hold(self, number: int, literals: list[int], new: bool) -> None:
         if new and self.held.covers(literals):
             self.refuse("not-new")
         self.held.hold(number, literals)
 
-    def list_line(self, line, kind, last):
+    def list_line(self, line: bytes, kind: str, last: int | None) -> set[str]:
         letter, digits, rest = self.matching(rb"([qbs]) ([1-9][0-9]*)(.*)", line)
         if len(digits) > 19 or int(digits) > MOST_ID:
             self.refuse("bad-line")
@@ -753,7 +766,7 @@ class Check:
         self.hold(number, literals, new=kind.startswith("partial") or sought)
         return nodes
 
-    def group_line(self, letter, number, names, kind):
+    def group_line(self, letter: bytes, number: int, names: list[str], kind: str) -> set[str]:
         """The same where a blocking set is one of groups."""
         if letter == b"q":
             nodes = self.known(names, self.system)
@@ -770,7 +783,7 @@ class Check:
         self.hold(number, [-1 - self.order.index(text) for text in texts], new=True)
         return texts
 
-    def groups_block(self, texts):
+    def groups_block(self, texts: set[str]) -> bool:
         return blocks(self.system, self.faulty, set().union(*(self.groups[text] for text in texts)) - self.faulty)
 
 
@@ -785,7 +798,7 @@ class Verification(Check):
         self.start, self.faulty = start, faulty & part
         self.system = {name: system[name] for name in part}
 
-    def verified(self):
+    def verified(self) -> tuple[int, str] | None:
         """The status and the text of a proof that comes to the empty lemma."""
         formula = Formula(self.system, self.faulty, self.version)
         if formula.variables > MOST_VARS:
@@ -802,7 +815,7 @@ class Verification(Check):
         self.line_number += 1
         self.refuse("not-refuted")
 
-    def is_last(self, line):
+    def is_last(self, line: bytes) -> bool:
         """Takes a line, and tells whether it is the empty lemma."""
         if len(line) > MOST_LINE:
             self.refuse("line-too-long")
@@ -821,11 +834,11 @@ class Verification(Check):
 PLACE = "(?:0|[1-9][0-9]*)"
 
 
-def is_threshold(word):
+def is_threshold(word: str) -> bool:
     return re.fullmatch(PLACE, word) is not None and len(word) <= 20 and int(word) < 2**64
 
 
-def is_path(word):
+def is_path(word: str) -> bool:
     return re.fullmatch(rf"\.|(?:\.{PLACE})+", word) is not None
 
 
@@ -839,7 +852,7 @@ EDITS = {
 }
 
 
-def words_of(line):
+def words_of(line: bytes) -> tuple[str, list[str]]:
     """The words of an edit."""
     word, *rest = line.decode("latin-1").split(" ")
     forms = EDITS.get(word)
@@ -848,12 +861,12 @@ def words_of(line):
     return word, rest
 
 
-def places_of(path):
+def places_of(path: str) -> list[int]:
     """The places of a path; one that is too long for a number here is that of no quorum set."""
     return [int(it) if len(it) < 20 else 10**20 for it in path.split(".")[1:] if it]
 
 
-def changed(quorum_set, places, change):
+def changed(quorum_set: tuple[int, list[Any]], places: list[int], change: Callable[..., Any]) -> tuple[int, list[Any]]:
     """The quorum set with the one at the path changed."""
     threshold, entry_list = quorum_set
     if not places:
@@ -865,19 +878,21 @@ def changed(quorum_set, places, change):
     return threshold, entry_list[:at] + [changed(entry_list[at], places[1:], change)] + entry_list[at + 1 :]
 
 
-def with_name(threshold, entry_list, name):
+def with_name(threshold: int, entry_list: list[Any], name: str) -> tuple[int, list[Any]]:
     at = sum(isinstance(entry, str) for entry in entry_list)
     return threshold, entry_list[:at] + [name] + entry_list[at:]
 
 
-def without_name(threshold, entry_list, name):
+def without_name(threshold: int, entry_list: list[str], name: str) -> tuple[int, list[str]]:
     if name not in entry_list:
         raise Fault("not-there")
     at = entry_list.index(name)
     return threshold, entry_list[:at] + entry_list[at + 1 :]
 
 
-def edited(system, line):
+def edited(
+    system: dict[str, tuple[int, list[Any]] | None], line: bytes
+) -> dict[str, tuple[int, list[Any]] | None] | None:
     """The system after an edit, its limits aside."""
     word, (node, *rest) = words_of(line)
     if word == "declare":
@@ -902,7 +917,7 @@ def edited(system, line):
     return after
 
 
-def tree_of_set(quorum_set):
+def tree_of_set(quorum_set: tuple[int, list[Any]]) -> dict[str, Any]:
     threshold, entry_list = quorum_set
     return {
         "threshold": threshold,
@@ -911,14 +926,14 @@ def tree_of_set(quorum_set):
     }
 
 
-def text_of(system):
+def text_of(system: dict[str, tuple[int, list[Any]] | None]) -> bytes:
     """A configuration that says the system: each of its names is a node."""
     return json.dumps(
         [dict({"publicKey": name}, **({"quorumSet": tree_of_set(own)} if own else {})) for name, own in system.items()]
     ).encode()
 
 
-def whatif(config, script, names):
+def whatif(config: bytes, script: bytes, names: str) -> tuple[int, str]:
     """The status and the text of 'whatif' of these bytes, with this list of names. After each edit the edited
     configuration is read anew."""
     try:
@@ -944,7 +959,7 @@ def whatif(config, script, names):
     return 0, said
 
 
-def state(number, system, given):
+def state(number: int, system: dict[str, tuple[int, list[Any]] | None], given: set[str]) -> str:
     """What is so after so many edits."""
     return (
         f"edit {number}\ngreatest{spelled(greatest_in(system, set(), set(system)))}\n" + availability(system, given)[1]
@@ -964,7 +979,7 @@ def check_lrat(config, proof, start, faulty, version=3):
         return refused.status, refused.text
 
 
-def check(config, cert, orgs=None):
+def check(config: bytes, cert: bytes, orgs: bytes | None = None) -> tuple[int, str]:
     """The status and the text of 'check' of these bytes, with a file of organisations or without."""
     try:
         system = system_of(config)
@@ -975,17 +990,17 @@ def check(config, cert, orgs=None):
     except Fault as fault:
         return 4, f"orgs {fault}\n"
     try:
-        return Check(system, hashlib.sha256(config).hexdigest(), cert, *given).accepted()
+        return Check(system, hashlib.sha256(config).hexdigest(), cert, *given).accepted()  # type: ignore[arg-type]
     except Refused as refused:
         return refused.status, refused.text
 
 
-def bytes_of(path):
+def bytes_of(path: str) -> bytes:
     with open(path, "rb") as it:
         return it.read()
 
 
-def main(config, cert, orgs=None):
+def main(config: str, cert: str, orgs: str | None = None) -> int:
     status, text = check(
         bytes_of(config)[: MOST_BYTES + 1], bytes_of(cert), None if orgs is None else bytes_of(orgs)[: MOST_BYTES + 1]
     )

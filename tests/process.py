@@ -7,6 +7,8 @@ failing device, a closed output or a file that may not be read ends as it should
 M failed'.
 """
 
+from __future__ import annotations
+
 import hashlib
 import os
 import shutil
@@ -14,6 +16,8 @@ import subprocess
 import sys
 import tempfile
 import threading
+from collections.abc import Iterator
+from typing import Any
 
 TOP = os.path.dirname(os.path.dirname(os.path.abspath(__file__)))
 
@@ -60,11 +64,11 @@ def system(nodes, threshold, is_rotated=False, leaves_out=False):
     return "[" + ",".join(sets) + "]"
 
 
-def sha256(text):
+def sha256(text: str) -> str:
     return hashlib.sha256(text.encode()).hexdigest()
 
 
-def lemmas(certificate):
+def lemmas(certificate: str) -> Iterator[list[int]]:
     """The literals of each lemma of a certificate."""
     for line in certificate.splitlines():
         words = line.split(" ")
@@ -72,7 +76,7 @@ def lemmas(certificate):
             yield [int(word) for word in words[1 : words.index("0")]]
 
 
-def organisations(count):
+def organisations(count: int) -> str:
     """The configuration of a trial of so many organisations, as it is written."""
     inner = ",".join(
         f'{{"innerQuorumSets":[],"threshold":2,"validators":["t{node:03d}","t{node + 1:03d}","t{node + 2:03d}"]}}'
@@ -248,7 +252,7 @@ class Trial:
     """A folder with the files, in which the program runs. Root gives up its rights, since it may read and write every
     file."""
 
-    def __init__(self, folder, built):
+    def __init__(self, folder: str, built: str) -> None:
         self.folder = folder
         self.program = shutil.copy(built, os.path.join(folder, "program"))
         self.passed = 0
@@ -259,10 +263,10 @@ class Trial:
                 it.write(text)
             os.chmod(self.path(name), {"hidden": 0o000, "barred": 0o444}.get(name, 0o666))
 
-    def path(self, name):
+    def path(self, name: str) -> str:
         return os.path.join(self.folder, name)
 
-    def held(self, name):
+    def held(self, name: str) -> str | None:
         try:
             with open(self.path(name)) as it:
                 return it.read()
@@ -270,17 +274,24 @@ class Trial:
             return None
 
     @staticmethod
-    def give_up_rights():
+    def give_up_rights() -> None:
         if os.getuid() == 0:
             os.setgroups([])
             os.setgid(65534)
             os.setuid(65534)
 
-    def run(self, words, stdin=subprocess.DEVNULL, stdout=subprocess.PIPE, before=None, within=""):
+    def run(
+        self,
+        words: str,
+        stdin: int = subprocess.DEVNULL,
+        stdout: Any = subprocess.PIPE,
+        before: Any = None,
+        within: str = "",
+    ) -> tuple[int, str, str]:
         """The status, what was put out, and what is on standard error, of a run in the folder or in one that is in
         it."""
 
-        def prepare():
+        def prepare() -> None:
             self.give_up_rights()
             if before:
                 before()
@@ -296,19 +307,24 @@ class Trial:
         )
         return ended.returncode, (ended.stdout or b"").decode(), ended.stderr.decode()
 
-    def judge(self, name, found, wanted):
+    def judge(
+        self,
+        name: str,
+        found: object,
+        wanted: object,
+    ) -> None:
         if found == wanted:
             self.passed += 1
         else:
             self.failed += 1
             print(f"process: {name}: found {found!r}, wanted {wanted!r}")
 
-    def row(self, words, status, text, files):
+    def row(self, words: Any, status: int, text: str, files: dict[str, Any]) -> None:
         found = self.run(words)
         held = {name: self.held(name) for name in files}
         self.judge(f"'{words}'", (found, held), ((status, text, ""), files))
 
-    def counts(self):
+    def counts(self) -> None:
         """Both sides of sixty organisations are counted, by lemmas that no other order of decisions finds so soon."""
         status, text, error = self.run("trial 60 counted")
         self.judge("sixty organisations", (status, text.splitlines()[-1:], error), (0, ["intersects yes"], ""))
@@ -335,7 +351,7 @@ class Trial:
         count = sum(1 for _ in lemmas(self.held("forgetful") or ""))
         self.judge("its lemmas, of which there are some 8,100", 5000 < count < 15000, True)
 
-    def over_gates(self, size, threshold, is_whole):
+    def over_gates(self, size: int, threshold: int, is_whole: bool) -> None:
         """A search over gates written out: where they are whole no lemma has a variable of their counters."""
         config = trials.drawn(26, size, threshold, 1)
         with open(self.path("drawn"), "w") as it:
@@ -353,11 +369,11 @@ class Trial:
             name + ", the variables of lemmas", (len(found) > 0, max(found, default=0) <= 2 * 26), (True, is_whole)
         )
 
-    def from_a_pipe(self):
+    def from_a_pipe(self) -> None:
         os.mkfifo(self.path("pipe"))
         os.chmod(self.path("pipe"), 0o666)
 
-        def fill():
+        def fill() -> None:
             with open(self.path("pipe"), "w") as pipe:
                 pipe.write(THREE)
 
@@ -367,21 +383,21 @@ class Trial:
         filling.join(10)
         self.judge("a configuration from a pipe", found, (0, "greatest b c\n", ""))
 
-    def to_a_full_device(self):
+    def to_a_full_device(self) -> None:
         with open("/dev/full", "w") as full:
             found = self.run("show three", stdout=full)
         self.judge("a full device", found, (7, "", ""))
 
-    def full_after_the_certificate(self):
+    def full_after_the_certificate(self) -> None:
         with open("/dev/full", "w") as full:
             found = self.run("intersect three whole --faulty a", stdout=full)
         self.judge("a full device behind a certificate", (found, self.held("whole")), ((7, "", ""), PAIR))
 
-    def to_a_closed_output(self):
+    def to_a_closed_output(self) -> None:
         found = self.run("show three", stdout=subprocess.DEVNULL, before=lambda: os.close(1))
         self.judge("a closed output", found, (7, "", ""))
 
-    def to_a_pipe_that_nobody_reads(self):
+    def to_a_pipe_that_nobody_reads(self) -> None:
         reading, writing = os.pipe()
         os.close(reading)
         found = self.run("show three", stdout=writing)
@@ -389,12 +405,12 @@ class Trial:
         self.judge("a pipe that nobody reads", found, (7, "", ""))
 
 
-def main():
+def main() -> int:
     built = os.path.abspath(sys.argv[1]) if len(sys.argv) > 1 else BUILT
     with tempfile.TemporaryDirectory() as folder:
         trial = Trial(folder, built)
         for row in ROWS:
-            trial.row(*row)
+            trial.row(*row)  # type: ignore[arg-type]
         trial.counts()
         trial.forgets()
         trial.over_gates(10, 6, True)

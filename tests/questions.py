@@ -7,12 +7,15 @@ The networks are of organisations of three nodes: `all` has organisations that a
 one. Beside the gate, by hand: tests/questions.py [CONFIG ..], with configurations of one's own; needs the built
 program and minisat (Debian's package). The last line is 'questions: N passed, M failed', or says why it is skipped.
 """
+from __future__ import annotations
+
 import json
 import os
 import shutil
 import subprocess
 import sys
 import tempfile
+from typing import Any
 
 import chosen
 
@@ -22,11 +25,11 @@ PROGRAM = chosen.PROGRAM
 MEANT = {10: ("intersects no", "accepted pair"), 20: ("intersects yes", "accepted refutation")}
 
 
-def organisation(o):
+def organisation(o: int) -> dict[str, Any]:
     return {"threshold": 2, "validators": [f"N{3 * o + i:03d}" for i in range(3)], "innerQuorumSets": []}
 
 
-def node(number, threshold, organisations):
+def node(number: int, threshold: int, organisations: Any) -> dict[str, Any]:
     quorum_set = {
         "threshold": threshold,
         "validators": [],
@@ -35,17 +38,17 @@ def node(number, threshold, organisations):
     return {"publicKey": f"N{number:03d}", "quorumSet": quorum_set}
 
 
-def everyone(count, threshold):
+def everyone(count: int, threshold: int) -> list[dict[str, Any]]:
     """Each node wants `threshold` of all organisations."""
     return [node(v, threshold, range(count)) for v in range(3 * count)]
 
 
-def core(count, threshold):
+def core(count: int, threshold: int) -> list[dict[str, Any]]:
     """Each node wants `threshold` of the first seven organisations, whether it is in one of them or not."""
     return [node(v, threshold, range(7)) for v in range(3 * count)]
 
 
-def two_groups(count, threshold):
+def two_groups(count: int, threshold: int) -> list[dict[str, Any]]:
     """The organisations of each half want `threshold` of their half, to which the first of the other half belongs."""
     half = count // 2
     groups = [list(range(half)) + [half], list(range(half, count)) + [0]]
@@ -66,12 +69,12 @@ MADE = {
 }
 
 
-def first_line(*words):
+def first_line(*words: str) -> str:
     said = subprocess.run([PROGRAM, *words], stdout=subprocess.PIPE, stderr=subprocess.DEVNULL).stdout
     return said.split(b"\n")[0].decode()
 
 
-def answers(config, folder):
+def answers(config: str, folder: str) -> tuple[tuple[str, str], tuple[str, str]]:
     """The first lines of the answer and of the check of its certificate, and what minisat says they are to be."""
     cert, cnf = os.path.join(folder, "cert"), os.path.join(folder, "formula.cnf")
     found = first_line("intersect", config, cert), first_line("check", config, cert)
@@ -81,7 +84,7 @@ def answers(config, folder):
     return found, MEANT.get(solved.returncode)
 
 
-def main(*configs):
+def main(*configs: Any) -> int:
     if not (os.access(PROGRAM, os.X_OK) and shutil.which("minisat")):
         print("questions: skipped, the program is not built or there is no minisat")
         return 0

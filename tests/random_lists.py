@@ -8,12 +8,16 @@ overlap, lack members, or name strangers; some nodes lie, and some systems are t
 gate, by hand: tests/random_lists.py [COUNT [SEED]]; needs the built program. The last line is 'random_lists: N passed,
 M failed', or says why it is skipped.
 """
+from __future__ import annotations
+
 import json
 import os
 import random
 import subprocess
 import sys
 import tempfile
+from collections.abc import Iterable
+from typing import Any
 
 import chosen
 
@@ -25,7 +29,7 @@ COUNT = 500
 # ---- systems: for each node a quorum set (threshold, nodes, inner sets) or None
 
 
-def random_set(n, depth):
+def random_set(n: int, depth: int) -> tuple[int, list[int], list[tuple[int, list[Any], list[Any]]]]:
     validators = random.sample(range(n), random.randint(0, min(n, 6)))
     inner = [random_set(n, depth - 1) for _ in range(random.randint(0, 2))] if depth else []
     if not validators and not inner:
@@ -33,20 +37,20 @@ def random_set(n, depth):
     return random.randint(1, len(validators) + len(inner)), validators, inner
 
 
-def random_system():
+def random_system() -> list[tuple[int, list[int], list[tuple[Any, ...]]] | None]:
     n = random.randint(1, 12)
     if random.random() < 0.5:
         shared = [random_set(n, 1) for _ in range(2)]
-        return [random.choice(shared) if random.random() < 0.9 else None for _ in range(n)]
-    return [None if random.random() < 0.1 else random_set(n, 1) for _ in range(n)]
+        return [random.choice(shared) if random.random() < 0.9 else None for _ in range(n)]  # type: ignore[misc]
+    return [None if random.random() < 0.1 else random_set(n, 1) for _ in range(n)]  # type: ignore[misc]
 
 
-def named(v):
+def named(v: int) -> str:
     return f"n{v:03d}"
 
 
-def as_json(system):
-    def of(quorum_set):
+def as_json(system: Any) -> str:
+    def of(quorum_set: Any) -> dict[str, Any]:
         threshold, validators, inner = quorum_set
         return {
             "threshold": threshold,
@@ -60,12 +64,14 @@ def as_json(system):
 # ---- all sets of nodes, each as the bits of a number
 
 
-def satisfied(quorum_set, nodes):
+def satisfied(quorum_set: Any, nodes: int) -> bool:
     threshold, validators, inner = quorum_set
     return sum(nodes >> v & 1 for v in validators) + sum(satisfied(it, nodes) for it in inner) >= threshold
 
 
-def is_quorum(system, nodes, members=None):
+def is_quorum(
+    system: list[tuple[int, list[int], list[tuple[Any, ...]]] | None], nodes: int, members: int | None = None
+) -> bool:
     """Whether each of the nodes, or of these among them, has a slice inside them, and there is one."""
     members = nodes if members is None else members
     return members != 0 and all(
@@ -73,24 +79,24 @@ def is_quorum(system, nodes, members=None):
     )
 
 
-def minimal(sets):
-    found = []
+def minimal(sets: Iterable[Any]) -> list[int]:
+    found: list[int] = []
     for nodes in sorted(sets, key=lambda it: bin(it).count("1")):
         if not any(nodes & it == it for it in found):
             found.append(nodes)
     return found
 
 
-def minimal_quorums(system):
+def minimal_quorums(system: list[tuple[int, list[int], list[tuple[Any, ...]]] | None]) -> list[int]:
     return minimal(it for it in range(1 << len(system)) if is_quorum(system, it))
 
 
-def minimal_blocks(system):
+def minimal_blocks(system: list[tuple[int, list[int], list[tuple[Any, ...]]] | None]) -> list[int]:
     quorums = minimal_quorums(system)
     return minimal(it for it in range(1 << len(system)) if all(it & quorum for quorum in quorums))
 
 
-def lines(word, sets, n):
+def lines(word: str, sets: list[int], n: int) -> list[str]:
     """What the program prints of these sets."""
     members = sorted([v for v in range(n) if it >> v & 1] for it in sets)
     return [f"{word} {len(members)}"] + ["set" + "".join(" " + named(v) for v in it) for it in members]
@@ -99,21 +105,21 @@ def lines(word, sets, n):
 # ---- organisations: an id, and its nodes, some of which are not there
 
 
-def random_orgs(n):
+def random_orgs(n: int) -> list[tuple[str, list[int]]]:
     ids = random.sample("ABCDEF", random.randint(0, 6))
     return [(it, random.sample(range(n + 3), random.randint(0, min(5, n)))) for it in ids]
 
 
-def orgs_as_json(orgs):
+def orgs_as_json(orgs: list[tuple[str, list[int]]]) -> str:
     return json.dumps(
         [dict({"id": it}, **({"validators": [named(v) for v in members]} if members else {})) for it, members in orgs]
     )
 
 
-def closure_of(system, v):
+def closure_of(system: list[tuple[int, list[int], list[tuple[Any, ...]]] | None], v: int) -> int:
     """The node and those in its quorum set, in theirs, and so on."""
 
-    def mentioned(quorum_set):
+    def mentioned(quorum_set: Any) -> set[int]:
         return set(quorum_set[1]).union(*map(mentioned, quorum_set[2])) if quorum_set else set()
 
     nodes, fresh = {v}, [v]
@@ -124,7 +130,7 @@ def closure_of(system, v):
     return sum(1 << v for v in nodes)
 
 
-def groups_of(orgs, n, part):
+def groups_of(orgs: list[tuple[str, list[int]]], n: int, part: int) -> list[tuple[str, int]]:
     """The texts and the members of the groups, in order: the organisations, and the nodes of the part that are in
     none."""
     masks = {"org:" + it: sum(1 << v for v in members if v < n) for it, members in orgs}
@@ -132,7 +138,12 @@ def groups_of(orgs, n, part):
     return sorted([(text, it & part) for text, it in masks.items()] + [("node:" + named(v), 1 << v) for v in loose])
 
 
-def minimal_group_blocks(system, faulty, part, groups):
+def minimal_group_blocks(
+    system: list[tuple[int, list[int], list[tuple[Any, ...]]] | None],
+    faulty: int,
+    part: int,
+    groups: list[tuple[str, int]],
+) -> list[int]:
     """The minimal blocking sets of groups, as the bits of their numbers: the quorums are those of the part that hold
     no faulty node."""
     quorums = minimal(
@@ -147,7 +158,7 @@ def minimal_group_blocks(system, faulty, part, groups):
     return minimal(it for it, nodes in enumerate(unions) if all(nodes & quorum for quorum in quorums))
 
 
-def agrees_by_groups(folder, system):
+def agrees_by_groups(folder: str, system: list[tuple[int, list[int], list[tuple[Any, ...]]] | None]) -> bool:
     """Whether `org-blocking` lists these sets, and `check` beside the same organisations says so, some nodes lying and
     in the trust closure of a node."""
     n = len(system)
@@ -186,11 +197,13 @@ def agrees_by_groups(folder, system):
     ]
 
 
-def said(*words):
+def said(*words: str) -> list[str]:
     return subprocess.run([PROGRAM, *words], stdout=subprocess.PIPE).stdout.decode().splitlines()
 
 
-def agrees(folder, system, word, sets):
+def agrees(
+    folder: str, system: list[tuple[int, list[int], list[tuple[Any, ...]]] | None], word: str, sets: list[int]
+) -> bool:
     """Whether the list, and what `check` says of its certificate, are the sets."""
     config, cert = os.path.join(folder, "config"), os.path.join(folder, "cert")
     with open(config, "w") as it:
@@ -204,7 +217,9 @@ def agrees(folder, system, word, sets):
     ]
 
 
-def names_least(folder, system, quorums):
+def names_least(
+    folder: str, system: list[tuple[int, list[int], list[tuple[Any, ...]]] | None], quorums: list[int]
+) -> bool:
     """Whether the set of `least` is a smallest quorum, or none is where there is no quorum, and `check` says the
     same."""
     config, cert = os.path.join(folder, "config"), os.path.join(folder, "cert")
@@ -218,7 +233,7 @@ def names_least(folder, system, quorums):
     return found[0] == f"least {size}" and bin(nodes).count("1") == size and is_quorum(system, nodes)
 
 
-def main(count=COUNT, seed=1):
+def main(count: Any = COUNT, seed: int | str = 1) -> Any:
     if not os.access(PROGRAM, os.X_OK):
         print("random_lists: skipped, the program is not built")
         return 0

@@ -6,11 +6,14 @@ tests/plain_checker.py makes edit by edit; a script with a faulty line has to en
 tests/random_scripts.py [COUNT [SEED]] makes COUNT scripts, 60 if nothing is said, and needs the built program;
 QUORUM_CLI names another one. The last line is 'random_scripts: N passed, M failed', or says why it is skipped.
 """
+from __future__ import annotations
+
 import os
 import random
 import subprocess
 import sys
 import tempfile
+from typing import Any
 
 sys.path.insert(0, os.path.dirname(os.path.abspath(__file__)))
 import fuzz
@@ -20,26 +23,28 @@ PROGRAM = fuzz.BUILT
 COUNT = 60
 
 
-def said(*words):
+def said(*words: str) -> tuple[int, str]:
     """The status and the text of a run."""
     run = subprocess.run([PROGRAM, *words], stdout=subprocess.PIPE)
     return run.returncode, run.stdout.decode()
 
 
-def written(folder, name, data):
+def written(folder: str, name: str, data: bytes) -> str:
     path = os.path.join(folder, name)
     with open(path, "wb") as it:
         it.write(data)
     return path
 
 
-def state(folder, number, system, names):
+def state(folder: str, number: int, system: dict[str, tuple[int, list[Any]] | None], names: str) -> str:
     """What is so of a system, read from its text."""
     config = written(folder, "edited", plain.text_of(system))
     return f"edit {number}\n" + said("greatest", config)[1] + said("available", config, "--set=" + names)[1]
 
 
-def wanted(folder, system, lines, names):
+def wanted(
+    folder: str, system: dict[str, tuple[int, list[Any]] | None], lines: list[bytes], names: str
+) -> tuple[int, str]:
     """The status and the text of a script: of each system that its edits make, or of its first fault."""
     text = state(folder, 0, system, names)
     for number, line in enumerate(lines, 1):
@@ -51,7 +56,7 @@ def wanted(folder, system, lines, names):
     return 0, text
 
 
-def is_told(folder, rng):
+def is_told(folder: str, rng: random.Random) -> tuple[bool, tuple[bytes, bytes, str]]:
     """Whether a random script is answered so, and the files of one that is not."""
     config = fuzz.random_config(rng)
     system = plain.system_of(config)
@@ -61,7 +66,7 @@ def is_told(folder, rng):
     return found == wanted(folder, system, script.split(b"\n")[:-1], names), (config, script, names)
 
 
-def main(count=COUNT, seed=1):
+def main(count: Any = COUNT, seed: int | str = 1) -> int:
     if not os.access(PROGRAM, os.X_OK):
         print("random_scripts: skipped, the program is not built")
         return 0

@@ -5,6 +5,8 @@ No file but a certificate is lost to one, whatever CERT names; what a failure, a
 the old file or the new one, whole; and no answer goes to a certificate where an output is closed.
 """
 
+from __future__ import annotations
+
 import ctypes
 import os
 import resource
@@ -12,6 +14,8 @@ import signal
 import stat
 import subprocess
 import threading
+from collections.abc import Callable, Iterator, Sequence
+from typing import Any
 
 PTRACE_TRACEME, PTRACE_SYSCALL = 0, 24
 LIBC = ctypes.CDLL(None, use_errno=True)
@@ -52,63 +56,63 @@ ALIASES = [
 class Place:
     """A folder of its own, in which the program runs."""
 
-    def __init__(self, trial, name, files):
+    def __init__(self, trial: Any, name: str, files: dict[str, str]) -> None:
         self.trial, self.name = trial, name
         os.mkdir(self.path(""), 0o777)
         os.chmod(self.path(""), 0o777)
         for file, text in files.items():
             self.put(file, text)
 
-    def path(self, file):
+    def path(self, file: str) -> str:
         return os.path.join(self.trial.path(self.name), file)
 
-    def put(self, file, text, mode=0o666):
+    def put(self, file: str, text: str, mode: int = 0o666) -> None:
         with open(self.path(file), "w") as it:
             it.write(text)
         os.chmod(self.path(file), mode)
 
-    def held(self, file):
+    def held(self, file: str) -> str:
         return self.trial.held(os.path.join(self.name, file))
 
-    def files(self):
+    def files(self) -> list[str]:
         return sorted(os.listdir(self.path("")))
 
-    def run(self, words, **how):
+    def run(self, words: str, **how: Callable[..., Any]) -> tuple[int, list[str], str]:
         """The status, the last line, and what is on standard error."""
         status, text, error = self.trial.run(words, within=self.name, **how)
         return status, text.split("\n")[-2:-1], error
 
-    def check(self, cert, config="three"):
+    def check(self, cert: str, config: str = "three") -> int:
         return self.run(f"check {config} {cert}")[0]
 
-    def judge(self, what, found, wanted):
+    def judge(self, what: str, found: object, wanted: object) -> None:
         self.trial.judge(f"{self.name}: {what}", found, wanted)
 
 
 class Replacing:
-    def __init__(self, trial, config, trial_config, old):
+    def __init__(self, trial: Any, config: str, trial_config: str, old: str) -> None:
         """A configuration, that of `trial 1`, and an old certificate of the first."""
         self.trial, self.config, self.trial_config, self.old = trial, config, trial_config, old
         self.count = 0
 
-    def place(self, **files):
+    def place(self, **files: Any) -> Place:
         self.count += 1
         return Place(
             self.trial, f"place{self.count}", {"three": self.config, "orgs": ORGS, "one": self.trial_config, **files}
         )
 
-    def made(self):
+    def made(self) -> Iterator[tuple[str, int, str, str]]:
         """What each command that writes puts into its certificate."""
         place = self.place()
         for words, status, line in WRITING:
             place.judge(words, place.run(words.replace("CERT", "made")), (status, [line], ""))
             yield words, status, line, place.held("made")
 
-    def closed(self, words, status, line, made):
+    def closed(self, words: str, status: int, line: str, made: str) -> None:
         """Descriptors are closed: the certificate is whole, and no answer is in it."""
         for closed in [(1,), (0, 1), (1, 2), (0, 1, 2), (0,), (2,), (0, 2)]:
             place = self.place()
-            found = place.run(words.replace("CERT", "t"), before=lambda: [os.close(number) for number in closed])
+            found = place.run(words.replace("CERT", "t"), before=lambda: [os.close(number) for number in closed])  # type: ignore[func-returns-value]  # noqa: E501
             place.judge(f"{words} without {closed}", found, (7, [], "") if 1 in closed else (status, [line], ""))
             place.judge(
                 f"{words} without {closed}: certificate",
@@ -118,7 +122,7 @@ class Replacing:
             config = "one" if words.startswith("trial") else "three"
             place.judge(f"{words} without {closed}: check", place.check("t", config), 2 if status == 2 else 0)
 
-    def alias(self, words, first, kept):
+    def alias(self, words: str, first: tuple[str, str, str] | None, kept: str) -> None:
         place = self.place()
         if first:
             kind, old, new = first
@@ -146,7 +150,15 @@ class Replacing:
             [],
         )
 
-    def over(self, what, files, found, after, words="intersect three t --faulty a", before=None):
+    def over(
+        self,
+        what: str,
+        files: dict[str, str],
+        found: tuple[int, list[str], str],
+        after: dict[str, str],
+        words: str = "intersect three t --faulty a",
+        before: Callable[..., Any] | None = None,
+    ) -> Place:
         """A search over a certificate's name `t` that stands for something, and the files that are there then."""
         place = self.place(**files)
         if before:
@@ -161,9 +173,10 @@ class Replacing:
         )
         return place
 
-    def certificates(self, made):
+    def certificates(self, made: str) -> None:
         """What the certificate's name stands for."""
-        done, failed = (1, ["second c"], ""), (7, [], "")
+        done: tuple[int, list[str], str] = (1, ["second c"], "")
+        failed: tuple[int, list[str], str] = (7, [], "")
         self.over("nothing", {}, done, {"t": made})
         self.over("a certificate", {"t": self.old}, done, {"t": made})
         self.over("an empty file", {"t": ""}, done, {"t": made})
@@ -227,7 +240,7 @@ class Replacing:
         place = self.over("a file of its group", {}, done, {"t": made}, before=lambda it: it.put("t", self.old, 0o606))
         place.judge("its permissions", stat.S_IMODE(os.stat(place.path("t")).st_mode), 0o606)
 
-    def barred(self, made):
+    def barred(self, made: str) -> None:
         """A folder that may not be written: what is there is written itself, where nothing is lost."""
         for old, found, held in [
             (self.old, (1, ["second c"], ""), made),
@@ -247,7 +260,7 @@ class Replacing:
                 (7, [], ""),
             )
 
-    def outputs(self, made):
+    def outputs(self, made: str) -> None:
         """A pipe, by its name and by a link, and devices, which are written themselves."""
         for name in ("t", "u"):
             place = self.place()
@@ -264,7 +277,7 @@ class Replacing:
         place.judge("a full device", place.run("intersect three /dev/full"), (7, [], ""))
         place.judge("a device that takes all", place.run("intersect three /dev/null"), (0, ["intersects yes"], ""))
 
-    def full(self, made):
+    def full(self, made: str) -> None:
         """A disk without room for a second file, or for so many bytes: a small one where one may be mounted, else a
         limit."""
         place = self.place(t=self.old)
@@ -301,7 +314,15 @@ class Replacing:
         finally:
             subprocess.run(["umount", mounted])
 
-    def killed(self, what, files, words, texts, kept=(), config="three"):
+    def killed(
+        self,
+        what: str,
+        files: dict[str, str],
+        words: str,
+        texts: dict[str | None, int],
+        kept: Sequence[str] = (),
+        config: str = "three",
+    ) -> int:
         """A kill before and after each call of the system from the making of the certificate's file on."""
         place = self.place(**files)
         moment, kills, ended = 0, 0, False
@@ -329,7 +350,7 @@ class Replacing:
         place.judge(what + ", not killed", place.held("t"), list(texts)[-1])
         return kills
 
-    def taken_over(self, made):
+    def taken_over(self, made: str) -> None:
         """A run over the file of another that isn't finished: that other fails, and what is there is the certificate
         of this."""
         place = self.place(t=self.old)
@@ -347,7 +368,7 @@ class Replacing:
         )
 
 
-def little_room():
+def little_room() -> None:
     signal.signal(signal.SIGXFSZ, signal.SIG_IGN)
     resource.setrlimit(resource.RLIMIT_FSIZE, (20, 20))
 
@@ -355,8 +376,8 @@ def little_room():
 class Traced:
     """A run that stops before and after each call of the system (ptrace)."""
 
-    def __init__(self, place, words):
-        self.status = None
+    def __init__(self, place: Place, words: str) -> None:
+        self.status: int | None = None
         self.process = os.fork()
         if self.process == 0:
             try:
@@ -371,13 +392,13 @@ class Traced:
                 os._exit(127)
         self.waits()
 
-    def waits(self):
+    def waits(self) -> None:
         """Waits until it stops or ends."""
         _, status = os.waitpid(self.process, 0)
         if not os.WIFSTOPPED(status):
             self.status = os.waitstatus_to_exitcode(status)
 
-    def go(self, stops):
+    def go(self, stops: int) -> bool:
         """Lets it go on for so many stops; whether it has ended."""
         for _ in range(stops):
             if self.status is not None:
@@ -386,13 +407,13 @@ class Traced:
             self.waits()
         return self.status is not None
 
-    def kill(self):
+    def kill(self) -> None:
         if self.status is None:
             os.kill(self.process, signal.SIGKILL)
             self.waits()
 
 
-def run(trial, config, trial_config, old):
+def run(trial: Any, config: str, trial_config: str, old: str) -> None:
     """All of it, over a configuration, that of `trial 1`, and an old certificate of the first."""
     replacing = Replacing(trial, config, trial_config, old)
     made = list(replacing.made())

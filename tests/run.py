@@ -10,6 +10,8 @@ make many more, and those run that need tools from outside. The last line is 'N 
 if something was. Status 0 if nothing failed, else 1.
 """
 
+from __future__ import annotations
+
 import argparse
 import concurrent.futures
 import os
@@ -52,6 +54,7 @@ GROUPS = {
     "packaging": "packaging.py",
     "script": "script.py --cases 60",
     "tools": "tools.py",
+    "mypy": "lint.py mypy",
     "flake8": "lint.py flake8",
     "shellcheck": "lint.py shellcheck",
     "eslint": "lint.py eslint",
@@ -86,7 +89,7 @@ def with_pytest():
 class Ended:
     """How a group ended: its counts, why something was skipped, and all that it said."""
 
-    def __init__(self, name, status, said, seconds):
+    def __init__(self, name: str, status: int, said: str, seconds: float) -> None:
         self.name, self.said, self.seconds = name, said.rstrip("\n"), seconds
         last = self.said.rpartition("\n")[2]
         counts = {what: int(found[1]) for what, found in ((it, COUNTS[it].search(last)) for it in COUNTS) if found}
@@ -101,7 +104,7 @@ class Ended:
         if (status and not self.failed) or not (counts or self.why):
             self.failed += 1
 
-    def line(self):
+    def line(self) -> str:
         counts = "%d passed, %d failed%s" % (
             self.passed,
             self.failed,
@@ -111,14 +114,14 @@ class Ended:
 
 
 class Runner:
-    def __init__(self, program, processors):
+    def __init__(self, program: str, processors: int) -> None:
         self.env = {**os.environ, "QUORUM_CLI": program, "PYTHONDONTWRITEBYTECODE": "1"}
         self.is_of_dist = program == os.path.join(TOP, "dist", "quorum_cli")
         if self.is_of_dist:
             self.env.setdefault("QUORUM_LIBRARY", os.path.join(TOP, "dist", "libquorum.so"))
         self.processors, self.printing = processors, threading.Lock()
 
-    def run(self, name, line):
+    def run(self, name: str, line: str) -> Ended:
         script, *words = [
             os.path.join(TOP, "dist", "quorums.html") if word == "PAGE" else word for word in line.split()
         ]
@@ -139,7 +142,7 @@ class Runner:
             print(ended.line(), flush=True)
         return ended
 
-    def ran(self, words):
+    def ran(self, words: list[str]) -> tuple[int, str]:
         with tempfile.TemporaryFile() as out:
             try:
                 status = subprocess.run(
@@ -156,12 +159,12 @@ class Runner:
             out.seek(0)
             return status, out.read().decode("utf-8", "replace")
 
-    def all(self, groups):
+    def all(self, groups: dict[str, str]) -> list[Ended]:
         with concurrent.futures.ThreadPoolExecutor(self.processors) as pool:
             return [it.result() for it in [pool.submit(self.run, *it) for it in groups.items()]]
 
 
-def program():
+def program() -> str:
     """The program that ./quorum_cli runs; none where it can be neither found nor made."""
     return (
         subprocess.run([os.path.join(TOP, "tools", "program")], stdin=subprocess.DEVNULL, stdout=subprocess.PIPE)
@@ -170,7 +173,7 @@ def program():
     )
 
 
-def main():
+def main() -> int:
     words = argparse.ArgumentParser(prog="run.py", description="Runs all tests that need no proof.")
     words.add_argument("--long", action="store_true", help="more cases, and what needs tools from outside")
     words.add_argument(

@@ -9,6 +9,8 @@ The tree is what `make install` puts into an empty folder, moved to another. It 
 line is 'script: N passed, M failed'.
 """
 
+from __future__ import annotations
+
 import argparse
 import os
 import pty
@@ -20,6 +22,7 @@ import subprocess
 import sys
 import tempfile
 import time
+from typing import Any
 
 TOP = os.path.dirname(os.path.dirname(os.path.abspath(__file__)))
 sys.path[:0] = [os.path.join(TOP, "tests")]
@@ -156,7 +159,7 @@ exit 2
 """
 
 
-def system(nodes, threshold):
+def system(nodes: str, threshold: int) -> str:
     names = ",".join(f'"{it}"' for it in nodes)
     return "[%s]" % ",".join(
         f'{{"publicKey":"{it}","quorumSet":{{"threshold":{threshold},"validators":[{names}]}}}}' for it in nodes
@@ -170,7 +173,7 @@ FILES = {"three": system("abc", 2), "orgs": '[{"id":"A","validators":["a","b"]}]
 
 
 class Trial:
-    def __init__(self, folder, program):
+    def __init__(self, folder: str, program: str) -> None:
         self.folder, self.passed, self.failed = folder, 0, 0
         first, self.real, self.slow = (os.path.join(folder, it) for it in ("first", "a tree", "slow"))
         ended = subprocess.run(
@@ -186,31 +189,36 @@ class Trial:
         self.here = os.path.join(folder, "here")
         self.fill(self.here)
 
-    def path(self, *names):
+    def path(self, *names: str) -> str:
         return os.path.join(self.folder, *names)
 
-    def write(self, name, text):
+    def write(self, name: str, text: str) -> None:
         with open(name, "w") as it:
             it.write(text)
 
-    def read(self, name):
+    def read(self, name: str) -> str:
         with open(os.path.join(self.here, name)) as it:
             return it.read()
 
-    def fill(self, folder):
+    def fill(self, folder: str) -> None:
         os.mkdir(folder)
         for name, text in FILES.items():
             self.write(os.path.join(folder, name), text)
         os.mkfifo(os.path.join(folder, "pipe"))
 
-    def judge(self, name, found, wanted):
+    def judge(
+        self,
+        name: Any,
+        found: object,
+        wanted: object,
+    ) -> None:
         if found == wanted:
             self.passed += 1
         else:
             self.failed += 1
             print(f"script: {name}: found {found!r}, wanted {wanted!r}")
 
-    def env(self, **env):
+    def env(self, **env: Any) -> dict[str, str]:
         return {
             "PATH": "/usr/bin:/bin",
             "LANG": "C.UTF-8",
@@ -219,14 +227,22 @@ class Trial:
             **env,
         }
 
-    def words_of(self, words):
+    def words_of(self, words: bytes | str) -> list[bytes | str]:
         return (
-            [it for it in words.split(b" " if isinstance(words, bytes) else " ")]
+            [it for it in words.split(b" " if isinstance(words, bytes) else " ")]  # type: ignore[arg-type]
             if not isinstance(words, list)
             else words
         )
 
-    def run(self, words, tree=None, cwd=None, program=None, limits="", **env):
+    def run(
+        self,
+        words: Any,
+        tree: Any = None,
+        cwd: Any = None,
+        program: str | None = None,
+        limits: str = "",
+        **env: Any,
+    ) -> tuple[int, str, str]:
         """The status, the output and standard error."""
         script = program or self.path(tree or self.real, "bin", "quorum_cli")
         if tree == self.slow:
@@ -247,7 +263,7 @@ class Trial:
         )
         return ended.returncode, ended.stdout.decode(), ended.stderr.decode()
 
-    def words(self):
+    def words(self) -> None:
         """Words at fault are named, before what the program prints of them; what it prints and its status stay."""
         for words, said in FAULTY:
             bare = self.run(words, program=self.program)
@@ -267,7 +283,7 @@ class Trial:
             (0, "intersects yes\n", SAYS + "t was no certificate: kept as t~\n"),
         )
 
-    def random_words(self, cases, seed):
+    def random_words(self, cases: int, seed: int) -> None:
         """What the script takes for a fault is one of the program's, and the other way round; the output is the
         same."""
         choice = random.Random(seed)
@@ -282,7 +298,7 @@ class Trial:
             lines = [it for it in found[2].splitlines() if " was no certificate: kept as " not in it]
             self.judge(f"{words}: what is said: {lines}", len(lines), 1 if bare[0] in (3, 6, 7) else 0)
 
-    def help(self):
+    def help(self) -> None:
         usage = self.run([], program=self.program)[1]
         with open(os.path.join(TOP, "VERSION")) as it:
             version = it.read().strip()
@@ -311,7 +327,7 @@ class Trial:
             (3, SAYS + "no command 'intersct'; the nearest is intersect\n"),
         )
 
-    def limits(self):
+    def limits(self) -> None:
         for files in (8, 12, 19):
             self.judge(
                 f"{files} files",
@@ -347,7 +363,7 @@ class Trial:
         self.write(self.path(self.slow, "libexec/gemzulat/quorum_cli"), PROGRAM)
         os.chmod(self.path(self.slow, "libexec/gemzulat/quorum_cli"), 0o755)
 
-    def asked(self):
+    def asked(self) -> list[str]:
         """The words that the waiting program got since this was asked last."""
         log = os.path.join(self.folder, "log")
         if not os.path.exists(log):
@@ -357,10 +373,10 @@ class Trial:
         os.remove(log)
         return lines
 
-    def budgets(self):
+    def budgets(self) -> list[int]:
         return [int(it.split()[2]) for it in self.asked()]
 
-    def parts(self):
+    def parts(self) -> None:
         """Questions in parts: what is asked, what is answered, and whose certificate stands there."""
         begun = time.monotonic()
         self.judge(
@@ -432,20 +448,25 @@ class Trial:
             (7, SAYS + "an output could not be written: the standard output or c took no more\n"),
         )
 
-    def forget(self):
+    def forget(self) -> None:
         """A part that was finished before would be gone on with."""
         if os.path.exists(os.path.join(self.here, "c")):
             os.remove(os.path.join(self.here, "c"))
 
-    def start(self, words, terminal=None, **env):
+    def start(self, words: str, terminal: int | None = None, **env: str) -> subprocess.Popen[bytes]:
         self.forget()
-        how = {"cwd": self.here, "env": self.env(**env), "stdin": subprocess.DEVNULL, "start_new_session": True}
+        how: dict[str, Any] = {
+            "cwd": self.here,
+            "env": self.env(**env),
+            "stdin": subprocess.DEVNULL,
+            "start_new_session": True,
+        }
         out = terminal if terminal is not None else subprocess.PIPE
         return subprocess.Popen(
             [self.path(self.slow, "bin", "quorum_cli"), *words.split()], stdout=out, stderr=out, **how
         )
 
-    def wait_for(self, budget):
+    def wait_for(self, budget: int) -> None:
         for _ in range(400):
             log = os.path.join(self.folder, "log")
             if os.path.exists(log):
@@ -455,7 +476,7 @@ class Trial:
             time.sleep(0.05)
         self.judge(f"a part of {budget} is asked", False, True)
 
-    def interrupts(self):
+    def interrupts(self) -> None:
         """Ctrl-C is for the script and the program at once, as from a terminal; another signal ends both."""
         for number, status, out in [
             (signal.SIGINT, 2, b"blocking unknown 1000\n"),
@@ -485,7 +506,7 @@ class Trial:
         self.ends_all("after the second Ctrl-C", started.pid)
         self.asked()
 
-    def ends_all(self, name, group):
+    def ends_all(self, name: str, group: int) -> None:
         for _ in range(200):
             left = subprocess.run(
                 ["ps", "-o", "pid=,stat=,args=", "--sid", str(group)], stdout=subprocess.PIPE
@@ -497,7 +518,7 @@ class Trial:
             self.judge(name, left, "")
         subprocess.run(["pkill", "-KILL", "-s", str(group)])
 
-    def on_terminal(self, words, **env):
+    def on_terminal(self, words: str, **env: str) -> tuple[int, str]:
         """What stands on a terminal to which all goes, line by line, each with what it was rewritten from."""
         reading, terminal = pty.openpty()
         started = self.start(words, terminal, **env)
@@ -514,7 +535,7 @@ class Trial:
         os.close(reading)
         return started.wait(timeout=20), text.decode().replace("\r\n", "\n").replace("\x1b[K", "")
 
-    def progress(self):
+    def progress(self) -> None:
         """The line that is rewritten, and the last figures; the output stays by itself."""
         status, out, error = self.run(
             "blocking three c --progress", tree=self.slow, SLOW_FROM="0", SLOW="2.3", ENOUGH="0"
@@ -580,7 +601,7 @@ class Trial:
         )
         self.asked()
 
-    def real_questions(self):
+    def real_questions(self) -> None:
         """The program itself in parts: its certificate is accepted, and is that of one run."""
         self.judge("an answer in parts", self.run("intersect three whole --seconds 60"), (0, "intersects yes\n", ""))
         self.run("intersect three once")
@@ -612,7 +633,7 @@ class Trial:
             (0, "intersects yes\n", SAYS + "mine was no certificate: kept as mine~\n"),
         )
 
-    def taking_up(self):
+    def taking_up(self) -> None:
         """A part that was finished before is gone on with, where it is of the very question and is accepted."""
         tree = self.path("noting")
         shutil.copytree(self.real, tree)
@@ -671,7 +692,7 @@ class Trial:
         self.asked()
 
 
-def main():
+def main() -> int:
     parser = argparse.ArgumentParser(description=__doc__.split("\n")[0])
     parser.add_argument("program", nargs="?", default=chosen.PROGRAM)
     parser.add_argument("--cases", type=int, default=150)

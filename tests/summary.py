@@ -10,6 +10,8 @@ stands in it, whose view it is, and each organisation lying, silent and leaving.
 the four networks those that stand below and not others. The last line is 'summary: N passed, M failed', or why it is skipped.
 """
 
+from __future__ import annotations
+
 import argparse
 import html
 import itertools
@@ -21,6 +23,8 @@ import shutil
 import subprocess
 import sys
 import tempfile
+from collections.abc import Callable, Iterable, Sequence
+from typing import Any
 
 sys.dont_write_bytecode = True
 
@@ -35,19 +39,21 @@ IN_NODE = os.path.join(TOP, "tests", "web_summary.mjs")
 # The four networks.
 
 
-def quorum_set(threshold, validators=(), inner=()):
+def quorum_set(
+    threshold: int, validators: Sequence[str] = (), inner: tuple[()] | list[dict[str, Any]] = ()
+) -> dict[str, Any]:
     return {"threshold": threshold, "validators": list(validators), "innerQuorumSets": list(inner)}
 
 
-def declared(key, wanted, **more):
+def declared(key: str, wanted: dict[str, Any] | None, **more: bool) -> dict[str, Any]:
     return {"publicKey": key, **more, "quorumSet": wanted}
 
 
-def organisation(name, keys):
+def organisation(name: str, keys: list[str]) -> dict[str, Any]:
     return {"id": name.lower().replace(" ", "-"), "name": name, "validators": keys}
 
 
-def uniform():
+def uniform() -> tuple[list[dict[str, Any]], list[dict[str, Any]]]:
     """Five validators that want four of all five, of which the first has no quorum set: it is down, or was not
     crawled."""
     keys = [f"a{at}" for at in range(1, 6)]
@@ -55,7 +61,7 @@ def uniform():
     return nodes, [organisation(f"Org {at}", [key]) for at, key in enumerate(keys, 1)]
 
 
-def halves():
+def halves() -> tuple[list[dict[str, Any]], list[dict[str, Any]]]:
     """Two halves of four organisations each, whose validators want three of their own four."""
     nodes, orgs = [], []
     for half in ("East", "West"):
@@ -65,7 +71,7 @@ def halves():
     return nodes, orgs
 
 
-def held_up():
+def held_up() -> tuple[list[dict[str, Any]], list[dict[str, Any]]]:
     """One organisation that all need, with four of five others: that one stops it, or any two of the others."""
     own, others = ["k1", "k2", "k3"], [f"v{at}" for at in range(1, 6)]
     wanted = quorum_set(2, [], [quorum_set(2, own), quorum_set(4, others)])
@@ -75,7 +81,7 @@ def held_up():
     ]
 
 
-def uncrawled():
+def uncrawled() -> tuple[list[dict[str, Any]], list[dict[str, Any]]]:
     """Nine validators of three organisations, and 41 nodes whose quorum sets are not known: one of them is named by
     all."""
     keys = [[f"{org}{at}" for at in (1, 2, 3)] for org in "abc"]
@@ -161,17 +167,17 @@ FOUR = {
 class Tried:
     """A network with all its quorums, after deletion of some nodes, inside some nodes."""
 
-    def __init__(self, nodes):
+    def __init__(self, nodes: list[dict[str, Any]]) -> None:
         self.trees = {it["publicKey"]: it.get("quorumSet") for it in nodes}
         self.mentions = {key: set(self.in_tree(tree)) if tree else set() for key, tree in self.trees.items()}
         self.keys = sorted(set(self.trees).union(*self.mentions.values()))
         self.named = {key for own, some in self.mentions.items() for key in some - {own}}
-        self.held = {}
+        self.held: dict[frozenset[str], list[frozenset[str]]] = {}
 
-    def in_tree(self, tree):
+    def in_tree(self, tree: dict[str, Any]) -> list[str]:
         return tree["validators"] + [key for it in tree["innerQuorumSets"] for key in self.in_tree(it)]
 
-    def has_choice(self, tree, inside):
+    def has_choice(self, tree: dict[str, Any], inside: set[str]) -> bool:
         """Whether some choice lies inside: so many entries as the threshold, no threshold of 0 and none above the
         entries."""
         met = sum(key in inside for key in tree["validators"]) + sum(
@@ -179,7 +185,7 @@ class Tried:
         )
         return 1 <= tree["threshold"] <= met
 
-    def quorums(self, lying=frozenset()):
+    def quorums(self, lying: frozenset[str] = frozenset()) -> list[frozenset[str]]:
         """Each set outside the lying ones, that is not empty, of which each member has a slice inside it and them."""
         if lying not in self.held:
             found, honest = [], [key for key in self.keys if key not in lying]
@@ -191,10 +197,12 @@ class Tried:
             self.held[lying] = found
         return self.held[lying]
 
-    def inside(self, view, lying=frozenset(), without=frozenset()):
+    def inside(
+        self, view: frozenset[str], lying: frozenset[str] = frozenset(), without: frozenset[str] = frozenset()
+    ) -> list[frozenset[str]]:
         return [it for it in self.quorums(lying) if it <= view - without]
 
-    def closure(self, key):
+    def closure(self, key: str) -> frozenset[str]:
         found = {key}
         while True:
             more = found.union(*(self.mentions.get(it, set()) for it in found))
@@ -202,15 +210,15 @@ class Tried:
                 return frozenset(found)
             found = more
 
-    def validators(self, greatest):
+    def validators(self, greatest: frozenset[str]) -> frozenset[str]:
         """The nodes that others name, unless none of them is in a quorum."""
         return frozenset(self.named if self.named & greatest else self.keys)
 
-    def networks(self, greatest):
+    def networks(self, greatest: frozenset[str]) -> list[frozenset[str]]:
         """The sets inside the greatest quorum out of which none of its members leads, and in which each leads to
         each."""
 
-        def reach(key):
+        def reach(key: str) -> frozenset[str]:
             found = {key}
             while True:
                 more = found.union(*(self.mentions[it] & greatest for it in found))
@@ -228,21 +236,21 @@ class Tried:
             key=sorted,
         )
 
-    def most_named(self, keys):
+    def most_named(self, keys: frozenset[str]) -> str:
         return min(keys, key=lambda key: (-sum(key in some - {own} for own, some in self.mentions.items()), key))
 
 
-def disjoint(quorums):
+def disjoint(quorums: list[frozenset[str]]) -> bool:
     return any(not a & b for a, b in itertools.combinations(quorums, 2))
 
 
-def union(quorums):
+def union(quorums: Iterable[frozenset[str]]) -> frozenset[str]:
     return frozenset().union(*quorums)
 
 
-def minimal(items, holds):
+def minimal(items: dict[str, frozenset[str]], holds: Callable[..., Any]) -> list[list[str]]:
     """The minimal sets of items, each a text with its keys, for which a thing holds, in order."""
-    found = []
+    found: list[tuple[str, ...]] = []
     for size in range(1, len(items) + 1):
         for some in itertools.combinations(sorted(items), size):
             if not any(set(it) <= set(some) for it in found) and holds(union([items[it] for it in some])):
@@ -253,7 +261,9 @@ def minimal(items, holds):
 class Expected:
     """What the summary has to say of a network."""
 
-    def __init__(self, nodes, orgs, node, is_now):
+    def __init__(
+        self, nodes: list[dict[str, Any]], orgs: list[dict[str, Any]], node: str | None, is_now: bool
+    ) -> None:
         self.nodes, self.orgs, self.node = nodes, [(it["id"], it["validators"]) for it in orgs], node
         self.real = Tried(nodes)
         self.keys, self.named = self.real.keys, self.real.named
@@ -273,10 +283,12 @@ class Expected:
         self.unknown = [key for key in self.keys if not self.real.trees.get(key)]
         self.watchers = self.whole - self.named
 
-    def quorums(self, view, lying=frozenset(), without=frozenset()):
+    def quorums(
+        self, view: frozenset[str], lying: frozenset[str] = frozenset(), without: frozenset[str] = frozenset()
+    ) -> list[frozenset[str]]:
         return self.real.inside(view, lying, (without | self.silent) - lying)
 
-    def views(self):
+    def views(self) -> list[tuple[str | None, frozenset[str]]]:
         views = [(self.node, self.real.closure(self.node))] if self.node else []
         at = (
             [self.real.most_named(it) for it in self.networks]
@@ -288,7 +300,7 @@ class Expected:
                 views.append((key, self.real.closure(key)))
         return [(None if keys == self.whole else key, keys) for key, keys in views] or [(None, self.whole)]
 
-    def forks(self, lying=frozenset()):
+    def forks(self, lying: frozenset[str] = frozenset()) -> tuple[str, list[str]]:
         """Of the validators; and which watchers could be split off."""
         validators = self.real.validators(self.greatest)
         if disjoint(self.quorums(validators, lying)):
@@ -298,7 +310,7 @@ class Expected:
         )
         return "no", sorted(split)
 
-    def data(self):
+    def data(self) -> dict[str, list[dict[str, Any]]]:
         views = self.views()
         self.word, split = ("none", []) if not self.greatest else self.forks()
         if len(self.networks) > 1:
@@ -319,7 +331,10 @@ class Expected:
                     "node": self.node,
                 }
             )
-        fork = {"line": "fork", "say": "none-known" if self.word == "none" and self.unknown else self.word}
+        fork: dict[str, Any] = {
+            "line": "fork",
+            "say": "none-known" if self.word == "none" and self.unknown else self.word,
+        }
         if self.word == "networks":
             fork["count"] = len(self.networks)
         lines.append(fork)
@@ -341,7 +356,7 @@ class Expected:
             "parts": [self.part(at, view, key, len(views)) for at, (key, view) in enumerate(views)],
         }
 
-    def part(self, at, view, key, count):
+    def part(self, at: int, view: frozenset[str], key: str | None, count: int) -> dict[str, Any]:
         own = self.node if at == 0 else None
         greatest = union(self.quorums(view))
         fork = disjoint(self.quorums(view))
@@ -362,8 +377,10 @@ class Expected:
             "leaving": [self.leave(its, view) for its in orgs] if greatest else [],
         }
 
-    def turn(self, its, view, greatest, fork):
-        lying, word, split = self.own[its], None, []
+    def turn(self, its: str, view: frozenset[str], greatest: frozenset[str], fork: bool) -> dict[str, Any]:
+        lying = self.own[its]
+        word = None
+        split: list[Any] = []
         left = union(self.quorums(view, without=lying))
         if greatest and not fork:
             word = "yes" if disjoint(self.quorums(view, lying)) else "no"
@@ -372,14 +389,18 @@ class Expected:
                 word = "no" if other == "no" else "yes" if view == self.whole else "elsewhere"
         return {"org": its, "lies": word, "split": split, "stops": not left, "left": len(left)}
 
-    def seen(self, view, key, own, greatest, fork, count):
+    def seen(
+        self, view: frozenset[str], key: str | None, own: str | None, greatest: frozenset[str], fork: bool, count: int
+    ) -> list[dict[str, str]]:
         key = own or key
         if key is None or (own is None and count == 1 and self.word in ("no", "none")):
             return []
         word = "yes" if fork else "no" if greatest else "none-known" if set(self.unknown) & view else "none"
         return [{"line": "seen", "say": word, "node": key}]
 
-    def lies(self, orgs, turns, greatest, fork):
+    def lies(
+        self, orgs: list[str], turns: list[dict[str, Any]], greatest: frozenset[str], fork: bool
+    ) -> list[dict[str, Any]]:
         if not self.orgs or not orgs or not greatest or fork:
             return [
                 {
@@ -408,7 +429,7 @@ class Expected:
         split = [[it["org"], len(it["split"])] for it in turns if it["split"]]
         return lines + ([{"line": "lies", "say": "split", "of": len(self.watchers), "orgs": split}] if split else [])
 
-    def items(self, view):
+    def items(self, view: frozenset[str]) -> dict[str, frozenset[str]]:
         """What may fall silent: organisations, and nodes of none."""
         nodes = view - union(self.own.values())
         return {
@@ -416,13 +437,13 @@ class Expected:
             **{"node:" + key: frozenset([key]) for key in nodes},
         }
 
-    def stopping(self, view, silent):
+    def stopping(self, view: frozenset[str], silent: frozenset[str]) -> list[list[str]]:
         return minimal(self.items(view), lambda keys: not self.real.inside(view, without=keys | silent))
 
-    def sets(self, line, sets):
+    def sets(self, line: str, sets: list[list[str]]) -> dict[str, Any]:
         return {"line": line, "say": "alone" if len(sets[0]) == 1 else "sets", "sets": sets}
 
-    def stop(self, view):
+    def stop(self, view: frozenset[str]) -> list[dict[str, Any]]:
         if not self.real.inside(view):
             return [{"line": "stop", "say": "none"}]
         lines = [self.sets("stop", self.stopping(view, frozenset()))]
@@ -433,7 +454,7 @@ class Expected:
             lines.append({"line": "stop", "say": "nodes", "count": len(nodes), "least": min(map(len, nodes))})
         return lines
 
-    def now(self, view):
+    def now(self, view: frozenset[str]) -> list[dict[str, Any]]:
         down = sorted(self.down & view)
         if not self.marked or not down:
             return [{"line": "now", "say": "none"}] if self.marked else []
@@ -444,14 +465,15 @@ class Expected:
             return [*lines, {"line": "now", "say": "stopped"}]
         return [*lines, self.sets("now", self.stopping(view, self.down))]
 
-    def node_lines(self, view, own, orgs, greatest):
+    def node_lines(
+        self, view: frozenset[str], own: str | None, orgs: list[str], greatest: frozenset[str]
+    ) -> list[dict[str, Any]]:
         if own is None:
             return []
         if own not in greatest:
             return [{"line": "node", "say": "outside" if self.real.trees.get(own) else "unknown", "node": own}]
-        lines, others = [{"line": "node", "say": "inside", "node": own}], [
-            its for its in orgs if own not in self.own[its]
-        ]
+        lines: list[dict[str, Any]] = [{"line": "node", "say": "inside", "node": own}]
+        others = [its for its in orgs if own not in self.own[its]]
         stopped = [its for its in others if own not in union(self.quorums(view, without=self.own[its]))]
         if others:
             lines.append(
@@ -463,14 +485,14 @@ class Expected:
         )
         return lines + ([{"line": "node", "say": "blocked", "sets": blocked}] if blocked else [])
 
-    def leave(self, its, view):
+    def leave(self, its: str, view: frozenset[str]) -> dict[str, Any]:
         gone = self.own[its]
         left = union(self.quorums(view, without=gone))
         rest = {name: keys - gone for name, keys in self.items(view).items() if name != "org:" + its}
         then = minimal(rest, lambda keys: not self.quorums(view, without=keys | gone)) if left else None
         return {"org": its, "left": len(left), "then": then}
 
-    def compare(self, data):
+    def compare(self, data: dict[str, list[dict[str, Any]]]) -> str:
         """What differs; the sets of a fork are tried, since any two quorums that share no node are right."""
         data = json.loads(json.dumps(data))
         wanted = json.loads(json.dumps(self.data()))
@@ -491,7 +513,7 @@ class Expected:
         )
 
 
-def parts_of(data):
+def parts_of(data: Any) -> Any:
     return [json.dumps(it, sort_keys=True) for it in data["lines"]] + [
         json.dumps(it, sort_keys=True)
         for part in data["parts"]
@@ -502,7 +524,7 @@ def parts_of(data):
 # Random networks.
 
 
-def random_network(chance):
+def random_network(chance: random.Random) -> tuple[list[dict[str, Any]], list[dict[str, Any]]]:
     """A network of four to eight nodes in organisations, as operators make them and as they break them."""
     count = chance.randint(4, 8)
     keys = [f"n{at}" for at in range(1, count + 1)]
@@ -512,7 +534,7 @@ def random_network(chance):
     kind = chance.choice(["flat", "flat", "inner", "inner", "halves", "own"])
     shared = None
 
-    def wanted(key):
+    def wanted(key: str) -> dict[str, Any]:
         if kind == "flat":
             some = keys if chance.random() < 0.5 else chance.sample(keys, chance.randint(1, count))
             return quorum_set(chance.randint(1, len(some)), some)
@@ -562,22 +584,30 @@ def random_network(chance):
 
 
 class Trial:
-    def __init__(self, folder):
+    def __init__(self, folder: str) -> None:
         self.folder = folder
         self.node = shutil.which("node") if os.path.exists(IN_NODE) else None
         self.passed = self.failed = 0
 
-    def judge(self, name, right, told=""):
+    def judge(self, name: str, right: bool, told: str = "") -> None:
         if right:
             self.passed += 1
         else:
             self.failed += 1
             print(f"summary: {name}: {told}", flush=True)
 
-    def path(self, name):
+    def path(self, name: str) -> str:
         return os.path.join(self.folder, name)
 
-    def network(self, name, nodes, orgs, node=None, is_now=False, tried=True):
+    def network(
+        self,
+        name: str,
+        nodes: list[dict[str, Any]],
+        orgs: list[dict[str, Any]],
+        node: str | None = None,
+        is_now: bool = False,
+        tried: bool = True,
+    ) -> tuple[str, str]:
         """What both pages say of a network: the words of the summary, and the page of the report."""
         for file, held in (("config.json", nodes), ("orgs.json", orgs)):
             with open(self.path(file), "w", encoding="utf-8") as it:
@@ -613,7 +643,9 @@ class Trial:
             self.in_node(name, data, said, node, is_now)
         return "\n".join(said), plain(page)
 
-    def in_node(self, name, data, said, node, is_now):
+    def in_node(
+        self, name: str, data: dict[str, list[dict[str, Any]]], said: list[str], node: str | None, is_now: bool
+    ) -> None:
         words = [
             self.node,
             IN_NODE,
@@ -635,22 +667,22 @@ class Trial:
             self.judge(name + ": the same words in node", found["said"] == said, f"\n{found['said']}\n{said}")
 
 
-def plain(text):
+def plain(text: str) -> str:
     return html.unescape(re.sub(r"<style>.*?</style>|<[^>]*>", "", text, flags=re.S))
 
 
-def four(trial):
+def four(trial: Trial) -> None:
     """The four networks: what stands in their summaries, and what may stand nowhere."""
     for name, (made, node, has, lacks) in FOUR.items():
         nodes, orgs = made()
-        said, page = trial.network(name, nodes, orgs, *node, tried=len(nodes) < 15)
+        said, page = trial.network(name, nodes, orgs, *node, tried=len(nodes) < 15)  # type: ignore[misc]
         for text in has:
             trial.judge(f"{name} says: {text}", text in said, said)
         for text in lacks:
             trial.judge(f"{name} does not say: {text}", text not in page, said)
 
 
-def main():
+def main() -> int:
     words = argparse.ArgumentParser(prog="summary.py")
     words.add_argument("--count", type=int, default=12)
     words.add_argument("--seed", type=int, default=1)

@@ -8,6 +8,8 @@ constants it sees, which have a number in a sample, and that it lists none; of t
 runs. The program is not needed. The last line is 'tools: N passed, M failed'.
 """
 
+from __future__ import annotations
+
 import importlib.machinery
 import importlib.util
 import os
@@ -15,6 +17,9 @@ import re
 import subprocess
 import sys
 import tempfile
+import types
+from collections.abc import Iterator
+from typing import Any
 
 TOP = os.path.dirname(os.path.dirname(os.path.abspath(__file__)))
 # x or y, and the three others: unsatisfiable.
@@ -150,7 +155,7 @@ LAWS = [
 ]
 
 
-def tool(name):
+def tool(name: str) -> types.ModuleType:
     """A tool as a module."""
     sys.dont_write_bytecode = True
     loader = importlib.machinery.SourceFileLoader(name, os.path.join(TOP, "tools", name))
@@ -159,7 +164,7 @@ def tool(name):
     return made
 
 
-def source_tools():
+def source_tools() -> Iterator[tuple[str, Any, Any]]:
     """What the tools that read the crates say, each with what it should be."""
     arguments, twice, callers, uses, limits, memory = (
         tool(name) for name in ("arguments", "twice", "callers", "uses", "limits", "memory-answers")
@@ -195,7 +200,7 @@ def source_tools():
     yield "contracts that DECISIONS lacks", sorted(long - set(re.findall(r"`(\w+)`", line))), []
 
 
-def main():
+def main() -> int:
     failed = 0
     with tempfile.TemporaryDirectory() as folder:
         with open(os.path.join(folder, "first"), "wb") as it:

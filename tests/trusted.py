@@ -8,10 +8,14 @@ Of the C functions those that the check marks as reached, of the libraries those
 stands in the document once, and nothing else does. The last line is 'trusted: N passed, M failed'.
 """
 
+from __future__ import annotations
+
 import os
 import re
 import subprocess
 import sys
+from typing import Any
+
 
 TOP = os.path.dirname(os.path.dirname(os.path.abspath(__file__)))
 DOCUMENT = os.path.join(TOP, "docs", "TRUSTED.md")
@@ -19,14 +23,14 @@ REACHED = re.compile(r"^  (\S+)   reached$", re.M)
 STATED = re.compile(r"^statements (\w+): ", re.M)
 
 
-def rows_under(text, head):
+def rows_under(text: str, head: str) -> Any:
     """The names in backquotes in the first cell of each row of the table below a heading."""
     (part,) = re.findall(rf"^## {re.escape(head)}\n(.*?)(?=^## |\Z)", text, re.M | re.S)
     rows = [line.split("|")[1] for line in part.splitlines() if line.startswith("| `")]
     return [name for row in rows for name in re.findall(r"`([^`]+)`", row)]
 
 
-def compared(what, found, wanted):
+def compared(what: str, found: Any, wanted: list[str]) -> Any:
     """How many names stand where they should, and a line for each that does not."""
     faults = [f"{what} `{name}`: the check has it, the document lacks it" for name in sorted(set(found) - set(wanted))]
     faults += [
@@ -36,7 +40,7 @@ def compared(what, found, wanted):
     return len(set(found) & set(wanted)), faults
 
 
-def said_by_the_check():
+def said_by_the_check() -> str:
     ran = subprocess.run(
         ["rt", "check", "--list-axioms"],
         cwd=os.path.join(TOP, "crates", "quorum_cli"),
@@ -46,13 +50,13 @@ def said_by_the_check():
     return ran.stdout.decode()
 
 
-def last_crate(said):
+def last_crate(said: str) -> Any:
     """What the check said of the program itself, after what it said of crates below it that it had to build first."""
     start = said.rfind("\nlogic /")
     return said[max(start, 0) :]
 
 
-def main():
+def main() -> Any:
     if len(sys.argv) > 2:
         print(__doc__.strip(), file=sys.stderr)
         return 2

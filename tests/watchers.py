@@ -8,11 +8,15 @@ KIND-orgs.json, in the shape that stellarbeat publishes. A third of the watchers
 third have the validators' quorum set, and each of the others wants three of five validators of its own choice.
 """
 
+from __future__ import annotations
+
 import base64
 import hashlib
 import json
 import os
 import sys
+from collections.abc import Iterator, Sequence
+from typing import Any
 
 # Name, domain, number of validators.
 ORGANISATIONS = [
@@ -30,28 +34,30 @@ WATCHERS = 100
 KINDS = ["seven", "needed", "old"]
 
 
-def chosen(text, most):
+def chosen(text: str, most: int) -> int:
     """A number below `most` that the text decides."""
     return int.from_bytes(hashlib.sha256(text.encode()).digest()[:8], "big") % most
 
 
-def key(text):
+def key(text: str) -> str:
     """A key in the shape of Stellar's: 56 letters and digits."""
     return "G" + base64.b32encode(hashlib.sha256(text.encode()).digest() * 2).decode()[:55]
 
 
-def quorum_set(threshold, validators=(), inner=()):
+def quorum_set(
+    threshold: int, validators: Sequence[str] = (), inner: tuple[()] | list[dict[str, Any]] = ()
+) -> dict[str, Any]:
     return {"threshold": threshold, "validators": list(validators), "innerQuorumSets": list(inner)}
 
 
-def majority(keys):
+def majority(keys: list[str]) -> dict[str, Any]:
     return quorum_set(len(keys) // 2 + 1, keys)
 
 
 class Made:
     """A network of one kind: its organisations with their keys, and its nodes."""
 
-    def __init__(self, kind):
+    def __init__(self, kind: str) -> None:
         self.kind = kind
         self.orgs = [
             (name, domain, [key(f"{kind} {name} {at}") for at in range(1, count + 1)])
@@ -62,26 +68,26 @@ class Made:
         self.nodes += [self.watcher(at) for at in range(1, WATCHERS + 1)]
         self.nodes.sort(key=lambda node: node["publicKey"][::-1])
 
-    def usual(self):
+    def usual(self) -> dict[str, Any]:
         """The quorum set of most: five of seven organisations, or three, or one that all need with four of the other
         six."""
         if self.kind == "needed":
             return quorum_set(2, [], [self.sets[0], quorum_set(4, [], self.sets[1:])])
         return quorum_set(3 if self.kind == "split" else 5, [], self.sets)
 
-    def validator_set(self, org, at):
+    def validator_set(self, org: int, at: int) -> dict[str, Any]:
         """Where it is old, one validator of three organisations still has the quorum set of before the last two
         joined."""
         if self.kind == "old" and at == 1 and org < 3:
             return quorum_set(4, [], self.sets[:5])
         return self.usual()
 
-    def validators(self, org):
+    def validators(self, org: int) -> Iterator[dict[str, Any]]:
         name, domain, keys = self.orgs[org]
         for at, own in enumerate(keys, 1):
             yield self.node(own, f"{name} {at}", domain, self.validator_set(org, at))
 
-    def watcher(self, at):
+    def watcher(self, at: int) -> dict[str, Any]:
         own = key(f"{self.kind} watcher {at}")
         if at % 3 == 0:
             wanted = None
@@ -95,7 +101,7 @@ class Made:
         return self.node(own, f"watcher {at}" if at % 2 else None, None, wanted)
 
     @staticmethod
-    def node(own, name, domain, wanted):
+    def node(own: str, name: str | None, domain: str | None, wanted: dict[str, Any] | None) -> dict[str, Any]:
         made = {
             "ip": "192.0.2.1",
             "port": 11625,
@@ -113,7 +119,7 @@ class Made:
         )
         return made
 
-    def organisations(self):
+    def organisations(self) -> list[dict[str, Any]]:
         return [
             {
                 "id": hashlib.sha256(name.encode()).hexdigest()[:32],
@@ -125,7 +131,7 @@ class Made:
         ]
 
 
-def write(folder, kinds=KINDS):
+def write(folder: str, kinds: list[str] = KINDS) -> dict[str, list[str]]:
     """The paths of the files of each kind: its nodes and its organisations."""
     paths = {}
     for kind in kinds:
@@ -138,7 +144,7 @@ def write(folder, kinds=KINDS):
     return paths
 
 
-def main():
+def main() -> int:
     if len(sys.argv) < 2 or not set(sys.argv[2:]) <= {*KINDS, "split"}:
         print(__doc__.strip(), file=sys.stderr)
         return 2

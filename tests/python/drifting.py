@@ -10,38 +10,44 @@ mistaken. EQUAL of
 the snapshots have the quorum sets of the day before: half of these the same bytes, the others with other statistics.
 """
 
+from __future__ import annotations
+
 import base64
+import datetime
 import hashlib
 import json
 import os
 import random
 import sys
-import datetime
+from collections.abc import Sequence
+from typing import Any
 
 COUNTRIES = ["DE", "US", "FI", "SG", "CA", "FR"]
 ISPS = ["Hetzner Online GmbH", "Amazon.com, Inc.", "OVH SAS", "Google LLC", None]
 
 
-def key(text):
+def key(text: str) -> str:
     return "G" + base64.b32encode(hashlib.sha256(text.encode()).digest() * 2).decode()[:55]
 
 
-def quorum_set(threshold, validators=(), inner=()):
+def quorum_set(
+    threshold: int, validators: Sequence[str] = (), inner: tuple[()] | list[dict[str, Any]] = ()
+) -> dict[str, Any]:
     return {"threshold": threshold, "validators": list(validators), "innerQuorumSets": list(inner)}
 
 
 class Network:
     """A network that changes from day to day."""
 
-    def __init__(self, seed, watchers=125, organisations=7):
+    def __init__(self, seed: int, watchers: int = 125, organisations: int = 7) -> None:
         self.random = random.Random(seed)
         self.count = 0
         self.orgs = [self.organisation() for _ in range(organisations)]
         self.watchers = [self.watcher() for _ in range(watchers)]
-        self.mistaken = None
-        self.down = set()
+        self.mistaken: Any = None
+        self.down: set[str] = set()
 
-    def organisation(self):
+    def organisation(self) -> dict[str, Any]:
         self.count += 1
         name = f"organisation {self.count}"
         country, isp = self.random.choice(COUNTRIES), self.random.choice(ISPS)
@@ -53,7 +59,7 @@ class Network:
             "isp": isp,
         }
 
-    def watcher(self):
+    def watcher(self) -> dict[str, Any]:
         self.count += 1
         return {
             "key": key(f"watcher {self.count}"),
@@ -62,7 +68,7 @@ class Network:
             "country": self.random.choice([*COUNTRIES, None]),
         }
 
-    def drift(self):
+    def drift(self) -> None:
         """One day."""
         draw = self.random.random
         for _ in range(self.random.randrange(min(4, len(self.watchers)))):
@@ -79,11 +85,11 @@ class Network:
             if draw() < 0.01:
                 it["seed"] = draw()
 
-    def usual(self):
+    def usual(self) -> dict[str, Any]:
         inner = [quorum_set(2, org["keys"]) for org in self.orgs]
         return quorum_set(self.mistaken or len(inner) - (len(inner) - 1) // 3, [], inner)
 
-    def wanted(self, watcher):
+    def wanted(self, watcher: dict[str, Any]) -> dict[str, Any] | None:
         """The quorum set of a watcher: none, the usual one, or some validators of its own choice."""
         if watcher["kind"] == 0:
             return None
@@ -92,7 +98,7 @@ class Network:
         keys = [it for org in self.orgs for it in org["keys"]]
         return quorum_set(3, random.Random(watcher["seed"]).sample(keys, 5))
 
-    def nodes(self, noise):
+    def nodes(self, noise: int) -> list[dict[str, Any]]:
         found = []
         for org in self.orgs:
             for at, own in enumerate(org["keys"]):
@@ -114,7 +120,9 @@ class Network:
         return found
 
     @staticmethod
-    def node(own, name, country, noise, wanted, **more):
+    def node(
+        own: str, name: str | None, country: str | None, noise: int, wanted: dict[str, Any], **more: Any
+    ) -> dict[str, Any]:
         return {
             "publicKey": own,
             "name": name,
@@ -125,19 +133,19 @@ class Network:
             **more,
         }
 
-    def organisations(self):
+    def organisations(self) -> list[dict[str, Any]]:
         return [
             {"id": hashlib.sha256(it["name"].encode()).hexdigest()[:32], "name": it["name"], "validators": it["keys"]}
             for it in self.orgs
         ]
 
 
-def put(path, held):
+def put(path: str, held: list[dict[str, Any]]) -> None:
     with open(path, "w", encoding="utf-8") as it:
         json.dump(held, it)
 
 
-def make(folder, count, equal=0, seed=1, **size):
+def make(folder: str, count: int, equal: int = 0, seed: int = 1, **size: int) -> list[str]:
     """Writes the snapshots; the paths, by date."""
     os.makedirs(folder, exist_ok=True)
     network, paths = Network(seed, **size), []

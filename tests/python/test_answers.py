@@ -1,10 +1,14 @@
 """What the classes of the package make of the answers, and of wrong arguments."""
 
+from __future__ import annotations
+
 import pickle
 import subprocess
 import sys
 import threading
 import time
+from collections.abc import Callable
+from typing import Any
 
 import pytest
 from conftest import PACKAGE, TOP, as_json, example, flat, node
@@ -16,13 +20,13 @@ from quorums import usage, worker
 LONG = as_json(flat(60, 40))
 
 
-def test_an_answer_is_neither_true_nor_false(three):
+def test_an_answer_is_neither_true_nor_false(three: Quorums) -> None:
     for found in (three.intersect(), three.intersect(faulty=["a"]), three.blocking(), three.show()):
         with pytest.raises(TypeError, match="look at its yes"):
             bool(found)
 
 
-def test_yes_no_and_unknown(three):
+def test_yes_no_and_unknown(three: Quorums) -> None:
     assert three.intersect().yes is True
     assert three.intersect(faulty=["a"]).yes is False
     unknown = three.intersect(budget=0)
@@ -37,13 +41,13 @@ def test_yes_no_and_unknown(three):
     assert trial(2).yes is True
 
 
-def test_a_list_is_not_answered_yes_or_no(three):
+def test_a_list_is_not_answered_yes_or_no(three: Quorums) -> None:
     for found in (three.blocking(), three.greatest(), three.show(), three.check(example("blocking.cert"))):
         with pytest.raises(TypeError, match="is not answered yes or no"):
             found.yes
 
 
-def test_values_by_command(three, network):
+def test_values_by_command(three: Quorums, network: Quorums) -> None:
     pairs = (("a", "b"), ("a", "c"), ("b", "c"))
     assert three.blocking().value == three.quorums().value == pairs
     assert three.least().size == 2 and three.least().value in pairs
@@ -56,16 +60,16 @@ def test_values_by_command(three, network):
         ("org:alder", "org:cedar"),
         ("org:beech", "org:cedar"),
     )
-    assert Quorums(example("two.json")).check_lrat(example("two.lrat")).value.startswith("verified\n")
+    assert Quorums(example("two.json")).check_lrat(example("two.lrat")).value.startswith("verified\n")  # type: ignore[union-attr]  # noqa: E501
 
 
-def test_no_quorum_has_no_smallest_one():
+def test_no_quorum_has_no_smallest_one() -> None:
     none = Quorums(as_json([node("a")]))
     assert (none.least().value, none.least().known, none.least()["least"]) == (None, True, ("none",))
     assert none.greatest().value == ()
 
 
-def test_numbers_are_numbers_and_names_are_not(three):
+def test_numbers_are_numbers_and_names_are_not(three: Quorums) -> None:
     assert three.show()["nodes"] == (3,)
     assert three.least()["least"] == (2,)
     assert three.blocking()["blocking"] == (3,)
@@ -78,7 +82,7 @@ def test_numbers_are_numbers_and_names_are_not(three):
     assert digits.quorums().sets == (("7",),)
 
 
-def test_check_gives_the_kind_and_refuses(three, network):
+def test_check_gives_the_kind_and_refuses(three: Quorums, network: Quorums) -> None:
     forked = three.intersect(faulty=["a"])
     assert three.check(forked.certificate).value == three.check(forked.certificate).kind == "pair"
     assert (forked["first"], forked["second"]) == (("b",), ("c",))
@@ -92,7 +96,7 @@ def test_check_gives_the_kind_and_refuses(three, network):
         assert refused.value.status == 5 and refused.value.text.startswith("refused ")
 
 
-def test_refusals(three):
+def test_refusals(three: Quorums) -> None:
     for asked, status, text in (
         (lambda: three.greatest(faulty=["z"]), 3, "usage unknown-name --faulty 1"),
         (lambda: Quorums(b"{}").show(), 4, "config not-nodes"),
@@ -109,9 +113,9 @@ def test_refusals(three):
 @pytest.mark.parametrize(
     "asked, said",
     [
-        (lambda it: Quorums("x"), "config must be bytes, not str"),
+        (lambda it: Quorums("x"), "config must be bytes, not str"),  # type: ignore[arg-type]
         (lambda it: Quorums(b"", orgs=None), "orgs must be bytes, not NoneType"),
-        (lambda it: Quorums(b"", room="1"), "room must be an int, not str"),
+        (lambda it: Quorums(b"", room="1"), "room must be an int, not str"),  # type: ignore[arg-type]
         (lambda it: it.intersect(budget="5"), "budget must be an int, not str"),
         (lambda it: it.intersect(budget=True), "budget must be an int, not bool"),
         (lambda it: it.intersect(budget=1.5), "budget must be an int, not float"),
@@ -128,18 +132,18 @@ def test_refusals(three):
         (lambda it: it.ask("intersect", {"node": "a"}), "intersect takes no argument node"),
         (lambda it: it.ask("closure", {}), "closure needs the argument node"),
         (lambda it: it.ask("sing", {}), "the library has no command sing"),
-        (lambda it: trial("4"), "count must be an int, not str"),
+        (lambda it: trial("4"), "count must be an int, not str"),  # type: ignore[arg-type]
         (lambda it: answer("show"), "words must be several words, not str"),
-        (lambda it: answer([3]), "words must be str or bytes, not int"),
+        (lambda it: answer([3]), "words must be str or bytes, not int"),  # type: ignore[list-item]
     ],
 )
-def test_a_wrong_type_is_named(three, asked, said):
+def test_a_wrong_type_is_named(three: Quorums, asked: Callable[..., Any], said: str) -> None:
     with pytest.raises(TypeError) as raised:
         asked(three)
     assert str(raised.value) == said
 
 
-def test_a_zero_byte_smuggles_in_no_word(three):
+def test_a_zero_byte_smuggles_in_no_word(three: Quorums) -> None:
     with pytest.raises(ValueError, match="zero byte"):
         three.greatest(faulty="a\0--from=b")
 
@@ -153,25 +157,25 @@ def test_too_large(monkeypatch):
         Quorums(process.WIDE.encode()).intersect()
 
 
-def test_a_small_room_grows(three):
+def test_a_small_room_grows(three: Quorums) -> None:
     assert Quorums(three.config, room=1).blocking().sets == three.blocking().sets
 
 
-def test_a_call_ends_after_its_time():
+def test_a_call_ends_after_its_time() -> None:
     began = time.monotonic()
     with pytest.raises(TimeoutError, match="not answered in 0.5 s"):
         Quorums(LONG).quorums(timeout=0.5, budget=4000000000)
     assert time.monotonic() - began < 5
 
 
-def test_a_call_is_ended_from_another_thread():
+def test_a_call_is_ended_from_another_thread() -> None:
     stop, found = Stop(), []
 
-    def ask():
+    def ask() -> None:
         try:
             found.append(Quorums(LONG).quorums(stop=stop, budget=4000000000))
         except Ended as ended:
-            found.append(ended)
+            found.append(ended)  # type: ignore[arg-type]
 
     running = threading.Thread(target=ask)
     running.start()
@@ -183,9 +187,9 @@ def test_a_call_is_ended_from_another_thread():
         Quorums(LONG).show(stop=stop)
 
 
-def test_in_a_process_of_its_own_the_answer_is_the_same(three):
+def test_in_a_process_of_its_own_the_answer_is_the_same(three: Quorums) -> None:
     for options in ({}, {"faulty": ["a"]}):
-        here, there = three.intersect(**options), three.intersect(timeout=60, **options)
+        here, there = three.intersect(**options), three.intersect(timeout=60, **options)  # type: ignore[arg-type]
         assert (here.status, here.text, here.certificate) == (there.status, there.text, there.certificate)
     with pytest.raises(Refused):
         three.greatest(faulty=["z"], timeout=60)
@@ -193,9 +197,9 @@ def test_in_a_process_of_its_own_the_answer_is_the_same(three):
     assert len(worker.IDLE.workers) >= 1
 
 
-def test_a_process_that_is_lost_is_said():
+def test_a_process_that_is_lost_is_said() -> None:
     stop = Stop()
-    threading.Timer(0.5, lambda: [it.process.kill() for it in list(stop.workers)]).start()
+    threading.Timer(0.5, lambda: [it.process.kill() for it in list(stop.workers)]).start()  # type: ignore[func-returns-value]  # noqa: E501
     with pytest.raises(Lost, match="ended by signal 9"):
         Quorums(LONG).quorums(stop=stop, budget=4000000000)
 
@@ -212,7 +216,7 @@ os._exit(0)
 """
 
 
-def test_a_process_ends_with_the_one_that_started_it():
+def test_a_process_ends_with_the_one_that_started_it() -> None:
     code = STARTS_A_LONG_CALL
     ran = subprocess.run(
         [sys.executable, "-c", code],
@@ -229,7 +233,7 @@ def test_a_process_ends_with_the_one_that_started_it():
     pytest.fail("the process of the call still runs")
 
 
-def alive(process):
+def alive(process: int) -> bool:
     try:
         with open(f"/proc/{process}/stat") as it:
             return it.read().rpartition(")")[2].split()[0] != "Z"
@@ -237,7 +241,7 @@ def alive(process):
         return False
 
 
-def test_the_table_is_that_of_the_usage_text():
+def test_the_table_is_that_of_the_usage_text() -> None:
     rows = usage.commands()
     assert {it.line for it in rows.values()} == {
         line for line in answer([])[1].decode().splitlines()[1:] if not line.startswith("COMMON")
@@ -255,6 +259,6 @@ def test_the_table_is_that_of_the_usage_text():
     assert rows["org-blocking"].option("--orgs").needed and not rows["intersect"].option("--orgs").needed
 
 
-def test_the_methods_are_those_of_the_table():
+def test_the_methods_are_those_of_the_table() -> None:
     ran = subprocess.run([sys.executable, f"{PACKAGE}/make_commands.py", "--check"], stdout=subprocess.PIPE)
     assert (ran.returncode, ran.stdout) == (0, b"")

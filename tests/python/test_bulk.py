@@ -1,5 +1,7 @@
 """Many snapshots: the same rows and certificates however they are asked, and none lost or doubled."""
 
+from __future__ import annotations
+
 import json
 import os
 import signal
@@ -7,6 +9,8 @@ import subprocess
 import sys
 import threading
 import time
+from pathlib import Path
+from typing import Any
 
 import pytest
 from conftest import PACKAGE, as_json, flat, node
@@ -20,7 +24,7 @@ ENVIRONMENT = {**os.environ, "PYTHONPATH": PACKAGE}
 
 
 @pytest.fixture(scope="module")
-def folder(tmp_path_factory):
+def folder(tmp_path_factory: Any) -> str:
     """Some snapshots: drifting ones, equal ones, broken ones."""
     place = tmp_path_factory.mktemp("snapshots")
     make(str(place), 10, 3, watchers=6, organisations=7)
@@ -32,7 +36,7 @@ def folder(tmp_path_factory):
     return str(place)
 
 
-def held(path):
+def held(path: str) -> tuple[bytes, dict[str, bytes]]:
     """The bytes of a table, and of all its certificates by name."""
     with open(path, "rb") as it:
         table = it.read()
@@ -45,14 +49,14 @@ def held(path):
 
 
 @pytest.fixture(scope="module")
-def one(folder, tmp_path_factory):
+def one(folder: str, tmp_path_factory: Any) -> str:
     """What one process makes of them."""
     table = str(tmp_path_factory.mktemp("one") / "table.csv")
     bulk.rows([folder], table, ASKED, jobs=1)
     return table
 
 
-def test_a_row_for_each_file(one):
+def test_a_row_for_each_file(one: str) -> None:
     rows = tables.read(one)
     assert len(rows) == 15
     faults = {row["file"][-15:]: row["fault"] for row in rows if row["fault"]}
@@ -67,7 +71,7 @@ def test_a_row_for_each_file(one):
     assert list(rows[0]) == tables.columns(ASKED)
 
 
-def test_the_rows_are_those_of_the_summaries(one):
+def test_the_rows_are_those_of_the_summaries(one: str) -> None:
     from quorums.summary import cells, summary
 
     for row in tables.read(one)[:3]:
@@ -75,7 +79,7 @@ def test_the_rows_are_those_of_the_summaries(one):
             assert {**row, **cells(summary(nodes.read(), orgs.read(), ASKED))} == row
 
 
-def test_each_certificate_is_accepted(one):
+def test_each_certificate_is_accepted(one: str) -> None:
     from quorums import Quorums
 
     _, files = held(one)
@@ -103,7 +107,7 @@ def test_equal_snapshots_are_asked_once(folder, tmp_path, monkeypatch):
         bulk,
         "local",
         lambda tasks, questions, jobs: (
-            (asked.append(it.key), (it.key, bulk.row_of(it.data, it.orgs, questions)))[1] for it in tasks
+            (asked.append(it.key), (it.key, bulk.row_of(it.data, it.orgs, questions)))[1] for it in tasks  # type: ignore[func-returns-value]  # noqa: E501
         ),
     )
     bulk.rows([folder], str(tmp_path / "t.csv"), ASKED)
@@ -111,13 +115,13 @@ def test_equal_snapshots_are_asked_once(folder, tmp_path, monkeypatch):
     assert len(sound) > len({read_of(it) for it in sound}) == len(asked) == len(set(asked))
 
 
-def test_more_processes_give_the_same_bytes(folder, one, tmp_path):
+def test_more_processes_give_the_same_bytes(folder: str, one: str, tmp_path: Path) -> None:
     table = str(tmp_path / "table.csv")
     bulk.rows([folder], table, ASKED, jobs=3)
     assert held(table) == held(one)
 
 
-def command(folder, table, *more):
+def command(folder: str, table: str, *more: str) -> list[str]:
     return [
         sys.executable,
         "-m",
@@ -134,14 +138,14 @@ def command(folder, table, *more):
     ]
 
 
-def workers_of(process):
+def workers_of(process: int) -> list[int]:
     found = subprocess.run(
         ["pgrep", "-P", str(process), "-f", "quorums.worker"], stdout=subprocess.PIPE
     ).stdout.split()
     return [int(it) for it in found]
 
 
-def test_a_worker_that_is_killed_loses_no_row_and_doubles_none(folder, one, tmp_path):
+def test_a_worker_that_is_killed_loses_no_row_and_doubles_none(folder: str, one: str, tmp_path: Path) -> None:
     table = str(tmp_path / "table.csv")
     running = subprocess.Popen(command(folder, table, "--jobs", "2"), env=ENVIRONMENT, stderr=subprocess.PIPE)
     killed = 0
@@ -155,7 +159,7 @@ def test_a_worker_that_is_killed_loses_no_row_and_doubles_none(folder, one, tmp_
     assert held(table) == held(one)
 
 
-def test_a_run_that_is_ended_goes_on(folder, one, tmp_path):
+def test_a_run_that_is_ended_goes_on(folder: str, one: str, tmp_path: Path) -> None:
     table = str(tmp_path / "table.csv")
     running = subprocess.Popen(command(folder, table, "--jobs", "1"), env=ENVIRONMENT, stderr=subprocess.DEVNULL)
     for _ in range(600):
@@ -179,7 +183,7 @@ def test_a_run_that_is_ended_goes_on(folder, one, tmp_path):
     assert held(table) == held(one) and not os.path.exists(table + ".part")
 
 
-def test_resuming_asks_nothing_that_is_there(folder, one, tmp_path, monkeypatch):
+def test_resuming_asks_nothing_that_is_there(folder: str, one: str, tmp_path: Path, monkeypatch: Any) -> None:
     table = str(tmp_path / "table.csv")
     with open(one, "rb") as it, open(table, "wb") as to:
         to.write(it.read())
@@ -190,12 +194,12 @@ def test_resuming_asks_nothing_that_is_there(folder, one, tmp_path, monkeypatch)
     assert held_table(table) == held_table(one)
 
 
-def held_table(path):
+def held_table(path: str) -> bytes:
     with open(path, "rb") as it:
         return it.read()
 
 
-def test_two_runs_do_not_write_one_table(folder, tmp_path):
+def test_two_runs_do_not_write_one_table(folder: str, tmp_path: Path) -> None:
     table = str(tmp_path / "table.csv")
     journal = bulk.Journal(table, False)
     with pytest.raises(bulk.Failed, match="another run writes"):
@@ -203,7 +207,7 @@ def test_two_runs_do_not_write_one_table(folder, tmp_path):
     journal.file.close()
 
 
-def test_dates_of_names():
+def test_dates_of_names() -> None:
     for name, date in (
         ("nodes-2024-03-05.json", "2024-03-05"),
         ("20240305.json", "2024-03-05"),
@@ -216,7 +220,7 @@ def test_dates_of_names():
         assert tables.date_of(name) == date
 
 
-def test_a_table_as_a_frame(one):
+def test_a_table_as_a_frame(one: str) -> None:
     pandas = pytest.importorskip("pandas")
     frame = tables.frame(one)
     rows = tables.read(one)
@@ -241,7 +245,7 @@ def test_a_table_as_a_frame(one):
 class Cluster:
     """A scheduler and some workers."""
 
-    def __init__(self, place, count):
+    def __init__(self, place: Any, count: int) -> None:
         self.place, self.file = place, str(place / "scheduler.json")
         # (a busy machine answers late)
         bulk.REACHED = 120
@@ -268,19 +272,19 @@ class Cluster:
             for _ in range(count)
         ]
 
-    def start(self, module, *words):
+    def start(self, module: Any, *words: str) -> Any:
         code = f"import sys; sys.argv[0] = '{module}'; from {module} import main; main()"
         with open(self.place / "log", "ab") as log:
             return subprocess.Popen([sys.executable, "-c", code, *words], env=ENVIRONMENT, stdout=log, stderr=log)
 
-    def close(self):
+    def close(self) -> None:
         for it in [*self.workers, self.scheduler]:
             it.kill()
             it.wait()
 
 
 @pytest.mark.parametrize("count", [2, 4])
-def test_a_cluster_gives_the_same_bytes(folder, one, tmp_path, count):
+def test_a_cluster_gives_the_same_bytes(folder: str, one: str, tmp_path: Path, count: int) -> None:
     pytest.importorskip("distributed")
     cluster = Cluster(tmp_path, count)
     try:
@@ -291,13 +295,13 @@ def test_a_cluster_gives_the_same_bytes(folder, one, tmp_path, count):
         cluster.close()
 
 
-def test_a_worker_of_a_cluster_that_is_killed_loses_no_row(folder, one, tmp_path):
+def test_a_worker_of_a_cluster_that_is_killed_loses_no_row(folder: str, one: str, tmp_path: Path) -> None:
     pytest.importorskip("distributed")
     cluster = Cluster(tmp_path, 2)
     try:
         table = str(tmp_path / "table.csv")
 
-        def kill():
+        def kill() -> None:
             for _ in range(600):
                 if os.path.exists(table + ".part") and os.path.getsize(table + ".part") > 0:
                     break
@@ -313,7 +317,7 @@ def test_a_worker_of_a_cluster_that_is_killed_loses_no_row(folder, one, tmp_path
         cluster.close()
 
 
-def test_a_scheduler_that_cannot_be_reached_is_one_line(folder, tmp_path):
+def test_a_scheduler_that_cannot_be_reached_is_one_line(folder: str, tmp_path: Path) -> None:
     pytest.importorskip("distributed")
     for address in ("tcp://127.0.0.1:1", "nonsense://x", ""):
         ran = subprocess.run(

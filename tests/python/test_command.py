@@ -1,5 +1,7 @@
 """The command `quorums`: its forms, its files and its faults, each with its status."""
 
+from __future__ import annotations
+
 import csv
 import hashlib
 import io
@@ -8,6 +10,9 @@ import os
 import shutil
 import subprocess
 import sys
+from collections.abc import Callable
+from pathlib import Path
+from typing import Any
 
 import pytest
 from conftest import PACKAGE, TOP, as_json, example, flat
@@ -19,12 +24,12 @@ EXAMPLES = os.path.join(TOP, "examples")
 
 
 @pytest.fixture
-def run(tmp_path, monkeypatch, capsys):
+def run(tmp_path: Path, monkeypatch: Any, capsys: Any) -> Callable[..., Any]:
     """Runs the command in a folder with the examples, and gives its status and what it printed."""
     shutil.copytree(EXAMPLES, tmp_path / "examples")
     monkeypatch.chdir(tmp_path)
 
-    def run_words(*words):
+    def run_words(*words: str) -> tuple[int, str, str]:
         status = main(words)
         said = capsys.readouterr()
         return status, said.out, said.err
@@ -32,12 +37,12 @@ def run(tmp_path, monkeypatch, capsys):
     return run_words
 
 
-def digest(path):
+def digest(path: str) -> str:
     with open(path, "rb") as it:
         return hashlib.sha256(it.read()).hexdigest()
 
 
-def test_names_keys_and_tables(run):
+def test_names_keys_and_tables(run: Callable[..., Any]) -> None:
     words = ("intersect", "examples/network.json", "--faulty", "GAAA1")
     status, named, said = run(*words)
     assert (status, said) == (1, "") and named.startswith("intersects no\nfirst gaaa2, gbbb1")
@@ -50,7 +55,7 @@ def test_names_keys_and_tables(run):
     assert [row["value"] for row in rows if row["word"] == "first"] == keyed.splitlines()[1].split()[1:]
 
 
-def test_every_command_of_the_table(run):
+def test_every_command_of_the_table(run: Callable[..., Any]) -> None:
     """Each row can be asked, and says what the program says."""
     values = {"--node": "a", "--set": "a", "--orgs": "examples/groups.json"}
     files = {
@@ -84,11 +89,11 @@ def test_every_command_of_the_table(run):
             if row.is_search or row.second is None
             else {"script" if row.second == "SCRIPT" else "cert": open(places[1], "rb").read()}
         )
-        wanted = binding.answer(plain, example("three.json"), orgs=example("groups.json"), **second)
+        wanted = binding.answer(plain, example("three.json"), orgs=example("groups.json"), **second)  # type: ignore[arg-type]  # noqa: E501
         assert (status, out) == (wanted[0], wanted[1].decode()), row.word
 
 
-def test_a_document(run):
+def test_a_document(run: Callable[..., Any]) -> None:
     status, out, _ = run("intersect", "examples/three.json", "t.cert", "--faulty", "a", "--json")
     document = json.loads(out)
     assert (status, document["status"], document["schema"], document["value"]) == (1, 1, "quorums/answer/1", False)
@@ -122,7 +127,7 @@ def test_a_document(run):
     assert (status, json.loads(out)["status"], json.loads(out)["text"]) == (3, 3, "usage unknown-name --faulty 1\n")
 
 
-def test_documents_are_of_the_schema(run):
+def test_documents_are_of_the_schema(run: Callable[..., Any]) -> None:
     jsonschema = pytest.importorskip("jsonschema")
     status, text, _ = run("schema")
     schema = json.loads(text)
@@ -145,7 +150,7 @@ def test_documents_are_of_the_schema(run):
             jsonschema.validate({**json.loads(out), "schema": "quorums/answer/0"}, schema)
 
 
-def test_sets_by_groups_are_one_word(run):
+def test_sets_by_groups_are_one_word(run: Callable[..., Any]) -> None:
     status, out, said = run(
         "blocking", "examples/network.json", "b.cert", "--by", "org", "--orgs", "examples/orgs.json"
     )
@@ -166,7 +171,7 @@ def test_sets_by_groups_are_one_word(run):
     assert (status, out.splitlines()[0]) == (1, "intersects no")
 
 
-def test_as_is(run, tmp_path):
+def test_as_is(run: Callable[..., Any], tmp_path: Path) -> None:
     nodes = flat(4, 3)
     nodes[0]["isValidating"] = False
     (tmp_path / "down.json").write_bytes(as_json(nodes))
@@ -178,7 +183,7 @@ def test_as_is(run, tmp_path):
         assert (status, reduced) == (0, it.read())
 
 
-def test_a_summary_in_lines_and_its_certificates(run):
+def test_a_summary_in_lines_and_its_certificates(run: Callable[..., Any]) -> None:
     status, out, said = run(
         "summary", "examples/network.json", "--orgs", "examples/orgs.json", "--certificates", "kept"
     )
@@ -196,7 +201,7 @@ def test_a_summary_in_lines_and_its_certificates(run):
     assert next(csv.DictReader(io.StringIO(table)))["blocking_by_org_smallest"] == "2"
 
 
-def test_groups(run):
+def test_groups(run: Callable[..., Any]) -> None:
     status, out, _ = run(
         "groups", "examples/network.json", "--by", "org", "--orgs", "examples/orgs.json", "-o", "made.json"
     )
@@ -245,7 +250,9 @@ def test_groups(run):
         (("history", "nowhere.csv", "-o", "h.html"), 6, "nowhere.csv"),
     ],
 )
-def test_a_fault_is_one_line_with_its_status(run, words, status, said):
+def test_a_fault_is_one_line_with_its_status(
+    run: Callable[..., Any], words: tuple[str, ...], status: int, said: str
+) -> None:
     before = sorted(os.listdir("."))
     found, out, err = run(*words)
     assert (found, out, err.count("\n")) == (status, "", 1), err
@@ -271,12 +278,14 @@ def test_a_fault_is_one_line_with_its_status(run, words, status, said):
         (("check", "examples/two.json", "examples/pair.cert"), 5, "refused digest"),
     ],
 )
-def test_a_refusal_is_the_programs_line(run, words, status, said):
+def test_a_refusal_is_the_programs_line(
+    run: Callable[..., Any], words: tuple[str, ...], status: int, said: str
+) -> None:
     found, out, err = run(*words)
     assert (found, err) == (status, "") and out.startswith(said) and out.count("\n") == 1
 
 
-def test_a_question_ends_after_its_seconds(run, tmp_path):
+def test_a_question_ends_after_its_seconds(run: Callable[..., Any], tmp_path: Path) -> None:
     (tmp_path / "large.json").write_bytes(as_json(flat(24, 13)))
     status, out, said = run("quorums", "large.json", "q.cert", "--seconds", "10", "--budget", "4000000000")
     assert (status, said) == (2, "") and out.startswith("quorums unknown ")
@@ -285,7 +294,7 @@ def test_a_question_ends_after_its_seconds(run, tmp_path):
     assert (status, out, said) == (2, "", "quorums: not answered in 0.0 s\n")
 
 
-def test_a_closed_output_is_said():
+def test_a_closed_output_is_said() -> None:
     ran = subprocess.run(
         [sys.executable, "-m", "quorums", "show", f"{EXAMPLES}/three.json"],
         env={**os.environ, "PYTHONPATH": PACKAGE},

@@ -1,21 +1,26 @@
 """Each example of docs/ANALYSTS.md prints what stands there, in order in one folder."""
 
+from __future__ import annotations
+
 import os
 import re
 import shutil
 import subprocess
 import sys
+from collections.abc import Iterator
+from pathlib import Path
+from typing import Any
 
 import pytest
 from conftest import PACKAGE, TOP
 
 
-def blocks():
+def blocks() -> list[tuple[str, str]]:
     with open(os.path.join(TOP, "docs", "ANALYSTS.md"), encoding="utf-8") as it:
         return re.findall(r"^```(\w*)\n(.*?)^```", it.read(), re.M | re.S)
 
 
-def examples():
+def examples() -> Iterator[tuple[str, str, list[str] | None]]:
     """Each command with the lines that it prints, and the code in Python."""
     for language, text in blocks():
         if language == "python":
@@ -25,7 +30,7 @@ def examples():
             yield "shell", command, lines
 
 
-def matches(wanted, found):
+def matches(wanted: list[str], found: str) -> bool:
     """Whether the lines are those of the document, in which `..` stands for what is left out."""
     pattern = "".join(
         r"(?:.*\n)*" if it == ".." else re.escape(it[:-2]) + r".*\n" if it.endswith("..") else re.escape(it) + r"\n"
@@ -35,7 +40,7 @@ def matches(wanted, found):
 
 
 @pytest.fixture(scope="module")
-def place(tmp_path_factory):
+def place(tmp_path_factory: Any) -> Path:
     """A folder with the examples, and the command on the path."""
     found = tmp_path_factory.mktemp("guide")
     os.symlink(os.path.join(TOP, "examples"), found / "examples")
@@ -46,7 +51,7 @@ def place(tmp_path_factory):
     return found
 
 
-def test_the_examples(place):
+def test_the_examples(place: Path) -> None:
     environment = {**os.environ, "PYTHONPATH": PACKAGE, "PATH": f"{place / 'bin'}{os.pathsep}{os.environ['PATH']}"}
     ran = 0
     for language, text, wanted in examples():
@@ -77,7 +82,7 @@ def test_the_examples(place):
     assert ran >= 15
 
 
-def test_an_example_that_prints_something_else_is_seen():
+def test_an_example_that_prints_something_else_is_seen() -> None:
     assert (
         matches(["a", ".."], "a\nb\nc\n")
         and matches(["a.."], "ab\n")

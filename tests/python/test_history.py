@@ -1,8 +1,12 @@
 """The page of a table over time: its numbers are the table's, its links lead to files, and it loads nothing."""
 
+from __future__ import annotations
+
 import html.parser
 import os
 import re
+from pathlib import Path
+from typing import Any
 
 import pytest
 from conftest import as_json, flat
@@ -18,13 +22,19 @@ class Read(html.parser.HTMLParser):
     """What a page has: the cells of each row, the titles of the strips of each chart, and all that is linked or
     loaded."""
 
-    def __init__(self, text):
+    def __init__(self, text: str) -> None:
         super().__init__()
-        self.rows, self.strips, self.links, self.loaded, self.paths = {}, {}, [], [], 0
-        self.row = self.cell = self.strip = None
+        self.rows: dict[str | None, dict[int | str, str]] = {}
+        self.strips: dict[str, dict[str, str]] = {}
+        self.links: list[str] = []
+        self.loaded: list[Any] = []
+        self.paths = 0
+        self.row: Any = None
+        self.cell: Any = None
+        self.strip: Any = None
         self.feed(text)
 
-    def handle_starttag(self, tag, attributes):
+    def handle_starttag(self, tag: str, attributes: list[tuple[str, str]]) -> None:
         held = dict(attributes)
         if tag == "tr":
             self.row = held.get("id")
@@ -39,13 +49,13 @@ class Read(html.parser.HTMLParser):
         self.loaded += [tag] * (tag in ("link", "script", "iframe", "image", "use"))
         self.paths += tag == "path"
 
-    def handle_endtag(self, tag):
+    def handle_endtag(self, tag: str) -> None:
         if tag == "td":
             self.cell = None
         if tag == "a":
             self.strip = None
 
-    def handle_data(self, data):
+    def handle_data(self, data: str) -> None:
         if self.cell is not None:
             self.rows[self.row][self.cell] += data
         elif self.strip is not None and self.strip[0]:
@@ -53,7 +63,7 @@ class Read(html.parser.HTMLParser):
 
 
 @pytest.fixture(scope="module")
-def made(tmp_path_factory):
+def made(tmp_path_factory: Any) -> tuple[Path, list[dict[str, str]], str]:
     """A table of snapshots, one of which can fork, one of which is unknown and one of which is broken; its page."""
     place = tmp_path_factory.mktemp("history")
     make(str(place / "nodes"), 6, 1, watchers=5, organisations=7)
@@ -70,12 +80,12 @@ def made(tmp_path_factory):
     return place, tables.read(table), page
 
 
-def text_of(path):
+def text_of(path: str) -> str:
     with open(path, encoding="utf-8") as it:
         return it.read()
 
 
-def test_the_numbers_are_those_of_the_table(made):
+def test_the_numbers_are_those_of_the_table(made: tuple[Path, list[dict[str, str]], str]) -> None:
     _, rows, page = made
     read = Read(text_of(page))
     assert [f"s{at}" for at in range(len(rows))] == [it for it in read.rows if it]
@@ -97,7 +107,7 @@ def test_the_numbers_are_those_of_the_table(made):
             assert {column: found[column] for column in shown} == {column: row[column] for column in shown}
 
 
-def test_each_point_of_a_chart_says_the_tables_numbers(made):
+def test_each_point_of_a_chart_says_the_tables_numbers(made: tuple[Path, list[dict[str, str]], str]) -> None:
     _, rows, page = made
     read = Read(text_of(page))
     for chart in history_page.charts(rows):
@@ -114,7 +124,7 @@ def test_each_point_of_a_chart_says_the_tables_numbers(made):
             assert ("it can fork" in said) == (row["fork"] == "yes")
 
 
-def test_the_lines_go_through_the_tables_numbers(made):
+def test_the_lines_go_through_the_tables_numbers(made: tuple[Path, list[dict[str, str]], str]) -> None:
     """The path of each series, followed from left to right, is at the number of each snapshot."""
     _, rows, _ = made
     xs = history_page.places(rows)
@@ -126,9 +136,11 @@ def test_the_lines_go_through_the_tables_numbers(made):
             assert followed(drawn.line(series), drawn.top) == [(x, it) for x, it in zip(xs, numbers) if it is not None]
 
 
-def followed(path, top):
+def followed(path: str, top: int) -> list[tuple[float, int]]:
     """The places and numbers at which a path comes to a snapshot."""
-    found, x, y = [], None, None
+    found: list[tuple[float, int]] = []
+    x = None
+    y = None
     for letter, numbers in re.findall(r"([MHV])([-\d. ]+)(?:h0)?", path):
         values = [float(it) for it in numbers.split()]
         if letter == "M":
@@ -142,7 +154,7 @@ def followed(path, top):
     return found
 
 
-def test_forks_unknowns_and_faults_are_marked(made):
+def test_forks_unknowns_and_faults_are_marked(made: tuple[Path, list[dict[str, str]], str]) -> None:
     _, rows, page = made
     text = text_of(page)
     assert [row["fork"] for row in rows if not row["fault"]].count("yes") == 1
@@ -151,7 +163,7 @@ def test_forks_unknowns_and_faults_are_marked(made):
     assert "&lt;b&gt;" in text and "<b>.json" not in text
 
 
-def test_links_lead_to_files_and_nothing_is_loaded(made):
+def test_links_lead_to_files_and_nothing_is_loaded(made: tuple[Path, list[dict[str, str]], str]) -> None:
     place, rows, page = made
     read = Read(text_of(page))
     assert not read.loaded and "url(" not in text_of(page) and "@import" not in text_of(page)
@@ -164,7 +176,7 @@ def test_links_lead_to_files_and_nothing_is_loaded(made):
         assert it[1:] in read.rows
 
 
-def test_a_table_without_rows_or_dates(tmp_path):
+def test_a_table_without_rows_or_dates(tmp_path: Path) -> None:
     table = str(tmp_path / "t.csv")
     with open(table, "w", encoding="utf-8") as it:
         it.write(tables.as_text(tables.columns(ASKED), []))
@@ -175,7 +187,7 @@ def test_a_table_without_rows_or_dates(tmp_path):
     assert "config not-json" in history_page.page(tables.read(table), table, str(tmp_path / "h.html"))
 
 
-def test_plots_are_the_same_each_time(made, tmp_path):
+def test_plots_are_the_same_each_time(made: tuple[Path, list[dict[str, str]], str], tmp_path: Path) -> None:
     pytest.importorskip("matplotlib")
     _, rows, _ = made
     for folder in ("one", "two"):

@@ -1,5 +1,7 @@
 """What is read of a file of nodes, its groups and its names."""
 
+from __future__ import annotations
+
 import json
 
 from conftest import as_json, example, flat, node
@@ -8,29 +10,29 @@ from quorums import Quorums
 from quorums.snapshots import Snapshot, group_id
 
 
-def test_files_that_say_the_same_are_equal():
+def test_files_that_say_the_same_are_equal() -> None:
     nodes = flat(4, 3)
     more = [{**it, "statistics": {"x": at}, "name": f"n {at}"} for at, it in enumerate(reversed(nodes))]
     assert Snapshot(as_json(nodes)).reduced() == Snapshot(as_json(more)).reduced()
-    changed = [*more[:-1], {**more[-1], "quorumSet": None}]
+    changed = [*more[:-1], {**more[-1], "quorumSet": None}]  # type: ignore[arg-type]
     assert Snapshot(as_json(nodes)).reduced() != Snapshot(as_json(changed)).reduced()
 
 
-def test_the_reduced_file_is_the_same_system():
+def test_the_reduced_file_is_the_same_system() -> None:
     for name in ("network.json", "three.json", "trial.json"):
         whole, reduced = Quorums(example(name)), Quorums(Snapshot(example(name)).reduced())
         assert whole.show().text == reduced.show().text
         assert whole.blocking().text == reduced.blocking().text
 
 
-def test_silent_nodes_are_in_no_quorum():
+def test_silent_nodes_are_in_no_quorum() -> None:
     nodes = flat(4, 3)
     nodes[1]["isValidating"] = False
     nodes[2]["isValidating"] = None
     assert Quorums(Snapshot(as_json(nodes)).reduced(True)).greatest().value == ("n00", "n02", "n03")
 
 
-def test_groups_by_members():
+def test_groups_by_members() -> None:
     nodes = [
         node(
             "a",
@@ -64,14 +66,14 @@ def test_groups_by_members():
     assert Quorums(as_json(nodes), orgs=isp.orgs).org_blocking().sets
 
 
-def test_ids_are_those_of_the_program():
+def test_ids_are_those_of_the_program() -> None:
     values = ["a b", "a,b", "a%20b", "é", "x" * 300, "x" * 299 + "y", "\u202e", "~", '"\\']
     ids = [group_id(it) for it in values]
     assert len(set(ids)) == len(values)
     assert all(len(it) <= 128 and all("!" <= c <= "~" and c != "," for c in it) for it in ids)
 
 
-def test_names_that_could_mislead_are_escaped_and_told_apart():
+def test_names_that_could_mislead_are_escaped_and_told_apart() -> None:
     nodes = [
         node("a", 1, ["a"], name="one"),
         node("b", 1, ["a"], name="one"),
@@ -82,7 +84,7 @@ def test_names_that_could_mislead_are_escaped_and_told_apart():
     assert Snapshot(as_json(nodes)).names() == {"a": "one (a)", "b": "one (b)", "c": "x\\u202ey\\n"}
 
 
-def test_nodes_as_a_frame():
+def test_nodes_as_a_frame() -> None:
     import pytest
 
     pytest.importorskip("pandas")

@@ -1,8 +1,11 @@
 """Every value of a summary on random small networks, beside trying all sets in plain Python."""
 
+from __future__ import annotations
+
 import json
 import os
 import random
+from typing import Any
 
 import pytest
 from conftest import as_json, example, flat, node
@@ -18,7 +21,7 @@ KEYS = "abcdefg"
 # ---- random networks
 
 
-def random_set(draw, keys, depth):
+def random_set(draw: random.Random, keys: list[str], depth: int) -> dict[str, Any]:
     validators = draw.sample(keys, draw.randint(0, min(len(keys), 5)))
     inner = [random_set(draw, keys, depth - 1) for _ in range(draw.randint(0, 2))] if depth else []
     entries = len(validators) + len(inner)
@@ -26,7 +29,7 @@ def random_set(draw, keys, depth):
     return {"threshold": threshold, "validators": validators, "innerQuorumSets": inner}
 
 
-def random_network(draw):
+def random_network(draw: random.Random) -> tuple[list[dict[str, Any]], list[dict[str, Any]] | None]:
     keys = list(KEYS[: draw.randint(1, len(KEYS))])
     shared = [random_set(draw, keys, 1) for _ in range(2)]
     alike = draw.random() < 0.6
@@ -39,7 +42,7 @@ def random_network(draw):
         if draw.random() < 0.7:
             held["geoData"] = {"countryCode": draw.choice(["DE", "US", "a b,c%"])}
         if draw.random() < 0.3:
-            held["isValidating"] = draw.random() < 0.5
+            held["isValidating"] = draw.random() < 0.5  # type: ignore[assignment]
         if draw.random() < 0.5:
             held["organizationId"] = draw.choice(["A", "B"])
         nodes.append(held)
@@ -54,12 +57,12 @@ def random_network(draw):
 # ---- the same by trying all sets, each a frozen set of keys
 
 
-def subsets(some):
-    some = sorted(some)
+def subsets(some: set[str] | dict[str, set[str]]) -> list[frozenset[str]]:
+    some = sorted(some)  # type: ignore[assignment]
     return [frozenset(it for at, it in enumerate(some) if number >> at & 1) for number in range(1 << len(some))]
 
 
-def satisfied(held, inside):
+def satisfied(held: dict[str, Any], inside: frozenset[str]) -> bool:
     count = sum(it in inside for it in held["validators"]) + sum(
         satisfied(it, inside) for it in held["innerQuorumSets"]
     )
@@ -67,11 +70,11 @@ def satisfied(held, inside):
     return held["threshold"] > 0 and count >= held["threshold"]
 
 
-def mentioned(held):
+def mentioned(held: dict[str, Any]) -> set[str]:
     return set(held["validators"]).union(*map(mentioned, held["innerQuorumSets"])) if held else set()
 
 
-def closure(sets, start):
+def closure(sets: dict[str, dict[str, Any]], start: str) -> set[str]:
     found, fresh = {start}, [start]
     while fresh:
         new = mentioned(sets.get(fresh.pop())) - found
@@ -80,17 +83,19 @@ def closure(sets, start):
     return found
 
 
-def minimal(sets):
+def minimal(sets: list[frozenset[str]]) -> set[frozenset[str]]:
     return {it for it in sets if not any(other < it for other in sets)}
 
 
-def blocking(quorums, groups):
+def blocking(quorums: list[frozenset[str]], groups: dict[str, set[str]]) -> set[frozenset[str]]:
     """The minimal sets of groups with a member in each quorum."""
     blocks = [some for some in subsets(groups) if all(any(groups[it] & quorum for it in some) for quorum in quorums)]
     return minimal(blocks)
 
 
-def groups_of(nodes, orgs, by, part):
+def groups_of(
+    nodes: list[dict[str, Any]], orgs: list[dict[str, Any]] | None, by: str, part: set[str]
+) -> tuple[dict[str, set[str]], list[str], dict[str, set[str]]]:
     """The members of each group, and the nodes of the whole file that are in none."""
     members = {}
     if by == "org" and orgs is not None:
@@ -109,7 +114,7 @@ def groups_of(nodes, orgs, by, part):
     return members, alone, whole
 
 
-def tried(nodes, orgs, asked):
+def tried(nodes: list[dict[str, Any]], orgs: list[dict[str, Any]] | None, asked: Asked) -> dict[str, Any]:
     """The values of a summary by trying all sets."""
     keys = {it["publicKey"] for it in nodes}
     silent = {it["publicKey"] for it in nodes if asked.as_is and it.get("isValidating") is False}
@@ -119,7 +124,7 @@ def tried(nodes, orgs, asked):
         if it["quorumSet"] is not None and it["publicKey"] not in silent
     }
 
-    def quorums_in(part):
+    def quorums_in(part: set[str]) -> list[frozenset[str]]:
         return [it for it in subsets(part) if it and all(key in sets and satisfied(sets[key], it) for key in it)]
 
     view, of_file = asked.from_node, quorums_in(keys)
@@ -153,13 +158,13 @@ def tried(nodes, orgs, asked):
     }
     for by in asked.by:
         members, alone, whole = groups_of(nodes, orgs, by, part)
-        found["groups"][by] = {"number": len(members), "alone": alone}
-        found["blocking"][by] = blocking(quorums, whole)
-        found["tier_by"][by] = sorted(it for it, inside in whole.items() if inside & tier)
+        found["groups"][by] = {"number": len(members), "alone": alone}  # type: ignore[index]
+        found["blocking"][by] = blocking(quorums, whole)  # type: ignore[index]
+        found["tier_by"][by] = sorted(it for it, inside in whole.items() if inside & tier)  # type: ignore[index]
     return found
 
 
-def compare(found, wanted):
+def compare(found: dict[str, Any], wanted: dict[str, Any]) -> None:
     assert found["view"] == wanted["view"]
     assert found["nodes"] == wanted["nodes"]
     assert found["groups"] == wanted["groups"]
@@ -187,7 +192,7 @@ def compare(found, wanted):
         assert {frozenset(it) for it in listed["sets"]} == sets
 
 
-def test_every_value_beside_trying_all_sets():
+def test_every_value_beside_trying_all_sets() -> None:
     draw = random.Random(75)
     for number in range(COUNT):
         nodes, orgs = random_network(draw)
@@ -204,7 +209,7 @@ def test_every_value_beside_trying_all_sets():
         compare_row(row, found)
 
 
-def compare_row(row, found):
+def compare_row(row: dict[str, str], found: dict[str, Any]) -> None:
     """The cells of the table are the values of the summary."""
     for name in ("fork", "file_fork"):
         assert row[name] == ("yes" if found[name]["value"] else "no")
@@ -231,7 +236,7 @@ def compare_row(row, found):
         )
 
 
-def test_each_certificate_is_accepted_over_what_is_kept():
+def test_each_certificate_is_accepted_over_what_is_kept() -> None:
     from quorums import Quorums
 
     kept = Kept()
@@ -248,7 +253,7 @@ def test_each_certificate_is_accepted_over_what_is_kept():
     )
 
 
-def test_unknown_is_said_and_not_left_out():
+def test_unknown_is_said_and_not_left_out() -> None:
     config = as_json(flat(12, 7))
     found = summary(config, b"", Asked(("org",), budget=1))
     assert found["fork"]["status"] == "unknown" and found["fork"]["ended"] == "budget"
@@ -261,13 +266,13 @@ def test_unknown_is_said_and_not_left_out():
     } == {"unknown"}
 
 
-def test_the_time_of_a_question_is_bounded():
+def test_the_time_of_a_question_is_bounded() -> None:
     found = summary(as_json(flat(24, 13)), b"", Asked(("org",), budget=4000000000, seconds=1))
     assert found["blocking"]["node"]["status"] == "unknown"
     assert found["nodes"]["quorum"] == 24
 
 
-def test_splitting_is_asked_where_the_program_can(monkeypatch):
+def test_splitting_is_asked_where_the_program_can(monkeypatch: Any) -> None:
     from quorums import usage
 
     found = summary(example("three.json"))
@@ -277,7 +282,7 @@ def test_splitting_is_asked_where_the_program_can(monkeypatch):
             assert (found[name][by]["status"] == "not asked") == (not is_there)
 
 
-def test_as_is_tells_todays_margin_from_the_configured_one():
+def test_as_is_tells_todays_margin_from_the_configured_one() -> None:
     nodes = flat(4, 3)
     nodes[0]["isValidating"] = False
     configured, today = (summary(as_json(nodes), b"", Asked(as_is=it)) for it in (False, True))
@@ -285,12 +290,12 @@ def test_as_is_tells_todays_margin_from_the_configured_one():
     assert configured["in_file"]["silent"] == today["in_file"]["silent"] == 1
 
 
-def test_a_node_that_is_not_there_is_refused():
+def test_a_node_that_is_not_there_is_refused() -> None:
     with pytest.raises(Refused, match="unknown-name"):
         summary(example("three.json"), b"", Asked(from_node="z"))
 
 
-def test_a_member_of_another_type_is_named_with_its_node():
+def test_a_member_of_another_type_is_named_with_its_node() -> None:
     for held in ({"isp": {"name": "x"}}, {"isp": ["x"]}):
         with pytest.raises(Refused, match="isp of b is no text, number or truth value"):
-            summary(as_json([node("a", 1, ["a"]), node("b", 1, ["a"], **held)]), b"", Asked(("isp",)))
+            summary(as_json([node("a", 1, ["a"]), node("b", 1, ["a"], **held)]), b"", Asked(("isp",)))  # type: ignore[arg-type]  # noqa: E501
