@@ -18,7 +18,7 @@ from collections.abc import Iterator
 from typing import Any
 
 TOP = os.path.dirname(os.path.dirname(os.path.abspath(__file__)))
-sys.path[:0] = [os.path.join(TOP, "tests"), os.path.join(TOP, "bench")]
+sys.path[:0] = [os.path.join(TOP, "bench"), os.path.join(TOP, "tests")]
 import runs
 import watchers
 

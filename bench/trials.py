@@ -24,7 +24,7 @@ from collections.abc import Iterator
 from typing import Any
 
 TOP = os.path.dirname(os.path.dirname(os.path.abspath(__file__)))
-sys.path[:0] = [os.path.join(TOP, "tests"), os.path.join(TOP, "bench")]
+sys.path[:0] = [os.path.join(TOP, "bench"), os.path.join(TOP, "tests")]
 import growth
 import organisations
 import runs
@@ -43,7 +43,7 @@ RANDOM = [
 ]
 NETWORKS = (
     "50 100 150 200 250 apart:30 beside:30 rotated:30 apart:60 tiers:50:50 mixed:40:5:1 flat:50:34 flat:100:67 "
-    "flat:300:201 shuffled:16:16:1"
+    "flat:300:201 shuffled:16:16:1 shuffled:30:30:1"
 ).split()
 SOLVERS = {
     "minisat": ["minisat", "{}", os.devnull],
