@@ -7,8 +7,8 @@ from collections.abc import Callable
 
 
 class Exported:
-    """The version of the formula, the header of a certificate, the numbers of the formula, and what the nodes' variables stand
-    for."""
+    """The version of the formula, the header of a certificate, the numbers of the formula, and what the nodes'
+    variables stand for."""
 
     def __init__(self, path: str) -> None:
         self.sides = {}
@@ -29,7 +29,7 @@ class Exported:
             variable, side, name = line.split(" ")
             self.sides[int(variable)] = (side, name)
 
-    def certificate(self, kind, body):
+    def certificate(self, kind: str, body: list[str]) -> str:
         return "".join(
             line + "\n" for line in [f"fbas-cert {self.version}", *self.header, "kind " + kind, *body, "end"]
         )

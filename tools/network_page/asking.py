@@ -25,14 +25,17 @@ TABLE = os.path.join(os.path.dirname(os.path.realpath(__file__)), os.pardir, os.
 ASKED = INTERSECT, BLOCKING, ORG_BLOCKING = "intersect", "blocking", "org-blocking"
 
 
-def searches():
+def searches() -> list[dict[str, Any]]:
     """The commands that search, as the table of the commands has them."""
     with open(TABLE, encoding="utf-8") as it:
         return [row for row in json.load(it)["commands"] if "makes" in row]
 
 
-# Of each of them the kinds of certificate by its status; and the kinds that `check` takes with the organisations' file.
-KINDS = {row["word"]: {STATUS_OF[word]: kind for word, kind in row["makes"].items()} for row in searches()}
+# Of each of them the kinds of certificate by its status; and the kinds that `check` takes with the organisations'
+# file.
+KINDS: dict[str, dict[int, str]] = {
+    row["word"]: {STATUS_OF[word]: kind for word, kind in row["makes"].items()} for row in searches()
+}
 KINDS_OF_ORGS = {
     kind
     for row in searches()
@@ -317,8 +320,11 @@ class Program:
         self.named.add(held)
         return held
 
-    def searched(self, view, faulty, name, words, *more):
-        """What a search came to within its time, its certificate as `check` accepts it, and the sets in that. What an earlier run left is taken, or gone on with."""
+    def searched(
+        self, view: View, faulty: Sequence[str], name: str, words: list[str], *more: str
+    ) -> tuple[Searched, Certificate | None, list[list[str]]]:
+        """What a search came to within its time, its certificate as `check` accepts it, and the sets in that. What an
+        earlier run left is taken, or gone on with."""
         kinds, path = KINDS[words[0]], self.beside.certificate(self.cert_name(view, name))
         words = [words[0], self.config, path, *words[1:], *view.words()]
         held: tuple[Searched, list[str] | None] | None = self.left_over(kinds, view, faulty, path, words[0], *more)
@@ -372,8 +378,9 @@ class Program:
         os.unlink(path)
         return None
 
-    def intersect(self, view, name, org=None):
-        """The verdict with its certificate, which is checked, and checked to be about this view and these faulty nodes."""
+    def intersect(self, view: View, name: str, org: Organisation | None = None) -> Verdict:
+        """The verdict with its certificate, which is checked, and checked to be about this view and these faulty
+        nodes."""
         lying = (
             []
             if org is None
@@ -391,8 +398,9 @@ class Program:
             return Verdict(view, "no", first, second, certificate=certificate)
         return Verdict(view, "unknown", work=ended.work(), certificate=certificate)
 
-    def blocking(self, view, most):
-        """The minimal blocking sets as `check` accepts them; where the units were spent, the smallest ones of those found."""
+    def blocking(self, view: View, most: int) -> Blocking:
+        """The minimal blocking sets as `check` accepts them; where the units were spent, the smallest ones of those
+        found."""
         ended, certificate, sets = self.searched(view, (), BLOCKING, [BLOCKING])
         if ended.status == 0:
             return Blocking(sets, len(sets), None, certificate)
@@ -401,11 +409,12 @@ class Program:
             [keys for keys in found[:most] if self.is_minimal(view, keys)], len(found), ended.work(), certificate
         )
 
-    def blocking_groups(self, view, orgs):
-        """The minimal blocking sets of organisations, and of nodes of none, as `check` accepts them; None where the units were spent."""
+    def blocking_groups(self, view: View, orgs: list[Organisation]) -> tuple[list[list[str]], Certificate] | None:
+        """The minimal blocking sets of organisations, and of nodes of none, as `check` accepts them; None where the
+        units were spent."""
         given = "--orgs=" + (self.orgs if self.orgs is not None else self.beside.organisations(orgs))
         ended, certificate, sets = self.searched(view, (), ORG_BLOCKING, [ORG_BLOCKING, given], given)
-        return (sets, certificate) if ended.status == 0 else None
+        return (sets, certificate) if ended.status == 0 and certificate is not None else None
 
     @staticmethod
     def pair_in(path: str) -> list[str]:

@@ -627,7 +627,7 @@ class Page:
         )
         return "<p>%s</p><ul>%s</ul>%s" % (self.words["show"]["odd"]["said"], "".join(odd[:MOST_ODD]), more)
 
-    def finding(self, words):
+    def finding(self, words: list[str]) -> str:
         show, who = self.words["show"], self.names.node(words[1])
         where = (
             show["places"]["own"]

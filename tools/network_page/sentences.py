@@ -1,4 +1,7 @@
-"""The sentences of web/words/sentences.js, which both pages say, and how what stands in them is put into words. web/words/saying.js does the same."""
+"""The sentences of web/words/sentences.js, which both pages say, and how what stands in them is put into words.
+
+web/words/saying.js does the same.
+"""
 
 from __future__ import annotations
 
@@ -13,12 +16,13 @@ if TYPE_CHECKING:
     from network_page.page import Names
 
 PLACE = os.path.join(os.path.dirname(os.path.realpath(__file__)), os.pardir, os.pardir, "web", "words", "sentences.js")
-# So many nodes are named one by one, more of them by their organisations; so many sets one by one, more of them by their number.
+# So many nodes are named one by one, more of them by their organisations; so many sets one by one, more of them by
+# their number.
 MOST_NAMED = 12
 MOST_SETS = 30
 
 
-def table():
+def table() -> dict[str, dict[str, Any]]:
     """All that is worded for people, as JSON: each text with places in braces."""
     with open(PLACE, encoding="utf-8") as it:
         text = it.read()
@@ -26,12 +30,12 @@ def table():
     return found
 
 
-def filled(text, **values):
+def filled(text: str, **values: Any) -> str:
     """A text with its places filled."""
     return re.sub(r"\{(\w+)\}", lambda it: str(values[it.group(1)]), text)
 
 
-def counted(number, what):
+def counted(number: int, what: str) -> str:
     """A number with its word, as `1 node` and `3 nodes`."""
     return f"{number} {what}{'' if number == 1 else 's'}"
 

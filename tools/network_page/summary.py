@@ -1,4 +1,7 @@
-"""The summary as data: which sentences are said, and of what. web/words/summary.js decides the same; tests/summary.py holds both against trying all sets."""
+"""The summary as data: which sentences are said, and of what.
+
+web/words/summary.js decides the same; tests/summary.py holds both against trying all sets.
+"""
 
 from __future__ import annotations
 

@@ -18,8 +18,8 @@ from network_page.asking import ASKED
 
 # What the files of this tool are called: one that an earlier run left is stale. Other files of the folder are kept.
 MADE = re.compile(
-    r"(now-)?(validators-)?(from-)?(%s|faulty-[A-Za-z0-9._-]+)(-\d+)?\.cert|(now-)?leaving-[A-Za-z0-9._-]+\.script|(organisations|now|(now-)?validators)\.json"
-    % "|".join(ASKED)
+    r"(now-)?(validators-)?(from-)?(%s|faulty-[A-Za-z0-9._-]+)(-\d+)?\.cert"
+    r"|(now-)?leaving-[A-Za-z0-9._-]+\.script|(organisations|now|(now-)?validators)\.json" % "|".join(ASKED)
 )
 
 
