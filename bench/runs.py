@@ -45,14 +45,14 @@ class Run:
     limit: int
 
 
-def started(words, limit=MOST_SECONDS, **files):
+def started(words: list[str], limit: int = MOST_SECONDS, **files: Any) -> tuple[int, int, float]:
     """Runs a program to its end: how that was, its largest memory in MB, and its seconds of processor time."""
     starter = [sys.executable, "-S", "-c", STARTER, str(limit), *words]
     ended, memory, took = subprocess.run(starter, stderr=subprocess.PIPE, **files).stderr.split()
     return int(ended), int(memory) // 1024, float(took)
 
 
-def run(words, limit=MOST_SECONDS, given="", out=None):
+def run(words: list[str], limit: int = MOST_SECONDS, given: str = "", out: BinaryIO | None = None) -> Run:
     """Runs a program on a text; what it prints goes to `out`, or is kept."""
     with tempfile.TemporaryFile(dir=MEMORY) as source, tempfile.TemporaryFile(dir=MEMORY) as told:
         source.write(given.encode())

@@ -201,7 +201,8 @@ class Subject:
         self.data = data
         self.digest = hashlib.sha256(data).hexdigest()
         self.version = rng.choice([1, 2, 3])
-        # the version of a formula that stands in a file of its own, and its option, which may be left out for the newest
+        # the version of a formula that stands in a file of its own, and its option, which may be left out for the
+        # newest
         self.exported = rng.choice([2, 3])
         self.formula = [] if self.exported == 3 and rng.random() < 0.5 else [f"--formula={self.exported}"]
         try:
@@ -1023,7 +1024,7 @@ class Maker:
         elif status in (0, 2):
             self.accepted[said.split("\n")[0].split(" ")[1], case.files["cert"][10:11].decode()] += 1
 
-    def told(self):
+    def told(self) -> str:
         kinds = ", ".join(" ".join([kind] + [str(self.accepted[kind, it]) for it in "123"]) for kind in plain.KINDS)
         return f"{kinds}; proofs of other solvers that were verified: {self.verified}"
 
@@ -1082,7 +1083,7 @@ class Maker:
             "whatif", ["whatif", "config", "script", "--set=" + names], {"config": data, "script": script}, names
         )
 
-    def words_of(self, row, names):
+    def words_of(self, row: dict[str, Any], names: str) -> list[str]:
         """The words of a command, with all that it needs and some of what it takes."""
         files = {"CONFIG": "config", "CERT": "cert", "LRAT": "cert", "SCRIPT": "script", "N": "1"}
         values = {
@@ -1103,7 +1104,7 @@ class Maker:
                 )
         return words
 
-    def words(self):
+    def words(self) -> Case:
         rng = self.rng
         words = self.words_of(
             commands.ROWS[rng.choice(commands.WORDS)], ",".join(rng.sample("abcdefg", rng.randint(0, 3)))

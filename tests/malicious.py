@@ -69,10 +69,12 @@ SHARED = (
     + b"formula 6 12\n13 -1 0 7 6 3 4 2 0\n14 0 13 1 8 5 0\nend\n"
 )
 # Two nodes that need both, of which each names itself first.
-CROSSED = TWO.replace(b'"q","quorumSet":{"threshold":2,"validators":["p","q"]', b'"q","quorumSet":{"threshold":2,"validators":["q","p"]')
+CROSSED = TWO.replace(
+    b'"q","quorumSet":{"threshold":2,"validators":["p","q"]', b'"q","quorumSet":{"threshold":2,"validators":["q","p"]'
+)
 
 
-def crossed(version):
+def crossed(version: int) -> bytes:
     """A refutation for them in which their gates are one."""
     return head(CROSSED, "refutation", version=version) + SHARED.partition(b"refutation\n")[2]
 

@@ -1,8 +1,9 @@
 #!/usr/bin/env python3
-"""The table of the commands is that of the program, and what is made from it is up to date, as is the list of who knows them.
+"""The table of the commands is that of the program, and what is made from it is up to date, as is the list of who
+knows them.
 
-Man page and completions work, and an installed tree does from another folder. A shell or man that is not there counts as skipped, and so
-does the installed program where none is built. The last line is
+Man page and completions work, and an installed tree does from another folder. A shell or man that is not there counts
+as skipped, and so does the installed program where none is built. The last line is
 'packaging: N passed, M failed, K skipped'.
 """
 
@@ -57,7 +58,7 @@ def share(name: str) -> str:
     return os.path.join(TOP, "share", name)
 
 
-def pages():
+def pages() -> None:
     status, said, _ = run([os.path.join(TOP, "tools", "commands"), "--check"])
     judge(status == 0, said.strip())
     status, said, _ = run([os.path.join(TOP, "tools", "knows"), "--check"])

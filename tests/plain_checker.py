@@ -283,20 +283,20 @@ def circuit_of(quorum_set: tuple[int, list[Any]], greatest: set[str], faulty: se
     return (threshold, tuple(inputs)) if threshold <= len(inputs) else NEVER
 
 
-def in_order(circuit):
-    """The circuit with the inputs of each gate in one order: nodes by their names, then gates by their thresholds, and those of equal
-    thresholds by their inputs."""
+def in_order(circuit: Any) -> Any:
+    """The circuit with the inputs of each gate in one order: nodes by their names, then gates by their thresholds, and
+    those of equal thresholds by their inputs."""
     if circuit == ALWAYS or len(circuit) == 1:
         return circuit
     return (circuit[0], tuple(sorted(map(in_order, circuit[1]), key=place_of)))
 
 
-def place_of(circuit):
+def place_of(circuit: tuple[Any, ...]) -> tuple[Any, ...]:
     """What a circuit in order is sorted by."""
     return (0, circuit[0]) if len(circuit) == 1 else (1, circuit[0], [place_of(each) for each in circuit[1]])
 
 
-def counted(size, i, j):
+def counted(size: int, i: int, j: int) -> int:
     """The variable of a counter of so many names that tells whether at least j of the first i are true."""
     return size + i * (i - 1) // 2 + j
 
@@ -347,7 +347,8 @@ class Formula:
         """The variable of a circuit, once its clauses are written."""
         if len(circuit) == 1:
             return self.numbers[circuit[0]]
-        # From version 2 on a circuit is written once on a side: equal thresholds over equal inputs in order are one gate.
+        # From version 2 on a circuit is written once on a side: equal thresholds over equal inputs in order are one
+        # gate.
         known = self.shared.get(circuit) if self.version >= 2 else None
         if known is None:
             known = self.shared[circuit] = self.new_gate(*circuit)
@@ -791,7 +792,14 @@ class Verification(Check):
     """Goes through a proof of another solver line by line, of the part of the system from a node on, without the
     faulty nodes."""
 
-    def __init__(self, system, start, faulty, data, version):
+    def __init__(
+        self,
+        system: dict[str, tuple[int, list[Any]] | None],
+        start: str | None,
+        faulty: set[str],
+        data: bytes,
+        version: int,
+    ) -> None:
         super().__init__(system, None, data)
         self.version = version
         part = closure(system, start) if start else set(system)
@@ -966,7 +974,7 @@ def state(number: int, system: dict[str, tuple[int, list[Any]] | None], given: s
     )
 
 
-def check_lrat(config, proof, start, faulty, version=3):
+def check_lrat(config: bytes, proof: bytes, start: str | None, faulty: set[str], version: int = 3) -> tuple[int, str]:
     """The status and the text of 'check-lrat' of these bytes, with a node and with faulty nodes that the configuration
     names, for a version of the formula."""
     try:

@@ -52,7 +52,7 @@ COMMON: --from NAME --faulty NAMES --orgs ORGS --faulty-orgs IDS
 """
 
 
-def system(nodes, threshold, is_rotated=False, leaves_out=False):
+def system(nodes: list[str] | str, threshold: int, is_rotated: bool = False, leaves_out: bool = False) -> str:
     """A configuration in which each node needs so many of all of them, which it names in order, or from itself on, or
     without itself."""
     sets = []
@@ -333,7 +333,7 @@ class Trial:
         )
         self.judge("their lemmas", sum(1 for _ in lemmas(self.held("counted") or "")) < 700, True)
 
-    def forgets(self):
+    def forgets(self) -> None:
         """A search so long that lemmas are deleted, from 500 to 1,000 at a time: forty nodes, each of which wants six
         of ten."""
         with open(self.path("drawn"), "w") as it:

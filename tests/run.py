@@ -40,7 +40,7 @@ GROUPS = {
     "process": "process.py",
     "answers": "answers.py",
     "malicious": "malicious.py",
-    "coverage": "coverage/run.py",
+    "coverage": "coverage/cases.py",
     "desk": "coverage/desk.py",
     "fuzz": "fuzz.py --cases 400 --seed 1",
     "summary": "summary.py",
@@ -63,7 +63,7 @@ GROUPS = {
 LONG = {
     "fail_alloc": "fail_alloc.py",
     "library": "library.py",
-    "coverage": "coverage/run.py --refuse 1 --fuzz 60",
+    "coverage": "coverage/cases.py --refuse 1 --fuzz 60",
     "fuzz": "fuzz.py --cases 20000 --seed 1",
     "memory": "memory.py",
     "web_page": "web_page.py",
@@ -77,7 +77,7 @@ LONG = {
 }
 
 
-def with_pytest():
+def with_pytest() -> str | None:
     """A Python that has pytest: this one, or the system's, for which Debian's package is; else none."""
     for it in (sys.executable, "/usr/bin/python3"):
         asked = [it, "-c", "import pytest"]

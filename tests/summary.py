@@ -4,10 +4,11 @@ once said what is not so.
 
     tests/summary.py [--count N] [--seed S]
 
-What the summary says comes from tools/network-report as data (--json), and from the page's modules in node, which ask the same program.
-Both are compared with what follows from docs/DEFINITIONS.md by trying every set of nodes, in plain Python: each sentence with what
-stands in it, whose view it is, and each organisation lying, silent and leaving. The pages have to say it in the same words, and of
-the four networks those that stand below and not others. The last line is 'summary: N passed, M failed', or why it is skipped.
+What the summary says comes from tools/network-report as data (--json), and from the page's modules in node, which ask
+the same program. Both are compared with what follows from docs/DEFINITIONS.md by trying every set of nodes, in plain
+Python: each sentence with what stands in it, whose view it is, and each organisation lying, silent and leaving. The
+pages have to say it in the same words, and of the four networks those that stand below and not others. The last line
+is 'summary: N passed, M failed', or why it is skipped.
 """
 
 from __future__ import annotations

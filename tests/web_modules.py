@@ -1,10 +1,12 @@
 #!/usr/bin/env python3
-"""Tries the modules of the page: what eslint and tsc find in them, each module by itself in node, and what esbuild makes of them.
+"""Tries the modules of the page: what eslint and tsc find in them, each in node, and what esbuild makes of them.
 
-A page has the same bytes from another folder and under another clock and number of processors, and each module stands in it; where esbuild is missing
-tools/web-page says so in one line. What is not installed (Debian's eslint, node-typescript, nodejs, esbuild, zopfli) is skipped. The last
-line is 'web_modules: N passed, M failed, K skipped'.
+A page has the same bytes from another folder and under another clock and number of processors, and each module stands
+in it; where esbuild is missing tools/web-page says so in one line. What is not installed (Debian's eslint,
+node-typescript, nodejs, esbuild, zopfli) is skipped. The last line is 'web_modules: N passed, M failed, K skipped'.
 """
+
+from __future__ import annotations
 
 import glob
 import json
@@ -14,6 +16,7 @@ import shutil
 import subprocess
 import sys
 import tempfile
+from typing import Any
 
 TOP = os.path.dirname(os.path.dirname(os.path.abspath(__file__)))
 WEB = os.path.join(TOP, "web")
@@ -22,13 +25,13 @@ COUNTS = {"passed": 0, "failed": 0, "skipped": 0}
 NEEDED = ("tools", "examples", "VERSION")
 
 
-def judge(right, what):
+def judge(right: bool, what: str) -> None:
     COUNTS["passed" if right else "failed"] += 1
     if not right:
         print("web_modules: " + what)
 
 
-def has(*tools):
+def has(*tools: str) -> bool:
     """Whether the tools are there; if not, that counts as skipped."""
     missing = [it for it in tools if shutil.which(it) is None]
     if missing:
@@ -37,18 +40,20 @@ def has(*tools):
     return not missing
 
 
-def run(words, **more):
+def run(words: list[str], **more: Any) -> tuple[int, str]:
     # (Debian's modules, also for a node that is not Debian's)
     env = {**os.environ, "NODE_PATH": "/usr/share/nodejs", **more.pop("env", {})}
-    ended = subprocess.run(words, stdin=subprocess.DEVNULL, stdout=subprocess.PIPE, stderr=subprocess.STDOUT, timeout=600, env=env, **more)
+    pipes: dict[str, Any] = {"stdin": subprocess.DEVNULL, "stdout": subprocess.PIPE, "stderr": subprocess.STDOUT}
+    ended = subprocess.run(words, timeout=600, env=env, **pipes, **more)
     return ended.returncode, ended.stdout.decode("utf-8", "replace")
 
 
-def linted():
+def linted() -> None:
     """No finding of the linter, in no file left out; and none of the types."""
     if has("eslint"):
         rules = os.path.join(WEB, ".eslintrc.json")
-        for name, words in (("web", [WEB]), ("tests", ["--env", "node", *glob.glob(os.path.join(TOP, "tests", "*.mjs"))])):
+        scripts = glob.glob(os.path.join(TOP, "tests", "*.mjs"))
+        for name, words in (("web", [WEB]), ("tests", ["--env", "node", *scripts])):
             status, text = run(["eslint", "--no-eslintrc", "-c", rules, "--format", "unix", *words], cwd=TOP)
             judge(status == 0, "eslint, %s: %s" % (name, text[-2000:]))
     if has("tsc"):
@@ -56,7 +61,7 @@ def linted():
         judge(status == 0, "tsc: %s" % text[-2000:])
 
 
-def in_node():
+def in_node() -> None:
     """Each module by itself."""
     if has("node"):
         status, text = run(["node", os.path.join(TOP, "tests", "web_modules.mjs")], cwd=TOP)
@@ -68,12 +73,14 @@ def in_node():
             COUNTS["failed"] += int(found[2])
 
 
-def all_there(folder):
+def all_there(folder: str) -> None:
     """Each module stands in the script of the page or of its worker."""
-    held = set()
+    held: set[str] = set()
     for start in ("main.js", os.path.join("state", "worker.js")):
         path = os.path.join(folder, "held.json")
-        status, text = run(["esbuild", start, "--bundle", "--format=iife", "--metafile=" + path, "--outfile=" + os.path.join(folder, "made.js"), "--tsconfig=tsconfig.json", "--log-level=warning"], cwd=WEB)
+        words = ["esbuild", start, "--bundle", "--format=iife", "--tsconfig=tsconfig.json", "--log-level=warning"]
+        words += ["--metafile=" + path, "--outfile=" + os.path.join(folder, "made.js")]
+        status, text = run(words, cwd=WEB)
         judge(status == 0 and text == "", "esbuild, %s: %s" % (start, text[-1000:]))
         with open(path, encoding="utf-8") as it:
             held |= set(json.load(it)["inputs"])
@@ -81,7 +88,7 @@ def all_there(folder):
     judge(held == there, "not in the page: %s" % " ".join(sorted(held ^ there)))
 
 
-def made(folder, module, top=TOP, **how):
+def made(folder: str, module: str, top: str = TOP, **how: Any) -> tuple[int, str | bytes]:
     page = os.path.join(folder, "made.html")
     status, text = run([sys.executable, os.path.join(top, "tools", "web-page"), "-o", page, "--module", module], **how)
     if status:
@@ -90,7 +97,7 @@ def made(folder, module, top=TOP, **how):
         return status, it.read()
 
 
-def same_again(folder):
+def same_again(folder: str) -> None:
     """The bytes of a page over a module that is none: they hang on nothing but the sources."""
     module = os.path.join(folder, "module.wasm")
     with open(module, "wb") as it:
@@ -98,22 +105,32 @@ def same_again(folder):
     other = os.path.join(folder, "another place")
     for name in ("web", *NEEDED):
         path = os.path.join(TOP, name)
-        (shutil.copytree if os.path.isdir(path) else shutil.copy)(path, os.path.join(other, name) if os.path.isdir(path) else other + os.sep)
+        if os.path.isdir(path):
+            shutil.copytree(path, os.path.join(other, name))
+        else:
+            shutil.copy(path, other + os.sep)
     # (what lies above a folder of sources is none of them)
-    for name, text in (("tsconfig.json", '{"compilerOptions": {"target": "es5", "useDefineForClassFields": false}}'), ("package.json", '{"sideEffects": false, "type": "commonjs"}')):
-        with open(os.path.join(folder, name), "w", encoding="utf-8") as it:
-            it.write(text)
+    above = {
+        "tsconfig.json": '{"compilerOptions": {"target": "es5", "useDefineForClassFields": false}}',
+        "package.json": '{"sideEffects": false, "type": "commonjs"}',
+    }
+    for name, content in above.items():
+        with open(os.path.join(folder, name), "w", encoding="utf-8") as file:
+            file.write(content)
     first = made(folder, module)
     judge(first[0] == 0, "the page: %r" % (first[1][-500:],))
-    judge(first == made(folder, module, other, cwd="/", env={"GOMAXPROCS": "1", "TZ": "Asia/Tokyo", "HOME": folder, "LC_ALL": "C"}), "the page has other bytes from another folder")
+    env = {"GOMAXPROCS": "1", "TZ": "Asia/Tokyo", "HOME": folder, "LC_ALL": "C"}
+    second = made(folder, module, other, cwd="/", env=env)
+    judge(first == second, "the page has other bytes from another folder")
     tools = os.path.join(folder, "bin")
     os.makedirs(tools)
     os.symlink(shutil.which("zopfli"), os.path.join(tools, "zopfli"))
     status, text = made(folder, module, env={"PATH": tools})
-    judge(status == 1 and text == "web-page: there is no esbuild, which bundles the page's modules: apt-get install esbuild\n", "without esbuild: %r" % (text,))
+    told = "web-page: there is no esbuild, which bundles the page's modules: apt-get install esbuild\n"
+    judge(status == 1 and text == told, "without esbuild: %r" % (text,))
 
 
-def main():
+def main() -> int:
     linted()
     in_node()
     if has("esbuild", "zopfli"):

@@ -26,8 +26,16 @@ sys.path.insert(0, os.path.dirname(HERE))
 import chosen  # noqa: E402
 
 OLD, OTHER = b"fbas-cert 2\nold\n", b"a letter\n"
-EXAMPLES = ("three.json", "two.json", "network.json", "groups.json", "two.lrat", "pair.cert", "groups.cert")
-EXAMPLES += ("leaving.script",)
+EXAMPLES = (
+    "three.json",
+    "two.json",
+    "network.json",
+    "groups.json",
+    "two.lrat",
+    "pair.cert",
+    "groups.cert",
+    "leaving.script",
+)
 SEARCHED = "t"
 # The errors of each call; an interrupted one is among them.
 ERRORS = {

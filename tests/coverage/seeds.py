@@ -4,7 +4,7 @@ cases of tests/fuzz.py.
 
 usage: tests/coverage/seeds.py FOLDER [--cases N] [--seed S]
 
-A file TARGET.cases for each target of tests/coverage/run.py, of cases up to 8 kB; tests/coverage/run.py --merge
+A file TARGET.cases for each target of tests/coverage/cases.py, of cases up to 8 kB; tests/coverage/cases.py --merge
 keeps of such files what reaches more.
 """
 
@@ -18,6 +18,7 @@ from collections.abc import Iterator
 TESTS = os.path.dirname(os.path.dirname(os.path.abspath(__file__)))
 sys.path[:0] = [TESTS, os.path.join(os.path.dirname(TESTS), "library", "python")]
 sys.dont_write_bytecode = True
+import commands  # noqa: E402
 import fuzz  # noqa: E402
 import library  # noqa: E402
 import malicious  # noqa: E402
@@ -46,7 +47,7 @@ def target_of(words: list[str], files: Files) -> str:
         return {"check-lrat": "lrat", "whatif": "script"}[command]
     if any(os.fsdecode(it).startswith("--orgs") for it in words):
         return "orgs"
-    if command in fuzz.SEARCHES or command == "trial":
+    if command in commands.SEARCHES or command == "trial":
         return "search"
     return "config" if len(words) < 3 or command in ("greatest", "blocks") else "words"
 

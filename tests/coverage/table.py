@@ -9,7 +9,7 @@ import subprocess
 TOP = os.path.dirname(os.path.dirname(os.path.dirname(os.path.abspath(__file__))))
 PAGE = os.path.join(TOP, "docs", "TESTING.md")
 LISTED = os.path.join(TOP, "out", "coverage", "not-reached.txt")
-BEGIN, END = "<!-- tests/coverage/run.py --table writes from here -->", "<!-- to here -->"
+BEGIN, END = "<!-- tests/coverage/cases.py --table writes from here -->", "<!-- to here -->"
 
 
 class Branches:
@@ -54,7 +54,8 @@ def origin(program: str) -> int:
 def counted(program: str, reached: str) -> dict[str, Branches]:
     """By function."""
     begins, names = functions(program)
-    first, found = origin(program), collections.defaultdict(Branches)
+    first = origin(program)
+    found: dict[str, Branches] = collections.defaultdict(Branches)
     for line in reached.splitlines():
         place, ample, refused = line.split()
         name = names[bisect.bisect_right(begins, int(place, 16) + first) - 1]

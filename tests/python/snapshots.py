@@ -10,6 +10,8 @@ questions, and what a call through the package takes beside a run of the program
 their share of the processes, and 10 ms. The last line is 'snapshots: N passed, M failed', or why it is skipped.
 """
 
+from __future__ import annotations
+
 import argparse
 import json
 import os
@@ -21,6 +23,8 @@ import sys
 import tempfile
 import threading
 import time
+from collections.abc import Callable
+from typing import Any
 
 sys.dont_write_bytecode = True
 TOP = os.path.dirname(os.path.dirname(os.path.dirname(os.path.abspath(__file__))))
@@ -34,18 +38,18 @@ NODES = 200
 
 
 class Trial:
-    def __init__(self, asked, folder):
+    def __init__(self, asked: argparse.Namespace, folder: str) -> None:
         self.asked, self.folder = asked, pathlib.Path(folder)
         self.nodes, self.table = str(self.folder / "nodes"), str(self.folder / "table.csv")
         self.passed = self.failed = 0
 
-    def judge(self, name, right, shown=""):
+    def judge(self, name: str, right: bool, shown: Any = "") -> None:
         self.passed += bool(right)
         self.failed += not right
         if not right:
             print(f"snapshots: {name}: {shown}", flush=True)
 
-    def here(self):
+    def here(self) -> list[dict[str, Any]]:
         """The table by processes here, and what it took."""
         began = time.monotonic()
         rows = bulk.rows([self.nodes], self.table, QUESTIONS, jobs=self.asked.jobs)
@@ -57,7 +61,7 @@ class Trial:
         print(f"{text}; the program's own {own:.1f} s of processor, a share of {share:.1f}: {took / share:.2f} times")
         return rows
 
-    def program(self, rows):
+    def program(self, rows: list[dict[str, Any]]) -> float:
         """The program's seconds of processor for the questions of all rows that differ."""
         room = os.path.splitext(self.table)[0] + "-certificates/"
         cert, began, units = str(self.folder / "asked.cert"), used(), ["--budget", str(QUESTIONS.budget)]
@@ -72,20 +76,20 @@ class Trial:
                 subprocess.run([chosen.PROGRAM, *words], stdout=subprocess.DEVNULL)
         return used() - began
 
-    def cluster(self, count):
+    def cluster(self, count: int) -> None:
         """The same by workers of a cluster, of which one is lost half way."""
         place = self.folder / f"cluster-{count}"
         place.mkdir()
         cluster, table = test_bulk.Cluster(place, count), str(place / "table.csv")
 
-        def half():
+        def half() -> bool:
             try:
                 with open(table + ".part", encoding="utf-8") as it:
                     return len(it.readlines()) > self.asked.count / 2
             except OSError:
                 return False
 
-        def kill():
+        def kill() -> None:
             while not half():
                 time.sleep(0.05)
             cluster.workers[0].kill()
@@ -100,7 +104,7 @@ class Trial:
         finally:
             cluster.close()
 
-    def page(self, rows):
+    def page(self, rows: list[dict[str, Any]]) -> None:
         """The history page: its numbers, and whether it fits two widths."""
         path = str(self.folder / "history.html")
         with open(path, "w", encoding="utf-8") as it:
@@ -122,25 +126,26 @@ class Trial:
                 seen.picture(str(self.folder / f"history-{width}.png"), min(high, 6000))
             seen.end()
 
-    def calls(self):
+    def calls(self) -> None:
         """A call through the package beside a run of the program, each the least of thirty."""
         network = drifting.Network(1, watchers=NODES - 21, organisations=7)
         config, cert = self.folder / "one.json", str(self.folder / "one.cert")
         data = json.dumps(network.nodes(1)).encode()
         config.write_bytes(data)
-        for word, more in (("greatest", []), ("intersect", [cert])):
+        asked: list[tuple[str, list[str]]] = [("greatest", []), ("intersect", [cert])]
+        for word, more in asked:
             words = [chosen.PROGRAM, word, str(config), *more]
             program = least(lambda: subprocess.run(words, stdout=subprocess.DEVNULL))
             package = least(lambda: getattr(Quorums(data), word)())
             print(f"{word} of {NODES} nodes: the program {program:.1f} ms, the package {package:.1f} ms")
 
 
-def used():
+def used() -> float:
     it = resource.getrusage(resource.RUSAGE_CHILDREN)
     return it.ru_utime + it.ru_stime
 
 
-def least(call, times=30):
+def least(call: Callable[[], Any], times: int = 30) -> float:
     """The least milliseconds of some calls."""
     took = []
     for _ in range(times):
@@ -150,7 +155,7 @@ def least(call, times=30):
     return min(took)
 
 
-def tried(asked, folder):
+def tried(asked: argparse.Namespace, folder: str) -> int:
     trial = Trial(asked, folder)
     drifting.make(trial.nodes, asked.count, asked.equal)
     trial.calls()
@@ -167,7 +172,7 @@ def tried(asked, folder):
     return 1 if trial.failed else 0
 
 
-def main():
+def main() -> int:
     words = argparse.ArgumentParser(prog="snapshots.py")
     words.add_argument("--count", type=int, default=1000)
     words.add_argument("--equal", type=int, default=300)

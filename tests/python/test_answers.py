@@ -148,7 +148,7 @@ def test_a_zero_byte_smuggles_in_no_word(three: Quorums) -> None:
         three.greatest(faulty="a\0--from=b")
 
 
-def test_too_large(monkeypatch):
+def test_too_large(monkeypatch: pytest.MonkeyPatch) -> None:
     # (for this test alone, since tests/packaging.py has the name of a package that others import)
     monkeypatch.syspath_prepend(f"{TOP}/tests")
     import process

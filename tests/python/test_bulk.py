@@ -93,7 +93,7 @@ def test_each_certificate_is_accepted(one: str) -> None:
     assert checked >= 11 * 3
 
 
-def read_of(path):
+def read_of(path: str) -> str:
     """What is read of a sound snapshot: keys, quorum sets and countries, and the file of organisations."""
     with open(path, encoding="utf-8") as it:
         nodes = {node["publicKey"]: [node["quorumSet"], node.get("geoData")] for node in json.load(it)}
@@ -101,8 +101,8 @@ def read_of(path):
     return json.dumps([nodes, held_table(orgs).decode() if os.path.exists(orgs) else ""], sort_keys=True)
 
 
-def test_equal_snapshots_are_asked_once(folder, tmp_path, monkeypatch):
-    asked = []
+def test_equal_snapshots_are_asked_once(folder: str, tmp_path: Path, monkeypatch: pytest.MonkeyPatch) -> None:
+    asked: list[str] = []
     monkeypatch.setattr(
         bulk,
         "local",

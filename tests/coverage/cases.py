@@ -2,7 +2,7 @@
 """Asks the library all cases of tests/coverage/corpus, judges the answers, and searches for more cases that are guided
 by coverage.
 
-usage: tests/coverage/run.py [--refuse N] [--fuzz SECONDS] [--table] [--merge FOLDER] [TARGET..]
+usage: tests/coverage/cases.py [--refuse N] [--fuzz SECONDS] [--table] [--merge FOLDER] [TARGET..]
 
 A case is the words of a question and the files that they name. Each is asked in guarded memory, over a heap that
 counts: the answer is the same twice; a certificate that a search made is accepted, and without its last byte
