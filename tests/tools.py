@@ -1,5 +1,6 @@
 #!/usr/bin/env python3
-"""Runs tools/hints and tools/pair on files that a slip hands them: what they say, and that they put out nothing then.
+"""Runs tools/hints, tools/pair and tools/refutation on files that a slip hands them: what they say, and that they put
+out nothing then; and the last two on formulas of each version.
 
 Whether what they make is right is shown by the examples of the documents, where `check-lrat` and `check` read it. Of
 tools/arguments, tools/twice and tools/callers it shows what they count, and that docs/DECISIONS.md names each contract
@@ -49,6 +50,20 @@ ROWS = [
     ("pair", b"INDET\n", 1, "", "has no literal"),
     ("pair", b"SAT\n0\n", 1, "", "has no literal"),
     ("pair", b"UNSAT\n", 1, "", "no satisfying assignment"),
+    ("refutation", b"5 1 0 1 2 0\n", 1, "", "does not come to the empty lemma"),
+    ("refutation", b"5 1 0 0\n6 0\n", 1, "", "has a lemma without hints"),
+    ("refutation", b"a\x02\x00a\x00", 1, "", "is no text of an LRAT proof"),
+]
+# The line of the version before the formula, none in an older text, and that of the certificate which is made of it.
+VERSIONS = [(b"c formula 3\n", "fbas-cert 3\n"), (b"c formula 2\n", "fbas-cert 2\n"), (b"", "fbas-cert 2\n")]
+# The tool, the second file, and what follows the first line of the certificate.
+MADE = [
+    ("pair", b"SAT\n1 -2 0\n", "config 00\nfrom\nfaulty\nkind pair\nfirst\nsecond p\nend\n"),
+    (
+        "refutation",
+        b"c a comment\n5 1 0 1 2 0\n\n6 0 5 3 4 0\n7 0 6 0\n",
+        "config 00\nfrom\nfaulty\nkind refutation\nformula 2 4\n5 1 0 1 2 0\n6 0 5 3 4 0\nend\n",
+    ),
 ]
 
 # Functions, and of each how many arguments and clauses it has.
@@ -202,12 +217,15 @@ def source_tools() -> Iterator[tuple[str, Any, Any]]:
 
 def main() -> int:
     failed = 0
+    asked = [(FORMULA, *row) for row in ROWS]
+    asked += [
+        (line + FORMULA, tool, held, 0, first + rest, "") for line, first in VERSIONS for tool, held, rest in MADE
+    ]
     with tempfile.TemporaryDirectory() as folder:
-        with open(os.path.join(folder, "first"), "wb") as it:
-            it.write(FORMULA)
-        for tool, held, status, text, said in ROWS:
-            with open(os.path.join(folder, "second"), "wb") as it:
-                it.write(held)
+        for formula, tool, held, status, text, said in asked:
+            for name, it_holds in (("first", formula), ("second", held)):
+                with open(os.path.join(folder, name), "wb") as it:
+                    it.write(it_holds)
             ended = subprocess.run(
                 [os.path.join(TOP, "tools", tool), "first", "second"],
                 cwd=folder,
@@ -223,13 +241,13 @@ def main() -> int:
                 or (status == 0) != (found[2] == "")
             ):
                 failed += 1
-                print(f"tools: {tool} of {held!r}: {found!r}")
+                print(f"tools: {tool} of {formula!r} and {held!r}: {found!r}")
     rows = list(source_tools())
     for what, found, wanted in rows:
         if found != wanted:
             failed += 1
             print(f"tools: {what}: {found!r}")
-    print(f"tools: {len(ROWS) + len(rows) - failed} passed, {failed} failed")
+    print(f"tools: {len(asked) + len(rows) - failed} passed, {failed} failed")
     return 1 if failed else 0
 
 
