@@ -101,6 +101,14 @@ def read_of(path: str) -> str:
     return json.dumps([nodes, held_table(orgs).decode() if os.path.exists(orgs) else ""], sort_keys=True)
 
 
+def test_a_pipe_in_a_folder_is_no_snapshot(tmp_path: Path) -> None:
+    os.mkfifo(tmp_path / "pipe.json")
+    (tmp_path / "folder.json").mkdir()
+    (tmp_path / "gone.json").symlink_to(tmp_path / "nowhere")
+    (tmp_path / "2026-01-01.json").write_text("[]")
+    assert [os.path.basename(it.path) for it in bulk.files_of([str(tmp_path)])] == ["2026-01-01.json", "gone.json"]
+
+
 def test_equal_snapshots_are_asked_once(folder: str, tmp_path: Path, monkeypatch: pytest.MonkeyPatch) -> None:
     asked: list[str] = []
     monkeypatch.setattr(

@@ -68,8 +68,8 @@ class File:
 
 
 def files_of(paths: Iterable[str], orgs: Optional[str] = None, dates: Optional[dict[str, str]] = None) -> list[File]:
-    """The snapshots of folders and files, by date and path. In a folder these are all NAME.json, with NAME-orgs.json
-    for organisations.
+    """The snapshots of folders and files, by date and path. In a folder these are all files NAME.json, with
+    NAME-orgs.json for organisations; a pipe or a folder of such a name is none.
 
     Raises OSError for a folder that cannot be read.
     """
@@ -79,7 +79,7 @@ def files_of(paths: Iterable[str], orgs: Optional[str] = None, dates: Optional[d
             names += [
                 os.path.join(path, it)
                 for it in os.listdir(path)
-                if it.endswith(".json") and not it.endswith("-orgs.json")
+                if it.endswith(".json") and not it.endswith("-orgs.json") and is_file(os.path.join(path, it))
             ]
         else:
             names.append(path)
@@ -89,6 +89,11 @@ def files_of(paths: Iterable[str], orgs: Optional[str] = None, dates: Optional[d
         date = (dates or {}).get(os.path.basename(name)) or tables.date_of(name)
         found.append(File(name, orgs or (beside if os.path.exists(beside) else None), date))
     return sorted(found, key=lambda it: (it.date == "", it.date, it.path))
+
+
+def is_file(path: str) -> bool:
+    """Whether it is a file, or a link whose file is gone, which is then a fault of the row."""
+    return os.path.isfile(path) or not os.path.exists(path)
 
 
 def held(path: Optional[str]) -> bytes:
