@@ -94,7 +94,7 @@ def uncrawled() -> tuple[list[dict[str, Any]], list[dict[str, Any]]]:
 
 
 # Of each network the words, what the summary has to say and what it may not, and what may stand nowhere on the page.
-FOUR = {
+FOUR: dict[str, tuple[Callable[[], Any], list[Any], list[str], list[str]]] = {
     "uniform": (
         uniform,
         [],
