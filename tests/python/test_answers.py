@@ -119,6 +119,8 @@ def test_refusals(three: Quorums) -> None:
         (lambda it: it.intersect(budget="5"), "budget must be an int, not str"),
         (lambda it: it.intersect(budget=True), "budget must be an int, not bool"),
         (lambda it: it.intersect(budget=1.5), "budget must be an int, not float"),
+        (lambda it: it.export(formula="2"), "formula must be an int, not str"),
+        (lambda it: it.check_lrat(b"", formula=True), "formula must be an int, not bool"),
         (lambda it: it.intersect(faulty=3), "faulty must be a str or several, not int"),
         (lambda it: it.intersect(faulty=b"a"), "faulty must be a str or several, not bytes"),
         (lambda it: it.intersect(faulty=["a", 3]), "faulty must have str, not int"),
@@ -141,6 +143,21 @@ def test_a_wrong_type_is_named(three: Quorums, asked: Callable[..., Any], said: 
     with pytest.raises(TypeError) as raised:
         asked(three)
     assert str(raised.value) == said
+
+
+def test_the_version_of_the_formula() -> None:
+    """Two nodes that need both, of which each names itself first: so their gates are the same in version 3 alone."""
+    orders = Quorums(as_json([node("p", 2, ["p", "q"]), node("q", 2, ["q", "p"])]))
+    sizes = {None: ("c formula 3", "p cnf 6 12"), 3: ("c formula 3", "p cnf 6 12"), 2: ("c formula 2", "p cnf 8 16")}
+    for formula, (first, size) in sizes.items():
+        lines = orders.export(formula=formula).text.splitlines()
+        assert (lines[0], size in lines) == (first, True)
+    proof = b"13 -1 0 7 6 3 4 2 0\n14 0 13 1 8 5 0\n"
+    assert orders.check_lrat(proof).text == orders.check_lrat(proof, formula=3).text == "verified\nfrom\nfaulty\n"
+    for formula, status, text in ((2, 5, "refused step 1 id-order 16 13"), (4, 3, "usage: quorum_cli COMMAND")):
+        with pytest.raises(Refused) as refused:
+            orders.check_lrat(proof, formula=formula)
+        assert (refused.value.status, str(refused.value)) == (status, text)
 
 
 def test_a_zero_byte_smuggles_in_no_word(three: Quorums) -> None:
