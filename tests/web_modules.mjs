@@ -94,7 +94,7 @@ const TOLD = [
   ['check-lrat', ['verified'], {}, 'good', 'The proof is right: it cannot fork.', 'It refutes the formula'],
   ['show', ['nodes 10', 'entries 108', 'unset 1'], {}, 'good', '10 nodes.', '108 entries in all quorum sets; 1 without a quorum set; 1 that no other'],
   ['show', ['nodes 1', 'entries 2', 'unset 0', 'threshold GAAA1 . 3 1', 'repeated GAAA2 0.1 GBBB1'], {}, 'bad', '1 node.', 'gaaa1: its own quorum set has the threshold 3 over 1 entry, so no choice meets itgaaa2: its inner quorum set 0.1 names gbbb1 more than once'],
-  ['export', ['c config 00', 'p cnf 12 34', '1 0'], {}, 'open', 'A formula of 12 variables and 34 clauses.', 'pairs of quorums'],
+  ['export', ['c formula 3', 'c config 00', 'p cnf 12 34', '1 0'], {}, 'open', 'A formula of 12 variables and 34 clauses.', 'pairs of quorums'],
   ['trial', ['trial 1', 'nodes 3', 'variables 4', 'clauses 5', 'intersects yes'], {}, 'good', 'It cannot fork.', '3 nodes in 1 organisation of three; a formula of 4 variables and 5 clauses.'],
   ['trial', ['trial 2', 'nodes 6', 'variables 4', 'clauses 5', 'intersects unknown 9'], {}, 'open', 'Not decided.', 'The budget of 9 units'],
   ['whatif', ['edit 0', 'greatest GAAA1 GAAA2', 'available yes', 'edit 1', 'greatest GAAA1', 'available no', 'unmet GBBB1'], { files: { script: bytesOf('retire GAAA2\n') } }, 'good', 'It goes on after the last edit.', 'retire GAAA2 (gaaa2)1 node, without gaaa2no: gbbb1'],
