@@ -543,7 +543,7 @@ class Trial:
         self.same(
             "its certificate",
             (forked.certificate, three.check(forked.certificate).value),
-            (example("pair.cert").replace(b"cert 1", b"cert 2"), "pair"),
+            (example("pair.cert").replace(b"cert 2", b"cert 3"), "pair"),
         )
         self.same(
             "yes",
