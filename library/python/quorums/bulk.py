@@ -15,6 +15,7 @@ import importlib
 import json
 import logging
 import os
+import stat
 import sys
 import time
 from dataclasses import dataclass
@@ -69,7 +70,7 @@ class File:
 
 def files_of(paths: Iterable[str], orgs: Optional[str] = None, dates: Optional[dict[str, str]] = None) -> list[File]:
     """The snapshots of folders and files, by date and path. In a folder these are all files NAME.json, with
-    NAME-orgs.json for organisations; a pipe or a folder of such a name is none.
+    NAME-orgs.json for organisations; a pipe or a socket of such a name is none.
 
     Raises OSError for a folder that cannot be read.
     """
@@ -79,7 +80,7 @@ def files_of(paths: Iterable[str], orgs: Optional[str] = None, dates: Optional[d
             names += [
                 os.path.join(path, it)
                 for it in os.listdir(path)
-                if it.endswith(".json") and not it.endswith("-orgs.json") and is_file(os.path.join(path, it))
+                if it.endswith(".json") and not it.endswith("-orgs.json") and is_read(os.path.join(path, it))
             ]
         else:
             names.append(path)
@@ -91,9 +92,12 @@ def files_of(paths: Iterable[str], orgs: Optional[str] = None, dates: Optional[d
     return sorted(found, key=lambda it: (it.date == "", it.date, it.path))
 
 
-def is_file(path: str) -> bool:
-    """Whether it is a file, or a link whose file is gone, which is then a fault of the row."""
-    return os.path.isfile(path) or not os.path.exists(path)
+def is_read(path: str) -> bool:
+    """Whether it has bytes of its own, or else a fault that its row tells: a pipe or socket may wait for ever."""
+    if not os.path.exists(path):
+        return True
+    mode = os.stat(path).st_mode
+    return not (stat.S_ISFIFO(mode) or stat.S_ISSOCK(mode))
 
 
 def held(path: Optional[str]) -> bytes:
