@@ -3,9 +3,9 @@
 
 An example is a line `$ COMMAND` of a code block, and the lines up to the next one are what it prints: `..` alone
 stands for any lines, and at the end of a line for the rest of it. In a table of examples each row has the words in its
-first cell, and its second begins with the first line and has the status after a comma. The examples of a document run
-in order in one new folder, with the program, the examples and the tools in it. What needs a tool that is missing is
-skipped with a word. The last line is 'examples: N passed, M failed'.
+first cell, the first line that they print in its second, and the exit status in its third. The examples of a document
+run in order in one new folder, with the program, the examples and the tools in it. What needs a tool that is missing
+is skipped with a word. The last line is 'examples: N passed, M failed'.
 """
 
 from __future__ import annotations
@@ -46,7 +46,7 @@ def commands(lines: list[str]) -> list[tuple[str, list[str]]]:
 def rows(text: str) -> list[tuple[str, str, str]]:
     """The rows of a table of examples: the words, the first line that is printed, and the status."""
     tables = re.findall(r"^\| Example \|.*\n\|[-|]+\n((?:\|.*\n)*)", text, re.M)
-    return re.findall(r"^\| `([^|`]*)` \| `([^|`]*)`[^|]*?, (\d)\b[^|]*\|", "".join(tables), re.M)
+    return re.findall(r"^\| `([^|`]*)` \| `([^|`]*)` \| (\d+) \|", "".join(tables), re.M)
 
 
 def matches(wanted: list[str], found: list[str]) -> bool:
