@@ -1,13 +1,13 @@
 #!/usr/bin/env python3
 """Checks the documents: what they name and link to, the crates and their picture, and that they can be read.
 
-A definition is named as `crate/specs/File.antt`: `word`, `word`; the file lies in crates/, and each word stands in it.
-Any other name in backquotes that is written as names of the code are (`is_rising`, `TheConstants`, `File.antt`) stands
-somewhere in the repository. A sentence has fewer than 30 words, a cell of a table fewer than 200 characters, and a
-paragraph or an item of a list fewer than six lines. A line of these has at most 140 characters. Excepted are code
-blocks, and what tools make: the tables of numbers that bench/tables.py fills in (from `<!-- tables.py PART -->` to
-`<!-- end -->`), what stands from `<!-- .. from here -->` to `<!-- to here -->`, and docs/SPECIFICATION.md. That one
-is compared with the specs. The last line is 'documents: N passed, M failed'.
+A definition is named as `crate/specs/File.antt`: `word`, `word`, or `word` and `word` in `crate/specs/File.antt`; the
+file lies in crates/, and each word stands in it. Any other name in backquotes that is written as names of the code are
+(`is_rising`, `TheConstants`, `File.antt`) stands somewhere in the repository. A sentence has fewer than 30 words, a
+cell of a table fewer than 200 characters, and a paragraph or an item of a list fewer than six lines. A line of these
+has at most 140 characters. Excepted are code blocks, and what tools make: the tables of numbers that bench/tables.py
+fills in (from `<!-- tables.py PART -->` to `<!-- end -->`), what stands from `<!-- .. from here -->` to `<!-- to here
+-->`, and docs/SPECIFICATION.md. That one is compared with the specs. The last line is 'documents: N passed, M failed'.
 """
 
 from __future__ import annotations
@@ -26,6 +26,10 @@ DOCUMENTS = [
     *(f"docs/{name}" for name in FOLDER if name.endswith(".md")),
 ]
 NAMED = re.compile(r"`([a-z_0-9]+/(?:src|specs|proofs|must-fail)/[\w./]+)`((?::\s+`[^`]+`(?:(?:,| and)\s+`[^`]+`)*)?)")
+# The same the other way round: words, and then the file in which they are.
+NAMED_BEFORE = re.compile(
+    r"(`[^`]+`(?:(?:,| and)\s+`[^`]+`)*)\s+in\s+`([a-z_0-9]+/(?:src|specs|proofs|must-fail)/[\w./]+)`"
+)
 # Names as the code has them: words joined by `_` or `::`, or with a capital inside, or a file's name.
 CODED = re.compile(r"`((?:[A-Za-z]\w*::)*[A-Za-z]\w*(?:\.antt|\.rt|\.py|\.edit)?)`")
 # A sentence has fewer words than this, a cell of a table fewer characters, and a paragraph fewer lines of this width.
@@ -149,7 +153,8 @@ class Trial:
 
     def definitions(self, name: str, text: str) -> None:
         """Each file of the sources that a document names exists, and each word stands in it."""
-        for path, words in NAMED.findall(text):
+        before = ((path, words) for words, path in NAMED_BEFORE.findall(text))
+        for path, words in [*NAMED.findall(text), *before]:
             place = os.path.join("crates", path)
             self.judge(os.path.exists(os.path.join(TOP, place)), f"{name} names {path}, which is not there")
             if words and os.path.isfile(os.path.join(TOP, place)):
