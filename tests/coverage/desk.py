@@ -168,9 +168,7 @@ class Desk:
                 self.judge(not wrong, f"{asked.words}: {what}: {wrong}")
         for most in (1, 7):
             found = self.run(asked, most=most)
-            # (of an old certificate of which only a part is read a copy is kept)
-            files = {name: data for name, data in found.files.items() if name == SEARCHED or data != OLD}
-            same = (found.status, found.text, files) == (ample.status, ample.text, ample.files)
+            same = (found.status, found.text, found.files) == (ample.status, ample.text, ample.files)
             self.judge(same, f"{asked.words}: by {most} bytes a call: status {found.status}, {sorted(found.files)}")
         if asked.searches():
             self.order(asked, ample.calls)

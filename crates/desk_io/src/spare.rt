@@ -14,16 +14,24 @@ const FIRST: &[u8; 10] = b"fbas-cert ";
 /// How many names a file may be kept under.
 const MOST_KEPT: u32 = 1_000_000;
 
-/// Whether what is left to read may be lost: it's nothing, or begins as a certificate.
+/// Whether what is left to read may be lost: it's nothing, or begins as a certificate. A read may give less than is there, so this
+/// reads on while what came is the beginning of a certificate.
 pub fn is_spare<F: Read>(file: &mut F) -> bool
     ensures { IsTrue result → IsSpare (F.remaining file.old) }
 {
+    let first = FIRST.as_slice();
     let mut front = [0; FIRST.len()];
-    match read_some(file, &mut front) {
-        Some(0) => true,
-        Some(count) => &front[..count] == FIRST.as_slice(),
-        None => false,
+    let mut at = 0;
+    while at < first.len() {
+        let wanted = &first[at..];
+        let piece = &mut front[..wanted.len()];
+        match read_some(file, piece) {
+            Some(0) => return at == 0,
+            Some(count) if piece[..count] == wanted[..count] => at += count,
+            _ => return false,
+        }
     }
+    true
 }
 
 /// The same of the named file. One that can't be read may not be lost.

@@ -47,13 +47,14 @@ pub enum Step {
     Out,
 }
 
-/// What the certificate's and the new file's name stand for, how many names that a file may be kept under are taken, and which
-/// step fails, in what way, and how often where it's an opening.
+/// What the certificate's and the new file's name stand for, how many names that a file may be kept under are taken, how many bytes
+/// a read gives at most, and which step fails, in what way, and how often where it's an opening.
 #[derive(Clone, Copy)]
 pub struct Plan {
     pub made: There,
     pub part: There,
     pub kept: u32,
+    pub piece: usize,
     pub failing: Step,
     pub kind: ErrorKind,
     pub times: u32,
@@ -64,6 +65,7 @@ pub const PLAIN: Plan = Plan {
     made: There::Missing,
     part: There::Missing,
     kept: 0,
+    piece: 64,
     failing: Step::Nothing,
     kind: ErrorKind::Other,
     times: 0,
@@ -88,6 +90,8 @@ pub struct Machine {
 pub struct Opened {
     name: Name,
     there: There,
+    at: usize,
+    piece: usize,
     failing: Step,
     kind: ErrorKind,
 }
@@ -218,6 +222,8 @@ impl Files for Machine {
         Ok(Opened {
             name,
             there,
+            at: 0,
+            piece: self.plan.piece,
             failing: self.plan.failing,
             kind: self.plan.kind,
         })
@@ -325,8 +331,10 @@ impl Read for Opened {
     fn read(&mut self, buf: &mut [u8]) -> io::Result<usize> {
         self.step(Step::Read(self.name))?;
         let held = held(self.there);
-        let count = held.len().min(buf.len());
-        buf[..count].copy_from_slice(&held[..count]);
+        let left = &held[self.at.min(held.len())..];
+        let count = left.len().min(buf.len()).min(self.piece);
+        buf[..count].copy_from_slice(&left[..count]);
+        self.at = self.at.saturating_add(count);
         Ok(count)
     }
 }

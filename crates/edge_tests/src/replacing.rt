@@ -22,12 +22,13 @@ fn publish<D: Desk>(desk: &mut D) -> u32 {
     4
 }
 
-/// What is asked of the file system on the way.
-fn steps(alloc: Global, made: There, part: There) -> Result<String, AllocError> {
+/// What is asked of the file system on the way, where a read gives that many bytes at most.
+fn steps(alloc: Global, made: There, part: There, piece: usize) -> Result<String, AllocError> {
     let plan = Plan {
         made,
         part,
         kept: 2,
+        piece,
         ..PLAIN
     };
     let machine = Machine::new(alloc, plan);
@@ -106,7 +107,9 @@ static STEPS: [(There, There, &str); 12] = [
 #[test]
 fn a_certificate_takes_the_place_of_what_may_be_lost(rt: HostRuntime) {
     for (made, part, want) in STEPS.iter() {
-        same(&rt, steps(rt.alloc(), *made, *part), want);
+        same(&rt, steps(rt.alloc(), *made, *part, 64), want);
+        // In short reads a certificate is one too.
+        same(&rt, steps(rt.alloc(), *made, *part, 7), want);
     }
 }
 
