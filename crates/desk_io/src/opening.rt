@@ -1,25 +1,22 @@
 //! How the machine's files are opened.
-ghost use Rattle.std.specs.Prelude.{◌≡◌, true};
+ghost use Rattle.std.specs.Prelude.{◌≡◌, true, IfOk};
 ghost use Rattle.std.specs.Fs.{new_options};
 
+use crate::folder::Folder;
 use std::fs::OpenOptions;
 use std::io::ErrorKind;
-use std::rt::Files;
 
 /// How often a call of the system is tried that says it was interrupted. The last interruption is a failure.
 pub const TRIES: u32 = 1_000;
 
 /// Opens the named file, or says why it can't be.
 ///
-/// The machine's own contract of opening says nothing, so neither does this: a test tells that an interruption is tried
-/// again and that another error is a failure.
-pub fn open_with<R: Files>(
-    rt: &R,
-    options: &OpenOptions,
-    name: &str,
-) -> Result<R::File, ErrorKind> {
+/// A test tells that an interruption is tried again and that another error is a failure.
+pub fn open_with<R: Folder>(rt: &R, options: &OpenOptions, name: &str) -> Result<R::File, ErrorKind>
+    ensures { IfOk result (λ file. R.opened options.now name.now file) }
+{
     for _ in 0..TRIES {
-        match options.open(rt, name) {
+        match rt.open_named(options, name) {
             Ok(file) => return Ok(file),
             Err(e) if e.kind() == ErrorKind::Interrupted => {}
             Err(e) => return Err(e.kind()),

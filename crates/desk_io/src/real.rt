@@ -6,16 +6,16 @@ ghost use Rattle.desk_io.specs.RealDesk.{bytes_in};
 use crate::beside::{Beside, Created, create_certificate};
 use crate::counts::FaultCounts;
 use crate::desk::{Desk, ReadFailed, To, Which, WriteFailed};
+use crate::folder::Folder;
 use crate::opening::{TRIES, open_with, reading};
 use std::io::{ErrorKind, Read, Write};
-use std::rt::Files;
 
 /// The desk of the machine: files of the file system by their paths, and standard output.
 ///
 /// It tells no bytes. Nothing of what is put is kept back, so a `put` that fails says so itself. Each call of the
 /// system is tried at most 1,000 times where it's interrupted.
 #[derive(Drop)]
-pub struct RealDesk<'a, R: Files> {
+pub struct RealDesk<'a, R: Folder> {
     rt: &'a R,
     standard: [Option<R::File>; 3],
     config: Option<R::File>,
@@ -29,7 +29,7 @@ pub struct RealDesk<'a, R: Files> {
 
 // A new descriptor is the lowest that is free. So three of these fill each hole among the standard three, and what is opened
 // after them is none of those: no file is written for an output that is closed, and a write to that one fails.
-fn hold_open<R: Files>(rt: &R) -> Option<R::File> {
+fn hold_open<R: Folder>(rt: &R) -> Option<R::File> {
     open_with(rt, &reading(), "/dev/null").ok()
 }
 
@@ -99,10 +99,11 @@ fn write_created<F: Write>(created: &mut Option<F>, bytes: &[u8]) -> Option<usiz
     }
 }
 
-impl<'a, R: Files + Print> RealDesk<'a, R> {
+impl<'a, R: Folder + Print> RealDesk<'a, R> {
     ghost use Rattle.std.specs.Prelude.{◌≢◌, IsTrue};
     ghost use Rattle.desk_io.specs.declared.desk.Which.{Which};
-    ghost use Rattle.desk_io.specs.RealDesk.{begun_of, beside_of, created_of, faults_of};
+    ghost use Rattle.desk_io.specs.RealDesk.{begun_of, beside_of, created_of, faults_of, IsBegun, IsMade, IsPlaced};
+    ghost use Rattle.desk_io.specs.Spare.{MayGo};
 
     /// A desk over this runtime, with nothing begun and nothing created.
     pub fn new(rt: &'a R) -> Self
@@ -127,6 +128,7 @@ impl<'a, R: Files + Print> RealDesk<'a, R> {
     /// Opens the file that is to be read there. Where it can't be opened, none is.
     fn reopen(&mut self, which: Which, name: &str) -> bool
         ensures begun { IsTrue result ↔ IsSome (begun_of which self.new) }
+        ensures named { IsTrue result → IsBegun R.opened name.now (begun_of which self.new) }
         ensures others { (other : Which) → other ≢ which → begun_of other self.new ≡ begun_of other self.old }
         ensures created { created_of self.new ≡ created_of self.old }
         ensures faults { faults_of self.new ≡ faults_of self.old }
@@ -163,23 +165,32 @@ impl<'a, R: Files + Print> RealDesk<'a, R> {
     }
 }
 
-impl<R: Files + Print> RealDesk<'_, R> {
+impl<R: Folder + Print> RealDesk<'_, R> {
     ghost use Rattle.std.specs.Prelude.{IsTrue};
     ghost use Rattle.desk_io.specs.declared.desk.Which.{Which};
-    ghost use Rattle.desk_io.specs.RealDesk.{begun_of, beside_of, created_of, faults_of};
+    ghost use Rattle.desk_io.specs.RealDesk.{begun_of, beside_of, created_of, faults_of, IsBegun, IsMade, IsPlaced};
+    ghost use Rattle.desk_io.specs.Spare.{MayGo};
+
+    /// Whether a certificate that stands beside its name was given that name.
+    fn take_place(&self) -> bool
+        ensures placed { IsTrue result → IsPlaced R.renamed (MayGo R.opened R.File.remaining R.linked R.seen R.missing) (beside_of self.now) }
+    {
+        match (&self.beside, &self.created) {
+            (Some(beside), Some(file)) => beside.take_place(file),
+            (None, _) => true,
+            (Some(_), None) => false,
+        }
+    }
 
     /// Gives a certificate that stands beside its name that name.
     fn finish(&mut self) -> bool
         ensures finished { IsTrue result → IsNone (beside_of self.new) }
+        ensures placed { IsTrue result → IsPlaced R.renamed (MayGo R.opened R.File.remaining R.linked R.seen R.missing) (beside_of self.old) }
         ensures begun { (which : Which) → begun_of which self.new ≡ begun_of which self.old }
         ensures created { created_of self.new ≡ created_of self.old }
         ensures faults { faults_of self.new ≡ faults_of self.old }
     {
-        let is_finished = match (&self.beside, &self.created) {
-            (Some(beside), Some(file)) => beside.take_place(file),
-            (None, _) => true,
-            (Some(_), None) => false,
-        };
+        let is_finished = self.take_place();
         if is_finished {
             self.beside = None;
         }
@@ -191,6 +202,7 @@ impl<R: Files + Print> RealDesk<'_, R> {
         ensures bound { IfSome result (λ count. count ≤ length bytes.now) }
         ensures some { IfSome result (λ count. 0 < length bytes.now → 0 < count) }
         ensures finished { IsSome result → IsNone (beside_of self.new) }
+        ensures placed { IsSome result → IsPlaced R.renamed (MayGo R.opened R.File.remaining R.linked R.seen R.missing) (beside_of self.old) }
         ensures begun { (which : Which) → begun_of which self.new ≡ begun_of which self.old }
         ensures created { created_of self.new ≡ created_of self.old }
         ensures faults { faults_of self.new ≡ faults_of self.old }
@@ -203,11 +215,12 @@ impl<R: Files + Print> RealDesk<'_, R> {
     }
 }
 
-impl<R: Files + Print> Desk for RealDesk<'_, R> {
+impl<R: Folder + Print> Desk for RealDesk<'_, R> {
     ghost use Rattle.std.specs.Prelude.{◌≢◌, false, IsErr, IsOk, OnErr, OnOk};
     ghost use Rattle.desk_io.specs.declared.desk.Which.{Which};
     ghost use Rattle.desk_io.specs.Faults.{ReadCause, WriteCause};
-    ghost use Rattle.desk_io.specs.RealDesk.{begun_of, beside_of, created_of, faults_of};
+    ghost use Rattle.desk_io.specs.RealDesk.{begun_of, beside_of, created_of, faults_of, IsBegun, IsMade, IsPlaced};
+    ghost use Rattle.desk_io.specs.Spare.{MayGo};
     ghost use Rattle.desk_io.specs.State.{nothing_told};
 
     ghost tells = { false };
@@ -218,6 +231,7 @@ impl<R: Files + Print> Desk for RealDesk<'_, R> {
 
     fn begin(&mut self, which: Which, name: &str) -> Result<(), ReadFailed>
         ensures begun { IsSome (begun_of which self.new) ↔ IsOk result }
+        ensures named { IsOk result → IsBegun R.opened name.now (begun_of which self.new) }
         ensures others { (other : Which) → other ≢ which → begun_of other self.new ≡ begun_of other self.old }
         ensures created { created_of self.new ≡ created_of self.old }
         ensures cause { ReadCause (faults_of self.old) (faults_of self.new) result }
@@ -245,7 +259,8 @@ impl<R: Files + Print> Desk for RealDesk<'_, R> {
     }
 
     fn create(&mut self, name: &str) -> Result<(), WriteFailed>
-        ensures created { OnOk result (IsSome (created_of self.new)) }
+        ensures created { OnOk result (IfSome (created_of self.new) (λ file. IsMade R.opened name.now file (beside_of self.new))) }
+        ensures is_created { OnOk result (IsSome (created_of self.new)) }
         ensures failed { OnErr result (created_of self.new ≡ created_of self.old) }
         ensures begun { (which : Which) → begun_of which self.new ≡ begun_of which self.old }
         ensures cause { WriteCause (faults_of self.old) (faults_of self.new) result }
@@ -269,6 +284,8 @@ impl<R: Files + Print> Desk for RealDesk<'_, R> {
         ensures other { to ≡ To.Out → created_of self.new ≡ created_of self.old }
         // Nothing is out while a certificate isn't in its place.
         ensures finished { to ≡ To.Out → IsOk result → IsNone (beside_of self.new) }
+        // The certificate has its name then, and nothing is lost by it.
+        ensures placed { to ≡ To.Out → IsOk result → IsPlaced R.renamed (MayGo R.opened R.File.remaining R.linked R.seen R.missing) (beside_of self.old) }
         ensures unfinished { to ≡ To.Cert → beside_of self.new ≡ beside_of self.old }
         ensures begun { (which : Which) → begun_of which self.new ≡ begun_of which self.old }
         ensures cause { WriteCause (faults_of self.old) (faults_of self.new) result }

@@ -1,12 +1,12 @@
 //! What a certificate may replace without a loss.
 ghost use Rattle.std.specs.Prelude.{IsTrue};
-ghost use Rattle.desk_io.specs.Spare.{IsSpare};
+ghost use Rattle.desk_io.specs.Spare.{IsSpare, IsSpareFile, IsKept, MayGo};
 
+use crate::folder::Folder;
 use crate::names::kept_name;
 use crate::opening::{open_with, reading};
 use crate::real::read_some;
 use std::io::{ErrorKind, Read};
-use std::rt::Files;
 
 /// What every certificate begins with.
 const FIRST: &[u8; 10] = b"fbas-cert ";
@@ -35,7 +35,9 @@ pub fn is_spare<F: Read>(file: &mut F) -> bool
 }
 
 /// The same of the named file. One that can't be read may not be lost.
-pub fn is_spare_there<R: Files>(rt: &R, name: &str) -> bool {
+pub fn is_spare_there<R: Folder>(rt: &R, name: &str) -> bool
+    ensures { IsTrue result → IsSpareFile R.opened R.File.remaining name.now }
+{
     match open_with(rt, &reading(), name) {
         Ok(mut file) => is_spare(&mut file),
         Err(_) => false,
@@ -43,12 +45,14 @@ pub fn is_spare_there<R: Files>(rt: &R, name: &str) -> bool {
 }
 
 // Gives the file the first free name of those that it may be kept under. It has both names then.
-fn keep<R: Files>(rt: &R, name: &str) -> bool {
+fn keep<R: Folder>(rt: &R, name: &str) -> bool
+    ensures { IsTrue result → IsKept R.linked name.now }
+{
     for number in 1..=MOST_KEPT {
         let Some(kept) = kept_name(name, number) else {
             return false;
         };
-        match rt.hard_link(name, kept.as_str()) {
+        match rt.link_named(name, kept.as_str()) {
             Ok(()) => return true,
             Err(e) if e.kind() == ErrorKind::AlreadyExists => {}
             Err(_) => return false,
@@ -60,8 +64,10 @@ fn keep<R: Files>(rt: &R, name: &str) -> bool {
 /// Makes sure that nothing is lost where the name is given to another file, or says that something would be.
 ///
 /// Of a link only the name goes, and never what it leads to. A file that may not be lost is kept.
-pub fn spare_or_keep<R: Files>(rt: &R, name: &str) -> bool {
-    match rt.symlink_metadata(name) {
+pub fn spare_or_keep<R: Folder>(rt: &R, name: &str) -> bool
+    ensures { IsTrue result → MayGo R.opened R.File.remaining R.linked R.seen R.missing name.now }
+{
+    match rt.look_at(name) {
         Ok(there) => !there.is_file() || is_spare_there(rt, name) || keep(rt, name),
         Err(e) => e.kind() == ErrorKind::NotFound,
     }
