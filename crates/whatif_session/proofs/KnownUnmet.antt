@@ -42,7 +42,7 @@ followed_at f then v b old new is was size others here = unmet_only then b new s
       )
 ])
 
-not_one : (w v : ℕ) → (w ≡ v → ⊥) → (w == v) ≡ false
+pub not_one : (w v : ℕ) → (w ≡ v → ⊥) → (w == v) ≡ false
 not_one w v apart = elim (cases_Bool (w == v)) [ inl same ↦ absurd (apart (eqb-true w v same)) | inr other ↦ other ]
 
 -- the test of a node that is taken out, and of one that is put back, where it is another's

@@ -7,6 +7,7 @@ pub mod EditLaws
 pub mod ScriptLaws
 pub mod NamePlaces
 pub mod NewNames
+pub mod Brought
 pub mod NamesStay
 pub mod Touching
 pub mod LineLaws

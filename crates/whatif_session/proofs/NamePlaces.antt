@@ -24,7 +24,7 @@ kept-ones [] = refl
 kept-ones {A = A} (x ∷ xs) = ap (λ (ys : List A). x ∷ ys) (kept-ones xs)
 
 -- without the new place the list is what it was
-kept-put : {A : Type 0} → (p : ℕ) (x : A) (xs : List A) → p ≤ length xs → kept (all_but p (length xs)) (insert xs p x) ≡ xs
+pub kept-put : {A : Type 0} → (p : ℕ) (x : A) (xs : List A) → p ≤ length xs → kept (all_but p (length xs)) (insert xs p x) ≡ xs
 kept-put zero x xs low = kept-ones xs
 kept-put (suc p) x [] low = absurd (omega (arith, low))
 kept-put {A = A} (suc p) x (y ∷ ys) low = ap (λ (zs : List A). y ∷ zs) (kept-put p x ys (omega (arith, low)))
@@ -36,7 +36,7 @@ map-put {B = B} f (suc p) x (y ∷ ys) = ap (λ (zs : List B). f y ∷ zs) (map-
 
 -- ---- numbers
 
-size-ones : (n w : ℕ) → w ≤ n → size (take w (ones n)) ≡ w
+pub size-ones : (n w : ℕ) → w ≤ n → size (take w (ones n)) ≡ w
 size-ones n zero low = refl
 size-ones zero (suc w) low = absurd (omega (arith, low))
 size-ones (suc n) (suc w) low = size-cons true (take w (ones n)) ∙ let rest = size-ones n w (omega (arith, low)) in omega (arith, rest)
@@ -53,10 +53,10 @@ rank_high (suc p) zero w low few = absurd (omega (arith, few))
 rank_high (suc p) (suc n) zero low few = absurd (omega (arith, low))
 rank_high (suc p) (suc n) (suc w) low few = size-cons true (take (suc w) (all_but p n)) ∙ let rest = rank_high p n w (omega (arith, low)) (omega (arith, few)) in omega (arith, rest)
 
-le_true : (p w : ℕ) → p ≤ w → nat_le p w ≡ true
+pub le_true : (p w : ℕ) → p ≤ w → nat_le p w ≡ true
 le_true p w h = grind (arith, nat_tests)
 
-le_false : (p w : ℕ) → w < p → nat_le p w ≡ false
+pub le_false : (p w : ℕ) → w < p → nat_le p w ≡ false
 le_false p w h = grind (arith, nat_tests)
 
 number_back : (p n w : ℕ) → p ≤ n → w < n → rank (all_but p n) (number_after p w) ≡ w

@@ -28,7 +28,7 @@ use Rattle.name_set.specs.Lists.{items_of}
 use Rattle.node_json.specs.NamesInOrder.{in_order}
 use Rattle.node_json.proofs.NamesInOrder.{equal_names, is_among-insert_key, insert_key-sorted, is_among-in_order, in_order-sorted, names_in_order, same_names}
 use Rattle.config_text.proofs.Placed.{among-append}
-use Rattle.whatif_session.specs.Names.{number_after, moved_up, all_moved_up, place_for, with_node}
+use Rattle.whatif_session.specs.Names.{number_after, moved_up, all_moved_up, place_for, with_name, with_node}
 use Rattle.whatif_session.specs.declared.faults.EditFault.{EditFault}
 use Rattle.whatif_session.specs.declared.faults.EditFault.TheVariants.{TooManyNodes}
 use Rattle.fbas_model.proofs.SortedNames.{place-missing}
@@ -154,22 +154,22 @@ all-moved-within p n (o ∷ sets) h =
     All-cons (λ o. IfSome o (IsWithin (n + 1))) (option_map (moved_up p) o) (map (option_map (moved_up p)) sets) (moved-within p n o (All-head (λ o. IfSome o (IsWithin n)) o sets h)) (all-moved-within p n sets (All-tail (λ o. IfSome o (IsWithin n)) o sets h))
 
 -- one item more, of which the same is so
-All-insert : {A : Type 0} → (P : A → Type 0) (p : ℕ) (x : A) (xs : List A) → P x → All P xs → All P (insert xs p x)
+pub All-insert : {A : Type 0} → (P : A → Type 0) (p : ℕ) (x : A) (xs : List A) → P x → All P xs → All P (insert xs p x)
 All-insert P zero x xs here h = All-cons P x xs here h
 All-insert P (suc p) x [] here h = All-cons P x [] here h
 All-insert P (suc p) x (y ∷ ys) here h = All-cons P y (insert ys p x) (All-head P y ys h) (All-insert P p x ys here (All-tail P y ys h))
 
-length-insert : {A : Type 0} → (p : ℕ) (x : A) (xs : List A) → length (insert xs p x) ≡ length xs + 1
+pub length-insert : {A : Type 0} → (p : ℕ) (x : A) (xs : List A) → length (insert xs p x) ≡ length xs + 1
 length-insert zero x xs = omega arith
 length-insert (suc p) x [] = omega arith
 length-insert (suc p) x (y ∷ ys) = let rest = length-insert p x ys in omega (arith, rest)
 
-entries-moved : (p : ℕ) (sets : Fbas) → entries_in (map (option_map (moved_up p)) sets) ≡ entries_in sets
+pub entries-moved : (p : ℕ) (sets : Fbas) → entries_in (map (option_map (moved_up p)) sets) ≡ entries_in sets
 entries-moved p [] = refl
 entries-moved p (None ∷ sets) = entries-moved p sets
 entries-moved p (Some q ∷ sets) = ap₂ (λ (a b : ℕ). a + b) (moved-entries p q) (entries-moved p sets)
 
-entries-insert : (p : ℕ) (sets : Fbas) → entries_in (insert sets p None) ≡ entries_in sets
+pub entries-insert : (p : ℕ) (sets : Fbas) → entries_in (insert sets p None) ≡ entries_in sets
 entries-insert zero sets = refl
 entries-insert (suc p) [] = refl
 entries-insert (suc p) (None ∷ sets) = entries-insert p sets
@@ -223,6 +223,10 @@ node_new s t name missing few names_are sets_are =
   where
     not_above : (m n : ℕ) → n ≤ m → nat_lt m n ≡ false
     not_above m n h = false_from_ne_true (nat_lt m n) (λ e. let less = ltb-true m n e in absurd (omega (arith, less, h)))
+
+-- a system with these lists is the one with one name more
+pub is_with_name : (s t : System) (name : Name) → t.names ≡ insert s.names (place_for name s.names) name → t.sets ≡ insert (map (option_map (moved_up (place_for name s.names))) s.sets) (place_for name s.names) None → t ≡ with_name s name
+is_with_name s t name names_are sets_are = ap₂ (λ (ns : List Name) (fs : Fbas). record { names = ns; sets = fs }) names_are sets_are
 
 -- ---- gathered one after another
 

@@ -1,6 +1,6 @@
 //! Names among the nodes: a system with one name more, and the nodes of a list of names.
 
-ghost use Rattle.std.specs.Prelude.{◌≡◌, ◌⊎◌, ◌≤◌, ◌<◌, ◌+◌, ◌-◌, ◌^◌, ◌++◌, ◌∷◌, [], List, Ok, Err, IfOk, IfErr, IfSome, IsTrue, All, Contains, None, length, map, option_map, if◌then◌else◌};
+ghost use Rattle.std.specs.Prelude.{◌≡◌, ◌⊎◌, ◌≤◌, ◌<◌, ◌+◌, ◌-◌, ◌^◌, ◌++◌, ◌∷◌, [], List, Ok, Err, IfOk, IfErr, IfSome, IsTrue, All, Contains, None, false, length, map, option_map, if◌then◌else◌};
 ghost use Rattle.std.specs.Option.{option_copied};
 ghost use Rattle.std.specs.Ordering.{is_lt};
 ghost use Rattle.std.specs.List.{insert};
@@ -55,7 +55,7 @@ fn count_before(count: u32, one: &[u8], name: &[u8]) -> u32
 }
 
 /// How many of the names come before this one.
-fn place_for(names: &Names, name: &[u8]) -> u32
+pub(crate) fn place_for(names: &Names, name: &[u8]) -> u32
     ensures { result ≡ place_for name.now names.now }
 {
     let mut place = 0;
@@ -152,6 +152,8 @@ pub(crate) fn grown(alloc: Global, system: &System, name: &[u8]) -> Result<Syste
     requires key { IsTrue (is_key name.now) }
     requires missing { Contains system.now.names name.now → ⊥ }
     ensures ok { IfOk result (λ t. with_node system.now name.now ≡ Ok t) }
+    ensures named { IfOk result (λ t. t ≡ with_name system.now name.now) }
+    ensures few { IfOk result (λ t. length system.now.sets < MOST_NODES) }
     ensures err { IfErr result (λ e. (e ≡ EditFault.Memory) ⊎ (with_node system.now name.now ≡ Err e)) }
 {
     let n = system.len() as usize + 1;
@@ -163,4 +165,28 @@ pub(crate) fn grown(alloc: Global, system: &System, name: &[u8]) -> Result<Syste
     let more = more_names(alloc, names, name)?;
     let sets = moved_sets(alloc, system, place)?;
     Ok(System::of(alloc, more, sets)?)
+}
+
+/// The number that a node has after one more name came to a place.
+fn number_after(v: u32, place: u32) -> u32
+    requires { v < 2 ^ 32 - 1 }
+    ensures { result ≡ number_after place v }
+{
+    if v < place { v } else { v + 1 }
+}
+
+/// The set of nodes of which there are this many, after one more name came to a place, whose node is not in it: O(n).
+pub(crate) fn moved_members(set: &NodeSet, n: u32, place: u32) -> NodeSet
+    requires size { length set.now ≡ n }
+    requires place { place ≤ n }
+    requires few { n < MOST_NODES }
+    ensures { result ≡ insert set.now place false }
+{
+    let mut moved = NodeSet::new(n + 1);
+    for v in 0..n {
+        if set.has(v) {
+            moved.put(number_after(v, place));
+        }
+    }
+    moved
 }

@@ -1,6 +1,6 @@
 //! A system that is edited, with its greatest quorum.
 
-ghost use Rattle.std.specs.Prelude.{◌≡◌, ◌⊎◌, ◌<◌, ◌≤◌, ◌↔◌, Ok, Err, IsTrue, length, IfOk, IfErr, IfSome, OnOk, OnErr, slice_set, string_bytes};
+ghost use Rattle.std.specs.Prelude.{◌≡◌, ◌⊎◌, ◌<◌, ◌≤◌, ◌↔◌, Ok, Err, IsTrue, Contains, length, IfOk, IfErr, IfSome, OnOk, OnErr, slice_set, string_bytes};
 ghost use Rattle.fbas_model.specs.Nodes.{members};
 ghost use Rattle.fbas_model.specs.Fbas.{Available, AreUnmet};
 ghost use Rattle.fbas_model.specs.Names.{is_key};
@@ -10,6 +10,7 @@ ghost use Rattle.greatest_quorum.specs.Unmet.{is_available, unmet_of};
 ghost use Rattle.node_json.specs.Configuration.{system_of};
 ghost use Rattle.config_text.specs.Written.{config_text};
 ghost use Rattle.whatif_session.specs.Edited.{edited, appended, declared};
+ghost use Rattle.whatif_session.specs.Names.{with_node};
 ghost use Rattle.whatif_session.specs.Edits.{Threshold, Add, Drop, Declare, Retire};
 ghost use Rattle.whatif_session.specs.EditView.{edit_view, HasKeys};
 ghost use Rattle.whatif_session.specs.Scripts.{after_line};
@@ -19,7 +20,7 @@ use crate::change::{Change, changed_at, set_at};
 use crate::faults::EditFault;
 use crate::lines::{Edit, read_edit};
 use crate::lookups::{appended_set, bare_set, entries_after, own_set, validator};
-use crate::naming::{grown, marked};
+use crate::naming::{grown, marked, moved_members, place_for};
 use crate::unmet::{ask, follow_unmet};
 use config_text::write_config;
 use fbas_core::System;
@@ -118,7 +119,7 @@ impl Session {
 
     /// Whether there is quorum availability despite the set (Mazières 2015): it holds all nodes, or those outside it are a
     /// quorum. Then `unmet` has the nodes outside the set that have no slice outside it. Linear in the entries; O(n / 64) if the
-    /// set is the one that was asked for last, and no name has come since.
+    /// set has the nodes of the one that was asked for last.
     pub fn available(&mut self, set: &NodeSet) -> bool
         requires same_n { length set.now ≡ length self.old.system.sets }
         ensures asked { self.new ≡ asked self.old set.now }
@@ -156,6 +157,30 @@ impl Session {
         follow_unmet(&self.system, v, &self.asked, &mut self.known);
         self.unmet = none;
         Ok(())
+    }
+
+    /// The session over the system with one name more. What is known of the system stays known, by the numbers that its nodes have
+    /// then. The new node has no quorum set: it is in no quorum, and unmet despite a set that lacks it. The cost is that of the copy.
+    fn with_name(&self, alloc: Global, name: &[u8]) -> Result<Session, EditFault>
+        requires key { IsTrue (is_key name.now) }
+        requires missing { Contains self.now.system.names name.now → ⊥ }
+        ensures ok { IfOk result (λ session. with_node self.now.system name.now ≡ Ok session.system) }
+        ensures fresh { IfOk result (λ session. session ≡ started session.system) }
+        ensures err { IfErr result (λ e. (e ≡ EditFault.Memory) ⊎ (with_node self.now.system name.now ≡ Err e)) }
+    {
+        let n = self.system.len();
+        let place = place_for(self.system.names(), name);
+        let system = grown(alloc, &self.system, name)?;
+        let mut known = moved_members(&self.known, n, place);
+        known.put(place);
+        Ok(Session {
+            system,
+            entries: self.entries,
+            greatest: moved_members(&self.greatest, n, place),
+            unmet: NodeSet::new(n + 1),
+            asked: moved_members(&self.asked, n, place),
+            known,
+        })
     }
 
     /// The quorum set of the node that the path leads to has this threshold.
@@ -217,8 +242,7 @@ impl Session {
             return Err(EditFault::NoSet);
         };
         let Some(_) = self.system.find(name) else {
-            let system = grown(alloc, &self.system, name)?;
-            let mut session = Session::start(system);
+            let mut session = self.with_name(alloc, name)?;
             session.append(alloc, node, path, name)?;
             *self = session;
             return Ok(());
@@ -270,8 +294,7 @@ impl Session {
         ensures unchanged { OnErr result (self.new ≡ self.old) }
     {
         let Some(v) = self.system.find(node) else {
-            let system = grown(alloc, &self.system, node)?;
-            let mut session = Session::start(system);
+            let mut session = self.with_name(alloc, node)?;
             session.give_bare_set(alloc, node)?;
             *self = session;
             return Ok(());
@@ -323,7 +346,8 @@ impl Session {
     /// Does what a line of a script says, or refuses the line for its first fault; then the session is as it was.
     ///
     /// An edit of a node outside the greatest quorum, or after which the node still has a slice inside it, costs one look at
-    /// the node; one that changes the greatest quorum what `follow` costs; one that brings a new name a copy of the system.
+    /// the node; one that changes the greatest quorum what `follow` costs; one that brings a new name a copy of the system, of
+    /// which nothing is found anew.
     pub fn edit(&mut self, alloc: Global, line: &[u8]) -> Result<(), EditFault>
         ensures ok { OnOk result (after_line self.old.system line.now ≡ Ok self.new.system) }
         ensures err { IfErr result (λ e. (e ≡ EditFault.Memory) ⊎ (after_line self.old.system line.now ≡ Err e)) }

@@ -1,5 +1,6 @@
-use Rattle.std.proofs.Common.{◌≡◌, rules, sym, ap, subst, ◌∙◌, inr, Ok, Err}
+use Rattle.std.proofs.Common.{◌≡◌, ◌⊎◌, rules, sym, ap, subst, ◌∙◌, inr, Ok, Err}
 use Rattle.fbas_model.specs.Systems.{System}
+use Rattle.whatif_session.specs.declared.faults.EditFault.TheVariants.{Memory}
 use Rattle.whatif_session.specs.Sessions.{Session}
 use Rattle.whatif_session.specs.Names.{with_node}
 use Rattle.whatif_session.specs.Edited.{edited, appended}
@@ -18,25 +19,25 @@ returns-in_default-clause-err c =
     let same : c.self.inside.system ≡ c.args.self.now.system = ap (λ (x : Session). x.system) c.self.view_is in
     rw (← same) (inr (add_none c.self.inside.system c.args.node.now c.args.path.now c.args.name.now c.in_ok-own.field-0-0 c.in_ok-own.own.now c.in_ok-own.ensures.ok (sym c.in_default.ensures)))
 
-pub returns-in_err-system-clause-err : goal.returns-in_err-system-clause-err
-returns-in_err-system-clause-err c =
-    let e = c.in_err-system.field-0.0 in
-    let r : c.from_residual-in_err-system.result ≡ Err e = search rules in
+pub returns-in_err-session-clause-err : goal.returns-in_err-session-clause-err
+returns-in_err-session-clause-err c =
+    let e = c.in_err-session.field-0.0 in
+    let r : c.from_residual-in_err-session.result ≡ Err e = search rules in
     let same : c.self.inside.system ≡ c.args.self.now.system = ap (λ (x : Session). x.system) c.self.view_is in
-    rw (r, ← same) (fault_by e (with_node c.self.inside.system c.args.name.now) _ (add_fault c.self.inside.system c.args.node.now c.args.path.now c.args.name.now c.in_ok-own.field-0-0 c.in_ok-own.own.now _ e c.in_ok-own.ensures.ok (sym c.in-Some.ensures)) c.in_err-system.ensures.err)
+    rw (r, ← same) (fault_by e (with_node c.self.inside.system c.args.name.now) _ (add_fault c.self.inside.system c.args.node.now c.args.path.now c.args.name.now c.in_ok-own.field-0-0 c.in_ok-own.own.now _ e c.in_ok-own.ensures.ok (sym c.in-Some.ensures)) (subst (λ (s : System). (e ≡ Memory) ⊎ (with_node s c.args.name.now ≡ Err e)) (sym same) c.in_err-session.ensures.err))
 
 pub returns-in_err-append-clause-err : goal.returns-in_err-append-clause-err
 returns-in_err-append-clause-err c =
     let e = c.in_err-append.field-0.0 in
     let r : c.from_residual-in_err-append.result ≡ Err e = search rules in
     let same : c.self.inside.system ≡ c.args.self.now.system = ap (λ (x : Session). x.system) c.self.view_is in
-    let then = add_then c.self.inside.system c.in_ok-system.system c.args.node.now c.args.path.now c.args.name.now c.in_ok-own.field-0-0 c.in_ok-own.own.now _ c.in_ok-own.ensures.ok (sym c.in-Some.ensures) c.in_ok-system.ensures.ok ∙ ap (λ (x : Session). appended x.system c.args.node.now c.args.path.now c.args.name.now) (sym c.start-session.ensures) in
-    rw (r, ← same) (fault_by e (appended c.start-session.result.system c.args.node.now c.args.path.now c.args.name.now) _ (λ fault. then ∙ fault) c.in_err-append.ensures.err)
+    let then = add_then c.self.inside.system c.in_ok-session.session.system c.args.node.now c.args.path.now c.args.name.now c.in_ok-own.field-0-0 c.in_ok-own.own.now _ c.in_ok-own.ensures.ok (sym c.in-Some.ensures) (subst (λ (s : System). with_node s c.args.name.now ≡ Ok c.in_ok-session.session.system) (sym same) c.in_ok-session.ensures.ok) in
+    rw (r, ← same) (fault_by e (appended c.in_ok-session.session.system c.args.node.now c.args.path.now c.args.name.now) _ (λ fault. then ∙ fault) c.in_err-append.ensures.err)
 
 pub returns-in_default-find-clause-ok : goal.returns-in_default-find-clause-ok
 returns-in_default-find-clause-ok c =
     let same : c.self.inside.system ≡ c.args.self.now.system = ap (λ (x : Session). x.system) c.self.view_is in
-    let then = add_then c.self.inside.system c.in_ok-system.system c.args.node.now c.args.path.now c.args.name.now c.in_ok-own.field-0-0 c.in_ok-own.own.now _ c.in_ok-own.ensures.ok (sym c.in-Some.ensures) c.in_ok-system.ensures.ok ∙ ap (λ (x : Session). appended x.system c.args.node.now c.args.path.now c.args.name.now) (sym c.start-session.ensures) in
+    let then = add_then c.self.inside.system c.in_ok-session.session.system c.args.node.now c.args.path.now c.args.name.now c.in_ok-own.field-0-0 c.in_ok-own.own.now _ c.in_ok-own.ensures.ok (sym c.in-Some.ensures) (subst (λ (s : System). with_node s c.args.name.now ≡ Ok c.in_ok-session.session.system) (sym same) c.in_ok-session.ensures.ok) in
     rw (← same) (then ∙ c.in_ok-append.ensures.ok ∙ ap (λ (x : Session). Ok x.system) (sym c.session.view_is))
 
 pub returns-clause-ok : goal.returns-clause-ok

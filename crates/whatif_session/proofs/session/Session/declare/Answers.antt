@@ -1,5 +1,6 @@
-use Rattle.std.proofs.Common.{◌≡◌, rules, sym, ap, subst, ◌∙◌, inr, Ok, Err}
+use Rattle.std.proofs.Common.{◌≡◌, ◌⊎◌, rules, sym, ap, subst, ◌∙◌, inr, Ok, Err}
 use Rattle.fbas_model.specs.Systems.{System}
+use Rattle.whatif_session.specs.declared.faults.EditFault.TheVariants.{Memory}
 use Rattle.whatif_session.specs.Sessions.{Session}
 use Rattle.whatif_session.specs.Names.{with_node}
 use Rattle.whatif_session.specs.Edited.{edited, declared}
@@ -7,25 +8,25 @@ use Rattle.whatif_session.specs.Edits.{Declare}
 use Rattle.whatif_session.proofs.EditLaws.{declare_already, declare_fault, declare_open, missing_open, there_open, known_node, set_there, set_missing, on_then, fault_by}
 use Rattle.whatif_session.proofs.session.Session.declare.Goals as goal
 
-pub returns-in_err-system-clause-err : goal.returns-in_err-system-clause-err
-returns-in_err-system-clause-err c =
-    let e = c.in_err-system.field-0.0 in
+pub returns-in_err-session-clause-err : goal.returns-in_err-session-clause-err
+returns-in_err-session-clause-err c =
+    let e = c.in_err-session.field-0.0 in
     let r : c.from_residual.result ≡ Err e = search rules in
     let same : c.self.inside.system ≡ c.args.self.now.system = ap (λ (x : Session). x.system) c.self.view_is in
-    rw (r, ← same) (fault_by e (with_node c.self.inside.system c.args.node.now) _ (declare_fault c.self.inside.system c.args.node.now e (missing_open c.self.inside.system c.args.node.now (sym c.find.ensures.place ∙ c.in_default.is))) c.in_err-system.ensures.err)
+    rw (r, ← same) (fault_by e (with_node c.self.inside.system c.args.node.now) _ (declare_fault c.self.inside.system c.args.node.now e (missing_open c.self.inside.system c.args.node.now (sym c.find.ensures.place ∙ c.in_default.is))) (subst (λ (s : System). (e ≡ Memory) ⊎ (with_node s c.args.node.now ≡ Err e)) (sym same) c.in_err-session.ensures.err))
 
 pub returns-in_err-give_bare_set-clause-err : goal.returns-in_err-give_bare_set-clause-err
 returns-in_err-give_bare_set-clause-err c =
     let e = c.in_err-give_bare_set.field-0.0 in
     let r : c.from_residual-in_err-give_bare_set.result ≡ Err e = search rules in
     let same : c.self.inside.system ≡ c.args.self.now.system = ap (λ (x : Session). x.system) c.self.view_is in
-    let then = declare_open c.self.inside.system c.in_ok-system.system c.args.node.now (missing_open c.self.inside.system c.args.node.now (sym c.find.ensures.place ∙ c.in_default.is)) c.in_ok-system.ensures.ok ∙ ap (λ (x : Session). declared x.system c.args.node.now) (sym c.start-session.ensures) in
-    rw (r, ← same) (fault_by e (declared c.start-session.result.system c.args.node.now) _ (λ fault. then ∙ fault) c.in_err-give_bare_set.ensures.err)
+    let then = declare_open c.self.inside.system c.in_ok-session.session.system c.args.node.now (missing_open c.self.inside.system c.args.node.now (sym c.find.ensures.place ∙ c.in_default.is)) (subst (λ (s : System). with_node s c.args.node.now ≡ Ok c.in_ok-session.session.system) (sym same) c.in_ok-session.ensures.ok) in
+    rw (r, ← same) (fault_by e (declared c.in_ok-session.session.system c.args.node.now) _ (λ fault. then ∙ fault) c.in_err-give_bare_set.ensures.err)
 
 pub returns-in_default-clause-ok : goal.returns-in_default-clause-ok
 returns-in_default-clause-ok c =
     let same : c.self.inside.system ≡ c.args.self.now.system = ap (λ (x : Session). x.system) c.self.view_is in
-    let then = declare_open c.self.inside.system c.in_ok-system.system c.args.node.now (missing_open c.self.inside.system c.args.node.now (sym c.find.ensures.place ∙ c.in_default.is)) c.in_ok-system.ensures.ok ∙ ap (λ (x : Session). declared x.system c.args.node.now) (sym c.start-session.ensures) in
+    let then = declare_open c.self.inside.system c.in_ok-session.session.system c.args.node.now (missing_open c.self.inside.system c.args.node.now (sym c.find.ensures.place ∙ c.in_default.is)) (subst (λ (s : System). with_node s c.args.node.now ≡ Ok c.in_ok-session.session.system) (sym same) c.in_ok-session.ensures.ok) in
     rw (← same) (then ∙ c.in_ok-give_bare_set.ensures.ok ∙ ap (λ (x : Session). Ok x.system) (sym c.session.view_is))
 
 pub returns-then-is_some-clause-err : goal.returns-then-is_some-clause-err
