@@ -1,18 +1,22 @@
 #!/usr/bin/env python3
-"""Runs all tests that need no proof, side by side on all processors, on the program that ./quorum_cli runs and on the
-files of dist/.
+"""Runs all tests that need no proof by pytest, side by side on all processors, on the program that ./quorum_cli runs
+and on the files of dist/.
 
-usage: tests/run.py [--long] [--jobs N] [GROUP..]
+usage: tests/run.py [--long] [--jobs N] [--cases N] [--seed N] [GROUP..]
 
-It needs python3, and a C compiler for the callers of the library. A line says how each group ended and what it took;
-what failed is shown in full, and what was skipped with its reason. With --long the groups that make up their cases
-make many more, and those run that need tools from outside. The last line is 'N passed, M failed', with ', K skipped'
-if something was. Status 0 if nothing failed, else 1.
+A group is a file of tests: process is tests/test_process.py, and python is all of tests/python. A line says how each
+ended and what it took; what failed is shown in full, and what was skipped with its reason. With --long the groups that
+make up their cases make many more, and those run that take long or need tools from outside. pytest alone runs the same
+tests, one after another: `pytest tests`, `pytest tests/test_process.py`.
+
+It needs python3 with pytest, and a C compiler for the callers of the library. The last line is 'N passed, M failed,
+K skipped'. Status 0 if nothing failed, else 1.
 """
 
 from __future__ import annotations
 
 import argparse
+import collections
 import concurrent.futures
 import os
 import re
@@ -21,22 +25,32 @@ import sys
 import tempfile
 import threading
 import time
+import xml.etree.ElementTree
+from collections.abc import Iterator
 
 sys.dont_write_bytecode = True
 
 TOP = os.path.dirname(os.path.dirname(os.path.abspath(__file__)))
-COUNTS = {what: re.compile(rf"(\d+) {what}\b") for what in ("passed", "failed", "skipped")}
+TESTS = os.path.join(TOP, "tests")
 MOST_SECONDS = 3600
 # A group interrupts what it runs, and that heeds it also where this script was begun with signals ignored (nohup, a
 # job in the background).
 HEEDING = ["env", "--default-signal=HUP,INT,TERM"]
-
-# Each group: its script and its words; the dearest come first. PAGE is the page of dist/, and a folder is for pytest.
-GROUPS = {
+PYTEST = ["-m", "pytest", "-q", "-rs", "-p", "no:cacheprovider", "--color=no"]
+NO_PYTEST = "there is no pytest: apt-get install python3-pytest"
+# The dearest come first.
+DEAREST = ["network_report", "web_page", "web_modules", "library", "lint", "process", "answers", "malicious", "fuzz"]
+# What needs no program, so that none is made for it.
+WITHOUT_PROGRAM = {"dist", "documents", "lint", "web_modules", "wrapper"}
+# A file all of whose tests take long.
+ALL_LONG = re.compile(r"^pytestmark = pytest\.mark\.long$|^pytestmark = \[.*\bpytest\.mark\.long\b.*\]$", re.M)
+# Scripts that are not files of pytest yet, and their words; with --long those of LONG.
+SCRIPTS = {
     "network_report": "network_report.py",
     "web_page": "web_page.py --over PAGE",
     "web_modules": "web_modules.py",
     "library": "library.py --built --cases 500",
+    "mypy": "lint.py mypy",
     "process": "process.py",
     "answers": "answers.py",
     "malicious": "malicious.py",
@@ -45,7 +59,6 @@ GROUPS = {
     "fuzz": "fuzz.py --cases 400 --seed 1",
     "summary": "summary.py",
     "browser": "browser.py",
-    "python": "python",
     "wrapper": "wrapper.py",
     "documents": "documents.py",
     "dist": "dist.py",
@@ -55,12 +68,10 @@ GROUPS = {
     "script": "script.py --cases 60",
     "orders": "orders.py 60",
     "tools": "tools.py",
-    "mypy": "lint.py mypy",
     "flake8": "lint.py flake8",
     "shellcheck": "lint.py shellcheck",
     "eslint": "lint.py eslint",
 }
-# What --long runs in the place of the groups of these names, and besides.
 LONG = {
     "fail_alloc": "fail_alloc.py",
     "library": "library.py",
@@ -75,8 +86,39 @@ LONG = {
     "questions": "questions.py",
     "random_lists": "random_lists.py",
     "edits": "edits.py",
-    "snapshots": "python/snapshots.py",
+    "python/snapshots": "python/snapshots.py",
 }
+
+
+def scripts(is_long: bool) -> dict[str, str]:
+    """Those of the scripts for which there is no file of pytest."""
+    found = {}
+    for name, line in ({**SCRIPTS, **LONG} if is_long else SCRIPTS).items():
+        path = os.path.join(TESTS, line.split()[0])
+        if os.path.exists(path) and not os.path.exists(
+            os.path.join(os.path.dirname(path), f"test_{os.path.basename(path)}")
+        ):
+            found[name] = line
+    return found
+
+
+def groups() -> dict[str, str]:
+    """Each group by its file, the dearest first."""
+    found = {}
+    for folder, inner, names in os.walk(TESTS):
+        inner.sort()
+        for name in sorted(names):
+            if re.fullmatch(r"test_\w+\.py", name):
+                path = os.path.join(folder, name)
+                found[os.path.relpath(path, TESTS).removesuffix(".py").replace("test_", "")] = path
+    return {name: found[name] for name in [*(it for it in DEAREST if it in found), *(found.keys() - {*DEAREST})]}
+
+
+def takes_long(path: str) -> bool:
+    if not os.path.isabs(path):
+        return False
+    with open(path, encoding="utf-8") as it:
+        return ALL_LONG.search(it.read()) is not None
 
 
 def with_pytest() -> str | None:
@@ -91,60 +133,48 @@ def with_pytest() -> str | None:
 class Ended:
     """How a group ended: its counts, why something was skipped, and all that it said."""
 
-    def __init__(self, name: str, status: int, said: str, seconds: float) -> None:
+    def __init__(self, name: str, status: int, said: str, report: str, seconds: float) -> None:
         self.name, self.said, self.seconds = name, said.rstrip("\n"), seconds
-        last = self.said.rpartition("\n")[2]
-        counts = {what: int(found[1]) for what, found in ((it, COUNTS[it].search(last)) for it in COUNTS) if found}
-        self.passed, self.failed = counts.get("passed", 0), counts.get("failed", 0)
-        self.why = [
-            re.sub(rf"^{name}: |: \d+ passed.*$", "", line)
-            for line in self.said.replace("-", "_").split("\n")
-            if "skipped" in line.lower() and not re.search(r"\d skipped", line)
-        ]
-        self.skipped = max(counts.get("skipped", 0), len(self.why))
-        # (one that ends badly, or says nothing of what it did, has failed)
-        if (status and not self.failed) or not (counts or self.why):
+        self.passed = self.failed = self.skipped = 0
+        self.why: collections.Counter[str] = collections.Counter()
+        for case in cases(report):
+            skipped = case.find("skipped")
+            if skipped is not None:
+                self.skipped += 1
+                self.why[skipped.get("message", "")] += 1
+            elif case.find("failure") is not None or case.find("error") is not None:
+                self.failed += 1
+            else:
+                self.passed += 1
+        # (one that ends badly, or has run nothing, has failed)
+        if (status and not self.failed) or not self.passed + self.failed + self.skipped:
             self.failed += 1
 
     def line(self) -> str:
-        counts = "%d passed, %d failed%s" % (
-            self.passed,
-            self.failed,
-            f", {self.skipped} skipped" if self.skipped else "",
-        )
-        return f"{self.name:<15} {self.seconds:7.1f} s  {counts}"
+        return f"{self.name:<20} {self.seconds:7.1f} s  {counts(self.passed, self.failed, self.skipped)}"
+
+
+def cases(report: str) -> Iterator[xml.etree.ElementTree.Element]:
+    """The tests of a report in the form of JUnit, which pytest writes; none if it could not."""
+    if os.path.exists(report) and os.path.getsize(report):
+        yield from xml.etree.ElementTree.parse(report).iter("testcase")
+
+
+def counts(passed: int, failed: int, skipped: int) -> str:
+    return f"{passed} passed, {failed} failed, {skipped} skipped"
 
 
 class Runner:
-    def __init__(self, program: str, processors: int) -> None:
-        self.env = {**os.environ, "QUORUM_CLI": program, "PYTHONDONTWRITEBYTECODE": "1"}
-        self.is_of_dist = program == os.path.join(TOP, "dist", "quorum_cli")
-        if self.is_of_dist:
-            self.env.setdefault("QUORUM_LIBRARY", os.path.join(TOP, "dist", "libquorum.so"))
-        self.processors, self.printing = processors, threading.Lock()
+    def __init__(self, python: str, program: str | None, words: list[str], folder: str) -> None:
+        self.python, self.words, self.folder = python, words, folder
+        self.env = {**os.environ, "PYTHONDONTWRITEBYTECODE": "1"}
+        if program:
+            self.env["QUORUM_CLI"] = program
+        self.printing = threading.Lock()
 
-    def run(self, name: str, line: str) -> Ended:
-        script, *words = [
-            os.path.join(TOP, "dist", "quorums.html") if word == "PAGE" else word for word in line.split()
-        ]
-        script, began = os.path.join(TOP, "tests", script), time.monotonic()
-        if "PAGE" in line and not self.is_of_dist:
-            status, said = 0, "skipped, since the page of dist/ is of other sources than those here"
-        elif not line.startswith("python"):
-            status, said = self.ran([*HEEDING, sys.executable, script, *words])
-        elif python := with_pytest():
-            how = ["-m", "pytest", "-q", "-rs"] * os.path.isdir(script)
-            status, said = self.ran([*HEEDING, python, *how, script, *words])
-        else:
-            status, said = 0, "skipped, there is no pytest"
-        ended = Ended(name, status, said, time.monotonic() - began)
-        with self.printing:
-            if ended.failed:
-                print("\n".join("  " + it for it in ended.said.split("\n")))
-            print(ended.line(), flush=True)
-        return ended
-
-    def ran(self, words: list[str]) -> tuple[int, str]:
+    def run(self, name: str, path: str) -> Ended:
+        report, began = os.path.join(self.folder, name.replace("/", " ") + ".xml"), time.monotonic()
+        words = [*HEEDING, self.python, *PYTEST, f"--junitxml={report}", *self.words, path]
         with tempfile.TemporaryFile() as out:
             try:
                 status = subprocess.run(
@@ -159,11 +189,51 @@ class Runner:
             except subprocess.TimeoutExpired:
                 status = 1
             out.seek(0)
-            return status, out.read().decode("utf-8", "replace")
+            said = out.read().decode("utf-8", "replace")
+        ended = Ended(name, status, said, report, time.monotonic() - began)
+        with self.printing:
+            if ended.failed:
+                print("\n".join("  " + it for it in ended.said.split("\n")))
+            print(ended.line(), flush=True)
+        return ended
 
-    def all(self, groups: dict[str, str]) -> list[Ended]:
-        with concurrent.futures.ThreadPoolExecutor(self.processors) as pool:
-            return [it.result() for it in [pool.submit(self.run, *it) for it in groups.items()]]
+    def run_script(self, name: str, line: str) -> Ended:
+        words, began = [
+            os.path.join(TOP, "dist", "quorums.html") if it == "PAGE" else it for it in line.split()
+        ], time.monotonic()
+        ran = subprocess.run(
+            [*HEEDING, sys.executable, os.path.join(TESTS, words[0]), *words[1:]],
+            env={
+                **self.env,
+                "QUORUM_LIBRARY": os.environ.get("QUORUM_LIBRARY", os.path.join(TOP, "dist", "libquorum.so")),
+            },
+            cwd=TOP,
+            stdin=subprocess.DEVNULL,
+            stdout=subprocess.PIPE,
+            stderr=subprocess.STDOUT,
+        )
+        ended = Ended(name, 0, ran.stdout.decode("utf-8", "replace"), "", time.monotonic() - began)
+        last = ended.said.rpartition("\n")[2]
+        ended.passed, ended.failed, ended.skipped = (
+            int(found[1]) if (found := re.search(rf"(\d+) {it}", last)) else 0
+            for it in ("passed", "failed", "skipped")
+        )
+        ended.why.update(it for it in ended.said.split("\n") if "skipped" in it and not re.search(r"\d skipped", it))
+        ended.skipped = max(ended.skipped, ended.why.total())
+        ended.failed = ended.failed or int(ran.returncode != 0)
+        with self.printing:
+            if ended.failed:
+                print("\n".join("  " + it for it in ended.said.split("\n")))
+            print(ended.line(), flush=True)
+        return ended
+
+    def all(self, wanted: dict[str, str], jobs: int) -> list[Ended]:
+        with concurrent.futures.ThreadPoolExecutor(jobs) as pool:
+            begun = [
+                pool.submit(self.run if os.path.isabs(path) else self.run_script, name, path)
+                for name, path in wanted.items()
+            ]
+            return [it.result() for it in begun]
 
 
 def program() -> str:
@@ -175,32 +245,55 @@ def program() -> str:
     )
 
 
-def main() -> int:
+def asked() -> tuple[argparse.Namespace, dict[str, str]]:
+    """The words, and the groups that they ask for."""
     words = argparse.ArgumentParser(prog="run.py", description="Runs all tests that need no proof.")
-    words.add_argument("--long", action="store_true", help="more cases, and what needs tools from outside")
+    words.add_argument("--long", action="store_true", help="more cases, and what takes long")
     words.add_argument(
         "--jobs", type=int, default=len(os.sched_getaffinity(0)), help="groups at a time (default: one a processor)"
     )
+    words.add_argument("--cases", type=int, help="how many cases are made up")
+    words.add_argument("--seed", type=int, help="from which number")
     words.add_argument("group", nargs="*", help="only these")
-    asked = words.parse_args()
-    groups = {**LONG, **{name: line for name, line in GROUPS.items() if name not in LONG}} if asked.long else GROUPS
-    if not {*asked.group} <= {*groups}:
-        words.error("the groups are " + " ".join(groups))
-    found, began = program(), time.monotonic()
-    if not found:
-        print("0 passed, 1 failed")
-        return 1
-    subprocess.run([os.path.join(TOP, "quorum_cli"), "--about"])
-    ended = Runner(found, asked.jobs).all(
-        {name: line for name, line in groups.items() if not asked.group or name in asked.group}
-    )
+    found, every = words.parse_args(), groups()
+    every = {**scripts(found.long), **every}
+    for it in found.group:
+        if not any(is_in(name, it) for name in every):
+            words.error(f"there is no group {it}; the groups are {' '.join(every)}")
+    return found, {
+        name: path
+        for name, path in every.items()
+        if (found.long or not takes_long(path)) and (not found.group or any(is_in(name, it) for it in found.group))
+    }
+
+
+def is_in(name: str, group: str) -> bool:
+    return name == group or name.startswith(group + "/")
+
+
+def main() -> int:
+    words, wanted = asked()
+    python, began = with_pytest(), time.monotonic()
+    if not python:
+        print(f"{NO_PYTEST}\n{counts(0, 0, len(wanted))}")
+        return 0
+    found = None
+    if not {*wanted} <= WITHOUT_PROGRAM:
+        found = program()
+        if not found:
+            print(counts(0, 1, 0))
+            return 1
+        subprocess.run([os.path.join(TOP, "quorum_cli"), "--about"])
+    more = ["--long"] * words.long
+    more += [f"--{it}={getattr(words, it)}" for it in ("cases", "seed") if getattr(words, it) is not None]
+    with tempfile.TemporaryDirectory() as folder:
+        ended = Runner(python, found, more, folder).all(wanted, words.jobs)
     for group in ended:
-        for why in group.why:
-            print(f"skipped: {group.name}: {why}")
-    passed, failed, skipped = (sum(getattr(it, what) for it in ended) for what in ("passed", "failed", "skipped"))
-    print(f"{len(ended)} groups in {time.monotonic() - began:.0f} s by {asked.jobs} at a time")
-    print(f"{passed} passed, {failed} failed{f', {skipped} skipped' if skipped else ''}")
-    return 1 if failed else 0
+        for why, times in group.why.items():
+            print(f"skipped: {group.name}: {why}" + (f" ({times} tests)" if times > 1 else ""))
+    print(f"{len(ended)} groups in {time.monotonic() - began:.0f} s by {words.jobs} at a time")
+    print(counts(*(sum(getattr(it, what) for it in ended) for what in ("passed", "failed", "skipped"))))
+    return 1 if any(it.failed for it in ended) else 0
 
 
 if __name__ == "__main__":

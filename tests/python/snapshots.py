@@ -188,7 +188,6 @@ def main() -> int:
 try:
     import browser
     import chosen
-    import conftest  # noqa: F401
     import drifting
     import test_bulk
     import test_history

@@ -13,8 +13,9 @@ from pathlib import Path
 from typing import Any
 
 import pytest
-from conftest import PACKAGE, as_json, flat, node
+from chosen import PACKAGE
 from drifting import make
+from networks import as_json, flat, node
 
 from quorums import bulk, tables
 from quorums.summary import Asked

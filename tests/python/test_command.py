@@ -15,7 +15,8 @@ from pathlib import Path
 from typing import Any
 
 import pytest
-from conftest import PACKAGE, TOP, as_json, example, flat
+from chosen import PACKAGE, TOP
+from networks import as_json, example, flat
 
 from quorums import usage
 from quorums.command import main

@@ -12,7 +12,7 @@ from pathlib import Path
 from typing import Any
 
 import pytest
-from conftest import PACKAGE, TOP
+from chosen import PACKAGE, TOP
 
 
 def blocks() -> list[tuple[str, str]]:

@@ -9,8 +9,8 @@ from pathlib import Path
 from typing import Any
 
 import pytest
-from conftest import as_json, flat
 from drifting import make
+from networks import as_json, flat
 
 from quorums import bulk, history_page, tables
 from quorums.summary import Asked

@@ -4,7 +4,7 @@ from __future__ import annotations
 
 import json
 
-from conftest import as_json, example, flat, node
+from networks import as_json, example, flat, node
 
 from quorums import Quorums
 from quorums.snapshots import Snapshot, group_id

@@ -11,7 +11,8 @@ from collections.abc import Callable
 from typing import Any
 
 import pytest
-from conftest import PACKAGE, TOP, as_json, example, flat, node
+from chosen import PACKAGE, TOP
+from networks import as_json, example, flat, node
 
 from quorums import Ended, Lost, Quorums, Refused, Stop, TooLarge, answer, trial
 from quorums import usage, worker

@@ -8,7 +8,7 @@ import random
 from typing import Any
 
 import pytest
-from conftest import as_json, example, flat, node
+from networks import as_json, example, flat, node
 
 from quorums import Refused
 from quorums.summary import LISTS, Asked, Kept, cells, summary
