@@ -1,25 +1,18 @@
-#!/usr/bin/env python3
-"""The answers of the built program, or of the one that is handed in, to worked questions: status, output and
-certificate.
+"""The answers of the program to worked questions: status, output and certificate.
 
 Each row is data. The expected values come from the definitions by hand, and digests from sha256sum. Each row runs in a
 folder of its own with the files config, cert, orgs and script, of which those that the row lacks are empty. What a
-search writes is checked, beside the same organisations. Its last line is 'answers: N passed, M failed'.
+search writes is checked, beside the same organisations.
 """
 
 from __future__ import annotations
 
 import collections
-import os
-import subprocess
-import sys
-import tempfile
 from collections.abc import Callable, Iterable, Iterator
+from pathlib import Path
 from typing import Any
 
-TOP = os.path.dirname(os.path.dirname(os.path.abspath(__file__)))
-
-import chosen
+import pytest
 from process import USAGE, organisations, sha256, system
 
 CHECK = "check config cert"
@@ -1270,80 +1263,35 @@ def scripts() -> Iterator[tuple[str, list[Row]]]:
     ]
 
 
-class Trial:
-    def __init__(self, program: str) -> None:
-        self.program = os.path.abspath(program)
-        self.passed = self.failed = 0
-
-    def run(self, folder: str, words: list[str]) -> tuple[int, str, str]:
-        ended = subprocess.run(
-            [self.program, *words],
-            cwd=folder,
-            stdin=subprocess.DEVNULL,
-            stdout=subprocess.PIPE,
-            stderr=subprocess.PIPE,
-            timeout=300,
-        )
-        return ended.returncode, ended.stdout.decode(), ended.stderr.decode()
-
-    def judge(self, name: str, found: tuple[int, bool | str, str], wanted: object) -> None:
-        if found == wanted:
-            self.passed += 1
-        else:
-            self.failed += 1
-            print(f"answers: {name}: found {found!r:.2000}, wanted {wanted!r:.2000}")
-
-    def row(self, name: str, it: Row) -> None:
-        """Runs the words of a row, and then `check` of the certificate that these name, where it is to be accepted."""
-        name = f"{name}: {' '.join(it.words)}"
-        with tempfile.TemporaryDirectory() as folder:
-            for file in ("config", "cert", "orgs", "script"):
-                put(os.path.join(folder, file), it.files.get(file, ""))
-            status, text, error = self.run(folder, it.words)
-            text, wanted = (it.text(text), True) if callable(it.text) else (text, it.text)
-            self.judge(name, (status, text, error), (it.status, wanted, ""))
-            made = "cert" if "cert" in it.words else "c"
-            if it.accepted is not None:
-                status = 2 if it.accepted.startswith("accepted partial") else 0
-                self.judge(
-                    name + ", checked",
-                    self.run(
-                        folder,
-                        (
-                            ["check", "config", made, "--orgs", "orgs"]
-                            if it.files.get("orgs")
-                            else ["check", "config", made]
-                        ),
-                    ),
-                    (status, it.accepted, ""),
-                )
-            if it.holds is not None:
-                self.judge(name + ", its certificate", it.holds(held(os.path.join(folder, made))), True)
-
-
-def put(path: str, data: str) -> None:
-    """Writes a file; great ones are made when they are wanted."""
-    data = data() if callable(data) else data
-    with open(path, "wb") as it:
-        it.write(data if isinstance(data, bytes) else data.encode())
-
-
-def held(path: str) -> str | None:
-    if not os.path.exists(path):
-        return None
-    with open(path, encoding="utf-8") as it:
-        return it.read()
-
-
-def main(program: str = chosen.PROGRAM) -> int:
-    trial = Trial(program)
+def every_row() -> Iterator[Any]:
     for part in (questions, readings, searches, checks, scripts):
         for name, rows in part():
             for it in rows:
-                trial.row(name, it)
-    print(f"answers: {trial.passed} passed, {trial.failed} failed")
-    return 1 if trial.failed else 0
+                yield pytest.param(it, id=f"{name}: {' '.join(it.words)}"[:120])
 
 
-if __name__ == "__main__":
-    sys.exit(main(*sys.argv[1:2]))
+@pytest.mark.parametrize("row", every_row())
+def test_the_answer_is(run: Any, tmp_path: Path, row: Row) -> None:
+    """And then what `check` says of the certificate that the words name, where it is to be accepted."""
+    for file in ("config", "cert", "orgs", "script"):
+        put(tmp_path / file, row.files.get(file, ""))
+    status, text, error = run(*row.words, cwd=tmp_path)
+    assert (status, error) == (row.status, "")
+    if callable(row.text):
+        assert row.text(text)
+    else:
+        assert text == row.text
+    made = "cert" if "cert" in row.words else "c"
+    if row.accepted is not None:
+        status = 2 if row.accepted.startswith("accepted partial") else 0
+        orgs = ["--orgs", "orgs"] if row.files.get("orgs") else []
+        assert run("check", "config", made, *orgs, cwd=tmp_path) == (status, row.accepted, "")
+    if row.holds is not None:
+        cert = tmp_path / made
+        assert row.holds(cert.read_text(encoding="utf-8") if cert.exists() else None)
+
+
+def put(path: Path, data: Any) -> None:
+    """Writes a file; great ones are made when they are wanted."""
+    data = data() if callable(data) else data
+    path.write_bytes(data if isinstance(data, bytes) else data.encode())
