@@ -16,7 +16,7 @@ TOP = os.path.dirname(os.path.dirname(os.path.abspath(__file__)))
 # (behind what is installed; the folder of each test comes first by itself)
 sys.path += [os.path.join(TOP, it) for it in ("bench", "tools", "library/python")]
 # (a failed comparison in one of these is shown with both sides, as in a test)
-pytest.register_assert_rewrite("fail_alloc", "fuzz", "malicious", "memory", "process", "replacing")
+pytest.register_assert_rewrite("memory")
 
 import chosen
 from networks import Networks, example
@@ -30,6 +30,7 @@ def pytest_addoption(parser: Any) -> None:
     group.addoption("--long", action="store_true", help="more cases, and the tests that take long")
     group.addoption("--cases", type=int, metavar="N", help="how many cases each test makes that makes them up")
     group.addoption("--seed", type=int, metavar="N", help="from which number it makes them")
+    group.addoption("--kind", help="only cases of this kind, where a test makes several: of tests/fuzz.py, as whatif")
 
 
 def pytest_configure(config: Any) -> None:

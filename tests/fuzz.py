@@ -1,20 +1,15 @@
-#!/usr/bin/env python3
 """Mutates configurations, organisations, certificates of every kind, proofs of other solvers, scripts of edits and
-command words, and runs the built program on them.
+command words, and judges what the program says of them.
 
 The program must end with one of its statuses, put out what fits that status, and nothing on standard error. What
 'check' says of a configuration and a certificate, 'check-lrat' of a proof, 'whatif' of a script, 'greatest' of
 organisations, and what the plain questions and 'export' answer, must be what tests/plain_checker.py says. A
 certificate that a search wrote must be one that it accepts, and the answer that of trying all sets of nodes; where the
 answer is unknown, each unit of the certificate must be useful and its clauses must not close.
-
-tests/fuzz.py [--cases N] [--seed S] [--kind KIND] [PROGRAM], all cases of one kind where KIND is given, as whatif; its
-last line is 'fuzz: N passed, M failed'.
 """
 
 from __future__ import annotations
 
-import argparse
 import collections
 import hashlib
 import itertools
@@ -23,17 +18,10 @@ import os
 import random
 import re
 import subprocess
-import sys
-import tempfile
 from typing import Any
 
-sys.path.insert(0, os.path.dirname(os.path.abspath(__file__)))
-import chosen
 import commands
 import plain_checker as plain
-
-TOP = os.path.dirname(os.path.dirname(os.path.abspath(__file__)))
-BUILT = chosen.PROGRAM
 
 # What is put out with a status. 8 is none of them: no case wants more memory than there is.
 REFUSALS = {
@@ -1147,44 +1135,9 @@ def shrunk(program: Any, case: Case) -> Any:
     return case
 
 
-def show(program: Any, number: int, case: Case) -> None:
-    """Prints a failing case, made smaller where that is no change of the question."""
+def shown(program: Any, number: int, case: Case) -> str:
+    """A case whose answer is wrong, made smaller where that is no change of the question."""
     if case.kind not in ("search", "question", "proof"):
         case = shrunk(program, case)
-    print(f"fuzz: case {number}: {program.fault(case)}")
-    print(f"  words {case.words!r}")
-    for name, data in sorted(case.files.items()):
-        print(f"  {name} {data[:2000]!r}")
-    sys.stdout.flush()
-
-
-def main() -> int:
-    parser = argparse.ArgumentParser()
-    parser.add_argument("--cases", type=int, default=400)
-    parser.add_argument("--seed", type=int, default=1)
-    parser.add_argument("--kind")
-    parser.add_argument("program", nargs="?", default=BUILT)
-    asked = parser.parse_args()
-    passed = failed = 0
-    with tempfile.TemporaryDirectory(dir="/dev/shm" if os.path.isdir("/dev/shm") else None) as folder:
-        program = Program(asked.program, folder)
-        maker = Maker(random.Random(asked.seed), program)
-        for number in range(asked.cases):
-            case = getattr(maker, asked.kind)() if asked.kind else maker.case()
-            if program.fault(case) is None:
-                passed += 1
-                if case.kind == "search":
-                    maker.keep(case)
-                elif case.kind in ("check", "proof"):
-                    maker.count(case)
-            else:
-                failed += 1
-                if failed <= 10:
-                    show(program, number, case)
-    print(f"fuzz: certificates that were accepted, of versions 1, 2 and 3: {maker.told()}")
-    print(f"fuzz: {passed} passed, {failed} failed")
-    return 1 if failed else 0
-
-
-if __name__ == "__main__":
-    sys.exit(main())
+    files = "".join(f"\n  {name} {data[:2000]!r}" for name, data in sorted(case.files.items()))
+    return f"case {number}: {program.fault(case)}\n  words {case.words!r}{files}"

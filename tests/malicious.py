@@ -1,29 +1,11 @@
-#!/usr/bin/env python3
-"""Runs the built program on files that were made to break it: each answer is one exact text and status, and nothing
-else.
-
-Then certificates are written to files that may not grow beyond so many bytes, for each number of bytes: the program
-says that it could not write, and what was written is refused as truncated.
-
-tests/malicious.py [PROGRAM]; its last line is 'malicious: N passed, M failed'.
-"""
+"""Files that were made to break the program, each with the one text and status that is its answer."""
 
 from __future__ import annotations
 
 import hashlib
-import os
 import re
-import resource
-import signal
-import subprocess
-import sys
-import tempfile
-from typing import Any
-
-import chosen
-
-TOP = os.path.dirname(os.path.dirname(os.path.abspath(__file__)))
-BUILT = chosen.PROGRAM
+from collections.abc import Callable, Iterator
+from typing import Any, NamedTuple
 
 MOST_LINE = 134217728
 
@@ -978,128 +960,40 @@ LIMITS = [
 OLD = b"fbas-cert 2\nold\n"
 
 
-class Trial:
-    def __init__(self, folder: str, program: str) -> None:
-        self.folder, self.program = folder, os.path.abspath(program)
-        self.passed = self.failed = 0
+class Row(NamedTuple):
+    """What is asked over which files, and the answer. Great files are made when they are wanted."""
 
-    def put(self, name: str, data: Any) -> None:
-        """Writes a file; great ones are made when they are wanted."""
-        with open(os.path.join(self.folder, name), "wb") as it:
-            it.write(data() if callable(data) else data)
-
-    def run(self, *words: str, most: Any = None) -> tuple[int, str, str]:
-        """Runs the program, which may write files of so many bytes at most."""
-
-        def prepare() -> None:
-            if most is not None:
-                signal.signal(signal.SIGXFSZ, signal.SIG_IGN)
-                resource.setrlimit(resource.RLIMIT_FSIZE, (most, most))
-
-        ended = subprocess.run(
-            [self.program] + list(words),
-            cwd=self.folder,
-            stdin=subprocess.DEVNULL,
-            stdout=subprocess.PIPE,
-            stderr=subprocess.PIPE,
-            timeout=300,
-            preexec_fn=prepare,
-        )
-        return ended.returncode, ended.stdout.decode("latin-1"), ended.stderr.decode("latin-1")
-
-    def row(self, name: str, status: int, text: str, *words: str) -> None:
-        self.judge(name, self.run(*words), (status, text, ""))
-
-    def judge(self, name: str, found: object, wanted: object) -> None:
-        if found == wanted:
-            self.passed += 1
-        else:
-            self.failed += 1
-            print(f"malicious: {name}: found {found!r}, wanted {wanted!r}")
-
-    def held(self, name: str) -> bytes:
-        with open(os.path.join(self.folder, name), "rb") as it:
-            return it.read()
-
-    def full_files(self, *words: str, beside: tuple[str, ...] = ()) -> None:
-        """A search whose certificate finds no room behind so many bytes, for each number below its length: the file is
-        as it was."""
-        self.put("config", THREE)
-        self.put("orgs", TOGETHER)
-        self.put("made", OLD)
-        words += beside
-        self.run(*words)
-        whole = self.held("made")
-        self.put("made", OLD)
-        files = os.listdir(self.folder)
-        for most in range(len(whole)):
-            ended = self.run(*words, most=most)
-            self.judge(
-                f"room for {most} bytes: {' '.join(words)}",
-                (ended, self.held("made"), os.listdir(self.folder)),
-                ((7, "", ""), OLD, files),
-            )
-            if most % 8 == 0:
-                line = 1 + whole[:most].count(b"\n")
-                self.put("front", whole[:most])
-                self.row(
-                    f"the first {most} bytes", 5, f"refused truncated {line}\n", "check", "config", "front", *beside
-                )
-                os.remove(os.path.join(self.folder, "front"))
+    name: str
+    words: list[str]
+    files: dict[str, bytes | Callable[[], bytes]]
+    status: int
+    text: str
 
 
-def rows(trial: Trial) -> None:
-    """The files made to break the program, each with its one answer."""
+def every_row() -> Iterator[Row]:
+    """All of them."""
     for name, config, status, text in CONFIGURATIONS:
-        trial.put("config", config)
-        trial.row("configuration: " + name, status, text, "show", "config")
-    trial.put("config", TWO)
+        yield Row("configuration: " + name, ["show", "config"], {"config": config}, status, text)
+    words = ["greatest", "config", "--orgs", "orgs", "--faulty-orgs", "A"]
     for name, orgs, status, text in ORGANISATIONS:
-        trial.put("orgs", orgs)
-        trial.row("organisations: " + name, status, text, "greatest", "config", "--orgs", "orgs", "--faulty-orgs", "A")
+        yield Row("organisations: " + name, words, {"config": TWO, "orgs": orgs}, status, text)
+    words = ["check", "config", "cert"]
     for name, config, cert, status, text in CERTIFICATES + LISTS:
-        trial.put("config", config)
-        trial.put("cert", cert)
-        trial.row("certificate: " + name, status, text, "check", "config", "cert")
-    for name, config, orgs, cert, status, text in GROUPED:
-        for it, data in (("config", config), ("orgs", orgs), ("cert", cert)):
-            trial.put(it, data)
-        trial.row(
-            "certificate beside organisations: " + name, status, text, "check", "config", "cert", "--orgs", "orgs"
-        )
-    trial.put("config", THREE)
+        yield Row("certificate: " + name, words, {"config": config, "cert": cert}, status, text)
     for name, cert, text in (
         ("without them", GROUPS, "refused no-orgs\n"),
         ("without them and with a faulty line", GROUPS.replace(b"orgs ", b"orgs  "), "refused bad-line 6\n"),
     ):
-        trial.put("cert", cert)
-        trial.row("certificate beside organisations: " + name, 5, text, "check", "config", "cert")
-    trial.put("config", TWO)
+        yield Row("certificate beside organisations: " + name, words, {"config": THREE, "cert": cert}, 5, text)
+    words = ["check", "config", "cert", "--orgs", "orgs"]
+    for name, config, orgs, cert, status, text in GROUPED:
+        files = {"config": config, "orgs": orgs, "cert": cert}
+        yield Row("certificate beside organisations: " + name, words, files, status, text)
     for name, proof, status, text in PROOFS:
-        trial.put("cert", proof)
-        trial.row("proof: " + name, status, text, "check-lrat", "config", "cert")
+        yield Row("proof: " + name, ["check-lrat", "config", "cert"], {"config": TWO, "cert": proof}, status, text)
+    words = ["whatif", "config", "script", "--set", "p"]
     for name, script, status, text in SCRIPTS:
-        trial.put("script", script)
-        trial.row("script: " + name, status, text, "whatif", "config", "script", "--set", "p")
+        yield Row("script: " + name, words, {"config": TWO, "script": script}, status, text)
+    words = ["whatif", "config", "script", "--set="]
     for name, config, script, text in LIMITS:
-        trial.put("config", config)
-        trial.put("script", script)
-        trial.row("script: " + name, 10, text, "whatif", "config", "script", "--set=")
-
-
-def main(program: str = BUILT) -> int:
-    with tempfile.TemporaryDirectory() as folder:
-        trial = Trial(folder, program)
-        rows(trial)
-        trial.full_files("intersect", "config", "made")
-        trial.full_files("intersect", "config", "made", "--faulty", "a")
-        trial.full_files("blocking", "config", "made")
-        trial.full_files("quorums", "config", "made")
-        trial.full_files("least", "config", "made")
-        trial.full_files("org-blocking", "config", "made", beside=("--orgs", "orgs"))
-    print(f"malicious: {trial.passed} passed, {trial.failed} failed")
-    return 1 if trial.failed else 0
-
-
-if __name__ == "__main__":
-    sys.exit(main(*sys.argv[1:2]))
+        yield Row("script: " + name, words, {"config": config, "script": script}, 10, text)

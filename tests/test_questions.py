@@ -1,26 +1,25 @@
-#!/usr/bin/env python3
-"""Asks `intersect` of networks of 30 to 100 nodes, checks each certificate, and compares with minisat on the exported
-formula.
+"""Asks `intersect` of networks of 30 to 100 nodes, checks each certificate, and compares with minisat (Debian's
+package) on the exported formula.
 
 The networks are of organisations of three nodes: `all` has organisations that all want the same share of each other,
 `core` a core of seven organisations and watchers that follow it, `two` two groups of organisations that overlap in
-one. Beside the gate, by hand: tests/questions.py [CONFIG ..], with configurations of one's own; needs the built
-program and minisat (Debian's package). The last line is 'questions: N passed, M failed', or says why it is skipped.
+one.
 """
+
 from __future__ import annotations
 
 import json
 import os
 import shutil
 import subprocess
-import sys
-import tempfile
+from collections.abc import Callable
+from pathlib import Path
 from typing import Any
 
-import chosen
+import pytest
 
-TOP = os.path.dirname(os.path.dirname(os.path.abspath(__file__)))
-PROGRAM = chosen.PROGRAM
+pytestmark = pytest.mark.long
+
 # what minisat's status means for the answer and the certificate
 MEANT = {10: ("intersects no", "accepted pair"), 20: ("intersects yes", "accepted refutation")}
 
@@ -69,39 +68,17 @@ MADE = {
 }
 
 
-def first_line(*words: str) -> str:
-    said = subprocess.run([PROGRAM, *words], stdout=subprocess.PIPE, stderr=subprocess.DEVNULL).stdout
-    return said.split(b"\n")[0].decode()
-
-
-def answers(config: str, folder: str) -> tuple[tuple[str, str], tuple[str, str]]:
-    """The first lines of the answer and of the check of its certificate, and what minisat says they are to be."""
-    cert, cnf = os.path.join(folder, "cert"), os.path.join(folder, "formula.cnf")
-    found = first_line("intersect", config, cert), first_line("check", config, cert)
-    with open(cnf, "wb") as it:
-        subprocess.run([PROGRAM, "export", config], stdout=it, check=True)
-    solved = subprocess.run(["minisat", cnf, os.devnull], stdout=subprocess.DEVNULL, stderr=subprocess.DEVNULL)
-    return found, MEANT.get(solved.returncode)
-
-
-def main(*configs: Any) -> int:
-    if not (os.access(PROGRAM, os.X_OK) and shutil.which("minisat")):
-        print("questions: skipped, the program is not built or there is no minisat")
-        return 0
-    failed = 0
-    with tempfile.TemporaryDirectory() as folder:
-        made = os.path.join(folder, "made.json")
-        for name in [*configs, *MADE]:
-            if name in MADE:
-                with open(made, "w") as it:
-                    json.dump(MADE[name], it)
-            found, wanted = answers(made if name in MADE else name, folder)
-            if found != wanted:
-                failed += 1
-                print(f"questions: {name}: {found}, and minisat says {wanted}")
-    print(f"questions: {len(configs) + len(MADE) - failed} passed, {failed} failed")
-    return 1 if failed else 0
-
-
-if __name__ == "__main__":
-    sys.exit(main(*sys.argv[1:]))
+@pytest.mark.skipif(not shutil.which("minisat"), reason="there is no minisat")
+@pytest.mark.parametrize("name", MADE)
+def test_the_answer_and_its_certificate_are_what_minisat_says(
+    run: Callable[..., Any], tmp_path: Path, name: str
+) -> None:
+    (tmp_path / "config").write_text(json.dumps(MADE[name]))
+    found = [
+        run(*words, cwd=tmp_path, timeout=3000)
+        for words in (("intersect", "config", "cert"), ("check", "config", "cert"))
+    ]
+    with open(tmp_path / "formula.cnf", "w") as it:
+        it.write(run("export", "config", cwd=tmp_path).out)
+    solved = subprocess.run(["minisat", str(tmp_path / "formula.cnf"), os.devnull], stdout=subprocess.DEVNULL)
+    assert tuple(it.out.split("\n")[0] for it in found) == MEANT[solved.returncode]

@@ -1,31 +1,22 @@
-#!/usr/bin/env python3
 """Shuffles the elements of quorum sets at every depth, and asks before and after it.
 
 A configuration is a random small one (tests/fuzz.py) or a network of organisations (bench/organisations.py). Of both
 texts 'export' must say the same numbers of variables and clauses, and 'intersect' the same status and first line;
-'check' must accept both certificates. tests/orders.py [COUNT [SEED]]; needs the built program. The last line is
-'orders: N passed, M failed', or says why it is skipped.
+'check' must accept both certificates.
 """
 
 from __future__ import annotations
 
 import os
 import random
-import subprocess
-import sys
-import tempfile
+from collections.abc import Callable
+from pathlib import Path
 from typing import Any
-
-sys.dont_write_bytecode = True
-TOP = os.path.dirname(os.path.dirname(os.path.abspath(__file__)))
-sys.path.insert(0, os.path.join(TOP, "bench"))
 
 import chosen
 import fuzz
 import organisations
 
-PROGRAM = chosen.PROGRAM
-COUNT = 3000
 # Of how many configurations one is a network of organisations.
 LARGE = 4
 
@@ -60,8 +51,8 @@ def with_orders(rng: random.Random, nodes: list[dict[str, Any]]) -> list[dict[st
 
 def said(*words: str) -> tuple[int, list[str]]:
     """The status, and the lines that are put out."""
-    ended = subprocess.run([PROGRAM, *words], stdout=subprocess.PIPE, stderr=subprocess.DEVNULL, timeout=600)
-    return ended.returncode, ended.stdout.decode().splitlines()
+    ended = chosen.run(*words, timeout=600)
+    return ended.status, ended.out.splitlines()
 
 
 def answers(folder: str, nodes: list[dict[str, Any]], options: list[str]) -> dict[str, Any]:
@@ -83,24 +74,15 @@ def is_whole(answer: dict[str, Any]) -> bool:
     return exported == 0 and len(sizes) == 1 and check == (0, [of_answer.get("".join(lines))])
 
 
-def main(count: int | str = COUNT, seed: int | str = 1) -> int:
-    if not os.access(PROGRAM, os.X_OK):
-        print("orders: skipped, the program is not built")
-        return 0
-    rng, failed = random.Random(int(seed)), 0
-    with tempfile.TemporaryDirectory() as folder:
-        for case in range(int(count)):
-            nodes = small_network(rng) if case % LARGE == 0 else fuzz.random_nodes(rng)
-            keys = [it["publicKey"] for it in nodes]
-            options = [f"--faulty={','.join(rng.sample(keys, rng.randint(0, 2) % len(keys)))}"]
-            options += [f"--from={rng.choice(keys)}"] if rng.random() < 0.3 else []
-            before, after = (answers(folder, it, options) for it in (nodes, with_orders(rng, nodes)))
-            if before != after or not is_whole(before):
-                failed += 1
-                print(f"orders: {options} of {fuzz.compact(nodes).decode()}: {before}, and in another order {after}")
-    print(f"orders: {int(count) - failed} passed, {failed} failed")
-    return 1 if failed else 0
-
-
-if __name__ == "__main__":
-    sys.exit(main(*sys.argv[1:]))
+def test_no_answer_and_no_size_of_a_formula_depends_on_the_order_inside_a_quorum_set(
+    program: str, tmp_path: Path, cases: Callable[[int, int], int], seed: Callable[[int], int]
+) -> None:
+    rng = random.Random(seed(1))
+    for case in range(cases(60, 3000)):
+        nodes = small_network(rng) if case % LARGE == 0 else fuzz.random_nodes(rng)
+        keys = [it["publicKey"] for it in nodes]
+        options = [f"--faulty={','.join(rng.sample(keys, rng.randint(0, 2) % len(keys)))}"]
+        options += [f"--from={rng.choice(keys)}"] if rng.random() < 0.3 else []
+        before, after = (answers(str(tmp_path), it, options) for it in (nodes, with_orders(rng, nodes)))
+        assert before == after, f"case {case}: {options} of {fuzz.compact(nodes).decode()}"
+        assert is_whole(before), f"case {case}: {options} of {fuzz.compact(nodes).decode()}"

@@ -1,29 +1,24 @@
-#!/usr/bin/env python3
 """Compares `blocking`, `quorums`, `least` and `org-blocking` with trying all sets of nodes or of organisations, on
 small random systems.
 
-Makes COUNT systems of up to 12 nodes; the listed sets have to be the minimal ones in name order, the set of `least` a
-quorum with as few nodes as any, and `check` has to accept each certificate and print the same. The organisations
-overlap, lack members, or name strangers; some nodes lie, and some systems are the trust closure of a node. Beside the
-gate, by hand: tests/random_lists.py [COUNT [SEED]]; needs the built program. The last line is 'random_lists: N passed,
-M failed', or says why it is skipped.
+These have up to 12 nodes; the listed sets have to be the minimal ones in name order, the set of `least` a quorum with
+as few nodes as any, and `check` has to accept each certificate and print the same. The organisations overlap, lack
+members, or name strangers; some nodes lie, and some systems are the trust closure of a node.
 """
+
 from __future__ import annotations
 
 import json
 import os
 import random
-import subprocess
-import sys
-import tempfile
-from collections.abc import Iterable
+from collections.abc import Callable, Iterable
+from pathlib import Path
 from typing import Any
 
 import chosen
+import pytest
 
-TOP = os.path.dirname(os.path.dirname(os.path.abspath(__file__)))
-PROGRAM = chosen.PROGRAM
-COUNT = 500
+pytestmark = pytest.mark.long
 
 
 # ---- systems: for each node a quorum set (threshold, nodes, inner sets) or None
@@ -198,7 +193,7 @@ def agrees_by_groups(folder: str, system: list[tuple[int, list[int], list[tuple[
 
 
 def said(*words: str) -> list[str]:
-    return subprocess.run([PROGRAM, *words], stdout=subprocess.PIPE).stdout.decode().splitlines()
+    return chosen.run(*words).out.splitlines()
 
 
 def agrees(
@@ -233,29 +228,15 @@ def names_least(
     return found[0] == f"least {size}" and bin(nodes).count("1") == size and is_quorum(system, nodes)
 
 
-def main(count: Any = COUNT, seed: int | str = 1) -> Any:
-    if not os.access(PROGRAM, os.X_OK):
-        print("random_lists: skipped, the program is not built")
-        return 0
-    random.seed(int(seed))
-    passed = failed = 0
-    with tempfile.TemporaryDirectory() as folder:
-        for _ in range(int(count)):
-            system = random_system()
-            quorums = minimal_quorums(system)
-            answers = [
-                (word, agrees(folder, system, word, sets))
-                for word, sets in (("blocking", minimal_blocks(system)), ("quorums", quorums))
-            ]
-            answers.append(("least", names_least(folder, system, quorums)))
-            answers.append(("org-blocking", agrees_by_groups(folder, system)))
-            passed += sum(right for _, right in answers)
-            failed += sum(not right for _, right in answers)
-            for word in (word for word, right in answers if not right):
-                print(f"random_lists: {word} differs: {as_json(system)}")
-    print(f"random_lists: {passed} passed, {failed} failed")
-    return 1 if failed else 0
-
-
-if __name__ == "__main__":
-    sys.exit(main(*sys.argv[1:]))
+def test_each_list_is_that_of_trying_all_sets(
+    program: str, tmp_path: Path, cases: Callable[[int, int], int], seed: Callable[[int], int]
+) -> None:
+    random.seed(seed(1))
+    folder = str(tmp_path)
+    for case in range(cases(500, 500)):
+        system = random_system()
+        quorums = minimal_quorums(system)
+        assert agrees(folder, system, "blocking", minimal_blocks(system)), f"case {case}: {as_json(system)}"
+        assert agrees(folder, system, "quorums", quorums), f"case {case}: {as_json(system)}"
+        assert names_least(folder, system, quorums), f"case {case}: {as_json(system)}"
+        assert agrees_by_groups(folder, system), f"case {case}: {as_json(system)}"

@@ -1,11 +1,9 @@
-#!/usr/bin/env python3
 """Compares exported formulas with the definition, on small random systems.
 
-Makes COUNT of them, with and without faulty nodes and a trust closure, writes the formula of each by `export`, asks
-minisat whether it is satisfiable, and tries all sets of nodes for two disjoint quorums. Beside the gate, by hand:
-tests/exports.py [COUNT [SEED]]; needs the built program and minisat (Debian's package). The last line is
-'exports: N passed, M failed', or says why it is skipped.
+With and without faulty nodes and a trust closure, minisat (Debian's package) says of the formula that `export` writes
+whether it is satisfiable; trying all sets of nodes says whether two quorums are disjoint.
 """
+
 from __future__ import annotations
 
 import itertools
@@ -14,15 +12,14 @@ import os
 import random
 import shutil
 import subprocess
-import sys
-import tempfile
+from collections.abc import Callable
+from pathlib import Path
 from typing import Any
 
 import chosen
+import pytest
 
-TOP = os.path.dirname(os.path.dirname(os.path.abspath(__file__)))
-PROGRAM = chosen.PROGRAM
-COUNT = 300
+pytestmark = pytest.mark.long
 
 
 def random_set(names: list[str], depth: int) -> dict[str, Any]:
@@ -79,14 +76,6 @@ def has_disjoint_quorums(
     return any(not (u & w) for u, w in itertools.combinations(quorums, 2))
 
 
-def is_satisfiable(text: bytes) -> bool:
-    with tempfile.NamedTemporaryFile("wb", suffix=".cnf") as cnf:
-        cnf.write(text)
-        cnf.flush()
-        status = subprocess.run(["minisat", "-verb=0", cnf.name], stdout=subprocess.DEVNULL, check=False).returncode
-    return {10: True, 20: False}[status]
-
-
 def asked() -> tuple[list[str], list[dict[str, Any]], set[str], str | None]:
     """A random system, its faulty nodes and the node whose trust closure is asked about, if any."""
     names, nodes = random_system()
@@ -94,35 +83,26 @@ def asked() -> tuple[list[str], list[dict[str, Any]], set[str], str | None]:
     return names, nodes, faulty, random.choice(names) if random.random() < 0.3 else None
 
 
-def exported(nodes: list[dict[str, Any]], faulty: set[str], start: str | None) -> bytes:
-    with tempfile.NamedTemporaryFile("w", suffix=".json") as config:
-        json.dump(nodes, config)
-        config.flush()
-        words = [PROGRAM, "export", config.name, "--faulty=" + ",".join(sorted(faulty))]
-        return subprocess.run(words + (["--from", start] if start else []), stdout=subprocess.PIPE, check=True).stdout
+def is_satisfiable(folder: Path, nodes: list[dict[str, Any]], faulty: set[str], start: str | None) -> bool:
+    """What minisat says of the formula that is exported."""
+    config, formula = folder / "config.json", folder / "formula.cnf"
+    config.write_text(json.dumps(nodes))
+    words = ["export", str(config), "--faulty=" + ",".join(sorted(faulty))] + (["--from", start] if start else [])
+    ended = chosen.run(*words)
+    assert ended.status == 0, ended
+    formula.write_text(ended.out)
+    solved = subprocess.run(["minisat", "-verb=0", str(formula), os.devnull], stdout=subprocess.DEVNULL)
+    return {10: True, 20: False}[solved.returncode]
 
 
-def agrees(names: list[str], nodes: list[dict[str, Any]], faulty: set[str], start: str | None) -> bool:
-    """Whether the formula is satisfiable exactly if two quorums are disjoint."""
-    sets = {node["publicKey"]: node.get("quorumSet") for node in nodes}
-    part = closure(sets, start) if start else set(names)
-    return is_satisfiable(exported(nodes, faulty, start)) == has_disjoint_quorums(names, sets, faulty, part)
-
-
-def main(count: Any = COUNT, seed: int | str = 1) -> int:
-    if not (os.access(PROGRAM, os.X_OK) and shutil.which("minisat")):
-        print("exports: skipped, the program is not built or there is no minisat")
-        return 0
-    random.seed(int(seed))
-    failed = 0
-    for number in range(int(count)):
-        system = asked()
-        if not agrees(*system):
-            failed += 1
-            print(f"exports: system {number} differs: {system!r}")
-    print(f"exports: {int(count) - failed} passed, {failed} failed")
-    return 1 if failed else 0
-
-
-if __name__ == "__main__":
-    sys.exit(main(*sys.argv[1:]))
+@pytest.mark.skipif(not shutil.which("minisat"), reason="there is no minisat")
+def test_a_formula_is_satisfiable_exactly_if_two_quorums_are_disjoint(
+    program: str, tmp_path: Path, cases: Callable[[int, int], int], seed: Callable[[int], int]
+) -> None:
+    random.seed(seed(1))
+    for case in range(cases(300, 300)):
+        names, nodes, faulty, start = system = asked()
+        sets = {it["publicKey"]: it.get("quorumSet") for it in nodes}
+        part = closure(sets, start) if start else set(names)
+        found = is_satisfiable(tmp_path, nodes, faulty, start)
+        assert found == has_disjoint_quorums(names, sets, faulty, part), f"case {case}: {system!r}"
