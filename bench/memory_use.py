@@ -27,7 +27,7 @@ def right(ended: Any, answer: Any, name: str) -> None:
         raise SystemExit(f"{name}: status {ended.status}, {ended.text[:100]!r}")
 
 
-def show(trial: memory.Trial, name: str, data: bytes, text: str) -> Any:
+def show(trial: memory.Folder, name: str, data: bytes, text: str) -> Any:
     trial.put("config", data)
     ended = memory.Ended([trial.program, "show", "config"], trial.folder)
     right(ended, (0, text), name)
@@ -37,14 +37,14 @@ def show(trial: memory.Trial, name: str, data: bytes, text: str) -> Any:
     )
 
 
-def check(trial: memory.Trial, name: str, pieces: Any, answer: Any) -> Any:
+def check(trial: memory.Folder, name: str, pieces: Any, answer: Any) -> Any:
     trial.put("config", malicious.TWO)
     ended = memory.Ended([trial.program, "check", "config", "/dev/stdin"], trial.folder, pieces=pieces)
     right(ended, answer, name)
     return ended.memory, runs.row(["`check`, " + name, f"{ended.memory:.0f}", f"{ended.time:.2f}", "-", "-"])
 
 
-def stack_line(trial: memory.Trial) -> str:
+def stack_line(trial: memory.Folder) -> str:
     rows = trial.stack_rows()
     for size, less in zip(memory.STACKS, memory.STACKS[1:]):
         bad = trial.fails_under(less, rows)
@@ -56,7 +56,7 @@ def stack_line(trial: memory.Trial) -> str:
     return f"Under a stack of {memory.STACKS[-1]} kB every file is answered."
 
 
-def measured(trial: memory.Trial, quick: Any) -> Iterator[Any]:
+def measured(trial: memory.Folder, quick: Any) -> Iterator[Any]:
     """The largest memory of each run, and its row."""
     configurations = list(memory.configurations())
     for name, data, text in configurations[-1:] if quick else configurations:
@@ -69,7 +69,7 @@ def made(program: str, quick: Any) -> Iterator[Any]:
     """The lines of the table, one by one."""
     yield from runs.head(["run", "memory, MB", "s", "`jq`: MB", "s"])
     with tempfile.TemporaryDirectory() as folder:
-        trial = memory.Trial(folder, program)
+        trial = memory.Folder(folder, program)
         yield from (row for most, row in measured(trial, quick) if most > SMALL or quick)
         yield ""
         yield f"All others take at most {SMALL} MB."

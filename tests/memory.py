@@ -1,31 +1,19 @@
-#!/usr/bin/env python3
-"""Runs the built program under limits of memory: an answer or status 8, never a crash, never a part of a certificate.
-
-Configurations of 16 MB and certificates of 1 GB are made, run without a limit (the largest memory is measured) and
-under limits of address space (ulimit -v); then the least stack is sought (ulimit -s) under which deep files are
-answered. Beside the gate, by hand: tests/memory.py [PROGRAM [PART..]]; a part is stack, searches, configurations or
-certificates, and without one all are run, which takes some minutes. The last line is 'memory: N passed, M failed'.
-"""
+"""Files of 16 MB and of 1 GB, and runs of the program on them under limits of memory and of stack."""
 
 from __future__ import annotations
 
 import os
 import subprocess
 import sys
-import tempfile
 from collections.abc import Callable, Iterable, Iterator
 from typing import Any
 
-sys.path.insert(0, os.path.dirname(os.path.abspath(__file__)))
-import fuzz
 import malicious
-import plain_checker as plain
 
 MB = 1 << 20
 MOST_BYTES = 16777216
 GREAT = 1000000000
 STACKS = [8192, 1024, 512, 256, 192, 128, 96, 64, 48, 32, 16]
-LIMITS = [16, 24, 32, 48, 64, 96, 128, 192, 256, 384, 512, 768, 1024, 1536, 2048]
 
 
 def filled(head: Any, piece: Any, tail: Any) -> Any:
@@ -109,7 +97,7 @@ with open("used", "w") as it:
 class Ended:
     """How a run ended: status, texts, largest memory in MB, seconds of processor time."""
 
-    def __init__(self, words: list[str], folder: str, limit: int = 0, stack: int = 0, pieces: None = None) -> None:
+    def __init__(self, words: list[str], folder: str, limit: int = 0, stack: int = 0, pieces: Any = None) -> None:
         words = [sys.executable, "-S", "-c", STARTER, str(limit), str(stack)] + words
         with open(os.path.join(folder, "out"), "w+b") as out, open(os.path.join(folder, "err"), "w+b") as err:
             started = subprocess.Popen(
@@ -141,10 +129,11 @@ class Ended:
         return self.is_right(8, "")
 
 
-class Trial:
+class Folder:
+    """A folder in which the program runs."""
+
     def __init__(self, folder: str, program: str) -> None:
         self.folder, self.program = folder, os.path.abspath(program)
-        self.passed = self.failed = 0
 
     def put(self, name: str, data: bytes) -> None:
         with open(os.path.join(self.folder, name), "wb") as it:
@@ -153,86 +142,6 @@ class Trial:
     def held(self, name: str) -> bytes:
         with open(os.path.join(self.folder, name), "rb") as it:
             return it.read()
-
-    def judge(self, name: str, right: bool, ended: Ended | None) -> None:
-        if right:
-            self.passed += 1
-        else:
-            self.failed += 1
-            print(f"memory: {name}: status {ended.status}, {ended.text[:100]!r}, {ended.err[:100]!r}")
-
-    def limits(
-        self,
-        name: str,
-        words: list[str],
-        status: int,
-        text: str,
-        pieces: None = None,
-        every: list[int] = LIMITS,
-        after: Callable[..., Any] | None = None,
-    ) -> None:
-        """Without a limit and under each: the answer, or 8 with nothing put out."""
-        ended = Ended([self.program] + words, self.folder, pieces=pieces)
-        self.judge(name, ended.is_right(status, text) and (not after or after(ended)), ended)
-        wanted = []
-        for limit in every:
-            less = Ended([self.program] + words, self.folder, limit=limit * MB, pieces=pieces)
-            right = less.is_right(status, text) or less.is_want()
-            self.judge(f"{name} under {limit} MB", right and (not after or after(less)), less)
-            if less.is_want():
-                wanted.append(limit)
-        print(
-            "%-40s %5.0f MB, %6.2f s; status 8 under %s"
-            % (name, ended.memory, ended.time, f"at most {wanted[-1]} MB" if wanted else "none of the limits")
-        )
-        sys.stdout.flush()
-
-    def searches(self) -> None:
-        """A search leaves the certificate as it was, or whole and accepted."""
-        blanks = malicious.THREE.ljust(MOST_BYTES)
-        fifty = fuzz.trial_config(50)
-        for name, config, words, text, said in [
-            (
-                "intersect, three nodes and blanks",
-                blanks,
-                "intersect config cert",
-                "intersects yes\n",
-                malicious.REFUTED,
-            ),
-            (
-                "intersect, twelve of sixteen",
-                malicious.system("abcdefghijklmnop", 12),
-                "intersect config cert",
-                "intersects yes\n",
-                malicious.REFUTED,
-            ),
-            (
-                "blocking, three nodes and blanks",
-                blanks,
-                "blocking config cert",
-                "blocking 3\nset a b\nset a c\nset b c\n",
-                malicious.LISTED,
-            ),
-            (
-                "trial, fifty organisations",
-                fifty,
-                "trial 50 cert",
-                fuzz.sizes_of_trial(plain.system_of(fifty)) + "yes\n",
-                malicious.REFUTED,
-            ),
-        ]:
-            self.put("config", config)
-            self.put("cert", malicious.OLD)
-
-            def after(ended: Ended) -> bool:
-                if ended.status == 8:
-                    whole = self.held("cert") == malicious.OLD
-                else:
-                    whole = Ended([self.program, "check", "config", "cert"], self.folder).is_right(0, said)
-                self.put("cert", malicious.OLD)
-                return whole
-
-            self.limits(name, words.split(), 0, text, after=after)
 
     def stack_rows(self) -> list[tuple[list[str], int, str | None]]:
         """Runs over the deepest files, with their statuses and texts."""
@@ -267,40 +176,3 @@ class Trial:
             if not (ended.status == status and ended.err == "" and text in (None, ended.text)):
                 bad.append((words, ended))
         return bad
-
-    def stack(self) -> None:
-        """The least stack under which the deepest files are answered."""
-        rows = self.stack_rows()
-        for size in STACKS:
-            bad = self.fails_under(size, rows)
-            print(
-                "stack of %5d kB: %s"
-                % (size, "; ".join(f"{' '.join(words)}: {ended.status}" for words, ended in bad) or "all answered")
-            )
-            if size == STACKS[0]:
-                self.judge("stack of 8 MB", not bad, bad[0][1] if bad else None)
-
-    def configurations(self) -> None:
-        for name, data, text in configurations():
-            self.put("config", data)
-            self.limits("show, " + name, ["show", "config"], 0, text)
-
-    def certificates(self) -> None:
-        self.put("config", malicious.TWO)
-        for name, pieces, answer in certificates():
-            status, text = answer
-            words = ["check", "config", "/dev/stdin"]
-            self.limits("check, " + name, words, status, text, pieces=pieces, every=[16, 64, 256, 1024])
-
-
-def main(program: str = malicious.BUILT, *parts: str) -> Any:
-    with tempfile.TemporaryDirectory() as folder:
-        trial = Trial(folder, program)
-        for part in parts or ("stack", "searches", "configurations", "certificates"):
-            getattr(trial, part)()
-    print(f"memory: {trial.passed} passed, {trial.failed} failed")
-    return 1 if trial.failed else 0
-
-
-if __name__ == "__main__":
-    sys.exit(main(*sys.argv[1:]))
