@@ -7,17 +7,19 @@ file lies in crates/, and each word stands in it. Any other name in backquotes t
 cell of a table fewer than 200 characters, and a paragraph or an item of a list fewer than six lines. A line of these
 has at most 140 characters. Excepted are code blocks, and what tools make: the tables of numbers that bench/tables.py
 fills in (from `<!-- tables.py PART -->` to `<!-- end -->`), what stands from `<!-- .. from here -->` to `<!-- to here
--->`, and docs/SPECIFICATION.md. That one is compared with the specs. The last line is 'documents: N passed, M failed'.
+-->`, and docs/SPECIFICATION.md. That one is compared with the specs. Each fault is a line; status 0 if there is none,
+else 1. tests/test_documents.py asks the same.
 """
 
 from __future__ import annotations
 
+import functools
 import os
 import re
 import subprocess
 import sys
 import textwrap
-from collections.abc import Iterator
+from collections.abc import Callable, Iterator
 
 TOP = os.path.dirname(os.path.dirname(os.path.abspath(__file__)))
 FOLDER = sorted(os.listdir(os.path.join(TOP, "docs")))
@@ -64,6 +66,7 @@ def anchors(text: str) -> set[str]:
     return {anchor(head.strip()) for head in re.findall(r"^#+ (.*)$", text, re.M)}
 
 
+@functools.cache
 def held_words() -> set[str]:
     """Every word of the repository's code, tools and names of files."""
     words: set[str] = set()
@@ -138,144 +141,147 @@ def uses_of(text: str) -> dict[str, list[str]]:
     return {crate.split()[0]: named.split() for crate, _, named in lines}
 
 
-class Trial:
-    def __init__(self) -> None:
-        self.passed = 0
-        self.failed = 0
-        self.words = held_words()
+def definitions(name: str, text: str) -> Iterator[str]:
+    """Each file of the sources that a document names exists, and each word stands in it."""
+    before = ((path, words) for words, path in NAMED_BEFORE.findall(text))
+    for path, words in [*NAMED.findall(text), *before]:
+        place = os.path.join("crates", path)
+        if not os.path.exists(os.path.join(TOP, place)):
+            yield f"{name} names {path}, which is not there"
+        if words and os.path.isfile(os.path.join(TOP, place)):
+            held = text_of(place)
+            for word in re.findall(r"`([^`]+)`", words):
+                if not re.search(rf"(?<![\w-]){re.escape(word)}(?![\w-])", held):
+                    yield f"{name} names {word} of {path}, where it is not"
+    for path in PATH.findall(text):
+        if path not in BUILT and not os.path.exists(os.path.join(TOP, path)):
+            yield f"{name} names {path}, which is not there"
 
-    def judge(self, right: object, what: str) -> None:
-        if right:
-            self.passed += 1
-        else:
-            self.failed += 1
-            print(f"documents: {what}")
 
-    def definitions(self, name: str, text: str) -> None:
-        """Each file of the sources that a document names exists, and each word stands in it."""
-        before = ((path, words) for words, path in NAMED_BEFORE.findall(text))
-        for path, words in [*NAMED.findall(text), *before]:
-            place = os.path.join("crates", path)
-            self.judge(os.path.exists(os.path.join(TOP, place)), f"{name} names {path}, which is not there")
-            if words and os.path.isfile(os.path.join(TOP, place)):
-                held = text_of(place)
-                for word in re.findall(r"`([^`]+)`", words):
-                    there = re.search(rf"(?<![\w-]){re.escape(word)}(?![\w-])", held)
-                    self.judge(there, f"{name} names {word} of {path}, where it is not")
-        for path in PATH.findall(text):
-            exists = path in BUILT or os.path.exists(os.path.join(TOP, path))
-            self.judge(exists, f"{name} names {path}, which is not there")
+def names(name: str, text: str) -> Iterator[str]:
+    """Each name of the code, wherever it is cited, is there."""
+    for cited in sorted(set(CODED.findall(text))):
+        if is_coded(cited) and cited not in FOREIGN and name != TRUSTED:
+            parts = [cited] if "." in cited else cited.split("::")
+            if not held_words().issuperset(parts):
+                yield f"{name} names {cited}, which stands nowhere"
 
-    def names(self, name: str, text: str) -> None:
-        """Each name of the code, wherever it is cited, is there."""
-        for cited in sorted(set(CODED.findall(text))):
-            if is_coded(cited) and cited not in FOREIGN and name != TRUSTED:
-                parts = [cited] if "." in cited else cited.split("::")
-                self.judge(all(part in self.words for part in parts), f"{name} names {cited}, which stands nowhere")
 
-    def sentences(self, name: str, text: str) -> None:
-        """No sentence, cell or paragraph is long, and no word is used for which there is a plainer one."""
-        prose, cells = paragraphs(text)
-        for line in written(text).split("\n"):
-            short = len(line) <= WIDTH or line.startswith("|")
-            self.judge(short, f"{name} has a line of {len(line)} characters: {line[:80]}")
-        for paragraph in prose + cells:
-            for sentence in sentences_of(paragraph):
-                count = words_in(sentence)
-                self.judge(count < MOST_WORDS, f"{name} has a sentence of {count} words: {sentence.strip()[:80]}")
-            usual = not UNUSUAL.search(re.sub(r"`[^`]*`", "x", paragraph))
-            self.judge(usual, f"{name} has an unusual word: {paragraph[:80]}")
-        for cell in cells:
-            self.judge(len(cell) < MOST_CELL, f"{name} has a cell of {len(cell)} characters: {cell[:80]}")
-        for paragraph in prose:
-            lines = len(textwrap.wrap(paragraph, WIDTH))
-            self.judge(lines < MOST_LINES, f"{name} has a paragraph of {lines} lines: {paragraph[:80]}")
+def sentences(name: str, text: str) -> Iterator[str]:
+    """No sentence, cell or paragraph is long, and no word is used for which there is a plainer one."""
+    if name in MADE:
+        return
+    prose, cells = paragraphs(text)
+    for line in written(text).split("\n"):
+        if len(line) > WIDTH and not line.startswith("|"):
+            yield f"{name} has a line of {len(line)} characters: {line[:80]}"
+    for paragraph in prose + cells:
+        for sentence in sentences_of(paragraph):
+            count = words_in(sentence)
+            if count >= MOST_WORDS:
+                yield f"{name} has a sentence of {count} words: {sentence.strip()[:80]}"
+        if UNUSUAL.search(re.sub(r"`[^`]*`", "x", paragraph)):
+            yield f"{name} has an unusual word: {paragraph[:80]}"
+    for cell in cells:
+        if len(cell) >= MOST_CELL:
+            yield f"{name} has a cell of {len(cell)} characters: {cell[:80]}"
+    for paragraph in prose:
+        lines = len(textwrap.wrap(paragraph, WIDTH))
+        if lines >= MOST_LINES:
+            yield f"{name} has a paragraph of {lines} lines: {paragraph[:80]}"
 
-    def links(self, name: str, text: str) -> None:
-        for link in re.findall(r"\]\(([^)\s]+)\)", text):
-            if re.match(r"[a-z]+:", link):
-                continue
-            path, _, place = link.partition("#")
-            target = os.path.normpath(os.path.join(os.path.dirname(name), path)) if path else name
-            there = os.path.exists(os.path.join(TOP, target))
-            self.judge(
-                there and (not place or place in anchors(text_of(target))),
-                f"{name} links to {link}, which is not there",
-            )
 
-    def folders(self, crates: list[str]) -> None:
-        """The map says which crates lack a folder."""
-        rows = re.findall(r"^\| `(src|specs|proofs|must-fail)/` \|[^|]*\|([^|]*)\|", text_of("docs/MAP.md"), re.M)
-        for folder, lacking in rows:
-            without = {it for it in crates if not os.path.isdir(os.path.join(TOP, "crates", it, folder))}
-            self.judge(
-                without == set(re.findall(r"`(\w+)`", lacking)),
-                f"docs/MAP.md names other crates without {folder}/ than {' '.join(sorted(without))}",
-            )
+def links(name: str, text: str) -> Iterator[str]:
+    """Each link to a file of the repository, or to a heading in it, leads somewhere."""
+    for link in re.findall(r"\]\(([^)\s]+)\)", text):
+        if re.match(r"[a-z]+:", link):
+            continue
+        path, _, place = link.partition("#")
+        target = os.path.normpath(os.path.join(os.path.dirname(name), path)) if path else name
+        there = os.path.exists(os.path.join(TOP, target))
+        if not there or (place and place not in anchors(text_of(target))):
+            yield f"{name} links to {link}, which is not there"
 
-    def header(self) -> None:
-        """The header for C has the fields and parameters of the code, and the Python package the same fields."""
-        header = text_of("library/quorum.h")
-        comments = (re.sub(r"(?m)^ \* ?", "", it) for it in re.findall(r"/\*(.*?)\*/", header, re.S))
-        self.sentences("library/quorum.h", "\n\n".join(comments))
-        code = found_in(r"pub struct QuorumEnd \{(.*?)\n\}", "crates/quorum_answers/src/answer.rt")
-        fields = [(TYPES[kind], name) for name, kind in re.findall(r"pub (\w+): (\w+),", code)]
-        struct = found_in(r"typedef struct quorum_end \{(.*?)\}", "library/quorum.h")
-        right = re.findall(r"(?m)^ *(\w+) (\w+);", struct) == fields
-        self.judge(right, "library/quorum.h has other fields than QuorumEnd")
-        binding = "library/python/quorums/binding.py"
-        bound = re.findall(r'\("(\w+)", ctypes\.c_(\w+)\)', found_in(r"_fields_ = \[(.*?)\]\n", binding))
-        python = [("uint8_t" if kind == "uint8" else kind, name) for name, kind in bound]
-        self.judge(python == fields, f"{binding} has other fields than QuorumEnd")
-        called = found_in(r"void quorum_answer\((.*?)\)", "library/quorum.h").split(",")
-        wanted = list(parameters(text_of("crates/quorum_library/src/lib.rt")))
-        right = [" ".join(it.split()) for it in called] == wanted
-        self.judge(right, "library/quorum.h has other parameters than quorum_answer")
 
-    def specification(self) -> None:
-        """docs/SPECIFICATION.md is what the specs say."""
-        made = subprocess.run([*tool("specification"), "--check"], stderr=subprocess.PIPE)
-        self.judge(not made.returncode, made.stderr.decode().strip())
+def folders() -> Iterator[str]:
+    """The map says which crates lack a folder."""
+    crates = crates_of_the_map()
+    rows = re.findall(r"^\| `(src|specs|proofs|must-fail)/` \|[^|]*\|([^|]*)\|", text_of("docs/MAP.md"), re.M)
+    for folder, lacking in rows:
+        without = {it for it in crates if not os.path.isdir(os.path.join(TOP, "crates", it, folder))}
+        if without != set(re.findall(r"`(\w+)`", lacking)):
+            yield f"docs/MAP.md names other crates without {folder}/ than {' '.join(sorted(without))}"
 
-    def crates(self) -> None:
-        """The picture is the one of crates.txt, and the map has each crate once, in the order of the layers."""
-        drawn = subprocess.run([*tool("crates-picture"), "--print"], stdout=subprocess.PIPE).stdout.decode()
-        same = text_of("docs/crates.svg") == drawn
-        self.judge(same, "docs/crates.svg is not that of crates.txt: run tools/crates-picture")
-        listed = re.findall(r"^\| `([a-z_0-9]+)` \|", text_of("docs/MAP.md"), re.M)
-        uses = uses_of(text_of("crates.txt"))
-        other = sorted(set(listed) ^ set(uses))
-        self.judge(sorted(listed) == sorted(uses), f"docs/MAP.md lists other crates than crates.txt: {other}")
-        needed: set[str] = set()
-        waiting = ["quorum_cli"]
-        while waiting:
-            crate = waiting.pop()
-            if crate in uses and crate not in needed:
-                needed.add(crate)
-                waiting += uses[crate]
-        count = len(needed)
-        said = f"its {count} crates" in text_of("README.md")
-        self.judge(said, f"README.md says another number of crates than {count}")
-        self.folders(listed)
-        for at, crate in enumerate(listed):
-            late = [it for it in uses.get(crate, []) if it in uses and it in listed[at:]]
-            self.judge(not late, f"docs/MAP.md has {crate} before {' '.join(late)}, on which it stands")
+
+def header() -> Iterator[str]:
+    """The header for C has the fields and parameters of the code, and the Python package the same fields."""
+    text = text_of("library/quorum.h")
+    comments = (re.sub(r"(?m)^ \* ?", "", it) for it in re.findall(r"/\*(.*?)\*/", text, re.S))
+    yield from sentences("library/quorum.h", "\n\n".join(comments))
+    code = found_in(r"pub struct QuorumEnd \{(.*?)\n\}", "crates/quorum_answers/src/answer.rt")
+    fields = [(TYPES[kind], name) for name, kind in re.findall(r"pub (\w+): (\w+),", code)]
+    struct = found_in(r"typedef struct quorum_end \{(.*?)\}", "library/quorum.h")
+    if re.findall(r"(?m)^ *(\w+) (\w+);", struct) != fields:
+        yield "library/quorum.h has other fields than QuorumEnd"
+    binding = "library/python/quorums/binding.py"
+    bound = re.findall(r'\("(\w+)", ctypes\.c_(\w+)\)', found_in(r"_fields_ = \[(.*?)\]\n", binding))
+    if [("uint8_t" if kind == "uint8" else kind, name) for name, kind in bound] != fields:
+        yield f"{binding} has other fields than QuorumEnd"
+    called = found_in(r"void quorum_answer\((.*?)\)", "library/quorum.h").split(",")
+    wanted = list(parameters(text_of("crates/quorum_library/src/lib.rt")))
+    if [" ".join(it.split()) for it in called] != wanted:
+        yield "library/quorum.h has other parameters than quorum_answer"
+
+
+def specification() -> Iterator[str]:
+    """docs/SPECIFICATION.md is what the specs say."""
+    made = subprocess.run([*tool("specification"), "--check"], stderr=subprocess.PIPE)
+    if made.returncode:
+        yield made.stderr.decode().strip() or "tools/specification --check fails"
+
+
+def picture() -> Iterator[str]:
+    """The picture is the one of crates.txt."""
+    drawn = subprocess.run([*tool("crates-picture"), "--print"], stdout=subprocess.PIPE).stdout.decode()
+    if text_of("docs/crates.svg") != drawn:
+        yield "docs/crates.svg is not that of crates.txt: run tools/crates-picture"
+
+
+def crates_of_the_map() -> list[str]:
+    return re.findall(r"^\| `([a-z_0-9]+)` \|", text_of("docs/MAP.md"), re.M)
+
+
+def crates() -> Iterator[str]:
+    """The map has each crate once, in the order of the layers, and README says how many the program stands on."""
+    listed, uses = crates_of_the_map(), uses_of(text_of("crates.txt"))
+    if sorted(listed) != sorted(uses):
+        yield f"docs/MAP.md lists other crates than crates.txt: {sorted(set(listed) ^ set(uses))}"
+    needed: set[str] = set()
+    waiting = ["quorum_cli"]
+    while waiting:
+        crate = waiting.pop()
+        if crate in uses and crate not in needed:
+            needed.add(crate)
+            waiting += uses[crate]
+    if f"its {len(needed)} crates" not in text_of("README.md"):
+        yield f"README.md says another number of crates than {len(needed)}"
+    for at, crate in enumerate(listed):
+        late = [it for it in uses.get(crate, []) if it in uses and it in listed[at:]]
+        if late:
+            yield f"docs/MAP.md has {crate} before {' '.join(late)}, on which it stands"
+
+
+# What is asked of each document, and what of the repository as a whole.
+OF_EACH: tuple[Callable[[str, str], Iterator[str]], ...] = (definitions, names, links, sentences)
+OF_ALL: tuple[Callable[[], Iterator[str]], ...] = (header, specification, picture, crates, folders)
 
 
 def main() -> int:
-    trial = Trial()
-    for name in DOCUMENTS:
-        text = text_of(name)
-        trial.definitions(name, text)
-        trial.names(name, text)
-        trial.links(name, text)
-        if name not in MADE:
-            trial.sentences(name, text)
-    trial.header()
-    trial.specification()
-    trial.crates()
-    print(f"documents: {trial.passed} passed, {trial.failed} failed")
-    return 1 if trial.failed else 0
+    faults = [fault for name in DOCUMENTS for rule in OF_EACH for fault in rule(name, text_of(name))]
+    faults += [fault for rule in OF_ALL for fault in rule()]
+    for fault in faults:
+        print(f"documents: {fault}")
+    return 1 if faults else 0
 
 
 if __name__ == "__main__":
