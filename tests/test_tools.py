@@ -1,4 +1,3 @@
-#!/usr/bin/env python3
 """Runs tools/hints, tools/pair and tools/refutation on files that a slip hands them: what they say, and that they put
 out nothing then; and the last two on formulas of each version.
 
@@ -6,21 +5,21 @@ Whether what they make is right is shown by the examples of the documents, where
 tools/arguments, tools/twice and tools/callers it shows what they count, and that docs/DECISIONS.md names each contract
 that the first of them lists; of tools/uses, which names it sees in a text and in crates.txt; of tools/limits, which
 constants it sees, which have a number in a sample, and that it lists none; of tools/memory-answers, which calls a test
-runs. The program is not needed. The last line is 'tools: N passed, M failed'.
+runs. The program is not needed.
 """
 
 from __future__ import annotations
 
+import functools
 import importlib.machinery
 import importlib.util
 import os
 import re
 import subprocess
-import sys
-import tempfile
 import types
-from collections.abc import Iterator
-from typing import Any
+from pathlib import Path
+
+import pytest
 
 TOP = os.path.dirname(os.path.dirname(os.path.abspath(__file__)))
 # x or y, and the three others: unsatisfiable.
@@ -28,31 +27,39 @@ FORMULA = b"c config 00\nc from\nc faulty\nc 1 a p\nc 2 b p\np cnf 2 4\n1 2 0\n1
 NO_PROOF = "is binary: give the solver --no-binary"
 NO_LIST = "of second is no list of literals that ends with 0"
 
-# The tool, the second file, the status, standard output, and what standard error has.
+# The tool, the formula, the second file, the status, standard output, and what standard error has.
 ROWS = [
-    ("hints", b"1 0\n0\n", 0, "5 1 0 1 2 0\n6 0 5 3 4 0\n", ""),
-    ("hints", b"c a comment \xff\nd 1 2 0\n", 1, "4 d 1 0\n", "does not come to the empty lemma"),
-    ("hints", b"a\x02\x00a\x00", 1, "", NO_PROOF),
-    ("hints", b"a\x02", 1, "", NO_PROOF),
-    ("hints", b"d\x02\x04\x00a\x02\x00a\x00", 1, "", NO_PROOF),
-    ("hints", b"1 0\n0 x\n", 1, "5 1 0 1 2 0\n", "line 2 " + NO_LIST),
-    ("hints", b"1\n", 1, "", "line 1 " + NO_LIST),
-    ("hints", b"", 1, "", "does not come to the empty lemma"),
-    ("pair", b"SAT\n1 -2 0\n", 0, "fbas-cert 2\nconfig 00\nfrom\nfaulty\nkind pair\nfirst\nsecond p\nend\n", ""),
+    ("hints", FORMULA, b"1 0\n0\n", 0, "5 1 0 1 2 0\n6 0 5 3 4 0\n", ""),
+    ("hints", FORMULA, b"c a comment \xff\nd 1 2 0\n", 1, "4 d 1 0\n", "does not come to the empty lemma"),
+    ("hints", FORMULA, b"a\x02\x00a\x00", 1, "", NO_PROOF),
+    ("hints", FORMULA, b"a\x02", 1, "", NO_PROOF),
+    ("hints", FORMULA, b"d\x02\x04\x00a\x02\x00a\x00", 1, "", NO_PROOF),
+    ("hints", FORMULA, b"1 0\n0 x\n", 1, "5 1 0 1 2 0\n", "line 2 " + NO_LIST),
+    ("hints", FORMULA, b"1\n", 1, "", "line 1 " + NO_LIST),
+    ("hints", FORMULA, b"", 1, "", "does not come to the empty lemma"),
     (
         "pair",
+        FORMULA,
+        b"SAT\n1 -2 0\n",
+        0,
+        "fbas-cert 2\nconfig 00\nfrom\nfaulty\nkind pair\nfirst\nsecond p\nend\n",
+        "",
+    ),
+    (
+        "pair",
+        FORMULA,
         b"s SATISFIABLE\nv 1 -2\nv 0\n",
         0,
         "fbas-cert 2\nconfig 00\nfrom\nfaulty\nkind pair\nfirst\nsecond p\nend\n",
         "",
     ),
-    ("pair", b"", 1, "", "has no literal"),
-    ("pair", b"INDET\n", 1, "", "has no literal"),
-    ("pair", b"SAT\n0\n", 1, "", "has no literal"),
-    ("pair", b"UNSAT\n", 1, "", "no satisfying assignment"),
-    ("refutation", b"5 1 0 1 2 0\n", 1, "", "does not come to the empty lemma"),
-    ("refutation", b"5 1 0 0\n6 0\n", 1, "", "has a lemma without hints"),
-    ("refutation", b"a\x02\x00a\x00", 1, "", "is no text of an LRAT proof"),
+    ("pair", FORMULA, b"", 1, "", "has no literal"),
+    ("pair", FORMULA, b"INDET\n", 1, "", "has no literal"),
+    ("pair", FORMULA, b"SAT\n0\n", 1, "", "has no literal"),
+    ("pair", FORMULA, b"UNSAT\n", 1, "", "no satisfying assignment"),
+    ("refutation", FORMULA, b"5 1 0 1 2 0\n", 1, "", "does not come to the empty lemma"),
+    ("refutation", FORMULA, b"5 1 0 0\n6 0\n", 1, "", "has a lemma without hints"),
+    ("refutation", FORMULA, b"a\x02\x00a\x00", 1, "", "is no text of an LRAT proof"),
 ]
 # The line of the version before the formula, none in an older text, and that of the certificate which is made of it.
 VERSIONS = [(b"c formula 3\n", "fbas-cert 3\n"), (b"c formula 2\n", "fbas-cert 2\n"), (b"", "fbas-cert 2\n")]
@@ -65,6 +72,8 @@ MADE = [
         "config 00\nfrom\nfaulty\nkind refutation\nformula 2 4\n5 1 0 1 2 0\n6 0 5 3 4 0\nend\n",
     ),
 ]
+
+ROWS += [(tool, line + FORMULA, held, 0, first + rest, "") for line, first in VERSIONS for tool, held, rest in MADE]
 
 # Functions, and of each how many arguments and clauses it has.
 CODE = """
@@ -170,86 +179,96 @@ LAWS = [
 ]
 
 
+@functools.cache
 def tool(name: str) -> types.ModuleType:
     """A tool as a module."""
-    sys.dont_write_bytecode = True
     loader = importlib.machinery.SourceFileLoader(name, os.path.join(TOP, "tools", name))
     made = importlib.util.module_from_spec(importlib.util.spec_from_loader(name, loader))
     loader.exec_module(made)
     return made
 
 
-def source_tools() -> Iterator[tuple[str, Any, Any]]:
-    """What the tools that read the crates say, each with what it should be."""
-    arguments, twice, callers, uses, limits, memory = (
-        tool(name) for name in ("arguments", "twice", "callers", "uses", "limits", "memory-answers")
+@pytest.mark.parametrize("name, formula, second, status, text, said", ROWS)
+def test_a_tool_says_what_is_wrong_with_a_file(
+    name: str, formula: bytes, second: bytes, status: int, text: str, said: str, tmp_path: Path
+) -> None:
+    (tmp_path / "first").write_bytes(formula)
+    (tmp_path / "second").write_bytes(second)
+    ended = subprocess.run(
+        [os.path.join(TOP, "tools", name), "first", "second"],
+        cwd=tmp_path,
+        stdout=subprocess.PIPE,
+        stderr=subprocess.PIPE,
+        timeout=60,
     )
-    yield "limits of code", limits.constants_of(CONSTANTS[0]), CONSTANTS[1]
-    yield "limits of samples", limits.sampled(SAMPLES[0]), SAMPLES[1]
-    yield "limits without a number", limits.unnamed(), ([], [])
+    error = ended.stderr.decode()
+    assert (ended.returncode, ended.stdout.decode()) == (status, text)
+    assert said in error and "Traceback" not in error and (status == 0) == (error == "")
+
+
+def test_limits_sees_constants() -> None:
+    limits = tool("limits")
+    assert limits.constants_of(CONSTANTS[0]) == CONSTANTS[1]
+    assert limits.sampled(SAMPLES[0]) == SAMPLES[1]
+
+
+def test_each_limit_has_a_number() -> None:
+    assert tool("limits").unnamed() == ([], [])
+
+
+def test_memory_answers_finds_the_calls_that_a_test_runs() -> None:
+    callers, memory = tool("callers"), tool("memory-answers")
     code = {crate: {callers.ROOT / "crates" / crate / "src" / "lib.rt": text} for crate, text in WANTING.items()}
     named = memory.functions(callers, code)
     ways = memory.reached(named, {"above": ["low"]}, set(named))
-    yield "calls that a test runs", sorted(it.name for it in ways), ["made", "other", "shows"]
-    for text, kind, names in NAMES:
-        yield f"uses of {text!r}", uses.names_in(text, kind) & NAMED, names
-    yield "uses of crates.txt", uses.lines_of(LINES), {"low": [], "high": ["low", "other"]}
-    yield "arguments of CODE", list(arguments.functions(CODE)), COUNTS
-    for text, crate, names in IMPORTS:
-        ((model, code, path),) = twice.IMPORT.findall(text)
-        yield f"twice of {text!r}", (model or code, twice.names_of(path) | {""}), (crate, names)
-    for name, crates, cited, may in TWICE:
-        yield f"twice of {name} in {cited}", twice.reason_of(name, crates, cited) is not None, may
-    for text, name, owner, is_called in CALLS:
-        yield f"callers of {name} in {text!r}", callers.is_called("low", name, owner, [], [text]), is_called
-    yield "a law", [callers.is_law(text, 0) for text in LAWS], [True, False]
-    found = [name for _, name in callers.uncalled()]
-    yield "public functions that nothing calls", found, sorted(callers.KEPT, key=found.index)
+    assert sorted(it.name for it in ways) == ["made", "other", "shows"]
+
+
+@pytest.mark.parametrize("text, kind, names", NAMES)
+def test_uses_finds_names_in_a_text(text: str, kind: str, names: set[str]) -> None:
+    assert tool("uses").names_in(text, kind) & NAMED == names
+
+
+def test_uses_reads_the_lines_of_crates_txt() -> None:
+    assert tool("uses").lines_of(LINES) == {"low": [], "high": ["low", "other"]}
+
+
+def test_arguments_counts_arguments_and_clauses() -> None:
+    assert list(tool("arguments").functions(CODE)) == COUNTS
+
+
+@pytest.mark.parametrize("text, crate, names", IMPORTS)
+def test_twice_reads_imports(text: str, crate: str, names: set[str]) -> None:
+    twice = tool("twice")
+    ((model, code, path),) = twice.IMPORT.findall(text)
+    assert (model or code, twice.names_of(path) | {""}) == (crate, names)
+
+
+@pytest.mark.parametrize("name, crates, cited, may", TWICE)
+def test_twice_knows_what_may_stand_twice(
+    name: str, crates: list[str], cited: dict[str, dict[str, set[str]]], may: bool
+) -> None:
+    assert (tool("twice").reason_of(name, crates, cited) is not None) == may
+
+
+@pytest.mark.parametrize("text, name, owner, is_called", CALLS)
+def test_callers_finds_calls(text: str, name: str, owner: str, is_called: bool) -> None:
+    assert tool("callers").is_called("low", name, owner, [], [text]) == is_called
+
+
+def test_callers_tells_a_law_from_a_function() -> None:
+    assert [tool("callers").is_law(text, 0) for text in LAWS] == [True, False]
+
+
+def test_each_public_function_has_a_caller() -> None:
+    callers = tool("callers")
+    assert sorted(name for _, name in callers.uncalled()) == sorted(callers.KEPT)
+
+
+def test_decisions_names_each_contract_of_many_clauses() -> None:
+    arguments = tool("arguments")
     with open(os.path.join(TOP, "docs", "DECISIONS.md"), encoding="utf-8") as it:
         (line,) = re.findall(r"^- \*\*Contracts of more than twelve clauses\*\*.*", it.read(), re.M)
-    long = {
-        name
-        for _, name, _, clauses in arguments.functions_of(arguments.crates_of_the_program())
-        if clauses > arguments.MOST_CLAUSES
-    }
-    yield "contracts that DECISIONS lacks", sorted(long - set(re.findall(r"`(\w+)`", line))), []
-
-
-def main() -> int:
-    failed = 0
-    asked = [(FORMULA, *row) for row in ROWS]
-    asked += [
-        (line + FORMULA, tool, held, 0, first + rest, "") for line, first in VERSIONS for tool, held, rest in MADE
-    ]
-    with tempfile.TemporaryDirectory() as folder:
-        for formula, tool, held, status, text, said in asked:
-            for name, it_holds in (("first", formula), ("second", held)):
-                with open(os.path.join(folder, name), "wb") as it:
-                    it.write(it_holds)
-            ended = subprocess.run(
-                [os.path.join(TOP, "tools", tool), "first", "second"],
-                cwd=folder,
-                stdout=subprocess.PIPE,
-                stderr=subprocess.PIPE,
-                timeout=60,
-            )
-            found = (ended.returncode, ended.stdout.decode(), ended.stderr.decode())
-            if (
-                found[:2] != (status, text)
-                or said not in found[2]
-                or "Traceback" in found[2]
-                or (status == 0) != (found[2] == "")
-            ):
-                failed += 1
-                print(f"tools: {tool} of {formula!r} and {held!r}: {found!r}")
-    rows = list(source_tools())
-    for what, found, wanted in rows:
-        if found != wanted:
-            failed += 1
-            print(f"tools: {what}: {found!r}")
-    print(f"tools: {len(asked) + len(rows) - failed} passed, {failed} failed")
-    return 1 if failed else 0
-
-
-if __name__ == "__main__":
-    sys.exit(main())
+    functions = arguments.functions_of(arguments.crates_of_the_program())
+    long = {name for _, name, _, clauses in functions if clauses > arguments.MOST_CLAUSES}
+    assert long <= {*re.findall(r"`(\w+)`", line)}
