@@ -2,8 +2,8 @@
 """Holds what is written outside the crates against a linter: lint.py flake8|mypy|shellcheck|eslint
 
 flake8 and mypy read every file of Python, shellcheck every script of bash, and eslint every module of JavaScript. A
-linter that is not installed is skipped, and so is eslint where there are no settings for it. The findings come first;
-the last line is 'NAME: N passed, M failed', which counts files.
+linter that is not installed is skipped, and so is eslint where there are no settings for it. Status 0 if nothing is
+found, else 1. tests/test_lint.py asks the same.
 """
 
 import os
@@ -64,12 +64,11 @@ def part_of(path: str) -> str:
 
 
 class Linter:
-    """The files that a linter read, and those in which it found something."""
+    """The files that a linter read, and what it found in them."""
 
-    def __init__(self, name: str) -> None:
-        self.name = name
+    def __init__(self) -> None:
         self.read: list[str] = []
-        self.faulty: set[str] = set()
+        self.findings = ""
         # ends badly without a finding in a file: then the linter itself failed
         self.broken = False
 
@@ -77,15 +76,9 @@ class Linter:
         """Runs the linter over some files; each line of what it says begins with the path of a file."""
         ended = subprocess.run([*words, *paths], cwd=TOP, env={**os.environ, **env}, stdout=subprocess.PIPE, text=True)
         self.read += paths
-        sys.stdout.write(ended.stdout)
-        found = {it for it in paths if re.search(rf"^(\./)?{re.escape(it)}\b", ended.stdout, re.M)}
-        self.faulty |= found
+        self.findings += ended.stdout
+        found = any(re.search(rf"^(\./)?{re.escape(it)}\b", ended.stdout, re.M) for it in paths)
         self.broken |= ended.returncode != 0 and not found
-
-    def end(self) -> int:
-        failed = len(self.faulty) + self.broken
-        print(f"{self.name}: {len(self.read) - len(self.faulty)} passed, {failed} failed")
-        return 1 if failed else 0
 
 
 def flake8(linter: Linter) -> None:
@@ -133,9 +126,12 @@ def main() -> int:
     if why:
         print(f"{name}: skipped, {why}")
         return 0
-    linter = Linter(name)
+    linter = Linter()
     LINTERS[name](linter)
-    return linter.end()
+    print(linter.findings, end="")
+    if linter.broken:
+        print(f"{name} ends badly, without a finding", file=sys.stderr)
+    return 1 if linter.findings or linter.broken else 0
 
 
 if __name__ == "__main__":
