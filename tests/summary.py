@@ -1,40 +1,17 @@
-#!/usr/bin/env python3
-"""Holds the summary of both pages against trying all sets: on small random networks, and on four networks of which it
-once said what is not so.
+"""What the summary of both pages has to say of a network, by trying every set of nodes; four networks of which it once
+said what is not so; and random ones.
 
-    tests/summary.py [--count N] [--seed S]
-
-What the summary says comes from tools/network-report as data (--json), and from the page's modules in node, which ask
-the same program. Both are compared with what follows from docs/DEFINITIONS.md by trying every set of nodes, in plain
-Python: each sentence with what stands in it, whose view it is, and each organisation lying, silent and leaving. The
-pages have to say it in the same words, and of the four networks those that stand below and not others. The last line
-is 'summary: N passed, M failed', or why it is skipped.
+Expected follows docs/DEFINITIONS.md in plain Python: each sentence with what stands in it, whose view it is, and each
+organisation lying, silent and leaving.
 """
 
 from __future__ import annotations
 
-import argparse
-import html
 import itertools
 import json
-import os
 import random
-import re
-import shutil
-import subprocess
-import sys
-import tempfile
 from collections.abc import Callable, Iterable, Sequence
 from typing import Any
-
-sys.dont_write_bytecode = True
-
-import chosen
-
-TOP = os.path.dirname(os.path.dirname(os.path.abspath(__file__)))
-PROGRAM = chosen.PROGRAM
-TOOL = os.path.join(TOP, "tools", "network-report")
-IN_NODE = os.path.join(TOP, "tests", "web_summary.mjs")
 
 
 # The four networks.
@@ -579,132 +556,3 @@ def random_network(chance: random.Random) -> tuple[list[dict[str, Any]], list[di
         listed.append({"id": "lost", "name": "Lost", "validators": ["x"]})
     chance.shuffle(nodes)
     return nodes, listed
-
-
-# Both pages.
-
-
-class Trial:
-    def __init__(self, folder: str) -> None:
-        self.folder = folder
-        self.node = shutil.which("node") if os.path.exists(IN_NODE) else None
-        self.passed = self.failed = 0
-
-    def judge(self, name: str, right: bool, told: str = "") -> None:
-        if right:
-            self.passed += 1
-        else:
-            self.failed += 1
-            print(f"summary: {name}: {told}", flush=True)
-
-    def path(self, name: str) -> str:
-        return os.path.join(self.folder, name)
-
-    def network(
-        self,
-        name: str,
-        nodes: list[dict[str, Any]],
-        orgs: list[dict[str, Any]],
-        node: str | None = None,
-        is_now: bool = False,
-        tried: bool = True,
-    ) -> tuple[str, str]:
-        """What both pages say of a network: the words of the summary, and the page of the report."""
-        for file, held in (("config.json", nodes), ("orgs.json", orgs)):
-            with open(self.path(file), "w", encoding="utf-8") as it:
-                json.dump(held, it)
-        shutil.rmtree(self.path("page-certificates"), ignore_errors=True)
-        words = [
-            TOOL,
-            self.path("config.json"),
-            "--orgs",
-            self.path("orgs.json"),
-            *(["--node", node] if node else []),
-            *(["--now"] if is_now else []),
-        ]
-        ended = subprocess.run(
-            [*words, "-o", self.path("page.html"), "--json", self.path("page.json"), "--program", PROGRAM],
-            stdout=subprocess.PIPE,
-            stderr=subprocess.PIPE,
-        )
-        self.judge(name + ": a page", ended.returncode == 0, ended.stderr.decode()[-500:])
-        if ended.returncode:
-            return "", ""
-        with open(self.path("page.json"), encoding="utf-8") as it:
-            data = json.load(it)
-        with open(self.path("page.html"), encoding="utf-8") as it:
-            page = it.read()
-        if tried:
-            differs = Expected(nodes, orgs, node, is_now).compare(data)
-            self.judge(
-                name + ": as by trying all sets", not differs, f"{differs}\n{json.dumps(nodes)}\n{json.dumps(orgs)}"
-            )
-        said = [plain(it) for row in re.findall(r"<dt>(.*?)</dt><dd>(.*?)</dd>", page) for it in row]
-        if self.node:
-            self.in_node(name, data, said, node, is_now)
-        return "\n".join(said), plain(page)
-
-    def in_node(
-        self, name: str, data: dict[str, list[dict[str, Any]]], said: list[str], node: str | None, is_now: bool
-    ) -> None:
-        words = [
-            self.node,
-            IN_NODE,
-            PROGRAM,
-            self.path("config.json"),
-            self.path("orgs.json"),
-            node or "",
-            "now" if is_now else "",
-        ]
-        ended = subprocess.run(words, stdout=subprocess.PIPE, stderr=subprocess.PIPE)
-        self.judge(name + ": in node", ended.returncode == 0, ended.stderr.decode()[-800:])
-        if ended.returncode == 0:
-            found = json.loads(ended.stdout)
-            self.judge(
-                name + ": the same data in node",
-                found["data"] == data,
-                f"\n{json.dumps(found['data'], sort_keys=True)}\n{json.dumps(data, sort_keys=True)}",
-            )
-            self.judge(name + ": the same words in node", found["said"] == said, f"\n{found['said']}\n{said}")
-
-
-def plain(text: str) -> str:
-    return html.unescape(re.sub(r"<style>.*?</style>|<[^>]*>", "", text, flags=re.S))
-
-
-def four(trial: Trial) -> None:
-    """The four networks: what stands in their summaries, and what may stand nowhere."""
-    for name, (made, node, has, lacks) in FOUR.items():
-        nodes, orgs = made()
-        said, page = trial.network(name, nodes, orgs, *node, tried=len(nodes) < 15)  # type: ignore[misc]
-        for text in has:
-            trial.judge(f"{name} says: {text}", text in said, said)
-        for text in lacks:
-            trial.judge(f"{name} does not say: {text}", text not in page, said)
-
-
-def main() -> int:
-    words = argparse.ArgumentParser(prog="summary.py")
-    words.add_argument("--count", type=int, default=12)
-    words.add_argument("--seed", type=int, default=1)
-    asked = words.parse_args()
-    if not os.path.exists(PROGRAM):
-        print("summary: skipped, the program is not built")
-        return 0
-    with tempfile.TemporaryDirectory() as folder:
-        trial = Trial(folder)
-        four(trial)
-        for at in range(asked.count):
-            chance = random.Random(f"{asked.seed} {at}")
-            nodes, orgs = random_network(chance)
-            node = chance.choice(sorted(it["publicKey"] for it in nodes)) if chance.random() < 0.4 else None
-            trial.network(f"network {at} of seed {asked.seed}", nodes, orgs, node, chance.random() < 0.3)
-    print(
-        "summary: %s%d passed, %d failed"
-        % ("" if trial.node else "skipped in node, which is not there: ", trial.passed, trial.failed)
-    )
-    return 1 if trial.failed else 0
-
-
-if __name__ == "__main__":
-    sys.exit(main())
