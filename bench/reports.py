@@ -18,9 +18,11 @@ sys.dont_write_bytecode = True
 sys.path.insert(0, os.path.join(TOP, "tests"))
 
 import browser
+import chosen
 import watchers
 
 REPORTS = os.path.join(TOP, "docs", "reports")
+TOOL = os.path.join(TOP, "tools", "network-report")
 BUDGET = "10000"
 KINDS = [*watchers.KINDS, "split"]
 # The pictures: the first so many pixels of a page.
@@ -29,7 +31,7 @@ PICTURES = {"network": 905, "split": 1085}
 
 def report(page: str, config: str, orgs: str, *words: str) -> None:
     subprocess.run(
-        [browser.TOOL, config, "--orgs", orgs, *words, "-o", page, "--program", browser.PROGRAM],
+        [TOOL, config, "--orgs", orgs, *words, "-o", page, "--program", chosen.path()],
         check=True,
         timeout=3000,
     )
