@@ -1,28 +1,17 @@
 #!/usr/bin/env python3
-"""Asks the library all cases of tests/coverage/corpus, judges the answers, and searches for more cases that are guided
-by coverage.
+"""The cases of tests/coverage/corpus: how they are asked and judged, and the search for more that coverage guides.
 
-usage: tests/coverage/cases.py [--refuse N] [--fuzz SECONDS] [--table] [--merge FOLDER] [TARGET..]
+usage: tests/coverage/cases.py --table [--refuse N] | --merge FOLDER [TARGET..]
 
-A case is the words of a question and the files that they name. Each is asked in guarded memory, over a heap that
-counts: the answer is the same twice; a certificate that a search made is accepted, and without its last byte
-refused; nodes that are renamed in order, elements that are turned round and members that are skipped change no more
-than they have to; with one unit more a certificate begins alike; in a room of one byte less there is no answer; no
-byte beside the room and no block of memory is left over. What 'check', 'check-lrat' and 'whatif' say is what
-tests/plain_checker.py says. With each N-th growth of memory refused, by itself and with all later ones, the answer
-is the same, or 8.
-
-With --fuzz libFuzzer then changes the cases of each target for so many seconds. The library is compiled anew for
-that, with its branches counted: that of tools/library --bitcode, else one without proofs; without the toolchain it
-is that of dist/, uncounted. With --table docs/TESTING.md gets the branches reached. With --merge the corpus becomes
-what of the cases in FOLDER/TARGET/ and in the corpus reaches more. Its last line is 'coverage: N passed, M failed, K
-skipped'.
+A case is the words of a question and the files that they name. tests/coverage/test_cases.py says what is asked of
+each. With --table docs/TESTING.md gets the branches that the corpus reaches. With --merge the corpus becomes what of
+the cases in FOLDER/TARGET/ and in the corpus reaches more. The library is compiled anew for that, with its branches
+counted: that of tools/library --bitcode, else one without proofs.
 """
 
 import argparse
 import glob
 import os
-import re
 import shutil
 import subprocess
 import sys
@@ -113,42 +102,42 @@ def second_word(status: int, parts: list[bytes]) -> tuple[int, str] | None:
     return None
 
 
+def ask_second(data: bytes) -> None:
+    """What the library said of a case is what the second checker says."""
+    head, _, rest = data.partition(b"\n")
+    status, length = (int(it) for it in head.split())
+    text, (_, parts) = rest[:length], next(cases(rest[length:]))
+    wanted = second_word(status, parts)
+    found = (status, text.decode("latin-1"))
+    if wanted not in (None, found):
+        raise Failed(f"the second checker says {wanted} and not {found} of {rest[length:][:3000]!r}")
+
+
+class Failed(AssertionError):
+    """A program that asks the cases, or libFuzzer, ended badly."""
+
+
 class Coverage:
-    def __init__(self, folder: str, targets: list[str]) -> None:
-        self.folder, self.targets = folder, targets
-        self.passed = self.failed = self.skipped = 0
+    def __init__(self, folder: str) -> None:
+        self.folder = folder
         self.program = ""
-
-    def judge(self, right: bool, what: str) -> None:
-        self.passed += right
-        self.failed += not right
-        if not right:
-            print(f"coverage: {what}", flush=True)
-
-    def skip(self, what: object) -> None:
-        self.skipped += 1
-        print(f"coverage: skipped: {what}", flush=True)
 
     def corpus(self, target: str) -> str:
         return os.path.join(CORPUS, f"{target}.cases")
 
     # ---- The corpus
 
-    def ask_all(self, refuse: int) -> None:
-        """Each case of the corpus once, and with growths of memory refused."""
-        for target in self.targets:
-            self.ask_cases(target, self.corpus(target), refuse)
-
     def ask_cases(self, target: str, path: str, refuse: int, most: int = 10**9) -> None:
-        """The cases of a file, and so many of them of the second checker."""
+        """The cases of a file once, with each N-th growth of memory refused; and so many of them of the second
+        checker."""
         if not self.program:
             self.program = build.linked(build.RUN, "run", build.archive())
         kept = tempfile.mkdtemp(dir=self.folder)
         ended = self.run([self.program, "--refuse", str(refuse), "--keep", kept, path])
-        said = ended.stderr.decode("utf-8", "replace")[-1500:]
-        self.judge(ended.returncode == 0, f"{target}: {said}{self.keep_wrong(target)}")
+        if ended.returncode:
+            raise Failed(f"{ended.stderr.decode('utf-8', 'replace')[-1500:]}{self.keep_wrong(target)}")
         for name in sorted(os.listdir(kept), key=int)[-most:]:
-            self.ask_second(target, held(os.path.join(kept, name)))
+            ask_second(held(os.path.join(kept, name)))
         shutil.rmtree(kept)
 
     def run(self, words: list[str]) -> "subprocess.CompletedProcess[bytes]":
@@ -164,44 +153,21 @@ class Coverage:
         os.makedirs(room, exist_ok=True)
         for it in found:
             shutil.move(it, os.path.join(room, f"{target}-{os.path.basename(it)}"))
-        return f"coverage: {target}: kept in {room}"
-
-    def ask_second(self, target: str, data: bytes) -> None:
-        """What the second checker says of the case."""
-        head, _, rest = data.partition(b"\n")
-        status, length = (int(it) for it in head.split())
-        text, (_, parts) = rest[:length], next(cases(rest[length:]))
-        wanted = second_word(status, parts)
-        if wanted is None:
-            return
-        found = (status, text.decode("latin-1"))
-        what = f"the second checker says {wanted} and not {found}"
-        self.judge(found == wanted, f"{target}: {what} of {rest[length:][:3000]!r}")
+        return f" The case is kept in {room}"
 
     # ---- The search
 
-    def fuzz(self, seconds: int) -> None:
-        compiler = build.fuzzer()
-        try:
-            library, is_proved = build.counting("-O1")
-            of_what = "proved" if is_proved else "without proofs"
-        except build.Missing as why:
-            self.skip(f"branches are not counted: {why}")
-            library, of_what = build.archive(), "that of dist/, uncounted"
-        program = build.linked(build.FUZZ, "fuzz", library, by=compiler, more=("-fsanitize=fuzzer", "-no-pie"))
-        for target in self.targets:
-            room = self.unpacked(target)
-            words = [f"-max_total_time={seconds}", "-len_control=0", "-rss_limit_mb=2000", "-print_final_stats=1"]
-            words += [f"-dict={os.path.join(build.HERE, 'formats.dict')}", room]
-            ended = self.libfuzzer(target, program, *words)
-            said = ended.stderr.decode("utf-8", "replace")
-            runs, reached = (re.findall(it, said) for it in (r"number_of_executed_units: (\d+)", r"cov: (\d+)"))
-            what = f"{runs[-1] if runs else 0} runs, {reached[-1] if reached else 0} branches reached"
-            print(f"coverage: {target}: {what} (the library {of_what})", flush=True)
-            kept = self.keep_wrong(target)
-            told = " ".join(it for it in said.splitlines() if it.startswith(("coverage:", "SUMMARY")))
-            self.judge(ended.returncode == 0, f"{target}: {told} {kept}")
-            self.ask_cases(target, self.packed(room), 0, most=MOST_SECOND)
+    def fuzz(self, target: str, seconds: int, program: str) -> None:
+        """Has libFuzzer change the cases of a target, and asks the second checker of what it finds."""
+        room = self.unpacked(target)
+        words = [f"-max_total_time={seconds}", "-len_control=0", "-rss_limit_mb=2000"]
+        words += [f"-dict={os.path.join(build.HERE, 'formats.dict')}", room]
+        ended = self.libfuzzer(target, program, *words)
+        if ended.returncode:
+            said = ended.stderr.decode("utf-8", "replace").splitlines()
+            told = " ".join(it for it in said if it.startswith(("coverage:", "SUMMARY")))
+            raise Failed(f"{told}{self.keep_wrong(target)}")
+        self.ask_cases(target, self.packed(room), 0, most=MOST_SECOND)
 
     def libfuzzer(self, target: str, program: str, *words: str) -> "subprocess.CompletedProcess[bytes]":
         how = {"cwd": self.folder, "env": {**os.environ, "COVERAGE_TARGET": target}, "stdin": subprocess.DEVNULL}
@@ -224,11 +190,11 @@ class Coverage:
             it.write(b"".join(case for case in found if case.startswith(b"case ")))
         return f"{room}.cases"
 
-    def merge(self, folder: str) -> None:
+    def merge(self, folder: str, targets: list[str]) -> None:
         """The corpus of each target becomes the smallest cases that together reach all, up to so many bytes."""
         library, _ = build.counting("-O1")
         program = build.linked(build.FUZZ, "fuzz", library, by=build.fuzzer(), more=("-fsanitize=fuzzer", "-no-pie"))
-        for target in self.targets:
+        for target in targets:
             new = os.path.join(folder, target)
             rooms = [self.unpacked(target)] if os.path.exists(self.corpus(target)) else []
             rooms += [new] if os.path.isdir(new) else []
@@ -247,7 +213,8 @@ class Coverage:
         """The cases in these folders that together reach all, the smallest first."""
         made = tempfile.mkdtemp(dir=self.folder)
         ended = self.libfuzzer(target, program, "-merge=1", how, made, *rooms)
-        self.judge(ended.returncode == 0, f"{target}: the merge ended with {ended.returncode}")
+        if ended.returncode:
+            raise Failed(f"{target}: the merge ended with {ended.returncode}")
         return sorted((held(os.path.join(made, name)) for name in os.listdir(made)), key=lambda it: (len(it), it))
 
     def table(self, refuse: int) -> None:
@@ -255,41 +222,42 @@ class Coverage:
         library, is_proved = build.counting("-O0")
         program = build.linked(build.RUN, "run_counting", library, more=("-no-pie",))
         reached = os.path.join(self.folder, "reached")
-        corpora = [self.corpus(it) for it in self.targets]
+        corpora = [self.corpus(it) for it in TARGETS]
         ended = self.run([program, "--refuse", str(refuse), "--reached", reached, *corpora])
-        self.judge(ended.returncode == 0, f"the table: {ended.stderr.decode('utf-8', 'replace')[-1500:]}")
-        if not ended.returncode:
-            table.write(program, held(reached).decode(), is_proved, refuse)
+        if ended.returncode:
+            raise Failed(ended.stderr.decode("utf-8", "replace")[-1500:])
+        table.write(program, held(reached).decode(), is_proved, refuse)
+
+
+def room() -> "tempfile.TemporaryDirectory[str]":
+    """A folder in memory, if there is such a place."""
+    return tempfile.TemporaryDirectory(dir="/dev/shm" if os.path.isdir("/dev/shm") else None)
 
 
 def main() -> int:
-    words = argparse.ArgumentParser(description="Asks the library the cases of the corpus, and searches for more.")
+    words = argparse.ArgumentParser(description="Counts the branches that the corpus reaches, or makes it anew.")
     words.add_argument("--refuse", type=int, default=61, help="each N-th growth of memory is refused (default: 61)")
-    words.add_argument("--fuzz", type=int, default=0, help="seconds for each target")
     words.add_argument("--table", action="store_true", help="write the table of docs/TESTING.md")
     words.add_argument("--merge", help="a folder of new cases by target")
     words.add_argument("target", nargs="*", help="only these")
     asked = words.parse_args()
-    targets = asked.target or list(TARGETS)
-    if not {*targets} <= {*TARGETS}:
+    if not {*asked.target} <= {*TARGETS}:
         words.error("the targets are " + " ".join(TARGETS))
-    with tempfile.TemporaryDirectory(dir="/dev/shm" if os.path.isdir("/dev/shm") else None) as folder:
-        it = Coverage(folder, targets)
+    if not asked.merge and not asked.table:
+        words.error("say --table or --merge; the cases are asked by pytest tests/coverage/test_cases.py")
+    with room() as folder:
         try:
             if asked.merge:
-                it.merge(os.path.abspath(asked.merge))
-            elif asked.table:
-                it.table(asked.refuse)
+                Coverage(folder).merge(os.path.abspath(asked.merge), asked.target or list(TARGETS))
             else:
-                it.ask_all(asked.refuse)
-                if asked.fuzz:
-                    it.fuzz(asked.fuzz)
-        except build.Missing as why:
-            it.skip(why)
+                Coverage(folder).table(asked.refuse)
+        except (build.Missing, Failed) as why:
+            print(f"coverage: {why}", file=sys.stderr)
+            return 1
         except subprocess.CalledProcessError as why:
-            it.judge(False, f"{why.cmd} ended with {why.returncode}: {why.output}")
-    print(f"coverage: {it.passed} passed, {it.failed} failed, {it.skipped} skipped")
-    return 1 if it.failed else 0
+            print(f"coverage: {why.cmd} ended with {why.returncode}: {why.output}", file=sys.stderr)
+            return 1
+    return 0
 
 
 if __name__ == "__main__":

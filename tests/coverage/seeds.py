@@ -1,5 +1,5 @@
 #!/usr/bin/env python3
-"""Writes the first corpus: rows of tests/malicious.py, questions of tests/library.py, the examples, and made-up
+"""Writes the first corpus: rows of tests/malicious.py, questions of tests/library_cases.py, the examples, and made-up
 cases of tests/fuzz.py.
 
 usage: tests/coverage/seeds.py FOLDER [--cases N] [--seed S]
@@ -18,9 +18,10 @@ from collections.abc import Iterator
 TESTS = os.path.dirname(os.path.dirname(os.path.abspath(__file__)))
 sys.path[:0] = [TESTS, os.path.join(os.path.dirname(TESTS), "library", "python")]
 sys.dont_write_bytecode = True
+import chosen  # noqa: E402
 import commands  # noqa: E402
 import fuzz  # noqa: E402
-import library  # noqa: E402
+import library_cases  # noqa: E402
 import malicious  # noqa: E402
 
 MOST_BYTES = 8192
@@ -52,36 +53,20 @@ def target_of(words: list[str], files: Files) -> str:
     return "config" if len(words) < 3 or command in ("greatest", "blocks") else "words"
 
 
-class Rows(malicious.Trial):
-    """The rows of tests/malicious.py, gathered."""
-
-    def __init__(self) -> None:
-        super().__init__("", "")
-        self.files: Files = {}
-        self.found: list[tuple[list[str], Files]] = []
-
-    def put(self, name: str, data: object) -> None:
-        self.files[name] = data if isinstance(data, bytes) else b""
-
-    def row(self, _name: str, _status: int, _text: str, *words: str) -> None:
-        self.found.append((list(words), dict(self.files)))
-
-
 def made_up(count: int, seed: int) -> Iterator[tuple[list[str], Files]]:
     """Cases of tests/fuzz.py, by the names of the library's files."""
     rng = random.Random(seed)
     with tempfile.TemporaryDirectory() as folder:
-        maker = fuzz.Maker(rng, fuzz.Program(fuzz.BUILT, folder))
+        maker = fuzz.Maker(rng, fuzz.Program(chosen.path(), folder))
         for _ in range(count):
             it = maker.case()
             yield list(it.words), {name: it.files.get(name, b"") for name in FILES}
 
 
 def every(count: int, seed: int) -> Iterator[tuple[list[str], Files]]:
-    rows = Rows()
-    malicious.rows(rows)
-    yield from rows.found
-    for words, files in library.questions():
+    for row in malicious.every_row():
+        yield list(row.words), {name: data for name, data in row.files.items() if isinstance(data, bytes)}
+    for words, files in library_cases.questions():
         yield list(words), {name: files.get(name, b"") for name in FILES}
     yield from made_up(count, seed)
 
@@ -95,7 +80,7 @@ def main() -> int:
     os.makedirs(asked.folder, exist_ok=True)
     found: dict[str, list[bytes]] = {}
     for given, files in every(asked.cases, asked.seed):
-        names = library.named_as_made(given) if given else given
+        names = library_cases.named_as_made(given) if given else given
         case = case_of(names, files)
         kept = found.setdefault(target_of(names, files), [])
         if len(case) <= MOST_BYTES and case not in kept:

@@ -1,5 +1,4 @@
-#!/usr/bin/env python3
-"""Has each call of the outside of ten whole runs fail once with each error, and cuts reads and writes short, on the
+"""Each call of the outside of eleven whole runs fails once with each error, and reads and writes are cut short, on the
 built program.
 
 A small library that is loaded before the system's (desk.c, made with cc) does so. Whatever call fails: the program
@@ -7,23 +6,22 @@ ends with the status that it would have, or with 6 (read) or 7 (written). What i
 7 a proper prefix and with 6 nothing. Under the certificate's name is what was there or the new one, whole; a file
 that is no certificate is kept beside it; and after an answer the new one is there. From the calls it is read that a
 certificate is on the disk before it takes its name, and its name before the answer.
-
-usage: tests/coverage/desk.py [PROGRAM]; its last line is 'desk: N passed, M failed'.
 """
+
+from __future__ import annotations
 
 import errno
 import os
 import shutil
 import subprocess
-import sys
 import tempfile
+from collections.abc import Iterator
 from dataclasses import dataclass
 
-sys.dont_write_bytecode = True
+import pytest
+
 HERE = os.path.dirname(os.path.abspath(__file__))
 TOP = os.path.dirname(os.path.dirname(HERE))
-sys.path.insert(0, os.path.dirname(HERE))
-import chosen  # noqa: E402
 
 OLD, OTHER = b"fbas-cert 2\nold\n", b"a letter\n"
 EXAMPLES = (
@@ -87,15 +85,8 @@ class Ended:
 
 class Desk:
     def __init__(self, folder: str, program: str) -> None:
-        self.folder, self.program = folder, os.path.abspath(program)
+        self.folder, self.program = folder, program
         self.library = os.path.join(folder, "desk.so")
-        self.passed = self.failed = 0
-
-    def judge(self, right: bool, what: str) -> None:
-        self.passed += right
-        self.failed += not right
-        if not right and self.failed < 40:
-            print(f"desk: {what}", flush=True)
 
     def run(self, asked: Asked, **limits: int) -> Ended:
         room, log = os.path.join(self.folder, "room"), os.path.join(self.folder, "log")
@@ -118,7 +109,7 @@ class Desk:
                 files[name] = it.read()
         with open(log, encoding="utf-8") as it:
             calls = [line.rstrip("\n").split(" ", 3) for line in it]
-        self.judge(ended.stderr == b"", f"{asked.words}: {limits}: says {ended.stderr!r}")
+        assert ended.stderr == b"", f"{limits}"
         return Ended(ended.returncode, ended.stdout, files, calls)
 
     def status(self, ample: Ended, at: int, error: int) -> int | None:
@@ -154,55 +145,54 @@ class Desk:
             return f"leaves {sorted(found.files)}"
         return ""
 
-    def all_errors(self, asked: Asked) -> None:
-        ample = self.run(asked)
-        is_right = ample.status in (0, 1, 2) and (SEARCHED in ample.files) == asked.searches()
-        self.judge(is_right, f"{asked.words}: {ample.status}, {sorted(ample.files)}")
-        for at, (call, *_) in enumerate(ample.calls, 1):
-            for error in ERRORS.get(call, USUAL):
-                found = self.run(asked, at=at, error=error)
-                wrong, one = self.fault(asked, ample, found), self.status(ample, at, error)
-                if one is not None and found.status != one:
-                    wrong = f"status {found.status} and not {one}"
-                what = f"call {at} ({' '.join(ample.calls[at - 1])}) fails with {errno.errorcode[error]}"
-                self.judge(not wrong, f"{asked.words}: {what}: {wrong}")
-        for most in (1, 7):
-            found = self.run(asked, most=most)
-            same = (found.status, found.text, found.files) == (ample.status, ample.text, ample.files)
-            self.judge(same, f"{asked.words}: by {most} bytes a call: status {found.status}, {sorted(found.files)}")
-        if asked.searches():
-            self.order(asked, ample.calls)
 
-    def order(self, asked: Asked, calls: list[list[str]]) -> None:
-        """The certificate is on the disk before it takes its name, and its name is before the answer is put out."""
-        named = next((i for i, it in enumerate(calls) if it[0] == "rename" and it[3] == SEARCHED), -1)
-        told = next((i for i, it in enumerate(calls) if it[:2] == ["write", "1"]), MORE_THAN_ALL)
-        part = next((it[2] for it in calls if it[0] == "create" and it[3] == f"{SEARCHED}.part"), "")
-        written = max((i for i, it in enumerate(calls) if it[:2] == ["write", part]), default=MORE_THAN_ALL)
-        kept = next((i for i, it in enumerate(calls) if it[:2] == ["fsync", part] and i > written), MORE_THAN_ALL)
-        folder = [it[2] for it in calls if it[0] == "open" and it[3] == "."]
-        folders = (i for i, it in enumerate(calls) if it[0] == "fsync" and it[1] in folder and i > named)
-        is_right = written < kept < named < next(folders, MORE_THAN_ALL) < told
-        self.judge(is_right, f"{asked.words}: the order of the calls is {[' '.join(it) for it in calls]}")
-
-
-def main(program: str = chosen.PROGRAM) -> int:
+@pytest.fixture(scope="module")
+def desk(program: str) -> Iterator[Desk]:
     compiler = os.environ.get("CC", "cc")
     if not shutil.which(compiler):
-        print(f"desk: skipped: there is no C compiler {compiler}\ndesk: 0 passed, 0 failed, 1 skipped")
-        return 0
+        pytest.skip(f"there is no C compiler {compiler}")
     with tempfile.TemporaryDirectory() as folder:
-        desk = Desk(folder, program)
-        made = [compiler, "-shared", "-fPIC", "-O1", "-o", desk.library, os.path.join(HERE, "desk.c"), "-ldl"]
-        subprocess.run(made, check=True)
+        made = Desk(folder, program)
+        words = [compiler, "-shared", "-fPIC", "-O1", "-o", made.library, os.path.join(HERE, "desk.c"), "-ldl"]
+        subprocess.run(words, check=True)
         os.mkdir(os.path.join(folder, "examples"))
         for name in EXAMPLES:
             shutil.copy(os.path.join(TOP, "examples", name), os.path.join(folder, "examples", name))
-        for asked in RUNS:
-            desk.all_errors(asked)
-    print(f"desk: {desk.passed} passed, {desk.failed} failed")
-    return 1 if desk.failed else 0
+        yield made
 
 
-if __name__ == "__main__":
-    sys.exit(main(*sys.argv[1:2]))
+of_each_run = pytest.mark.parametrize("asked", RUNS, ids=lambda it: it.words)
+
+
+@of_each_run
+def test_each_call_that_fails_ends_with_its_status_and_loses_nothing(asked: Asked, desk: Desk) -> None:
+    """Each call of the outside, once with each error."""
+    ample = desk.run(asked)
+    assert ample.status in (0, 1, 2) and (SEARCHED in ample.files) == asked.searches()
+    for at, (call, *_) in enumerate(ample.calls, 1):
+        for error in ERRORS.get(call, USUAL):
+            found = desk.run(asked, at=at, error=error)
+            what = f"call {at} ({' '.join(ample.calls[at - 1])}) fails with {errno.errorcode[error]}"
+            assert desk.fault(asked, ample, found) == "", what
+            one = desk.status(ample, at, error)
+            assert one is None or found.status == one, what
+
+
+@of_each_run
+@pytest.mark.parametrize("most", [1, 7])
+def test_reads_and_writes_that_are_cut_short_change_nothing(asked: Asked, most: int, desk: Desk) -> None:
+    ample, found = desk.run(asked), desk.run(asked, most=most)
+    assert (found.status, found.text, found.files) == (ample.status, ample.text, ample.files)
+
+
+@pytest.mark.parametrize("asked", [it for it in RUNS if it.searches()], ids=lambda it: it.words)
+def test_the_certificate_is_on_the_disk_before_its_name_and_that_before_the_answer(asked: Asked, desk: Desk) -> None:
+    calls = desk.run(asked).calls
+    named = next((i for i, it in enumerate(calls) if it[0] == "rename" and it[3] == SEARCHED), -1)
+    told = next((i for i, it in enumerate(calls) if it[:2] == ["write", "1"]), MORE_THAN_ALL)
+    part = next((it[2] for it in calls if it[0] == "create" and it[3] == f"{SEARCHED}.part"), "")
+    written = max((i for i, it in enumerate(calls) if it[:2] == ["write", part]), default=MORE_THAN_ALL)
+    kept = next((i for i, it in enumerate(calls) if it[:2] == ["fsync", part] and i > written), MORE_THAN_ALL)
+    folder = [it[2] for it in calls if it[0] == "open" and it[3] == "."]
+    folders = (i for i, it in enumerate(calls) if it[0] == "fsync" and it[1] in folder and i > named)
+    assert written < kept < named < next(folders, MORE_THAN_ALL) < told, [" ".join(it) for it in calls]
