@@ -43,7 +43,7 @@ FILLED = "<!-- tables\\.py .*?<!-- end -->|<!--[^>]* from here -->.*?<!-- to her
 UNUSUAL = re.compile(r"\b(behind|told|lent|so many)\b", re.I)
 # Names of the toolchain that the documents cite.
 FOREIGN = {"TheConstants"}
-# The document whose names of the toolchain tests/trusted.py compares with what a check says.
+# The document whose names of the toolchain tests/test_trusted.py compares with what a check says.
 TRUSTED = "docs/TRUSTED.md"
 PATH = re.compile(r"`((?:crates|docs|tools|tests|bench|examples|library|\.ci)/[\w./-]+)`")
 # What is built where a document names it.

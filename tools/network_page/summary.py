@@ -1,6 +1,6 @@
 """The summary as data: which sentences are said, and of what.
 
-web/words/summary.js decides the same; tests/summary.py holds both against trying all sets.
+web/words/summary.js decides the same; tests/test_summary.py holds both against trying all sets.
 """
 
 from __future__ import annotations
