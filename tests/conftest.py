@@ -30,6 +30,11 @@ def pytest_addoption(parser: Any) -> None:
     group.addoption("--long", action="store_true", help="more cases, and the tests that take long")
     group.addoption("--cases", type=int, metavar="N", help="how many cases each test makes that makes them up")
     group.addoption("--seed", type=int, metavar="N", help="from which number it makes them")
+    group.addoption("--fuzz", type=int, metavar="SECONDS", default=60, help="how long libFuzzer searches, with --long")
+    group.addoption(
+        "--page", metavar="PAGE", help="the page that tests/test_web_page.py opens, instead of one it makes"
+    )
+    group.addoption("--data", metavar="FOLDER", help="more networks for it: NAME.json and NAME-orgs.json")
     group.addoption("--kind", help="only cases of this kind, where a test makes several: of tests/fuzz.py, as whatif")
 
 
