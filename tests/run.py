@@ -39,67 +39,14 @@ HEEDING = ["env", "--default-signal=HUP,INT,TERM"]
 PYTEST = ["-m", "pytest", "-q", "-rs", "-p", "no:cacheprovider", "--color=no"]
 NO_PYTEST = "there is no pytest: apt-get install python3-pytest"
 # The dearest come first.
-DEAREST = ["network_report", "web_page", "web_modules", "library", "lint", "process", "answers", "malicious", "fuzz"]
+DEAREST = (
+    "memory fail_alloc python/many_snapshots network_report web_page web_modules library lint malicious script wrapper"
+    " summary browser process replacing answers coverage/cases python/bulk python/command"
+).split()
 # What needs no program, so that none is made for it.
 WITHOUT_PROGRAM = {"dist", "documents", "lint", "web_modules", "wrapper"}
 # A file all of whose tests take long.
 ALL_LONG = re.compile(r"^pytestmark = pytest\.mark\.long$|^pytestmark = \[.*\bpytest\.mark\.long\b.*\]$", re.M)
-# Scripts that are not files of pytest yet, and their words; with --long those of LONG.
-SCRIPTS = {
-    "network_report": "network_report.py",
-    "web_page": "web_page.py --over PAGE",
-    "web_modules": "web_modules.py",
-    "library": "library.py --built --cases 500",
-    "mypy": "lint.py mypy",
-    "process": "process.py",
-    "answers": "answers.py",
-    "malicious": "malicious.py",
-    "coverage": "coverage/cases.py",
-    "desk": "coverage/desk.py",
-    "fuzz": "fuzz.py --cases 400 --seed 1",
-    "summary": "summary.py",
-    "browser": "browser.py",
-    "wrapper": "wrapper.py",
-    "documents": "documents.py",
-    "dist": "dist.py",
-    "random_scripts": "random_scripts.py",
-    "examples": "examples.py",
-    "packaging": "packaging.py",
-    "script": "script.py --cases 60",
-    "orders": "orders.py 60",
-    "tools": "tools.py",
-    "flake8": "lint.py flake8",
-    "shellcheck": "lint.py shellcheck",
-    "eslint": "lint.py eslint",
-}
-LONG = {
-    "fail_alloc": "fail_alloc.py",
-    "library": "library.py",
-    "coverage": "coverage/cases.py --refuse 1 --fuzz 60",
-    "fuzz": "fuzz.py --cases 20000 --seed 1",
-    "memory": "memory.py",
-    "web_page": "web_page.py",
-    "summary": "summary.py --count 200",
-    "random_scripts": "random_scripts.py 1000",
-    "orders": "orders.py 3000",
-    "exports": "exports.py",
-    "questions": "questions.py",
-    "random_lists": "random_lists.py",
-    "edits": "edits.py",
-    "python/snapshots": "python/snapshots.py",
-}
-
-
-def scripts(is_long: bool) -> dict[str, str]:
-    """Those of the scripts for which there is no file of pytest."""
-    found = {}
-    for name, line in ({**SCRIPTS, **LONG} if is_long else SCRIPTS).items():
-        path = os.path.join(TESTS, line.split()[0])
-        if os.path.exists(path) and not os.path.exists(
-            os.path.join(os.path.dirname(path), f"test_{os.path.basename(path)}")
-        ):
-            found[name] = line
-    return found
 
 
 def groups() -> dict[str, str]:
@@ -111,12 +58,11 @@ def groups() -> dict[str, str]:
             if re.fullmatch(r"test_\w+\.py", name):
                 path = os.path.join(folder, name)
                 found[os.path.relpath(path, TESTS).removesuffix(".py").replace("test_", "")] = path
-    return {name: found[name] for name in [*(it for it in DEAREST if it in found), *(found.keys() - {*DEAREST})]}
+    first = [it for it in DEAREST if it in found]
+    return {name: found[name] for name in [*first, *(it for it in found if it not in first)]}
 
 
 def takes_long(path: str) -> bool:
-    if not os.path.isabs(path):
-        return False
     with open(path, encoding="utf-8") as it:
         return ALL_LONG.search(it.read()) is not None
 
@@ -197,43 +143,9 @@ class Runner:
             print(ended.line(), flush=True)
         return ended
 
-    def run_script(self, name: str, line: str) -> Ended:
-        words, began = [
-            os.path.join(TOP, "dist", "quorums.html") if it == "PAGE" else it for it in line.split()
-        ], time.monotonic()
-        ran = subprocess.run(
-            [*HEEDING, sys.executable, os.path.join(TESTS, words[0]), *words[1:]],
-            env={
-                **self.env,
-                "QUORUM_LIBRARY": os.environ.get("QUORUM_LIBRARY", os.path.join(TOP, "dist", "libquorum.so")),
-            },
-            cwd=TOP,
-            stdin=subprocess.DEVNULL,
-            stdout=subprocess.PIPE,
-            stderr=subprocess.STDOUT,
-        )
-        ended = Ended(name, 0, ran.stdout.decode("utf-8", "replace"), "", time.monotonic() - began)
-        last = ended.said.rpartition("\n")[2]
-        ended.passed, ended.failed, ended.skipped = (
-            int(found[1]) if (found := re.search(rf"(\d+) {it}", last)) else 0
-            for it in ("passed", "failed", "skipped")
-        )
-        ended.why.update(it for it in ended.said.split("\n") if "skipped" in it and not re.search(r"\d skipped", it))
-        ended.skipped = max(ended.skipped, ended.why.total())
-        ended.failed = ended.failed or int(ran.returncode != 0)
-        with self.printing:
-            if ended.failed:
-                print("\n".join("  " + it for it in ended.said.split("\n")))
-            print(ended.line(), flush=True)
-        return ended
-
     def all(self, wanted: dict[str, str], jobs: int) -> list[Ended]:
         with concurrent.futures.ThreadPoolExecutor(jobs) as pool:
-            begun = [
-                pool.submit(self.run if os.path.isabs(path) else self.run_script, name, path)
-                for name, path in wanted.items()
-            ]
-            return [it.result() for it in begun]
+            return [it.result() for it in [pool.submit(self.run, *it) for it in wanted.items()]]
 
 
 def program() -> str:
@@ -256,7 +168,6 @@ def asked() -> tuple[argparse.Namespace, dict[str, str]]:
     words.add_argument("--seed", type=int, help="from which number")
     words.add_argument("group", nargs="*", help="only these")
     found, every = words.parse_args(), groups()
-    every = {**scripts(found.long), **every}
     for it in found.group:
         if not any(is_in(name, it) for name in every):
             words.error(f"there is no group {it}; the groups are {' '.join(every)}")
