@@ -31,6 +31,7 @@ import fuzz
 import malicious
 import process
 from library_cases import FILES, named_as_made, questions
+from needed import needs
 from networks import example
 from quorums import Quorums, Refused, TooLarge, binding, trial
 
@@ -113,11 +114,6 @@ def held(*names: str) -> bytes:
 def short(found: Answer) -> Any:
     """An answer with its bytes cut."""
     return tuple(it if isinstance(it, int) or len(it) < 200 else it[:200] + b".. of %d" % len(it) for it in found)
-
-
-def needs(*tools: str) -> pytest.MarkDecorator:
-    missing = [it for it in tools if not shutil.which(it)]
-    return pytest.mark.skipif(bool(missing), reason=f"there is no {' and no '.join(missing)}")
 
 
 class Program:

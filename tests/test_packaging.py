@@ -8,7 +8,6 @@ import os
 import pty
 import re
 import select
-import shutil
 import signal
 import subprocess
 import time
@@ -16,6 +15,8 @@ from pathlib import Path
 from typing import Any
 
 import pytest
+
+from needed import needs
 
 TOP = os.path.dirname(os.path.dirname(os.path.abspath(__file__)))
 # What is typed, and one of the words that have to be offered.
@@ -52,11 +53,6 @@ def ran(words: list[str], **more: Any) -> tuple[int, str, str]:
 
 def share(name: str) -> str:
     return os.path.join(TOP, "share", name)
-
-
-def needs(*tools: str) -> pytest.MarkDecorator:
-    missing = [it for it in tools if not shutil.which(it)]
-    return pytest.mark.skipif(bool(missing), reason=f"there is no {' and no '.join(missing)}")
 
 
 @pytest.mark.parametrize("tool", ["commands", "knows"])

@@ -18,6 +18,8 @@ from typing import Any
 
 import pytest
 
+from needed import needs
+
 TOP = os.path.dirname(os.path.dirname(os.path.abspath(__file__)))
 WEB = os.path.join(TOP, "web")
 # What the page is made of beside its modules.
@@ -27,11 +29,6 @@ ABOVE = {
     "tsconfig.json": '{"compilerOptions": {"target": "es5", "useDefineForClassFields": false}}',
     "package.json": '{"sideEffects": false, "type": "commonjs"}',
 }
-
-
-def needs(*tools: str) -> pytest.MarkDecorator:
-    missing = [it for it in tools if not shutil.which(it)]
-    return pytest.mark.skipif(bool(missing), reason=f"there is no {' and no '.join(missing)}")
 
 
 def ran(words: list[str], **more: Any) -> tuple[int, str]:

@@ -38,6 +38,7 @@ import browser
 import chosen
 import summary
 import watchers
+from needed import needs
 
 TOP = os.path.dirname(os.path.dirname(os.path.abspath(__file__)))
 MAKER = os.path.join(TOP, "tools", "web-page")
@@ -196,11 +197,6 @@ def node_cases(networks: list[tuple[str, str]]) -> Iterator[tuple[list[str], dic
         yield ["intersect", "config", "made"], files
         yield ["intersect", "config", "made", "--orgs=orgs", "--faulty-orgs=" + first], files
         yield ["blocking", "config", "made", "--budget", few_units(files["config"])], files
-
-
-def needs(*tools: str) -> pytest.MarkDecorator:
-    missing = [it for it in tools if not shutil.which(it)]
-    return pytest.mark.skipif(bool(missing), reason=f"there is no {' and no '.join(missing)}")
 
 
 # What the page is made by, over a module that is there.
