@@ -111,9 +111,11 @@ def held(*names: str) -> bytes:
         return it.read()
 
 
-def short(found: Answer) -> Any:
+def short(found: Answer) -> Answer:
     """An answer with its bytes cut."""
-    return tuple(it if isinstance(it, int) or len(it) < 200 else it[:200] + b".. of %d" % len(it) for it in found)
+    status, text, cert = found
+    text, cert = (it if len(it) < 200 else it[:200] + b".. of %d" % len(it) for it in (text, cert))
+    return status, text, cert
 
 
 class Program:

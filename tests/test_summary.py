@@ -95,7 +95,7 @@ def without_node() -> None:
 def test_of_four_networks_it_says_what_is_so(name: str, pages: Pages) -> None:
     made, node, has, lacks = summary.FOUR[name]
     nodes, orgs = made()
-    said, page = pages.of(nodes, orgs, *node, tried=len(nodes) < 15)
+    said, page = pages.of(nodes, orgs, node[0] if node else None, tried=len(nodes) < 15)
     assert [text for text in has if text not in said] == [], said
     assert [text for text in lacks if text in page] == [], said
     without_node()

@@ -1291,7 +1291,8 @@ def test_a_large_network_is_answered_soon(shown: Shown, request: pytest.FixtureR
     for _ in range(3):
         shown.tab.show(shown.page)
         shown.tab.give("config", config)
-        fields = {"blocks": {"set": [shown.tab.js("network.keys[0]")]}, "trial": {"organisations": "100"}}
+        one = shown.tab.js("network.keys[0]")
+        fields: dict[str, dict[str, Any]] = {"blocks": {"set": [one]}, "trial": {"organisations": "100"}}
         for question, times in took.items():
             shown.tab.choose(question, **fields.get(question, {}))
             began = time.monotonic()
