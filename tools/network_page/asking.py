@@ -228,7 +228,8 @@ class Program:
                 start_new_session=True,
             )
         except (OSError, ValueError) as why:
-            raise Failed(f"the program could not be run: {why}") from None
+            said = getattr(why, "strerror", None) or why
+            raise Failed(f"the program {self.path} could not be run: {said}; --program names another") from None
         try:
             while True:
                 try:
@@ -253,7 +254,8 @@ class Program:
         """The status and the lines of an answer; a refusal fails with the program's own line."""
         status, lines = self.run(*words, **how)
         if status in (3, 4, 5, 10):
-            raise Failed(f"`{words[0]}` was refused: {lines[0] if lines else status}")
+            said = lines[0] if lines else status
+            raise Failed(f"`{' '.join(words)[:300]}` was refused: {said} (docs/FORMATS.md says what that means)")
         return status, lines
 
     def noted(self, *words: str) -> tuple[int, list[str]]:

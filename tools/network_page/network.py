@@ -124,7 +124,15 @@ class Network:
 
     def read_orgs(self, path: str) -> list[Organisation]:
         with open(path, "rb") as it:
-            elements = json.load(it)
+            try:
+                return self.organisations(json.load(it))
+            except (ValueError, KeyError, TypeError, AttributeError) as why:
+                raise ValueError(
+                    f"{path} is no list of organisations with `id` and `validators`, as stellarbeat publishes it:"
+                    f" {why}"
+                ) from None
+
+    def organisations(self, elements: list[dict[str, Any]]) -> list[Organisation]:
         own, self.listed = set(self.keys), len(set().union(*(it.get("validators") or [] for it in elements)))
         called = [
             next((shown(text) for text in (it.get("name"), it.get("homeDomain")) if is_text(text)), shown(it["id"]))

@@ -23,6 +23,13 @@ MADE = re.compile(
 )
 
 
+def told(why: Exception) -> str:
+    """What an error says: of a file first its name, and no number of the system."""
+    if isinstance(why, OSError) and why.filename and why.strerror:
+        return f"{why.filename}: {why.strerror.lower()}"
+    return str(why)
+
+
 class BadPage(ValueError):
     """The page cannot be where the words want it."""
 
@@ -40,6 +47,8 @@ class Beside:
                 raise BadPage(
                     f"{out} is a folder: {option} names the file itself, as report.{'html' if out == page else 'json'}"
                 )
+            if not os.path.isdir(os.path.dirname(os.path.abspath(out))):
+                raise BadPage(f"{option} {out}: there is no folder {os.path.dirname(out)}")
             for path in read:
                 if path is not None and os.path.exists(out) and os.path.exists(path) and os.path.samefile(out, path):
                     raise BadPage(f"{option} {out} is the file that is read as {path}: the page would take its place")
