@@ -19,14 +19,21 @@ last half second may be missing.
 """
 from __future__ import annotations
 
+import argparse
 import json
 import os
 import re
+import shutil
 import subprocess
 import sys
 import time
 from collections.abc import Callable
 from typing import TypeAlias
+
+sys.dont_write_bytecode = True
+sys.path.insert(0, os.path.dirname(os.path.realpath(__file__)))
+
+import command_line
 
 TICKS = os.sysconf("SC_CLK_TCK")
 CRATE = re.compile(rb"--crate-name\0([a-z0-9_]+)\0")
@@ -273,7 +280,10 @@ def anew() -> list[str]:
 def read(file: str | None) -> Kept:
     if file and os.path.exists(file):
         with open(file, encoding="utf-8") as it:
-            kept: Kept = json.load(it)
+            try:
+                kept: Kept = json.load(it)
+            except ValueError:
+                raise ValueError(f"{file}: no figures that gate.py --add has kept") from None
             return kept
     return {}
 
@@ -298,10 +308,9 @@ def watch(top: int, goes_on: Callable[[], bool], file: str | None, kept: Kept) -
     return added(kept, seen)
 
 
-def seen_by(given: dict[str, str], file: str | None, kept: Kept) -> tuple[Kept, int]:
+def seen_by(top: int | None, file: str | None, kept: Kept) -> tuple[Kept, int]:
     """What is kept after a run, and its status."""
-    if "--watch" in given:
-        top = int(given["--watch"])
+    if top is not None:
         os.chdir(os.readlink(f"/proc/{top}/cwd"))
         return watch(top, lambda: os.path.exists(f"/proc/{top}"), file, kept), 0
     run = subprocess.Popen(["rt", "ci"] if file else anew())
@@ -309,26 +318,43 @@ def seen_by(given: dict[str, str], file: str | None, kept: Kept) -> tuple[Kept, 
     return kept, run.returncode
 
 
-def main(words: list[str]) -> int:
+def order() -> argparse.Namespace:
+    words = command_line.Words(__doc__)
+    words.add_argument("text", metavar="TEXT", nargs="?")
+    words.add_argument("--watch", metavar="PID", type=int)
+    for option in ("--add", "--show"):
+        words.add_argument(option, metavar="FILE")
+    words.add_argument("--built", action="store_true")
+    asked = words.parse_args()
+    if asked.show is not None and (asked.add is not None or asked.watch is not None):
+        words.error("--show runs nothing, so it goes with neither --add nor --watch")
+    if asked.built and (asked.show or asked.add or asked.watch is not None):
+        words.error("--built goes with no other option")
+    if asked.show is not None and not os.path.isfile(asked.show):
+        words.error(f"{asked.show} is no file that --add has kept")
+    if asked.watch is not None and not os.path.exists(f"/proc/{asked.watch}"):
+        words.error(f"no process has the number {asked.watch}")
+    if not (asked.built or asked.show or asked.watch is not None or shutil.which("rt")):
+        raise ValueError("the toolchain's command rt, which runs the gate, is not on the path; README.md says which")
+    return asked
+
+
+def main() -> int:
+    asked = order()
+    text = asked.text and os.path.abspath(asked.text)
+    file = asked.add or asked.show
+    file = file and os.path.abspath(file)
     os.chdir(os.path.join(os.path.dirname(os.path.abspath(__file__)), ".."))
-    given = {}
-    if words[:1] == ["--built"]:
-        text, costs = os.path.abspath(words[1]) if words[1:] else None, read_costs("out/costs")
+    if asked.built:
+        costs = read_costs("out/costs")
         write_costs(costs)
         made = table_of_build(costs)
         print(made)
         write(text, made)
         return 0
-    while len(words) > 1 and words[0] in ("--add", "--watch", "--show"):
-        given[words[0]], words = words[1], words[2:]
-    if len(words) > 1 or any(it.startswith("-") for it in words):
-        print(__doc__.split("\n\n")[1], file=sys.stderr)
-        return 2
-    file = given.get("--add") or given.get("--show")
-    file, text = file and os.path.abspath(file), os.path.abspath(words[0]) if words else None
     kept, status = read(file), 0
-    if "--show" not in given:
-        kept, status = seen_by(given, file, kept)
+    if asked.show is None:
+        kept, status = seen_by(asked.watch, file, kept)
         write(file, json.dumps(kept, indent=1))
     write_costs(proofs(kept))
     made = table(kept)
@@ -338,4 +364,4 @@ def main(words: list[str]) -> int:
 
 
 if __name__ == "__main__":
-    sys.exit(main(sys.argv[1:]))
+    sys.exit(command_line.run(main))

@@ -22,8 +22,16 @@ from __future__ import annotations
 import glob
 import os
 import re
+import shutil
 import subprocess
 import sys
+
+sys.dont_write_bytecode = True
+sys.path.insert(0, os.path.dirname(os.path.realpath(__file__)))
+
+import command_line
+
+TOP = os.path.dirname(os.path.dirname(os.path.realpath(__file__)))
 
 CRATES = [
     "lrat_model",
@@ -240,7 +248,7 @@ def root(text: str, crate: str) -> str:
 
 def write(folder: str) -> None:
     for crate in CRATES:
-        top = f"crates/{crate}/src"
+        top = f"{TOP}/crates/{crate}/src"
         for path in sorted(glob.glob(f"{top}/**/*.rt", recursive=True)):
             part = os.path.relpath(path, top).removesuffix(".rt")
             if part == "lib" or part not in PARTS.get(crate, [part]):
@@ -250,7 +258,7 @@ def write(folder: str) -> None:
             os.makedirs(os.path.dirname(f"{folder}/src/{crate}/{part}"), exist_ok=True)
             with open(f"{folder}/src/{crate}/{part}.rs", "w", encoding="utf-8") as it:
                 it.write(text)
-        with open(f"crates/{crate}/src/lib.rt", encoding="utf-8") as it:
+        with open(f"{top}/lib.rt", encoding="utf-8") as it:
             text = ROOTS.get(crate) or root(it.read(), crate)
         with open(f"{folder}/src/{crate}/mod.rs", "w", encoding="utf-8") as it:
             it.write(text)
@@ -259,10 +267,12 @@ def write(folder: str) -> None:
             it.write(text)
 
 
-def main() -> None:
-    if len(sys.argv) != 2 or sys.argv[1].startswith("-"):
-        sys.exit(__doc__)
-    folder = sys.argv[1]
+def main() -> int:
+    words = command_line.Words(__doc__)
+    words.add_argument("folder", metavar="FOLDER")
+    folder = words.parse_args().folder
+    if not shutil.which("rustc"):
+        raise ValueError("there is no rustc, which builds the search: apt-get install rustc")
     write(folder)
     built = [
         "rustc",
@@ -275,8 +285,8 @@ def main() -> None:
         f"{folder}/search",
         f"{folder}/src/main.rs",
     ]
-    sys.exit(subprocess.call(built))
+    return subprocess.call(built)
 
 
 if __name__ == "__main__":
-    main()
+    sys.exit(command_line.run(main))

@@ -25,8 +25,12 @@ from collections import defaultdict
 from collections.abc import Iterable
 from typing import Any
 
+sys.dont_write_bytecode = True
 TOP = os.path.dirname(os.path.dirname(os.path.abspath(__file__)))
 sys.path[:0] = [os.path.join(TOP, "tests"), os.path.join(TOP, "bench")]
+sys.path.insert(0, os.path.dirname(os.path.realpath(__file__)))
+
+import command_line
 import plain_checker
 import trials
 
@@ -135,11 +139,19 @@ def write(path: str, clauses: list[list[int]]) -> None:
     print(os.path.basename(path), len(numbers), "variables", len(clauses), "clauses")
 
 
-def main() -> None:
-    if len(sys.argv) not in (3, 4) or sys.argv[1].startswith("-"):
-        sys.exit(__doc__)
-    folder, growth = sys.argv[2], int(sys.argv[3]) if len(sys.argv) == 4 else 16
-    system = plain_checker.system_of(trials.configuration(sys.argv[1]).encode())
+def main() -> int:
+    words = command_line.Words(__doc__)
+    words.add_argument("system", metavar="SYSTEM")
+    words.add_argument("folder", metavar="FOLDER")
+    words.add_argument("growth", metavar="GROWTH", type=int, nargs="?", default=16)
+    asked = words.parse_args()
+    folder, growth = asked.folder, asked.growth
+    try:
+        system = plain_checker.system_of(trials.configuration(asked.system).encode())
+    except (OSError, ValueError, KeyError, TypeError, AttributeError) as why:
+        words.error(
+            f"{asked.system} is no system that bench/trials.py knows, and no configuration: {command_line.told(why)}"
+        )
     formula = plain_checker.Formula(system, set(), 3)
     sides = len(formula.clauses[0]) + len(formula.clauses[1])
     os.makedirs(folder, exist_ok=True)
@@ -150,7 +162,8 @@ def main() -> None:
     )
     written = Written(system, set(), 2)
     write(os.path.join(folder, "written.cnf"), eliminated(written.clauses, written.outputs, 0))
+    return 0
 
 
 if __name__ == "__main__":
-    main()
+    sys.exit(command_line.run(main))
