@@ -1,1 +1,1 @@
-"""The parts of tools/network-report: what is asked of the program, the network's names, the picture and the page."""
+"""The parts of tools/network-report: what is asked, the network's names, the picture and the page."""
