@@ -1,7 +1,8 @@
 // Tries the modules of the page one by one, in node: node tests/web_modules.mjs. What is drawn goes into a stand-in of a document that has
 // only what the modules call. Each line that is printed is a case that failed; the status is 0 if there is none.
 import { strict as assert } from 'node:assert';
-import { readFileSync } from 'node:fs';
+import { readFileSync, readdirSync } from 'node:fs';
+import { posix } from 'node:path';
 
 /** An element: its attributes, and what stands in it. */
 class Drawn {
@@ -11,6 +12,9 @@ class Drawn {
 
   setAttribute(name, value) { this.given[name] = value; }
   append(...parts) { this.inside.push(...parts); }
+  replaceChildren(...parts) { this.inside = parts; }
+  querySelector(tag) { return this.all(tag)[0] ?? null; }
+  focus() { globalThis.document.activeElement = this; }
   get textContent() { return this.inside.map((it) => (typeof it === 'string' ? it : it.textContent)).join(''); }
   all(tag) { return this.inside.flatMap((it) => (typeof it === 'string' ? [] : [...(it.tag === tag ? [it] : []), ...it.all(tag)])); }
 }
@@ -22,6 +26,12 @@ globalThis.CustomEvent = class {
 globalThis.document = { createElement: (tag) => new Drawn(tag), dispatchEvent: (event) => wishes.push([event.name, event.detail]) };
 
 const { QUESTIONS } = await import('../web/commands/table.js');
+const { asksByOrgs, isThere, missing, orgsBytes, questionOf } = await import('../web/asking/asking.js');
+const { Chooser } = await import('../web/drawing/chooser.js');
+const { save, size } = await import('../web/drawing/saving.js');
+const { Asker } = await import('../web/state/asker.js');
+const { load } = await import('../web/state/glue.js');
+const { base, readNetwork, state } = await import('../web/state/state.js');
 const { tellRefusal } = await import('../web/drawing/refusal.js');
 const { make, placed, table } = await import('../web/drawing/elements.js');
 const { Paint, draw } = await import('../web/drawing/picture.js');
@@ -196,6 +206,149 @@ await test('what is drawn', () => {
   assert.deepEqual(['GAAA1', 'GBBB1', 'GCCC1', 'GWATCH'].map((key) => paint.says(key)), ['lies', 'in the greatest quorum, down', 'in the greatest quorum, marked', 'of which the quorum set is not known']);
   const drawn = make('div', {}, draw(network, paint));
   assert.deepEqual(drawn.all('h3').map((it) => it.textContent), ['Alder', 'Beech', 'Cedar', 'Of no organisation: 1']);
+});
+
+const web = new URL('../web/', import.meta.url);
+const modules = readdirSync(web, { recursive: true }).filter((it) => it.endsWith('.js')).map((it) => it.replaceAll('\\', '/'));
+const textOfModule = (name) => readFileSync(new URL(name, web), 'utf8');
+const brought = new Map(modules.map((name) => [name, [...textOfModule(name).matchAll(/^(?:import|export) .*?from '(.*?)'/gm)].map(([, it]) => posix.join(posix.dirname(name), it))]));
+
+await test('state, words and drawing stand apart', () => {
+  const others = (folder, ...allowed) => modules.filter((it) => it.startsWith(folder)).flatMap((it) => brought.get(it)).filter((it) => !allowed.some((start) => it.startsWith(start)));
+  assert.deepEqual(others('state/', 'state/'), []);
+  assert.deepEqual(others('words/', 'words/', 'state/', 'asking/questions.js'), []);
+  assert.deepEqual(others('asking/questions.js', 'state/'), []);
+  assert.deepEqual(modules.filter((it) => /^(?!\s*(\/\/|\*)).*\b(document|window)\./m.test(textOfModule(it)) && it !== 'main.js' && !it.startsWith('drawing/')), []);
+});
+
+await test('no module brings itself in by others', () => {
+  const done = new Set();
+  const follow = (name, way) => {
+    assert(!way.includes(name), [...way, name].join(' → '));
+    if (!done.has(name)) brought.get(name).forEach((it) => follow(it, [...way, name]));
+    done.add(name);
+  };
+  modules.forEach((name) => follow(name, []));
+  assert(brought.get('main.js').length > 5);
+});
+
+await test('the state', () => {
+  state.files = { config: held('network.json') };
+  state.called = { config: 'my net work.JSON' };
+  readNetwork();
+  assert.deepEqual([state.network.keys.length, base()], [10, 'my-net-work']);
+});
+
+await test('what a question lacks, and by what it is asked', () => {
+  const asked = (words, about, trial) => missing({ words, trial, about });
+  assert(asked(['intersect', 'config', 'made'], {}, false).startsWith('Give the file of nodes'));
+  assert(asked(['check', 'config', 'cert'], { config: held('network.json') }, false).startsWith('Give the certificate'));
+  assert.deepEqual([asked(['trial', '3', 'made'], {}, true), asked(['show', 'config'], { config: held('network.json') }, false)], [null, null]);
+  state.usage = new Set([questionOf('intersect').usage]);
+  assert.deepEqual(['intersect', 'blocks', 'turns'].map((it) => isThere(questionOf(it))), [true, false, false]);
+  state.files.cert = bytesOf('fbas-cert 3\nkind partial-org-blocking\n');
+  assert.deepEqual(['org-blocking', 'intersect', 'check'].map((it) => asksByOrgs(questionOf(it))), [true, false, true]);
+  state.files.cert = bytesOf('fbas-cert 3\nkind blocking\n');
+  assert.equal(asksByOrgs(questionOf('check')), false);
+  assert.deepEqual(JSON.parse(textOf(orgsBytes())), state.network.orgs.map(({ id, keys: validators }) => ({ id, validators })));
+});
+
+await test('the worker as the page sees it', async () => {
+  const started = [], troubles = [];
+  globalThis.Worker = class {
+    constructor() { Object.assign(this, { sent: [], ended: false }); started.push(this); }
+    postMessage(data) { this.sent.push(data); }
+    terminate() { this.ended = true; }
+  };
+  const asker = new Asker(bytesOf('module'), 'script', (why) => troubles.push(why)), [first] = started, phases = [];
+  first.onmessage({ data: { ready: true } });
+  await asker.ready;
+  const answer = asker.ask([{ name: 'a', words: ['show', 'config'] }], {}, (it) => phases.push(it));
+  first.onmessage({ data: { id: 0, done: { a: 'of an earlier question' } } });
+  first.onmessage({ data: { id: 1, begins: 'a' } });
+  first.onmessage({ data: { id: 1, done: { a: 'end' } } });
+  assert.deepEqual([await answer, phases, first.sent.length], [{ a: 'end' }, ['a'], 2]);
+  const stopped = asker.ask([], {});
+  asker.stop();
+  await assert.rejects(stopped, { message: 'stopped' });
+  const failed = asker.ask([], {});
+  started[1].onmessage({ data: { error: 'a trap' } });
+  await assert.rejects(failed, { message: 'a trap' });
+  started[1].onerror({ message: '' });
+  assert.deepEqual([first.ended, started.length, troubles], [true, 2, ['The worker could not be started.']]);
+});
+
+/** A stand-in for the module: it answers the words that it is given, in a room of at least so many bytes. */
+function standIn(least) {
+  const memory = { buffer: new ArrayBuffer(4096) }, text = (from, length) => new Uint8Array(memory.buffer, Number(from), Number(length)), view = new DataView(memory.buffer);
+  let free = 8;
+  return {
+    memory,
+    room(bytes) {
+      const at = free;
+      free += (Number(bytes) + 7) & ~7;
+      return free > memory.buffer.byteLength ? 0n : BigInt(at);
+    },
+    quorum_answer(words, length, config, configLength, orgs, orgsLength, script, scriptLength, cert, certLength, front, most, end) {
+      const asked = text(words, length), isShort = most < least, sizes = isShort ? [0, 0, least] : [asked.length, Number(configLength), 0];
+      view.setUint8(Number(end), isShort ? 7 : 0);
+      sizes.forEach((it, at) => view.setBigUint64(Number(end) + 8 * (at + 1), BigInt(it), true));
+      if (isShort) return;
+      text(front, most).set(asked, Number(most) - asked.length);
+      text(front, most).set(text(config, configLength));
+    },
+  };
+}
+
+/** Has modules run over stand-ins, each with exports of its own; compiles what is no module to an error. */
+function overStandIns(exportsOf) {
+  const compile = async (bytes) => {
+    if (!bytes.length) throw new Error('no module');
+    return bytes;
+  };
+  globalThis.WebAssembly = { compile, Instance: class { exports = exportsOf(); } };
+}
+
+await test('the module is called in rooms that grow, and each question in an instance of its own', async () => {
+  const rooms = [];
+  overStandIns(() => rooms[rooms.push(standIn(200)) - 1]);
+  const module = await load(bytesOf('module'));
+  const ended = module.ask(['show', 'config'], { config: bytesOf('[1]') }, 64, 1024);
+  assert.deepEqual([ended.status, textOf(ended.text), textOf(ended.cert), rooms.length], [0, 'show\0config', '[1]', 2]);
+  assert.deepEqual([module.ask(['x'], {}, 64, 100).status, module.ask(['x'], {}, 8000, 8000).status], [7, 8]);
+});
+
+await test('the worker takes steps, checks what was made, and tells an error', async () => {
+  const told = [];
+  overStandIns(() => standIn(0));
+  Object.assign(globalThis, { onmessage: null, postMessage: (it) => told.push(it) });
+  await import('../web/state/worker.js');
+  await globalThis.onmessage({ data: { module: bytesOf('module') } });
+  assert.deepEqual(told.splice(0), [{ ready: true }]);
+  const steps = [{ name: 'answer', words: ['show', 'config'] }, { name: 'checked', checks: 'answer', words: ['check'] }];
+  await globalThis.onmessage({ data: { id: 3, steps, files: {} } });
+  assert.deepEqual(told.splice(0).map((it) => it.begins ?? Object.entries(it.done).map(([name, end]) => [name, end && end.status])), ['answer', 'checked', [['answer', 8], ['checked', null]]]);
+  await globalThis.onmessage({ data: { module: bytesOf('') } });
+  assert.deepEqual(told.map((it) => it.error), ['Error: no module']);
+});
+
+await test('nodes and organisations are chosen, found and taken away', () => {
+  const box = make('div', {}), chooser = new Chooser(box);
+  chooser.show(network);
+  const ticks = (name) => box.all('label').filter((it) => it.given.title === name).map((it) => it.all('input')[0]);
+  for (const name of ['alder', 'GBBB1']) for (const tick of ticks(name)) { tick.checked = true; tick.onchange(); }
+  assert.deepEqual(chooser.all(), ['GAAA1', 'GAAA2', 'GAAA3', 'GBBB1']);
+  chooser.filter.value = 'beech';
+  chooser.fill();
+  assert(box.all('label').length < network.keys.length && ticks('GAAA1').length === 0);
+  box.all('button').find((it) => it.given.title === 'alder').onclick();
+  assert.deepEqual(chooser.all(), ['GBBB1']);
+});
+
+await test('what is saved', () => {
+  const link = save('a text', 'name.cert', bytesOf('bytes'));
+  assert.deepEqual([link.given.download, state.saved.splice(0), link.textContent], ['name.cert', [link.given.href], 'a text']);
+  assert.deepEqual([size(9999), size(10000), size(12e6)], ['9999 bytes', '10 kB', '12 MB']);
 });
 
 await test('a made-up network', () => {
