@@ -148,7 +148,7 @@ def main() -> int:
     folder, growth = asked.folder, asked.growth
     try:
         system = plain_checker.system_of(trials.configuration(asked.system).encode())
-    except (OSError, ValueError, KeyError, TypeError, AttributeError) as why:
+    except (plain_checker.Fault, OSError, ValueError, KeyError, TypeError) as why:
         words.error(
             f"{asked.system} is no system that bench/trials.py knows, and no configuration: {command_line.told(why)}"
         )
