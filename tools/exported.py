@@ -48,6 +48,13 @@ def run(make: Callable[[Exported, str], str]) -> int:
     return run_on_two(lambda formula, other: sys.stdout.write(make(Exported(formula), other)))
 
 
+def told(why: Exception) -> str:
+    """What an error says: of a file first its name, and no number of the system."""
+    if isinstance(why, OSError) and why.filename and why.strerror:
+        return f"{why.filename}: {why.strerror.lower()}"
+    return str(why)
+
+
 def run_on_two(work: Callable[[str, str], object]) -> int:
     """Does the work of a tool on the two files that its words name; 1 where that fails, 2 for other words. Either is
     told in one line."""
@@ -66,8 +73,7 @@ def run_on_two(work: Callable[[str, str], object]) -> int:
         os.dup2(os.open(os.devnull, os.O_WRONLY), sys.stdout.fileno())
         return 1
     except (OSError, ValueError) as why:
-        is_of_file = isinstance(why, OSError) and why.filename and why.strerror
-        print(f"{name}: {f'{why.filename}: {why.strerror.lower()}' if is_of_file else why}", file=sys.stderr)
+        print(f"{name}: {told(why)}", file=sys.stderr)
         return 1
     except KeyboardInterrupt:
         return 130

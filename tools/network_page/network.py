@@ -132,7 +132,7 @@ class Network:
                     f" {why}"
                 ) from None
 
-    def organisations(self, elements: list[dict[str, Any]]) -> list[Organisation]:
+    def organisations(self, elements: Any) -> list[Organisation]:
         own, self.listed = set(self.keys), len(set().union(*(it.get("validators") or [] for it in elements)))
         called = [
             next((shown(text) for text in (it.get("name"), it.get("homeDomain")) if is_text(text)), shown(it["id"]))
